@@ -1,0 +1,10 @@
+-- Counts of calls and of faults.
+use Rattle.std.specs.Prelude.{ℕ, ◌+◌, ◌-◌, ◌^◌, ◌≤◌, min}
+
+-- one more; a count that stands at its type's end stays there
+abbrev pub risen : ℕ → ℕ
+risen n = min (n + 1) (2 ^ 64 - 1)
+
+-- a count has risen, or stands at its type's end
+abbrev pub Rose : ℕ → ℕ → Type 0
+Rose before now = risen before ≤ now

@@ -1,0 +1,5 @@
+pub mod Causes
+pub mod Files
+pub mod Kept
+pub mod Stored
+pub mod Written

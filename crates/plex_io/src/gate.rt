@@ -1,0 +1,26 @@
+// What a job's thread calls.
+
+/// Where the thread that runs a job is.
+#[derive(Clone, Copy)]
+pub enum Place {
+    /// Before the job's first step.
+    Before,
+    /// After the job's last step.
+    After {
+        /// How many steps the job ran.
+        steps: u64,
+    },
+}
+
+/// What is told of the jobs' threads. A call of it returns, and changes nothing that a contract names.
+pub trait Gate {
+    /// The thread that runs a job calls this before and after it. Jobs have numbers from 1.
+    fn at(&self, job: u64, place: Place);
+}
+
+/// A gate that does nothing.
+pub struct NoGate;
+
+impl Gate for NoGate {
+    fn at(&self, _job: u64, _place: Place) {}
+}

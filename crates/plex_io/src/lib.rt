@@ -1,0 +1,22 @@
+// The outside: files, output, and what a job's thread calls.
+//
+// Words and files come in through a `Shelf`, text goes out through a `Sink`, and a thread tells a
+// `Gate` where it is. Each is a trait with a device in memory, whose contracts are exact, and one over
+// the system, which tells nothing of what it holds. The crates above use the clauses of the traits and
+// of `write_all`: what was read or written, and that a failed call raised its device's count of faults.
+// It knows nothing of signals, of the language or of what the text says.
+#![tactic(auto)]
+
+mod gate;
+mod memory_shelf;
+mod memory_sink;
+mod shelf;
+mod sink;
+mod system;
+
+pub use gate::{Gate, NoGate, Place};
+pub use memory_shelf::{MemoryShelf, StoredFile};
+pub use memory_sink::MemorySink;
+pub use shelf::{Shelf, ShelfFault, Word};
+pub use sink::{Sink, SinkFailed, write_all};
+pub use system::{FileShelf, OutSink};
