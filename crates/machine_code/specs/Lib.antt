@@ -1,0 +1,4 @@
+pub mod Operands
+pub mod Permits
+pub mod Touches
+pub mod Listed
