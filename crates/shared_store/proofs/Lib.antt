@@ -1,0 +1,11 @@
+pub mod Touched
+pub mod Loaned
+pub mod Views
+pub mod LoanSeats
+pub mod LoanSteps
+pub mod RootSeats
+pub mod RootSteps
+pub mod Lending
+pub mod Opening
+pub mod Kept
+pub mod Sampled

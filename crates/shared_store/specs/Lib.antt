@@ -1,0 +1,5 @@
+pub mod Sound
+pub mod Loans
+pub mod Seats
+pub mod Rule
+pub mod TestPermits

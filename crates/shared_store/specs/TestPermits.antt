@@ -1,0 +1,22 @@
+-- Permits that the tests lend.
+use Rattle.std.specs.Prelude.{◌≡◌, ℕ, List, [], ◌∷◌}
+use Rattle.machine_code.specs.declared.permit.Span.{Span}
+use Rattle.machine_code.specs.declared.permit.Permit.{Permit}
+use Rattle.shared_store.specs.declared.view.Lent.{Lent}
+use Rattle.shared_store.specs.Loans.{Has}
+
+-- one word
+abbrev pub alone : ℕ → Span
+alone w = record { first = w; count = 1; stride = 1 }
+
+-- one word may be read, and one may be written
+abbrev pub adding : ℕ → ℕ → Permit
+adding step own = record { reads = alone step ∷ []; writes = alone own ∷ [] }
+
+-- one word may be read, and none may be written
+abbrev pub reading : ℕ → Permit
+reading w = record { reads = alone w ∷ []; writes = [] }
+
+-- each loan of the list may read that word alone, and write none
+abbrev pub AllReading : ℕ → List Lent → Type 0
+AllReading w ls = (l : Lent) → Has ls l → l.permit ≡ reading w

@@ -1,0 +1,152 @@
+ghost use Rattle.std.specs.Prelude.{◌≡◌, ℕ, ◌<◌, ◌^◌, true, false, ◌∷◌, length, slice_index, slice_set, IfOk};
+ghost use Rattle.machine_code.specs.Permits.{may_read, may_write};
+ghost use Rattle.machine_code.specs.declared.permit.Touch.TheVariants.{Load, Store};
+ghost use Rattle.shared_store.specs.Loans.{current, touched, lender, borrower, taken_back, lent_out, seen_by, FitsBeside, unlent};
+
+use crate::rule::{Cut, Look, Put, Rejoin, RootLook, RootPut, Rule, Terms};
+use crate::seat::{JobSeat, RootSeat};
+use crate::view::View;
+use atomic_table::Table;
+use job_types::JobStart;
+use machine_code::Permit;
+use plex_num::{Memory, Seq};
+use std::alloc::{AllocError, Global};
+use std::marker::{Brand, Model};
+
+/// The words that jobs share. Contracts see which store it is; what its words are is seen through the seats.
+#[derive(Drop)]
+pub struct SharedStore {
+    table: Table<(), View, Seq<u32>, Rule, Global>,
+}
+
+impl Model for SharedStore {
+    ghost use Rattle.atomic_table.specs.Seated.{TableId, table_id_coded};
+
+    ghost Value = { TableId };
+
+    ghost coded = { table_id_coded };
+
+    ghost view = { λ s. s.table.shared.table_id };
+}
+
+impl SharedStore {
+    /// A store of these words, one for each cell, and its root, which has lent nothing.
+    pub fn new(alloc: Global, words: &Seq<u32>) -> Result<(SharedStore, RootSeat), Memory>
+        ensures { IfOk result (λ made. made.1 ≡ (made.0, unlent words.now)) }
+    {
+        match table_of(alloc, words) {
+            Ok(made) => Ok(made),
+            Err(_) => Err(Memory),
+        }
+    }
+
+    /// Lends the words of a permit to a job: its seat has touched nothing, and its base values are the root's. The root lists one loan more.
+    /// No live loan may write a word of the permit, and the permit lets no word of a live loan be written.
+    pub fn lend(&self, root: &mut RootSeat, start: &JobStart, permit: Permit) -> JobSeat
+        requires store { root.old.0 ≡ self.now }
+        requires permit { FitsBeside root.old.1.loans permit }
+        ensures seat { result ≡ (root.old.0, borrower start.now permit root.old.1) }
+        ensures root { root.new ≡ (root.old.0, lender start.now permit root.old.1) }
+    {
+        self.lend_as::<Brand>(root, start, &permit)
+    }
+
+    /// The loan itself, of the start and permit that the terms name.
+    fn lend_as<T: Terms>(&self, root: &mut RootSeat, start: &JobStart, permit: &Permit) -> JobSeat
+        requires terms { (T.start ≡ start.now) × (T.permit ≡ permit.now) }
+        requires store { root.old.0 ≡ self.now }
+        requires permit { FitsBeside root.old.1.loans permit.now }
+        ensures seat { result ≡ (root.old.0, borrower start.now permit.now root.old.1) }
+        ensures root { root.new ≡ (root.old.0, lender start.now permit.now root.old.1) }
+    {
+        let seat = self.table.shared.split_seat::<Cut<T>>(&mut root.seat);
+        JobSeat { seat }
+    }
+
+    /// Ends a loan: the root has the seat's last stored values, and lists that loan no more.
+    pub fn take_back(&self, root: &mut RootSeat, seat: JobSeat)
+        requires root { root.old.0 ≡ self.now }
+        requires seat { seat.0 ≡ self.now }
+        ensures { root.new ≡ (root.old.0, taken_back root.old.1 seat.1) }
+    {
+        let JobSeat { seat: other } = seat;
+        self.table.shared.join_seat::<Rejoin>(&mut root.seat, other);
+    }
+
+    /// The value of a word of the seat's permit: the seat's own last store to it, or else its base value.
+    pub fn load(&self, seat: &mut JobSeat, word: u32) -> u32
+        requires store { seat.old.0 ≡ self.now }
+        requires cell { word < length seat.old.1.lent.base }
+        requires permit { may_read seat.old.1.lent.permit word ≡ true }
+        ensures value { result ≡ slice_index (current seat.old.1) word }
+        ensures seat { seat.new ≡ (seat.old.0, touched seat.old.1 (Load word result)) }
+    {
+        let found = self
+            .table
+            .shared
+            .load::<Look>(&mut seat.seat, word as usize + 1);
+        found as u32
+    }
+
+    /// Gives a word that the seat's permit lets be written its value.
+    pub fn store(&self, seat: &mut JobSeat, word: u32, value: u32)
+        requires store { seat.old.0 ≡ self.now }
+        requires cell { word < length seat.old.1.lent.base }
+        requires permit { may_write seat.old.1.lent.permit word ≡ true }
+        ensures { seat.new ≡ (seat.old.0, touched seat.old.1 (Store word value)) }
+    {
+        self.table
+            .shared
+            .store::<Put>(&mut seat.seat, word as usize + 1, value as u64);
+    }
+
+    /// The root's value of a word that no live loan may write.
+    pub fn root_load(&self, root: &mut RootSeat, word: u32) -> u32
+        requires store { root.old.0 ≡ self.now }
+        requires cell { word < length root.old.1.values }
+        requires free { lent_out root.old.1.loans word ≡ false }
+        ensures value { result ≡ slice_index root.old.1.values word }
+        ensures same { root.new ≡ root.old }
+    {
+        let found = self
+            .table
+            .shared
+            .load::<RootLook>(&mut root.seat, word as usize + 1);
+        found as u32
+    }
+
+    /// Gives a word that no live loan may read or write its value.
+    pub fn root_store(&self, root: &mut RootSeat, word: u32, value: u32)
+        requires store { root.old.0 ≡ self.now }
+        requires cell { word < length root.old.1.values }
+        requires free { seen_by root.old.1.loans word ≡ false }
+        ensures { root.new ≡ (root.old.0, record root.old.1 { values = slice_set root.old.1.values word value }) }
+    {
+        self.table
+            .shared
+            .store::<RootPut>(&mut root.seat, word as usize + 1, value as u64);
+    }
+}
+
+/// The table of these words, and the root's seat.
+fn table_of(alloc: Global, words: &Seq<u32>) -> Result<(SharedStore, RootSeat), AllocError>
+    ensures { IfOk result (λ made. made.1 ≡ (made.0, unlent words.now)) }
+{
+    let values = words.as_slice();
+    let row = table_row(alloc, values)?;
+    let (table, seat) = Table::of_words(alloc, row.as_slice(), words)?;
+    Ok((SharedStore { table }, RootSeat { seat }))
+}
+
+/// The words of the table: a 0, and then the words of the cells.
+fn table_row(alloc: Global, words: &[u32]) -> Result<Vec<u64>, AllocError>
+    ensures items { IfOk result (λ row. row.items ≡ 0 ∷ words.now) }
+    ensures fit { IfOk result (λ row. (k : ℕ) → slice_index words.now k < 2 ^ 32) }
+{
+    let mut row = Vec::new(alloc);
+    row.push(0)?;
+    for word in words {
+        row.push(*word as u64)?;
+    }
+    Ok(row)
+}
