@@ -1,0 +1,846 @@
+-- Readers that are exact, with one token of sight.
+use Rattle.std.proofs.Common.{◌≡◌, ℕ, zero, suc, ◌<◌, ◌≤◌, Bool, true, false, cond, ◌||◌, eqb, List, [], ◌∷◌, ◌++◌, length, Ok, Err, Result, Option, Some, None, refl, sym, ◌∙◌, ap, subst, inl, inr, append_assoc, arith, ◌⊎◌, eqb-true, nat_lt}
+use Rattle.std.proofs.lemmas.Bool.Decides.{nat_tests}
+use Rattle.std.proofs.lemmas.List.{length-append, append-nil}
+use Rattle.std.proofs.lemmas.Bool.{false≢true}
+use Rattle.plex_lexer.specs.declared.token.Token.{Token}
+use Rattle.token_grammar.specs.Language.{class, mem, Lang, ◌·◌, word, each, line_at, maybe, flag}
+use Rattle.token_grammar.specs.Reading.{Stuck, Reader, ◌>>=◌, with_front, shorter, done, optional, flag_read, after, ended, closed, pair, at, word_of, up_to, many, both, branch, halt, lined}
+
+abbrev pub SameHead : List Token → List Token → Type 0
+SameHead [] [] = Unit {0}
+SameHead [] (t ∷ ts) = ⊥
+SameHead (s ∷ ss) [] = ⊥
+SameHead (s ∷ ss) (t ∷ ts) = s ≡ t
+
+pub SameHead-refl : (w : List Token) → SameHead w w
+SameHead-refl [] = tt
+SameHead-refl (t ∷ ts) = refl
+
+pub SameHead-append : (u a b : List Token) → SameHead a b → SameHead (u ++ a) (u ++ b)
+SameHead-append [] a b h = h
+SameHead-append (t ∷ u) a b h = refl
+
+pub at_same : (cs : List ℕ) (a b : List Token) → SameHead a b → at cs b ≡ at cs a
+at_same cs [] [] h = refl
+at_same cs [] (t ∷ ts) h = absurd h
+at_same cs (s ∷ ss) [] h = absurd h
+at_same cs (s ∷ ss) (t ∷ ts) h = ap (λ x. mem (class x) cs) (sym h)
+
+pub line_same : (a b : List Token) → SameHead a b → line_at b ≡ line_at a
+line_same [] [] h = refl
+line_same [] (t ∷ ts) h = absurd h
+line_same (s ∷ ss) [] h = absurd h
+line_same (s ∷ ss) (t ∷ ts) h = ap (λ (x : Token). x.line) (sym h)
+
+-- what a run of a reader came to
+pub record Good {X : Type 0} (L : X → Lang) (r q : Reader X) (w : List Token) : Type 0 where
+  pub x : X
+  pub u : List Token
+  pub rest : List Token
+  pub cut : w ≡ u ++ rest
+  pub spells : L x u
+  pub again : (s : List Token) → SameHead rest s → r (u ++ s) ≡ Ok (x, s)
+  pub wide : (s : List Token) → SameHead rest s → q (u ++ s) ≡ Ok (x, s)
+
+pub record Bad {X : Type 0} (L M : X → Lang) (r q : Reader X) (w : List Token) : Type 0 where
+  pub p : List Token
+  pub rest : List Token
+  pub deep : Bool
+  pub cut : w ≡ p ++ rest
+  pub fails : (s : List Token) → SameHead rest s → r (p ++ s) ≡ Err (record { left = length s; deep = deep })
+  pub wide : deep ≡ false → (s : List Token) → SameHead rest s → q (p ++ s) ≡ Err (record { left = length s; deep = false })
+  pub x : X
+  pub v : List Token
+  pub begun : L x (p ++ v)
+  pub more : deep ≡ true → (t : Token) × (ts : List Token) × (rest ≡ t ∷ ts) × (y : X) × (z : List Token) × M y (p ++ (t ∷ z))
+
+abbrev pub Begins : List ℕ → Bool → List Token → Type 0
+Begins first empty [] = empty ≡ true
+Begins first empty (t ∷ ts) = mem (class t) first ≡ true
+
+-- r reads exactly L, and q, with wider limits, at least M
+pub record Exact {X : Type 0} (L M : X → Lang) (first : List ℕ) (empty : Bool) (last : List ℕ) (r q : Reader X) : Type 0 where
+  pub runs : (w : List Token) → Good L r q w ⊎ Bad L M r q w
+  pub again : (x : X) (u rest : List Token) → L x u → at last rest ≡ false → r (u ++ rest) ≡ Ok (x, rest)
+  pub begins : (x : X) (u : List Token) → L x u → Begins first empty u
+  pub wider : (x : X) (u : List Token) → L x u → M x u
+  pub x : X
+  pub u : List Token
+  pub has : L x u
+
+-- words are put together in any order
+pub dot_right : (L M N : Lang) (u : List Token) → ((L · M) · N) u → (L · (M · N)) u
+dot_right L M N u h = (h.3.0, h.3.1 ++ h.1, h.2 ∙ ap (λ z. z ++ h.1) h.3.2 ∙ append_assoc h.3.0 h.3.1 h.1, h.3.3, (h.3.1, h.1, refl, h.3.4, h.4))
+
+pub dot_left : (L M N : Lang) (u : List Token) → (L · (M · N)) u → ((L · M) · N) u
+dot_left L M N u h = (h.0 ++ h.4.0, h.4.1, h.2 ∙ ap (λ z. h.0 ++ z) h.4.2 ∙ sym (append_assoc h.0 h.4.0 h.4.1), (h.0, h.4.0, refl, h.3, h.4.3), h.4.4)
+
+pub then_to : (L M N : Lang) → ((u : List Token) → M u → N u) → (u : List Token) → (L · M) u → (L · N) u
+then_to L M N f u h = (h.0, h.1, h.2, h.3, f h.1 h.4)
+
+-- .. three of them before a fourth
+pub three_right : (A B C D : Lang) (u : List Token) → ((A · (B · C)) · D) u → (A · (B · (C · D))) u
+three_right A B C D u h = then_to A ((B · C) · D) (B · (C · D)) (dot_right B C D) u (dot_right A (B · C) D u h)
+
+pub three_left : (A B C D : Lang) (u : List Token) → (A · (B · (C · D))) u → ((A · (B · C)) · D) u
+three_left A B C D u h = dot_left A (B · C) D u (then_to A (B · (C · D)) ((B · C) · D) (dot_left B C D) u h)
+
+-- sets of classes
+abbrev pub apart : List ℕ → List ℕ → Bool
+apart [] ys = true
+apart (x ∷ xs) ys = cond (mem x ys) false (apart xs ys)
+
+abbrev pub within : List ℕ → List ℕ → Bool
+within [] ys = true
+within (x ∷ xs) ys = cond (mem x ys) (within xs ys) false
+
+cond_false : (b y : Bool) → cond b false y ≡ true → (b ≡ false) × (y ≡ true)
+cond_false true y h = cc
+cond_false false y h = (refl, h)
+
+cond_true : (b y : Bool) → cond b y false ≡ true → (b ≡ true) × (y ≡ true)
+cond_true true y h = (refl, h)
+cond_true false y h = cc
+
+pub either : (b : Bool) → (b ≡ true) ⊎ (b ≡ false)
+either true = inl refl
+either false = inr refl
+
+or_true : (a b : Bool) → (a || b) ≡ true → (a ≡ true) ⊎ (b ≡ true)
+or_true true b h = inl refl
+or_true false b h = inr h
+
+or_false : (a b : Bool) → (a || b) ≡ false → (a ≡ false) × (b ≡ false)
+or_false true b h = cc
+or_false false b h = (refl, h)
+
+or_left : (a b : Bool) → a ≡ true → (a || b) ≡ true
+or_left true b h = refl
+or_left false b h = cc
+
+or_right : (a b : Bool) → b ≡ true → (a || b) ≡ true
+or_right true b h = refl
+or_right false b h = h
+
+mem_append : (c : ℕ) (xs ys : List ℕ) → mem c (xs ++ ys) ≡ (mem c xs || mem c ys)
+mem_append c [] ys = refl
+mem_append c (x ∷ xs) ys = ap (λ b. eqb c x || b) (mem_append c xs ys) ∙ or_assoc (eqb c x) (mem c xs) (mem c ys)
+  where
+    or_assoc : (a b d : Bool) → (a || (b || d)) ≡ ((a || b) || d)
+    or_assoc true b d = refl
+    or_assoc false b d = refl
+
+pub mem_left : (c : ℕ) (xs ys : List ℕ) → mem c xs ≡ true → mem c (xs ++ ys) ≡ true
+mem_left c xs ys h = mem_append c xs ys ∙ or_left (mem c xs) (mem c ys) h
+
+pub mem_right : (c : ℕ) (xs ys : List ℕ) → mem c ys ≡ true → mem c (xs ++ ys) ≡ true
+mem_right c xs ys h = mem_append c xs ys ∙ or_right (mem c xs) (mem c ys) h
+
+pub mem_split : (c : ℕ) (xs ys : List ℕ) → mem c (xs ++ ys) ≡ true → (mem c xs ≡ true) ⊎ (mem c ys ≡ true)
+mem_split c xs ys h = or_true (mem c xs) (mem c ys) (sym (mem_append c xs ys) ∙ h)
+
+pub at_append : (xs ys : List ℕ) (w : List Token) → at (xs ++ ys) w ≡ false → (at xs w ≡ false) × (at ys w ≡ false)
+at_append xs ys [] h = (refl, refl)
+at_append xs ys (t ∷ ts) h = or_false (mem (class t) xs) (mem (class t) ys) (sym (mem_append (class t) xs ys) ∙ h)
+
+apart_mem : (xs ys : List ℕ) (c : ℕ) → apart xs ys ≡ true → mem c xs ≡ true → mem c ys ≡ false
+apart_mem [] ys c h m = cc
+apart_mem (x ∷ xs) ys c h m =
+    let k = cond_false (mem x ys) (apart xs ys) h in
+    elim (or_true (eqb c x) (mem c xs) m) [ inl e ↦ ap (λ z. mem z ys) (eqb-true c x e) ∙ k.0 | inr e ↦ apart_mem xs ys c k.1 e ]
+
+within_mem : (xs ys : List ℕ) (c : ℕ) → within xs ys ≡ true → mem c xs ≡ true → mem c ys ≡ true
+within_mem [] ys c h m = cc
+within_mem (x ∷ xs) ys c h m =
+    let k = cond_true (mem x ys) (within xs ys) h in
+    elim (or_true (eqb c x) (mem c xs) m) [ inl e ↦ ap (λ z. mem z ys) (eqb-true c x e) ∙ k.0 | inr e ↦ within_mem xs ys c k.1 e ]
+
+-- one token
+
+abbrev pub one : List ℕ → Token → Lang
+one cs t u = (u ≡ t ∷ []) × (mem (class t) cs ≡ true)
+
+word_ok : (cs : List ℕ) (t : Token) (ts : List Token) → mem (class t) cs ≡ true → word_of cs (t ∷ ts) ≡ Ok (t, ts)
+unfolding word_of
+word_ok cs t ts h = ap (λ b. cond b (Ok (t, ts)) (Err (record { left = length (t ∷ ts); deep = false }))) h
+
+word_bad : (cs : List ℕ) (t : Token) (ts : List Token) → mem (class t) cs ≡ false → word_of cs (t ∷ ts) ≡ Err (record { left = length (t ∷ ts); deep = false })
+unfolding word_of
+word_bad cs t ts h = ap (λ b. cond b (Ok (t, ts)) (Err (record { left = length (t ∷ ts); deep = false }))) h
+
+word_end : (cs : List ℕ) → word_of cs [] ≡ Err (record { left = 0; deep = false })
+unfolding word_of
+word_end cs = refl
+
+pub Exact-word : (cs : List ℕ) (t : Token) → mem (class t) cs ≡ true → Exact (one cs) (one cs) cs false [] (word_of cs) (word_of cs)
+Exact-word cs t k = record {
+  runs = λ w. runs w;
+  again = λ x u rest l h. subst (λ z. word_of cs (z ++ rest) ≡ Ok (x, rest)) (sym l.0) (word_ok cs x rest l.1);
+  begins = λ x u l. subst (λ z. Begins cs false z) (sym l.0) l.1;
+  wider = λ x u l. l;
+  x = t;
+  u = t ∷ [];
+  has = (refl, k);
+}
+  where
+    fall : (w : List Token) → ((s : List Token) → SameHead w s → word_of cs s ≡ Err (record { left = length s; deep = false })) → Bad (one cs) (one cs) (word_of cs) (word_of cs) w
+    fall w f = record { p = []; rest = w; deep = false; cut = refl; fails = f; wide = λ _. f; x = t; v = t ∷ []; begun = (refl, k); more = λ d. absurd (false≢true d) }
+
+    runs : (w : List Token) → Good (one cs) (word_of cs) (word_of cs) w ⊎ Bad (one cs) (one cs) (word_of cs) (word_of cs) w
+    runs [] = inr (fall [] (λ s h. elim s as (λ s. SameHead [] s → word_of cs s ≡ Err (record { left = length s; deep = false })) [ [] ↦ λ _. word_end cs | y ∷ ys ↦ λ h. absurd h ] h))
+    runs (y ∷ ys) = elim (either (mem (class y) cs)) [
+      | inl e ↦ inl (record { x = y; u = y ∷ []; rest = ys; cut = refl; spells = (refl, e); again = λ s h. word_ok cs y s e; wide = λ s h. word_ok cs y s e })
+      | inr e ↦ inr (fall (y ∷ ys) (λ s h. elim s as (λ s. SameHead (y ∷ ys) s → word_of cs s ≡ Err (record { left = length s; deep = false })) [ [] ↦ λ h. absurd h | z ∷ zs ↦ λ h. word_bad cs z zs (ap (λ a. mem (class a) cs) (sym h) ∙ e) ] h))
+    ]
+
+-- one after the other
+
+abbrev pub firsts : Bool → List ℕ → List ℕ → List ℕ
+firsts e f g = cond e (f ++ g) f
+
+abbrev pub lasts : Bool → List ℕ → List ℕ → List ℕ
+lasts e l m = cond e (l ++ m) m
+
+abbrev pub Both : {A B C : Type 0} → (A → B → C) → (A → Lang) → (B → Lang) → C → Lang
+Both {A} {B} h L N c u = (a : A) × (b : B) × (c ≡ h a b) × (L a · N b) u
+
+module _ {A B C : Type 0} (h : A → B → C) (r : Reader A) (s : Reader B) where
+  both_ok : (w w1 w2 : List Token) (a : A) (b : B) → r w ≡ Ok (a, w1) → s w1 ≡ Ok (b, w2) → both h r s w ≡ Ok (h a b, w2)
+  both_ok w w1 w2 a b e1 e2 = ap (λ z. z >>= λ x. s x.1 >>= λ y. Ok (h x.0 y.0, y.1)) e1 ∙ ap (λ z. z >>= λ y. Ok (h a y.0, y.1)) e2
+
+  both_bad1 : (w : List Token) (e : Stuck) → r w ≡ Err e → both h r s w ≡ Err e
+  both_bad1 w e e1 = ap (λ z. z >>= λ x. s x.1 >>= λ y. Ok (h x.0 y.0, y.1)) e1
+
+  both_bad2 : (w w1 : List Token) (a : A) (e : Stuck) → r w ≡ Ok (a, w1) → s w1 ≡ Err e → both h r s w ≡ Err e
+  both_bad2 w w1 a e e1 e2 = ap (λ z. z >>= λ x. s x.1 >>= λ y. Ok (h x.0 y.0, y.1)) e1 ∙ ap (λ z. z >>= λ y. Ok (h a y.0, y.1)) e2
+
+begins_right : (f g : List ℕ) (e : Bool) (u : List Token) → Begins g e u → Begins (f ++ g) e u
+begins_right f g e [] h = h
+begins_right f g e (t ∷ u) h = mem_right (class t) f g h
+
+begins_left : (f g : List ℕ) (e d : Bool) (t : Token) (u : List Token) → Begins f e (t ∷ u) → Begins (f ++ g) d (t ∷ u)
+begins_left f g e d t u h = mem_left (class t) f g h
+
+begins_both : (f g : List ℕ) (e d : Bool) (u v : List Token) → Begins f e u → Begins g d v → Begins (firsts e f g) (cond e d false) (u ++ v)
+begins_both f g true d [] v h k = begins_right f g d v k
+begins_both f g false d [] v h k = absurd (false≢true h)
+begins_both f g true d (t ∷ u) v h k = mem_left (class t) f g h
+begins_both f g false d (t ∷ u) v h k = h
+
+stops_last : (e : Bool) (l m : List ℕ) (w : List Token) → at (lasts e l m) w ≡ false → at m w ≡ false
+stops_last true l m w h = (at_append l m w h).1
+stops_last false l m w h = h
+
+stops_after : (g l m : List ℕ) (e : Bool) (v w : List Token) → Begins g e v → apart g l ≡ true → at (lasts e l m) w ≡ false → at l (v ++ w) ≡ false
+stops_after g l m true [] w b a h = (at_append l m w h).0
+stops_after g l m false [] w b a h = absurd (false≢true b)
+stops_after g l m e (t ∷ v) w b a h = apart_mem g l (class t) a b
+
+module _ {A B C : Type 0} (h : A → B → C) (L L' : A → Lang) (N N' : B → Lang) (r q : Reader A) (s p : Reader B) where
+  both_good : (w : List Token) (g : Good L r q w) → Good N s p g.rest → Good (Both h L N) (both h r s) (both h q p) w
+  both_good w g k =
+      let same : (z : List Token) → SameHead k.rest z → SameHead g.rest (k.u ++ z) = λ z d. subst (λ y. SameHead y (k.u ++ z)) (sym k.cut) (SameHead-append k.u k.rest z d) in
+      record {
+        x = h g.x k.x;
+        u = g.u ++ k.u;
+        rest = k.rest;
+        cut = g.cut ∙ ap (λ z. g.u ++ z) k.cut ∙ sym (append_assoc g.u k.u k.rest);
+        spells = (g.x, k.x, refl, (g.u, k.u, refl, g.spells, k.spells));
+        again = λ z d. ap (both h r s) (append_assoc g.u k.u z) ∙ both_ok h r s (g.u ++ (k.u ++ z)) (k.u ++ z) z g.x k.x (g.again (k.u ++ z) (same z d)) (k.again z d);
+        wide = λ z d. ap (both h q p) (append_assoc g.u k.u z) ∙ both_ok h q p (g.u ++ (k.u ++ z)) (k.u ++ z) z g.x k.x (g.wide (k.u ++ z) (same z d)) (k.wide z d);
+      }
+
+  both_first : (w : List Token) (y : B) (v : List Token) → N y v → N' y v → Bad L L' r q w → Bad (Both h L N) (Both h L' N') (both h r s) (both h q p) w
+  both_first w y v has has2 b = record {
+    p = b.p;
+    rest = b.rest;
+    deep = b.deep;
+    cut = b.cut;
+    fails = λ z d. both_bad1 h r s (b.p ++ z) _ (b.fails z d);
+    wide = λ n z d. both_bad1 h q p (b.p ++ z) _ (b.wide n z d);
+    x = h b.x y;
+    v = b.v ++ v;
+    begun = (b.x, y, refl, (b.p ++ b.v, v, sym (append_assoc b.p b.v v), b.begun, has));
+    more = λ n. let m = b.more n in
+        (m.0, m.1, m.2, h m.3 y, m.4 ++ v, (m.3, y, refl, (b.p ++ (m.0 ∷ m.4), v, sym (append_assoc b.p (m.0 ∷ m.4) v), m.5, has2)));
+  }
+
+  both_second : (w : List Token) → ((x : A) (u : List Token) → L x u → L' x u) → (g : Good L r q w) → Bad N N' s p g.rest → Bad (Both h L N) (Both h L' N') (both h r s) (both h q p) w
+  both_second w wider g b =
+      let same : (z : List Token) → SameHead b.rest z → SameHead g.rest (b.p ++ z) = λ z d. subst (λ y. SameHead y (b.p ++ z)) (sym b.cut) (SameHead-append b.p b.rest z d) in
+      record {
+        p = g.u ++ b.p;
+        rest = b.rest;
+        deep = b.deep;
+        cut = g.cut ∙ ap (λ z. g.u ++ z) b.cut ∙ sym (append_assoc g.u b.p b.rest);
+        fails = λ z d. ap (both h r s) (append_assoc g.u b.p z) ∙ both_bad2 h r s (g.u ++ (b.p ++ z)) (b.p ++ z) g.x _ (g.again (b.p ++ z) (same z d)) (b.fails z d);
+        wide = λ n z d. ap (both h q p) (append_assoc g.u b.p z) ∙ both_bad2 h q p (g.u ++ (b.p ++ z)) (b.p ++ z) g.x _ (g.wide (b.p ++ z) (same z d)) (b.wide n z d);
+        x = h g.x b.x;
+        v = b.v;
+        begun = (g.x, b.x, refl, (g.u, b.p ++ b.v, append_assoc g.u b.p b.v, g.spells, b.begun));
+        more = λ n. let m = b.more n in
+            (m.0, m.1, m.2, h g.x m.3, m.4, (g.x, m.3, refl, (g.u, b.p ++ (m.0 ∷ m.4), append_assoc g.u b.p (m.0 ∷ m.4), wider g.x g.u g.spells, m.5)));
+      }
+
+module _ {A B C : Type 0} (h : A → B → C) (L L' : A → Lang) (N N' : B → Lang) (f1 f2 l1 l2 : List ℕ) (e1 e2 : Bool) (r q : Reader A) (s p : Reader B) (E : Exact L L' f1 e1 l1 r q) (F : Exact N N' f2 e2 l2 s p) where
+  both_runs : (w : List Token) → Good (Both h L N) (both h r s) (both h q p) w ⊎ Bad (Both h L N) (Both h L' N') (both h r s) (both h q p) w
+  both_runs w = elim (E.runs w) [
+    | inl g ↦ elim (F.runs g.rest) [ inl k ↦ inl (both_good h L L' N N' r q s p w g k) | inr b ↦ inr (both_second h L L' N N' r q s p w E.wider g b) ]
+    | inr b ↦ inr (both_first h L L' N N' r q s p w F.x F.u F.has (F.wider F.x F.u F.has) b)
+  ]
+
+  both_again : (apart f2 l1 ≡ true) → (c : C) (u rest : List Token) → Both h L N c u → at (lasts e2 l1 l2) rest ≡ false → both h r s (u ++ rest) ≡ Ok (c, rest)
+  both_again d c u rest l stop =
+      let a = l.0 in let b = l.1 in let v = l.3.0 in let z = l.3.1 in
+      let first : r (v ++ (z ++ rest)) ≡ Ok (a, z ++ rest) = E.again a v (z ++ rest) l.3.3 (stops_after f2 l1 l2 e2 z rest (F.begins b z l.3.4) d stop) in
+      let second : s (z ++ rest) ≡ Ok (b, rest) = F.again b z rest l.3.4 (stops_last e2 l1 l2 rest stop) in
+      ap (λ y. both h r s (y ++ rest)) l.3.2 ∙ ap (both h r s) (append_assoc v z rest) ∙ both_ok h r s (v ++ (z ++ rest)) (z ++ rest) rest a b first second ∙ ap (λ x. Ok (x, rest)) (sym l.2)
+
+  pub both_exact : apart f2 l1 ≡ true → Exact (Both h L N) (Both h L' N') (firsts e1 f1 f2) (cond e1 e2 false) (lasts e2 l1 l2) (both h r s) (both h q p)
+  both_exact d = record {
+    runs = both_runs;
+    again = both_again d;
+    begins = λ c u l. subst (Begins (firsts e1 f1 f2) (cond e1 e2 false)) (sym l.3.2) (begins_both f1 f2 e1 e2 l.3.0 l.3.1 (E.begins l.0 l.3.0 l.3.3) (F.begins l.1 l.3.1 l.3.4));
+    wider = λ c u l. (l.0, l.1, l.2, (l.3.0, l.3.1, l.3.2, E.wider l.0 l.3.0 l.3.3, F.wider l.1 l.3.1 l.3.4));
+    x = h E.x F.x;
+    u = E.u ++ F.u;
+    has = (E.x, F.x, refl, (E.u, F.u, refl, E.has, F.has));
+  }
+
+pub Exact-both : {A B C : Type 0} (h : A → B → C) {L L' : A → Lang} {N N' : B → Lang} {f1 f2 l1 l2 : List ℕ} {e1 e2 : Bool} {r q : Reader A} {s p : Reader B} → Exact L L' f1 e1 l1 r q → Exact N N' f2 e2 l2 s p → apart f2 l1 ≡ true → Exact (Both h L N) (Both h L' N') (firsts e1 f1 f2) (cond e1 e2 false) (lasts e2 l1 l2) (both h r s) (both h q p)
+Exact-both h {L} {L'} {N} {N'} {f1} {f2} {l1} {l2} {e1} {e2} {r} {q} {s} {p} E F d = both_exact h L L' N N' f1 f2 l1 l2 e1 e2 r q s p E F d
+
+-- the same language, said otherwise
+pub Exact-same : {X : Type 0} {L L' : X → Lang} (N N' : X → Lang) {f l : List ℕ} {e : Bool} {r q : Reader X} → ((x : X) (u : List Token) → L x u → N x u) → ((x : X) (u : List Token) → N x u → L x u) → ((x : X) (u : List Token) → L' x u → N' x u) → Exact L L' f e l r q → Exact N N' f e l r q
+Exact-same {X} {L} {L'} N N' {f} {l} {e} {r} {q} to from to2 E = record {
+  runs = λ w. elim (E.runs w) [ inl g ↦ inl (good w g) | inr b ↦ inr (bad w b) ];
+  again = λ x u rest k h. E.again x u rest (from x u k) h;
+  begins = λ x u k. E.begins x u (from x u k);
+  wider = λ x u k. to2 x u (E.wider x u (from x u k));
+  x = E.x;
+  u = E.u;
+  has = to E.x E.u E.has;
+}
+  where
+    good : (w : List Token) → Good L r q w → Good N r q w
+    good w g = record { x = g.x; u = g.u; rest = g.rest; cut = g.cut; spells = to g.x g.u g.spells; again = g.again; wide = g.wide }
+
+    bad : (w : List Token) → Bad L L' r q w → Bad N N' r q w
+    bad w b = record {
+      p = b.p;
+      rest = b.rest;
+      deep = b.deep;
+      cut = b.cut;
+      fails = b.fails;
+      wide = b.wide;
+      x = b.x;
+      v = b.v;
+      begun = to b.x (b.p ++ b.v) b.begun;
+      more = λ n. let m = b.more n in (m.0, m.1, m.2, m.3, m.4, to2 m.3 (b.p ++ (m.0 ∷ m.4)) m.5);
+    }
+
+-- with the line of the first token
+
+abbrev pub Lined : {A X : Type 0} → (ℕ → A → X) → (A → Lang) → X → Lang
+Lined {A} f L x u = (a : A) × (x ≡ f (line_at u) a) × L a u
+
+lined_ok : {A X : Type 0} (f : ℕ → A → X) (r : Reader A) (w rest : List Token) (a : A) → r w ≡ Ok (a, rest) → lined f r w ≡ Ok (f (line_at w) a, rest)
+lined_ok f r w rest a e = ap (λ z. z >>= λ x. Ok (f (line_at w) x.0, x.1)) e
+
+lined_bad : {A X : Type 0} (f : ℕ → A → X) (r : Reader A) (w : List Token) (e : Stuck) → r w ≡ Err e → lined f r w ≡ Err e
+lined_bad f r w e k = ap (λ z. z >>= λ x. Ok (f (line_at w) x.0, x.1)) k
+
+-- what begins with a token has a line of its own, whatever follows
+line_begins : (f : List ℕ) (u s : List Token) → Begins f false u → line_at (u ++ s) ≡ line_at u
+line_begins f [] s h = absurd (false≢true h)
+line_begins f (t ∷ u) s h = refl
+
+pub Exact-lined : {A X : Type 0} (f : ℕ → A → X) {L L' : A → Lang} {g l : List ℕ} {r q : Reader A} → Exact L L' g false l r q → Exact (Lined f L) (Lined f L') g false l (lined f r) (lined f q)
+Exact-lined {A} {X} f {L} {L'} {g} {l} {r} {q} E = record {
+  runs = λ w. elim (E.runs w) [ inl k ↦ inl (good w k) | inr b ↦ inr (bad w b) ];
+  again = λ x u rest k h. lined_ok f r (u ++ rest) rest k.0 (E.again k.0 u rest k.2 h) ∙ ap (λ z. Ok (z, rest)) (ap (λ n. f n k.0) (line_begins g u rest (E.begins k.0 u k.2)) ∙ sym k.1);
+  begins = λ x u k. E.begins k.0 u k.2;
+  wider = λ x u k. (k.0, k.1, E.wider k.0 u k.2);
+  x = f (line_at E.u) E.x;
+  u = E.u;
+  has = (E.x, refl, E.has);
+}
+  where
+    good : (w : List Token) → Good L r q w → Good (Lined f L) (lined f r) (lined f q) w
+    good w k =
+        let keeps : (s : List Token) → f (line_at (k.u ++ s)) k.x ≡ f (line_at k.u) k.x = λ s. ap (λ n. f n k.x) (line_begins g k.u s (E.begins k.x k.u k.spells)) in
+        record {
+          x = f (line_at k.u) k.x;
+          u = k.u;
+          rest = k.rest;
+          cut = k.cut;
+          spells = (k.x, refl, k.spells);
+          again = λ s d. lined_ok f r (k.u ++ s) s k.x (k.again s d) ∙ ap (λ z. Ok (z, s)) (keeps s);
+          wide = λ s d. lined_ok f q (k.u ++ s) s k.x (k.wide s d) ∙ ap (λ z. Ok (z, s)) (keeps s);
+        }
+
+    bad : (w : List Token) → Bad L L' r q w → Bad (Lined f L) (Lined f L') (lined f r) (lined f q) w
+    bad w b = record {
+      p = b.p;
+      rest = b.rest;
+      deep = b.deep;
+      cut = b.cut;
+      fails = λ s d. lined_bad f r (b.p ++ s) _ (b.fails s d);
+      wide = λ n s d. lined_bad f q (b.p ++ s) _ (b.wide n s d);
+      x = f (line_at (b.p ++ b.v)) b.x;
+      v = b.v;
+      begun = (b.x, refl, b.begun);
+      more = λ n. let m = b.more n in (m.0, m.1, m.2, f (line_at (b.p ++ (m.0 ∷ m.4))) m.3, m.4, (m.3, refl, m.5));
+    }
+
+-- one of two, told by the next token
+
+abbrev pub Either : {X : Type 0} → (X → Lang) → (X → Lang) → X → Lang
+Either L N x u = L x u ⊎ N x u
+
+at_begins : (f cs : List ℕ) (u rest : List Token) → Begins f false u → within f cs ≡ true → at cs (u ++ rest) ≡ true
+at_begins f cs [] rest b d = absurd (false≢true b)
+at_begins f cs (t ∷ u) rest b d = within_mem f cs (class t) d b
+
+at_else : (f cs l : List ℕ) (e : Bool) (u rest : List Token) → Begins f e u → apart f cs ≡ true → at (cond e (cs ++ l) l) rest ≡ false → at cs (u ++ rest) ≡ false
+at_else f cs l true [] rest b d stop = (at_append cs l rest stop).0
+at_else f cs l false [] rest b d stop = absurd (false≢true b)
+at_else f cs l e (t ∷ u) rest b d stop = apart_mem f cs (class t) d b
+
+stops_else : (e : Bool) (cs l : List ℕ) (w : List Token) → at (cond e (cs ++ l) l) w ≡ false → at l w ≡ false
+stops_else true cs l w h = (at_append cs l w h).1
+stops_else false cs l w h = h
+
+module _ {X : Type 0} (cs : List ℕ) (r s : Reader X) where
+  pub branch_then : (w : List Token) → at cs w ≡ true → branch cs r s w ≡ r w
+  branch_then w h = ap (λ b. cond b (r w) (s w)) h
+
+  pub branch_else : (w : List Token) → at cs w ≡ false → branch cs r s w ≡ s w
+  branch_else w h = ap (λ b. cond b (r w) (s w)) h
+
+-- a run of a part is a run of the whole, where the whole does on this head as the part
+module _ {X : Type 0} (L N L' N' : X → Lang) (r q s p : Reader X) where
+  good_as : (w : List Token) → ((x : X) (u : List Token) → L x u → N x u) → ((z : List Token) → SameHead w z → s z ≡ r z) → ((z : List Token) → SameHead w z → p z ≡ q z) → Good L r q w → Good N s p w
+  good_as w to e1 e2 g =
+      let same : (z : List Token) → SameHead g.rest z → SameHead w (g.u ++ z) = λ z d. subst (λ y. SameHead y (g.u ++ z)) (sym g.cut) (SameHead-append g.u g.rest z d) in
+      record {
+        x = g.x;
+        u = g.u;
+        rest = g.rest;
+        cut = g.cut;
+        spells = to g.x g.u g.spells;
+        again = λ z d. e1 (g.u ++ z) (same z d) ∙ g.again z d;
+        wide = λ z d. e2 (g.u ++ z) (same z d) ∙ g.wide z d;
+      }
+
+  bad_as : (w : List Token) → ((x : X) (u : List Token) → L x u → N x u) → ((x : X) (u : List Token) → L' x u → N' x u) → ((z : List Token) → SameHead w z → s z ≡ r z) → ((z : List Token) → SameHead w z → p z ≡ q z) → Bad L L' r q w → Bad N N' s p w
+  bad_as w to to2 e1 e2 b =
+      let same : (z : List Token) → SameHead b.rest z → SameHead w (b.p ++ z) = λ z d. subst (λ y. SameHead y (b.p ++ z)) (sym b.cut) (SameHead-append b.p b.rest z d) in
+      record {
+        p = b.p;
+        rest = b.rest;
+        deep = b.deep;
+        cut = b.cut;
+        fails = λ z d. e1 (b.p ++ z) (same z d) ∙ b.fails z d;
+        wide = λ n z d. e2 (b.p ++ z) (same z d) ∙ b.wide n z d;
+        x = b.x;
+        v = b.v;
+        begun = to b.x (b.p ++ b.v) b.begun;
+        more = λ n. let m = b.more n in (m.0, m.1, m.2, m.3, m.4, to2 m.3 (b.p ++ (m.0 ∷ m.4)) m.5);
+      }
+
+pub Exact-branch : {X : Type 0} (cs : List ℕ) {L L' N N' : X → Lang} {f1 f2 l1 l2 : List ℕ} {e2 : Bool} {r q s p : Reader X} → Exact L L' f1 false l1 r q → Exact N N' f2 e2 l2 s p → within f1 cs ≡ true → apart f2 cs ≡ true → Exact (Either L N) (Either L' N') (f1 ++ f2) e2 (cond e2 (cs ++ (l1 ++ l2)) (l1 ++ l2)) (branch cs r s) (branch cs q p)
+Exact-branch {X} cs {L} {L'} {N} {N'} {f1} {f2} {l1} {l2} {e2} {r} {q} {s} {p} E F d1 d2 = record {
+  runs = λ w. elim (either (at cs w)) [
+    | inl y ↦
+        let e1 : (z : List Token) → SameHead w z → branch cs r s z ≡ r z = λ z d. branch_then cs r s z (at_same cs w z d ∙ y) in
+        let e2 : (z : List Token) → SameHead w z → branch cs q p z ≡ q z = λ z d. branch_then cs q p z (at_same cs w z d ∙ y) in
+        elim (E.runs w) [
+          | inl g ↦ inl (good_as L (Either L N) L' (Either L' N') r q (branch cs r s) (branch cs q p) w (λ x u k. inl k) e1 e2 g)
+          | inr b ↦ inr (bad_as L (Either L N) L' (Either L' N') r q (branch cs r s) (branch cs q p) w (λ x u k. inl k) (λ x u k. inl k) e1 e2 b)
+        ]
+    | inr y ↦
+        let e1 : (z : List Token) → SameHead w z → branch cs r s z ≡ s z = λ z d. branch_else cs r s z (at_same cs w z d ∙ y) in
+        let e2 : (z : List Token) → SameHead w z → branch cs q p z ≡ p z = λ z d. branch_else cs q p z (at_same cs w z d ∙ y) in
+        elim (F.runs w) [
+          | inl g ↦ inl (good_as N (Either L N) N' (Either L' N') s p (branch cs r s) (branch cs q p) w (λ x u k. inr k) e1 e2 g)
+          | inr b ↦ inr (bad_as N (Either L N) N' (Either L' N') s p (branch cs r s) (branch cs q p) w (λ x u k. inr k) (λ x u k. inr k) e1 e2 b)
+        ]
+  ];
+  again = λ x u rest k stop. elim k [
+    | inl a ↦ branch_then cs r s (u ++ rest) (at_begins f1 cs u rest (E.begins x u a) d1) ∙ E.again x u rest a (at_append l1 l2 rest (stops_else e2 cs (l1 ++ l2) rest stop)).0
+    | inr a ↦ branch_else cs r s (u ++ rest) (at_else f2 cs (l1 ++ l2) e2 u rest (F.begins x u a) d2 stop) ∙ F.again x u rest a (at_append l1 l2 rest (stops_else e2 cs (l1 ++ l2) rest stop)).1
+  ];
+  begins = λ x u k. elim k [ inl a ↦ begins_weak f1 f2 e2 u (E.begins x u a) | inr a ↦ begins_right f1 f2 e2 u (F.begins x u a) ];
+  wider = λ x u k. elim k [ inl a ↦ inl (E.wider x u a) | inr a ↦ inr (F.wider x u a) ];
+  x = E.x;
+  u = E.u;
+  has = inl E.has;
+}
+  where
+    begins_weak : (f g : List ℕ) (e : Bool) (u : List Token) → Begins f false u → Begins (f ++ g) e u
+    begins_weak f g e [] b = absurd (false≢true b)
+    begins_weak f g e (t ∷ u) b = mem_left (class t) f g b
+
+-- nothing more within these limits
+
+pub Exact-halt : {X : Type 0} (cs ks : List ℕ) {L L' : X → Lang} (N' : X → Lang) {f1 l1 : List ℕ} {r q : Reader X} (p : Reader X) → Exact L L' f1 false l1 r q → within f1 cs ≡ true → ((w : List Token) → at ks w ≡ false → p w ≡ Err (record { left = length w; deep = false })) → ((t : Token) → mem (class t) ks ≡ true → (x : X) × (v : List Token) × N' x (t ∷ v)) → Exact L (Either L' N') f1 false l1 (branch cs r (halt ks)) (branch cs q p)
+Exact-halt {X} cs ks {L} {L'} N' {f1} {l1} {r} {q} p E d1 stops opens = record {
+  runs = λ w. elim (either (at cs w)) [
+    | inl y ↦
+        let e1 : (z : List Token) → SameHead w z → branch cs r (halt ks) z ≡ r z = λ z d. branch_then cs r (halt ks) z (at_same cs w z d ∙ y) in
+        let e2 : (z : List Token) → SameHead w z → branch cs q p z ≡ q z = λ z d. branch_then cs q p z (at_same cs w z d ∙ y) in
+        elim (E.runs w) [
+          | inl g ↦ inl (good_as L L L' (Either L' N') r q (branch cs r (halt ks)) (branch cs q p) w (λ x u k. k) e1 e2 g)
+          | inr b ↦ inr (bad_as L L L' (Either L' N') r q (branch cs r (halt ks)) (branch cs q p) w (λ x u k. k) (λ x u k. inl k) e1 e2 b)
+        ]
+    | inr y ↦ inr (stuck w y)
+  ];
+  again = λ x u rest a stop. branch_then cs r (halt ks) (u ++ rest) (at_begins f1 cs u rest (E.begins x u a) d1) ∙ E.again x u rest a stop;
+  begins = E.begins;
+  wider = λ x u k. inl (E.wider x u k);
+  x = E.x;
+  u = E.u;
+  has = E.has;
+}
+  where
+    opened : (w : List Token) → at ks w ≡ true → (t : Token) × (ts : List Token) × (w ≡ t ∷ ts) × (x : X) × (v : List Token) × Either L' N' x (t ∷ v)
+    opened [] h = absurd (false≢true h)
+    opened (t ∷ ts) h = let o = opens t h in (t, ts, refl, o.0, o.1, inr o.2)
+
+    stuck : (w : List Token) → at cs w ≡ false → Bad L (Either L' N') (branch cs r (halt ks)) (branch cs q p) w
+    stuck w y = record {
+      p = [];
+      rest = w;
+      deep = at ks w;
+      cut = refl;
+      fails = λ z d. branch_else cs r (halt ks) z (at_same cs w z d ∙ y) ∙ ap (λ b. Err (record { left = length z; deep = b })) (at_same ks w z d);
+      wide = λ n z d. branch_else cs q p z (at_same cs w z d ∙ y) ∙ stops z (at_same ks w z d ∙ n);
+      x = E.x;
+      v = E.u;
+      begun = E.has;
+      more = λ n. opened w n;
+    }
+
+-- as many as there are
+
+guarded : {Z : Type 0} (b : Bool) (x y z : Z) → (b ≡ true → x ≡ y) → cond b x z ≡ cond b y z
+guarded true x y z e = e refl
+guarded false x y z e = refl
+
+lt_of : (a b : ℕ) → nat_lt a b ≡ true → a < b
+lt_of a b h = grind (arith, nat_tests)
+
+lt_to : (a b : ℕ) → a < b → nat_lt a b ≡ true
+lt_to a b h = grind (arith, nat_tests)
+
+module _ {X : Type 0} (cs : List ℕ) (r : Reader X) where
+  next : ℕ → X × List Token → Result (List X × List Token) Stuck
+  next n x = up_to n cs r x.1 >>= λ xs. Ok (x.0 ∷ xs.0, xs.1)
+
+  enough : (m n : ℕ) (w : List Token) → length w ≤ m → length w ≤ n → up_to m cs r w ≡ up_to n cs r w
+  unfolding up_to next
+  enough zero zero w a b = refl
+  enough zero (suc n) [] a b = refl
+  enough zero (suc n) (t ∷ ts) a b = absurd (omega arith)
+  enough (suc m) zero [] a b = refl
+  enough (suc m) zero (t ∷ ts) a b = absurd (omega arith)
+  enough (suc m) (suc n) w a b =
+      let inner : (z : Result (X × List Token) Stuck) → (z >>= λ x. shorter x.1 w (next m x)) ≡ (z >>= λ x. shorter x.1 w (next n x)) =
+      λ z. elim z as (λ z. (z >>= λ x. shorter x.1 w (next m x)) ≡ (z >>= λ x. shorter x.1 w (next n x))) [
+        | Ok x ↦ guarded (nat_lt (length x.1) (length w)) (next m x) (next n x) (Err (record { left = length w; deep = false }))
+            (λ e. let k : length x.1 < length w = lt_of (length x.1) (length w) e in ap (λ z. z >>= λ xs. Ok (x.0 ∷ xs.0, xs.1)) (enough m n x.1 (omega arith) (omega arith)))
+        | Err e ↦ refl
+      ] in
+      ap (λ z. cond (at cs w) z (Ok ([], w))) (inner (r w))
+
+  pub many_else : (w : List Token) → at cs w ≡ false → many cs r w ≡ Ok ([], w)
+  unfolding many up_to
+  many_else [] h = refl
+  many_else (t ∷ ts) h = ap (λ b. cond b (r (t ∷ ts) >>= λ x. shorter x.1 (t ∷ ts) (up_to (length ts) cs r x.1 >>= λ xs. Ok (x.0 ∷ xs.0, xs.1))) (Ok ([], t ∷ ts))) h
+
+  -- the unrolling: one more, and many
+  pub many_then : (w rest : List Token) (x : X) → at cs w ≡ true → r w ≡ Ok (x, rest) → length rest < length w → many cs r w ≡ (many cs r rest >>= λ xs. Ok (x ∷ xs.0, xs.1))
+  unfolding many up_to
+  many_then [] rest x h e l = absurd (false≢true h)
+  many_then (t ∷ ts) rest x h e l =
+      ap (λ b. cond b (r (t ∷ ts) >>= λ x. shorter x.1 (t ∷ ts) (up_to (length ts) cs r x.1 >>= λ xs. Ok (x.0 ∷ xs.0, xs.1))) (Ok ([], t ∷ ts))) h
+      ∙ ap (λ z. z >>= λ x. shorter x.1 (t ∷ ts) (up_to (length ts) cs r x.1 >>= λ xs. Ok (x.0 ∷ xs.0, xs.1))) e
+      ∙ ap (λ b. cond b (up_to (length ts) cs r rest >>= λ xs. Ok (x ∷ xs.0, xs.1)) (Err (record { left = length (t ∷ ts); deep = false }))) (lt_to (length rest) (length (t ∷ ts)) l)
+      ∙ ap (λ z. z >>= λ xs. Ok (x ∷ xs.0, xs.1)) (enough (length ts) (length rest) rest (omega arith) (omega arith))
+
+  pub many_bad : (w : List Token) (e : Stuck) → at cs w ≡ true → r w ≡ Err e → many cs r w ≡ Err e
+  unfolding many up_to
+  many_bad [] e h k = absurd (false≢true h)
+  many_bad (t ∷ ts) e h k =
+      ap (λ b. cond b (r (t ∷ ts) >>= λ x. shorter x.1 (t ∷ ts) (up_to (length ts) cs r x.1 >>= λ xs. Ok (x.0 ∷ xs.0, xs.1))) (Ok ([], t ∷ ts))) h
+      ∙ ap (λ z. z >>= λ x. shorter x.1 (t ∷ ts) (up_to (length ts) cs r x.1 >>= λ xs. Ok (x.0 ∷ xs.0, xs.1))) k
+
+each_begins : {X : Type 0} (L : X → Lang) (f : List ℕ) → ((x : X) (u : List Token) → L x u → Begins f false u) → (xs : List X) (u : List Token) → each L xs u → Begins f true u
+each_begins L f b [] u h = subst (Begins f true) (sym h) refl
+each_begins L f b (x ∷ xs) u h = subst (Begins f true) (sym h.2) (front h.0 h.1 (b x h.0 h.3))
+  where
+    front : (a c : List Token) → Begins f false a → Begins f true (a ++ c)
+    front [] c k = absurd (false≢true k)
+    front (t ∷ a) c k = k
+
+each_wider : {X : Type 0} (L M : X → Lang) → ((x : X) (u : List Token) → L x u → M x u) → (xs : List X) (u : List Token) → each L xs u → each M xs u
+each_wider L M w [] u h = h
+each_wider L M w (x ∷ xs) u h = (h.0, h.1, h.2, w x h.0 h.3, each_wider L M w xs h.1 h.4)
+
+each_cons : {X : Type 0} (L : X → Lang) (xs : List X) (u : List Token) → Both (λ (x : X) (ys : List X). x ∷ ys) L (each L) xs u → each L xs u
+each_cons L xs u h = subst (λ ys. each L ys u) (sym h.2) h.3
+
+longer : (f : List ℕ) (u w : List Token) → Begins f false u → length w < length (u ++ w)
+longer f [] w b = absurd (false≢true b)
+longer f (t ∷ u) w b = omega (arith, length-append u w)
+
+module _ {X : Type 0} (L M : X → Lang) (f l : List ℕ) (r q : Reader X) (E : Exact L M f false l r q) (d : apart f l ≡ true) where
+  abbrev cons : X → List X → List X
+  cons x xs = x ∷ xs
+
+  front : (u v : List Token) → Begins f false u → at f (u ++ v) ≡ true
+  front [] v b = absurd (false≢true b)
+  front (t ∷ u) v b = b
+
+  module _ (w : List Token) (g : Good L r q w) where
+    b : Begins f false g.u
+    b = E.begins g.x g.u g.spells
+
+    step_r : (y z : List Token) → SameHead g.rest (y ++ z) → many f r ((g.u ++ y) ++ z) ≡ both cons r (many f r) ((g.u ++ y) ++ z)
+    step_r y z k =
+        let v : List Token = y ++ z in
+        subst (λ a. many f r a ≡ both cons r (many f r) a) (sym (append_assoc g.u y z))
+        (many_then f r (g.u ++ v) v g.x (front g.u v b) (g.again v k) (longer f g.u v b) ∙ sym (ap (λ y. y >>= λ x. many f r x.1 >>= λ xs. Ok (x.0 ∷ xs.0, xs.1)) (g.again v k)))
+
+    step_q : (y z : List Token) → SameHead g.rest (y ++ z) → many f q ((g.u ++ y) ++ z) ≡ both cons q (many f q) ((g.u ++ y) ++ z)
+    step_q y z k =
+        let v : List Token = y ++ z in
+        subst (λ a. many f q a ≡ both cons q (many f q) a) (sym (append_assoc g.u y z))
+        (many_then f q (g.u ++ v) v g.x (front g.u v b) (g.wide v k) (longer f g.u v b) ∙ sym (ap (λ y. y >>= λ x. many f q x.1 >>= λ xs. Ok (x.0 ∷ xs.0, xs.1)) (g.wide v k)))
+
+    more_good : Good (each L) (many f r) (many f q) g.rest → Good (each L) (many f r) (many f q) w
+    unfolding both_good
+    more_good k =
+        let B = both_good cons L M (each L) (each M) r q (many f r) (many f q) w g k in
+        let same : (z : List Token) → SameHead k.rest z → SameHead g.rest (k.u ++ z) = λ z d. subst (λ y. SameHead y (k.u ++ z)) (sym k.cut) (SameHead-append k.u k.rest z d) in
+        record {
+          x = g.x ∷ k.x;
+          u = g.u ++ k.u;
+          rest = k.rest;
+          cut = B.cut;
+          spells = (g.u, k.u, refl, g.spells, k.spells);
+          again = λ z d. step_r k.u z (same z d) ∙ B.again z d;
+          wide = λ z d. step_q k.u z (same z d) ∙ B.wide z d;
+        }
+
+    more_bad : Bad (each L) (each M) (many f r) (many f q) g.rest → Bad (each L) (each M) (many f r) (many f q) w
+    unfolding both_second
+    more_bad k =
+        let B = both_second cons L M (each L) (each M) r q (many f r) (many f q) w E.wider g k in
+        let same : (z : List Token) → SameHead k.rest z → SameHead g.rest (k.p ++ z) = λ z d. subst (λ y. SameHead y (k.p ++ z)) (sym k.cut) (SameHead-append k.p k.rest z d) in
+        record {
+          p = g.u ++ k.p;
+          rest = k.rest;
+          deep = k.deep;
+          cut = B.cut;
+          fails = λ z d. step_r k.p z (same z d) ∙ B.fails z d;
+          wide = λ n z d. step_q k.p z (same z d) ∙ B.wide n z d;
+          x = g.x ∷ k.x;
+          v = k.v;
+          begun = each_cons L (g.x ∷ k.x) ((g.u ++ k.p) ++ k.v) B.begun;
+          more = λ n. let m = B.more n in (m.0, m.1, m.2, m.3, m.4, each_cons M m.3 ((g.u ++ k.p) ++ (m.0 ∷ m.4)) m.5);
+        }
+
+  here_bad : (w : List Token) → at f w ≡ true → Bad L M r q w → Bad (each L) (each M) (many f r) (many f q) w
+  here_bad w h k =
+      let same : (z : List Token) → SameHead k.rest z → at f (k.p ++ z) ≡ true = λ z d. at_same f w (k.p ++ z) (subst (λ y. SameHead y (k.p ++ z)) (sym k.cut) (SameHead-append k.p k.rest z d)) ∙ h in
+      record {
+        p = k.p;
+        rest = k.rest;
+        deep = k.deep;
+        cut = k.cut;
+        fails = λ z d. many_bad f r (k.p ++ z) _ (same z d) (k.fails z d);
+        wide = λ n z d. many_bad f q (k.p ++ z) _ (same z d) (k.wide n z d);
+        x = k.x ∷ [];
+        v = k.v;
+        begun = (k.p ++ k.v, [], sym (append-nil (k.p ++ k.v)), k.begun, refl);
+        more = λ n. let m = k.more n in (m.0, m.1, m.2, m.3 ∷ [], m.4, (k.p ++ (m.0 ∷ m.4), [], sym (append-nil (k.p ++ (m.0 ∷ m.4))), m.5, refl));
+      }
+
+  end_good : (w : List Token) → at f w ≡ false → Good (each L) (many f r) (many f q) w
+  end_good w h = record { x = []; u = []; rest = w; cut = refl; spells = refl; again = λ z s. many_else f r z (at_same f w z s ∙ h); wide = λ z s. many_else f q z (at_same f w z s ∙ h) }
+
+  many_runs : (n : ℕ) (w : List Token) → length w ≤ n → Good (each L) (many f r) (many f q) w ⊎ Bad (each L) (each M) (many f r) (many f q) w
+  many_runs zero [] fuel = inl (end_good [] refl)
+  many_runs zero (t ∷ ts) fuel = absurd (omega arith)
+  many_runs (suc n) w fuel = elim (either (at f w)) [
+    | inl h ↦ elim (E.runs w) [
+      | inl g ↦
+          let less : length g.rest < length w = subst (λ y. length g.rest < length y) (sym g.cut) (longer f g.u g.rest (E.begins g.x g.u g.spells)) in
+          elim (many_runs n g.rest (omega arith)) [ inl k ↦ inl (more_good w g k) | inr k ↦ inr (more_bad w g k) ]
+      | inr k ↦ inr (here_bad w h k)
+    ]
+    | inr h ↦ inl (end_good w h)
+  ]
+
+  many_again : (xs : List X) (u rest : List Token) → each L xs u → at (f ++ l) rest ≡ false → many f r (u ++ rest) ≡ Ok (xs, rest)
+  many_again [] u rest h stop = ap (λ y. many f r (y ++ rest)) h ∙ many_else f r rest (at_append f l rest stop).0
+  many_again (x ∷ xs) u rest h stop =
+      let a = h.0 in let c = h.1 in
+      let k : Begins f false a = E.begins x a h.3 in
+      let first : r (a ++ (c ++ rest)) ≡ Ok (x, c ++ rest) = E.again x a (c ++ rest) h.3 (follow c (each_begins L f E.begins xs c h.4)) in
+      ap (λ y. many f r (y ++ rest)) h.2 ∙ ap (many f r) (append_assoc a c rest)
+      ∙ many_then f r (a ++ (c ++ rest)) (c ++ rest) x (front a (c ++ rest) k) first (longer f a (c ++ rest) k)
+      ∙ ap (λ z. z >>= λ ys. Ok (x ∷ ys.0, ys.1)) (many_again xs c rest h.4 stop)
+    where
+      follow : (c : List Token) → Begins f true c → at l (c ++ rest) ≡ false
+      follow [] b = (at_append f l rest stop).1
+      follow (t ∷ c) b = apart_mem f l (class t) d b
+
+  pub many_exact : Exact (each L) (each M) f true (f ++ l) (many f r) (many f q)
+  many_exact = record {
+    runs = λ w. many_runs (length w) w (omega arith);
+    again = many_again;
+    begins = each_begins L f E.begins;
+    wider = each_wider L M E.wider;
+    x = [];
+    u = [];
+    has = refl;
+  }
+
+pub Exact-many : {X : Type 0} {L M : X → Lang} {f l : List ℕ} {r q : Reader X} → Exact L M f false l r q → apart f l ≡ true → Exact (each L) (each M) f true (f ++ l) (many f r) (many f q)
+Exact-many {X} {L} {M} {f} {l} {r} {q} E d = many_exact L M f l r q E d
+
+pub Exact-done : {X : Type 0} (x : X) → Exact (λ y u. (y ≡ x) × (u ≡ [])) (λ y u. (y ≡ x) × (u ≡ [])) [] true [] (done x) (done x)
+Exact-done x = record {
+  runs = λ w. inl (record { x = x; u = []; rest = w; cut = refl; spells = (refl, refl); again = λ s d. refl; wide = λ s d. refl });
+  again = λ y u rest h stop. ap (λ v. Ok (x, v ++ rest)) h.1 ∙ ap (λ z. Ok (z, rest)) (sym h.0);
+  begins = λ y u h. subst (Begins [] true) (sym h.1) refl;
+  wider = λ y u h. h;
+  x = x;
+  u = [];
+  has = (refl, refl);
+}
+
+apart_none : (xs : List ℕ) → apart xs [] ≡ true
+apart_none [] = refl
+apart_none (x ∷ xs) = apart_none xs
+
+pub Exact-after : {X : Type 0} (c : List ℕ) (t : Token) → mem (class t) c ≡ true → {L L' : X → Lang} {f l : List ℕ} {e : Bool} {r q : Reader X} → Exact L L' f e l r q → Exact (λ x. word c · L x) (λ x. word c · L' x) c false (lasts e [] l) (after c r) (after c q)
+Exact-after {X} c t k {L} {L'} {f} {l} {e} {r} {q} E =
+    Exact-same (λ x. word c · L x) (λ x. word c · L' x)
+    (λ x u h. (h.3.0, h.3.1, h.3.2, (h.0, h.3.3.0, h.3.3.1), subst (λ y. L y h.3.1) (sym h.2) h.3.4))
+    (λ x u h. (h.3.0, x, refl, (h.0, h.1, h.2, (h.3.1, h.3.2), h.4)))
+    (λ x u h. (h.3.0, h.3.1, h.3.2, (h.0, h.3.3.0, h.3.3.1), subst (λ y. L' y h.3.1) (sym h.2) h.3.4))
+    (Exact-both (λ (t : Token) (x : X). x) (Exact-word c t k) E (apart_none f))
+
+pub Exact-ended : {X : Type 0} (c : List ℕ) (t : Token) → mem (class t) c ≡ true → {L L' : X → Lang} {f l : List ℕ} {e : Bool} {r q : Reader X} → Exact L L' f e l r q → apart c l ≡ true → Exact (λ x. L x · word c) (λ x. L' x · word c) (firsts e f c) (cond e false false) [] (ended r c) (ended q c)
+Exact-ended {X} c t k {L} {L'} {f} {l} {e} {r} {q} E d =
+    Exact-same (λ x. L x · word c) (λ x. L' x · word c)
+    (λ x u h. (h.3.0, h.3.1, h.3.2, subst (λ y. L y h.3.0) (sym h.2) h.3.3, (h.1, h.3.4.0, h.3.4.1)))
+    (λ x u h. (x, h.4.0, refl, (h.0, h.1, h.2, h.3, (h.4.1, h.4.2))))
+    (λ x u h. (h.3.0, h.3.1, h.3.2, subst (λ y. L' y h.3.0) (sym h.2) h.3.3, (h.1, h.3.4.0, h.3.4.1)))
+    (Exact-both (λ (x : X) (t : Token). x) E (Exact-word c t k) d)
+
+pub Exact-closed : {X : Type 0} (c d : List ℕ) (t s : Token) → mem (class t) c ≡ true → mem (class s) d ≡ true → {L L' : X → Lang} {f l : List ℕ} {e : Bool} {r q : Reader X} → Exact L L' f e l r q → apart c l ≡ true → Exact (λ x. L x · (word c · word d)) (λ x. L' x · (word c · word d)) (firsts e f c) (cond e false false) [] (closed r c d) (closed q c d)
+Exact-closed {X} c d t s k m {L} {L'} {f} {l} {e} {r} {q} E a =
+    Exact-same (λ x. L x · (word c · word d)) (λ x. L' x · (word c · word d))
+    (λ x u h. (h.3.0, h.3.1, h.3.2, subst (λ y. L y h.3.0) (sym h.2) h.3.3, (h.3.4.0, h.3.4.1, h.3.4.2, h.3.4.3, (h.1, h.3.4.4.0, h.3.4.4.1))))
+    (λ x u h. (x, h.4.4.0, refl, (h.0, h.1, h.2, h.3, (h.4.0, h.4.1, h.4.2, h.4.3, (h.4.4.1, h.4.4.2)))))
+    (λ x u h. (h.3.0, h.3.1, h.3.2, subst (λ y. L' y h.3.0) (sym h.2) h.3.3, (h.3.4.0, h.3.4.1, h.3.4.2, h.3.4.3, (h.1, h.3.4.4.0, h.3.4.4.1))))
+    (Exact-both (λ (x : X) (t : Token). x) E (Exact-after c t k (Exact-word d s m)) a)
+
+-- more classes may be told
+pub Exact-weak : {X : Type 0} {L L' : X → Lang} {f l : List ℕ} {e : Bool} {r q : Reader X} (g m : List ℕ) → Exact L L' f e l r q → within f g ≡ true → within l m ≡ true → Exact L L' g e m r q
+Exact-weak {X} {L} {L'} {f} {l} {e} {r} {q} g m E d k = record {
+  runs = E.runs;
+  again = λ x u rest h stop. E.again x u rest h (stops rest stop);
+  begins = λ x u h. begins u (E.begins x u h);
+  wider = E.wider;
+  x = E.x;
+  u = E.u;
+  has = E.has;
+}
+  where
+    begins : (u : List Token) → Begins f e u → Begins g e u
+    begins [] h = h
+    begins (t ∷ u) h = within_mem f g (class t) d h
+
+    stops : (w : List Token) → at m w ≡ false → at l w ≡ false
+    stops [] h = refl
+    stops (t ∷ w) h = elim (either (mem (class t) l)) [ inl y ↦ absurd (false≢true (sym h ∙ within_mem l m (class t) k y)) | inr y ↦ y ]
+
+pub Exact-optional : {X : Type 0} (cs : List ℕ) {L L' : X → Lang} {f l : List ℕ} {r q : Reader X} → Exact L L' f false l r q → within f cs ≡ true → Exact (maybe L) (maybe L') (f ++ []) true (cs ++ (l ++ [])) (optional cs r) (optional cs q)
+Exact-optional {X} cs {L} {L'} {f} {l} {r} {q} E d =
+    Exact-same (maybe L) (maybe L') (to L) from (to L')
+    (Exact-branch cs (Exact-lined (λ _ (x : X). Some x) E) (Exact-done None) d refl)
+  where
+    to : (N : X → Lang) (x : Option X) (u : List Token) → Either (Lined (λ _ (x : X). Some x) N) (λ y u. (y ≡ None) × (u ≡ [])) x u → maybe N x u
+    to N x u (inl h) = subst (λ y. maybe N y u) (sym h.1) h.2
+    to N x u (inr h) = subst (λ y. maybe N y u) (sym h.0) h.1
+
+    from : (x : Option X) (u : List Token) → maybe L x u → Either (Lined (λ _ (x : X). Some x) L) (λ y u. (y ≡ None) × (u ≡ [])) x u
+    from None u h = inr (refl, h)
+    from (Some x) u h = inl (x, refl, h)
+
+pub Exact-flag : {X : Type 0} (cs : List ℕ) (M : Lang) {L L' : X → Lang} {f l : List ℕ} {r q : Reader X} → ((x : X) (u : List Token) → L x u → M u) → ((x : X) (u : List Token) → L' x u → M u) → ((u : List Token) → M u → (x : X) × L x u) → Exact L L' f false l r q → within f cs ≡ true → Exact (flag M) (flag M) (f ++ []) true (cs ++ (l ++ [])) (flag_read cs r) (flag_read cs q)
+Exact-flag {X} cs M {L} {L'} {f} {l} {r} {q} there wide back E d =
+    Exact-same (flag M) (flag M) (to L there) from (to L' wide)
+    (Exact-branch cs (Exact-lined (λ _ (x : X). true) E) (Exact-done false) d refl)
+  where
+    to : (N : X → Lang) → ((x : X) (u : List Token) → N x u → M u) → (x : Bool) (u : List Token) → Either (Lined (λ _ (x : X). true) N) (λ y u. (y ≡ false) × (u ≡ [])) x u → flag M x u
+    to N k x u (inl h) = subst (λ y. flag M y u) (sym h.1) (k h.0 u h.2)
+    to N k x u (inr h) = subst (λ y. flag M y u) (sym h.0) h.1
+
+    from : (x : Bool) (u : List Token) → flag M x u → Either (Lined (λ _ (x : X). true) L) (λ y u. (y ≡ false) × (u ≡ [])) x u
+    from false u h = inr (refl, h)
+    from true u h = let k = back u h in inl (k.0, refl, k.1)
+
+-- the same sentence, begun with another word of these classes
+pub reopened : {X : Type 0} (c : List ℕ) (L : X → Lang) (t : Token) → mem (class t) c ≡ true → (x : X) (v : List Token) → L x v → (word c · L x) (t ∷ v)
+reopened c L t h x v k = (t ∷ [], v, refl, (t, refl, h), k)
+
+pub after_stops : {X : Type 0} (c : List ℕ) (r : Reader X) (w : List Token) → at c w ≡ false → after c r w ≡ Err (record { left = length w; deep = false })
+after_stops {X} c r [] h = both_bad1 (λ (t : Token) (x : X). x) (word_of c) r [] _ (word_end c)
+after_stops {X} c r (t ∷ w) h = both_bad1 (λ (t : Token) (x : X). x) (word_of c) r (t ∷ w) _ (word_bad c t w h)
+
+pub lined_stops : {A X : Type 0} (f : ℕ → A → X) (r : Reader A) (w : List Token) (e : Stuck) → r w ≡ Err e → lined f r w ≡ Err e
+lined_stops f r w e h = lined_bad f r w e h
+
+pub Exact-pair : {A B : Type 0} {L L' : A → Lang} {N N' : B → Lang} {f1 f2 l1 l2 : List ℕ} {e1 e2 : Bool} {r q : Reader A} {s p : Reader B} → Exact L L' f1 e1 l1 r q → Exact N N' f2 e2 l2 s p → apart f2 l1 ≡ true → Exact {X = A × B} (λ x. L x.0 · N x.1) (λ x. L' x.0 · N' x.1) (firsts e1 f1 f2) (cond e1 e2 false) (lasts e2 l1 l2) (pair r s) (pair q p)
+Exact-pair {A} {B} {L} {L'} {N} {N'} {f1} {f2} {l1} {l2} {e1} {e2} {r} {q} {s} {p} E F d =
+    Exact-same {X = A × B} (λ x. L x.0 · N x.1) (λ x. L' x.0 · N' x.1)
+    (λ x u h. subst (λ (y : A × B). (L y.0 · N y.1) u) (sym h.2) h.3)
+    (λ x u h. (x.0, x.1, refl, h))
+    (λ x u h. subst (λ (y : A × B). (L' y.0 · N' y.1) u) (sym h.2) h.3)
+    (Exact-both (λ (a : A) (b : B). let p : A × B = (a, b) in p) E F d)
+
+-- for the loops of a parser
+
+pub Exact-shorter : {X : Type 0} {L M : X → Lang} {f l : List ℕ} {r q : Reader X} → Exact L M f false l r q → (w rest : List Token) (x : X) → r w ≡ Ok (x, rest) → length rest < length w
+Exact-shorter {X} {L} {M} {f} {l} {r} {q} E w rest x h = elim (E.runs w) [
+  | inl g ↦
+      let same : ◌≡◌ {A = Result (X × List Token) Stuck} (Ok (g.x, g.rest)) (Ok (x, rest)) = sym (g.again g.rest (SameHead-refl g.rest)) ∙ (ap r (sym g.cut) ∙ h) in
+      let tail : ◌≡◌ {A = X × List Token} (g.x, g.rest) (x, rest) = (cc) in
+      let e : g.rest ≡ rest = ap (λ (p : X × List Token). p.1) tail in
+      subst (λ y. length y < length w) e (subst (λ y. length g.rest < length y) (sym g.cut) (longer f g.u g.rest (E.begins g.x g.u g.spells)))
+  | inr b ↦
+      let same : ◌≡◌ {A = Result (X × List Token) Stuck} (Err (record { left = length b.rest; deep = b.deep })) (Ok (x, rest)) = sym (b.fails b.rest (SameHead-refl b.rest)) ∙ (ap r (sym b.cut) ∙ h) in
+      let bad : ⊥ = (cc) in absurd bad
+]
+
+module _ {X : Type 0} (f : List ℕ) (r : Reader X) (less : (w rest : List Token) (x : X) → r w ≡ Ok (x, rest) → length rest < length w) where
+  pub loop_more : (front : List X) (x : X) (w rest : List Token) (all : Result (List X × List Token) Stuck) → at f w ≡ true → r w ≡ Ok (x, rest) → with_front front (many f r w) ≡ all → with_front (front ++ (x ∷ [])) (many f r rest) ≡ all
+  loop_more front x w rest all h k e = regroup (many f r rest) ∙ (sym (ap (with_front front) (many_then f r w rest x h k (less w rest x k))) ∙ e)
+    where
+      regroup : (z : Result (List X × List Token) Stuck) → with_front (front ++ (x ∷ [])) z ≡ with_front front (z >>= λ xs. Ok (x ∷ xs.0, xs.1))
+      regroup (Ok y) = ap (λ v. Ok (v, y.1)) (append_assoc front (x ∷ []) y.0)
+      regroup (Err y) = refl
+
+  pub loop_stop : (front : List X) (w : List Token) (all : Result (List X × List Token) Stuck) → at f w ≡ false → with_front front (many f r w) ≡ all → all ≡ Ok (front, w)
+  loop_stop front w all h e = sym e ∙ ap (with_front front) (many_else f r w h) ∙ ap (λ v. Ok (v, w)) (append-nil front)
+
+  pub loop_fail : (front : List X) (w : List Token) (e : Stuck) (all : Result (List X × List Token) Stuck) → at f w ≡ true → r w ≡ Err e → with_front front (many f r w) ≡ all → all ≡ Err e
+  loop_fail front w e all h k i = sym i ∙ ap (with_front front) (many_bad f r w e h k)

@@ -1,0 +1,19 @@
+-- What a function of the parser tells of a reading.
+use Rattle.std.specs.Prelude.{◌≡◌, Result, Ok, Err}
+use Rattle.token_grammar.specs.declared.fault.Fault.{Fault}
+use Rattle.token_grammar.specs.declared.fault.Fault.TheVariants as faults
+use Rattle.token_grammar.specs.Reading.{Stuck}
+
+abbrev pub Fails : {Y : Type 0} → Fault → Result Y Stuck → Type 0
+Fails faults.Memory read = Unit {0}
+Fails (faults.Stuck left deep) read = read ≡ Err (record { left = left; deep = deep })
+
+-- it read this, or it stopped there, or no memory was found
+abbrev pub Gives : {X Y : Type 0} → (X → Y) → Result X Fault → Result Y Stuck → Type 0
+Gives view (Ok x) read = read ≡ Ok (view x)
+Gives view (Err e) read = Fails e read
+
+abbrev pub Holds : {X : Type 0} → X → Result X Fault → Type 0
+Holds x (Ok y) = y ≡ x
+Holds x (Err faults.Memory) = Unit {0}
+Holds x (Err (faults.Stuck left deep)) = ⊥
