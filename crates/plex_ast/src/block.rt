@@ -1,0 +1,88 @@
+// Blocks.
+use crate::stmt::{Names, Stmt};
+use plex_num::Seq;
+use token_grammar::{Named, Numbered};
+
+/// `block = BLOCK name ; DECLARE ; { decl } SURVEY ; { survey } PROGRAM ; { item } END BLOCK ;`
+#[derive(Drop)]
+pub struct Block {
+    pub line: u32,
+    pub name: Named,
+    pub decls: Seq<Decl>,
+    pub surveys: Seq<Survey>,
+    pub items: Seq<Item>,
+    /// The line of its END.
+    pub end_line: u32,
+}
+
+/// `decl`: a declaration, which its alternatives tell apart.
+#[derive(Drop)]
+pub struct Decl {
+    pub line: u32,
+    pub kind: DeclKind,
+}
+
+/// The alternatives of `decl`.
+#[derive(Drop)]
+pub enum DeclKind {
+    /// `VARIABLE name WIDTH number [ INIT number ] ;`
+    Variable {
+        name: Named,
+        width: Numbered,
+        init: Option<Numbered>,
+    },
+    /// `TEMPORARY name ;`
+    Temporary {
+        name: Named,
+    },
+    /// `[ FORLOPP ] FILE name SIZE number ; { FIELD .. }` where `forlopp` says whether FORLOPP stands there
+    File {
+        forlopp: bool,
+        name: Named,
+        size: Numbered,
+        fields: Seq<Field>,
+    },
+}
+
+/// One field of a file: `FIELD name WIDTH number [ INIT number ] ;`
+#[derive(Drop)]
+pub struct Field {
+    pub line: u32,
+    pub name: Named,
+    pub width: Numbered,
+    pub init: Option<Numbered>,
+}
+
+/// `survey`: a line of a survey, which its alternatives tell apart.
+#[derive(Drop)]
+pub struct Survey {
+    pub line: u32,
+    pub kind: SurveyKind,
+}
+
+/// The alternatives of `survey`.
+#[derive(Drop)]
+pub enum SurveyKind {
+    /// `RECEIVE name ;`
+    Receive { signal: Named },
+    /// `SEND name ;`
+    Send { signal: Named },
+}
+
+/// `item`: a step of a program, which its alternatives tell apart.
+#[derive(Drop)]
+pub struct Item {
+    pub line: u32,
+    pub kind: ItemKind,
+}
+
+/// The alternatives of `item`.
+#[derive(Drop)]
+pub enum ItemKind {
+    /// `name )`
+    Label { name: Named },
+    /// `ENTER name [ names ] ;`
+    Enter { signal: Named, names: Option<Names> },
+    /// `stmt`
+    Stmt(Stmt),
+}

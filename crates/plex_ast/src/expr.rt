@@ -1,0 +1,124 @@
+// Expressions and conditions.
+use crate::boxed::Boxed;
+use plex_num::Seq;
+use token_grammar::{Named, Numbered};
+
+/// `expr = term { ( + | - ) term }`
+#[derive(Drop)]
+#[cycle(expr)]
+pub struct Expr {
+    /// The line of its first token, from 1; so in every node.
+    pub line: u32,
+    pub first: Term,
+    pub rest: Seq<Added>,
+}
+
+/// What is added to a sum: `+ term | - term`
+#[derive(Drop)]
+#[cycle(expr)]
+pub enum Added {
+    /// `+ term`
+    Plus(Term),
+    /// `- term`
+    Minus(Term),
+}
+
+/// `term = factor { ( * | / | MOD ) factor }`
+#[derive(Drop)]
+#[cycle(expr)]
+pub struct Term {
+    pub line: u32,
+    pub first: Factor,
+    pub rest: Seq<Multiplied>,
+}
+
+/// What a product goes on with: `* factor | / factor | MOD factor`
+#[derive(Drop)]
+#[cycle(expr)]
+pub enum Multiplied {
+    /// `* factor`
+    Times(Factor),
+    /// `/ factor`
+    Over(Factor),
+    /// `MOD factor`
+    Mod(Factor),
+}
+
+/// `factor = number | name | name ( name ) | ( expr )`
+#[derive(Drop)]
+#[cycle(expr)]
+pub struct Factor {
+    pub line: u32,
+    pub kind: FactorKind,
+}
+
+/// The alternatives of `factor`.
+#[derive(Drop)]
+#[cycle(expr)]
+pub enum FactorKind {
+    /// `number`
+    Number(Numbered),
+    /// `name`: a variable or a temporary
+    Name(Named),
+    /// `name ( name )`: a field, and the pointer to its record
+    Field { name: Named, pointer: Named },
+    /// `( expr )`
+    Bracket(Boxed<Expr>),
+}
+
+/// `cond = conj { OR conj }`
+#[derive(Drop)]
+pub struct Cond {
+    pub line: u32,
+    pub first: Conj,
+    pub rest: Seq<Conj>,
+}
+
+/// `conj = relation { AND relation }`
+#[derive(Drop)]
+pub struct Conj {
+    pub line: u32,
+    pub first: Relation,
+    pub rest: Seq<Relation>,
+}
+
+/// `relation = expr rel expr`
+#[derive(Drop)]
+pub struct Relation {
+    pub line: u32,
+    pub left: Expr,
+    pub rel: Rel,
+    pub right: Expr,
+}
+
+/// `rel = = | <> | < | <= | > | >=`
+#[derive(Drop)]
+pub struct Rel {
+    pub line: u32,
+    pub kind: RelKind,
+}
+
+/// The alternatives of `rel`.
+#[derive(Clone, Copy, PartialEq, Eq)]
+pub enum RelKind {
+    /// `=`
+    Equal,
+    /// `<>`
+    Unequal,
+    /// `<`
+    Below,
+    /// `<=`
+    AtMost,
+    /// `>`
+    Above,
+    /// `>=`
+    AtLeast,
+}
+
+/// `exprs = WITH expr { , expr }`
+#[derive(Drop)]
+pub struct Exprs {
+    pub line: u32,
+    pub first: Expr,
+    pub rest: Seq<Expr>,
+}
