@@ -1,0 +1,136 @@
+// Conditions. The brackets of their expressions nest at most `room` deep.
+ghost use Rattle.std.specs.Prelude.{◌≡◌};
+ghost use Rattle.token_grammar.specs.Gives.{Gives};
+ghost use Rattle.token_grammar.specs.Reading.{many};
+ghost use Rattle.plex_expr_parser.specs.Readers.{and_read, cond_read, conj_read, or_read, rel_kind_read, rel_read, relation_read};
+ghost use Rattle.plex_ast.specs.Words as classes;
+
+use crate::expression::expr;
+use plex_ast::{Cond, Conj, Rel, RelKind, Relation, words};
+use plex_lexer::Token;
+use plex_num::Seq;
+use std::alloc::Global;
+use token_grammar::{Fault, line_of, starts, word};
+
+/// A condition and the tokens after it, or where the reading stopped.
+#[tactic(auto, unfolding(crate::specs::Readers::cond_read))]
+pub fn cond(alloc: Global, tokens: &[Token], room: u32) -> Result<(Cond, &[Token]), Fault>
+    ensures { Gives (λ x. (x.0, x.1.now)) result (cond_read room tokens.now) }
+{
+    let line = line_of(tokens);
+    let (first, left) = conj(alloc, tokens, room)?;
+    let (rest, left) = or_list(alloc, left, room)?;
+    Ok((Cond { line, first, rest }, left))
+}
+
+#[tactic(auto, using(crate::proofs::Loops::or_less, crate::proofs::Loops::or_on, crate::proofs::Loops::or_end, crate::proofs::Loops::or_bad))]
+fn or_list(alloc: Global, tokens: &[Token], room: u32) -> Result<(Seq<Conj>, &[Token]), Fault>
+    ensures { Gives (λ x. (x.0, x.1.now)) result (many classes.OR (or_read room) tokens.now) }
+{
+    let mut left = tokens;
+    let mut list = Seq::new(alloc);
+    'conjs: while starts(left, words::OR) {
+        let (conj, after) = or_conj(alloc, left, room)?;
+        if let Err(_) = list.push(conj) {
+            return Err(Fault::Memory);
+        }
+        left = after;
+    }
+    Ok((list, left))
+}
+
+#[tactic(auto, unfolding(crate::specs::Readers::or_read))]
+fn or_conj(alloc: Global, tokens: &[Token], room: u32) -> Result<(Conj, &[Token]), Fault>
+    ensures { Gives (λ x. (x.0, x.1.now)) result (or_read room tokens.now) }
+{
+    let (_, left) = word(tokens, words::OR)?;
+    conj(alloc, left, room)
+}
+
+#[tactic(auto, unfolding(crate::specs::Readers::conj_read))]
+fn conj(alloc: Global, tokens: &[Token], room: u32) -> Result<(Conj, &[Token]), Fault>
+    ensures { Gives (λ x. (x.0, x.1.now)) result (conj_read room tokens.now) }
+{
+    let line = line_of(tokens);
+    let (first, left) = relation(alloc, tokens, room)?;
+    let (rest, left) = and_list(alloc, left, room)?;
+    Ok((Conj { line, first, rest }, left))
+}
+
+#[tactic(auto, using(crate::proofs::Loops::and_less, crate::proofs::Loops::and_on, crate::proofs::Loops::and_end, crate::proofs::Loops::and_bad))]
+fn and_list(alloc: Global, tokens: &[Token], room: u32) -> Result<(Seq<Relation>, &[Token]), Fault>
+    ensures { Gives (λ x. (x.0, x.1.now)) result (many classes.AND (and_read room) tokens.now) }
+{
+    let mut left = tokens;
+    let mut list = Seq::new(alloc);
+    'relations: while starts(left, words::AND) {
+        let (relation, after) = and_relation(alloc, left, room)?;
+        if let Err(_) = list.push(relation) {
+            return Err(Fault::Memory);
+        }
+        left = after;
+    }
+    Ok((list, left))
+}
+
+#[tactic(auto, unfolding(crate::specs::Readers::and_read))]
+fn and_relation(alloc: Global, tokens: &[Token], room: u32) -> Result<(Relation, &[Token]), Fault>
+    ensures { Gives (λ x. (x.0, x.1.now)) result (and_read room tokens.now) }
+{
+    let (_, left) = word(tokens, words::AND)?;
+    relation(alloc, left, room)
+}
+
+#[tactic(auto, unfolding(crate::specs::Readers::relation_read))]
+fn relation(alloc: Global, tokens: &[Token], room: u32) -> Result<(Relation, &[Token]), Fault>
+    ensures { Gives (λ x. (x.0, x.1.now)) result (relation_read room tokens.now) }
+{
+    let line = line_of(tokens);
+    let (left, rest) = expr(alloc, tokens, room)?;
+    let (rel, rest) = rel(rest)?;
+    let (right, rest) = expr(alloc, rest, room)?;
+    Ok((
+        Relation {
+            line,
+            left,
+            rel,
+            right,
+        },
+        rest,
+    ))
+}
+
+/// A comparison and the tokens after it, or where the reading stopped.
+#[tactic(auto, unfolding(crate::specs::Readers::rel_read))]
+pub fn rel(tokens: &[Token]) -> Result<(Rel, &[Token]), Fault>
+    ensures { Gives (λ x. (x.0, x.1.now)) result (rel_read tokens.now) }
+{
+    let line = line_of(tokens);
+    let (kind, left) = rel_kind(tokens)?;
+    Ok((Rel { line, kind }, left))
+}
+
+#[tactic(auto, unfolding(crate::specs::Readers::rel_kind_read))]
+fn rel_kind(tokens: &[Token]) -> Result<(RelKind, &[Token]), Fault>
+    ensures { Gives (λ x. (x.0, x.1.now)) result (rel_kind_read tokens.now) }
+{
+    if starts(tokens, words::EQUAL) {
+        let (_, left) = word(tokens, words::EQUAL)?;
+        Ok((RelKind::Equal, left))
+    } else if starts(tokens, words::UNEQUAL) {
+        let (_, left) = word(tokens, words::UNEQUAL)?;
+        Ok((RelKind::Unequal, left))
+    } else if starts(tokens, words::BELOW) {
+        let (_, left) = word(tokens, words::BELOW)?;
+        Ok((RelKind::Below, left))
+    } else if starts(tokens, words::AT_MOST) {
+        let (_, left) = word(tokens, words::AT_MOST)?;
+        Ok((RelKind::AtMost, left))
+    } else if starts(tokens, words::ABOVE) {
+        let (_, left) = word(tokens, words::ABOVE)?;
+        Ok((RelKind::Above, left))
+    } else {
+        let (_, left) = word(tokens, words::AT_LEAST)?;
+        Ok((RelKind::AtLeast, left))
+    }
+}

@@ -1,0 +1,166 @@
+// Expressions, whose brackets nest at most `room` deep.
+ghost use Rattle.std.specs.Prelude.{◌≡◌, ◌++◌};
+ghost use Rattle.token_grammar.specs.Gives.{Gives, Holds};
+ghost use Rattle.token_grammar.specs.Reading.{many};
+ghost use Rattle.plex_expr_parser.specs.Readers.{added_by, bracket_at, bracket_read, expr_read, factor_read, inside_read, kind_with, multiplied_by, term_read, ADD, MULTIPLY};
+
+use crate::factor::plain;
+use plex_ast::{Added, Boxed, Expr, Factor, FactorKind, Multiplied, Term, words};
+use plex_lexer::Token;
+use plex_num::Seq;
+use std::alloc::Global;
+use token_grammar::{Fault, line_of, starts, starts_in, word};
+
+/// What begins a factor that is no bracket: a number or any name.
+const PLAIN: [u64; 6] = [
+    words::NUMBER,
+    words::NAME,
+    words::NAME_A,
+    words::NAME_B,
+    words::NAME_C,
+    words::NAME_D,
+];
+
+/// An expression and the tokens after it, or where the reading stopped; brackets nest at most `room` deep.
+#[cycle(reading)]
+#[tactic(auto, unfolding(crate::specs::Readers::expr_read, crate::specs::Readers::expr_by))]
+pub fn expr(alloc: Global, tokens: &[Token], room: u32) -> Result<(Expr, &[Token]), Fault>
+    ensures { Gives (λ x. (x.0, x.1.now)) result (expr_read room tokens.now) }
+{
+    let line = line_of(tokens);
+    let (first, left) = term(alloc, tokens, room)?;
+    let (rest, left) = added_list(alloc, left, room)?;
+    Ok((Expr { line, first, rest }, left))
+}
+
+#[cycle(reading)]
+#[tactic(auto, using(crate::proofs::Loops::added_less, crate::proofs::Loops::added_on, crate::proofs::Loops::added_end, crate::proofs::Loops::added_bad))]
+fn added_list(alloc: Global, tokens: &[Token], room: u32) -> Result<(Seq<Added>, &[Token]), Fault>
+    ensures { Gives (λ x. (x.0, x.1.now)) result (many ADD (added_by (term_read room)) tokens.now) }
+{
+    let mut left = tokens;
+    let mut list = Seq::new(alloc);
+    'terms: while starts_in(left, &[words::PLUS, words::MINUS]) {
+        let (added, after) = added(alloc, left, room)?;
+        if let Err(_) = list.push(added) {
+            return Err(Fault::Memory);
+        }
+        left = after;
+    }
+    Ok((list, left))
+}
+
+#[cycle(reading)]
+#[tactic(auto, unfolding(crate::specs::Readers::added_by))]
+fn added(alloc: Global, tokens: &[Token], room: u32) -> Result<(Added, &[Token]), Fault>
+    ensures { Gives (λ x. (x.0, x.1.now)) result (added_by (term_read room) tokens.now) }
+{
+    if starts(tokens, words::PLUS) {
+        let (_, left) = word(tokens, words::PLUS)?;
+        let (term, left) = term(alloc, left, room)?;
+        Ok((Added::Plus(term), left))
+    } else {
+        let (_, left) = word(tokens, words::MINUS)?;
+        let (term, left) = term(alloc, left, room)?;
+        Ok((Added::Minus(term), left))
+    }
+}
+
+#[cycle(reading)]
+#[tactic(auto, unfolding(crate::specs::Readers::term_read, crate::specs::Readers::term_by))]
+fn term(alloc: Global, tokens: &[Token], room: u32) -> Result<(Term, &[Token]), Fault>
+    ensures { Gives (λ x. (x.0, x.1.now)) result (term_read room tokens.now) }
+{
+    let line = line_of(tokens);
+    let (first, left) = factor(alloc, tokens, room)?;
+    let (rest, left) = multiplied_list(alloc, left, room)?;
+    Ok((Term { line, first, rest }, left))
+}
+
+#[cycle(reading)]
+#[tactic(auto, using(crate::proofs::Loops::multiplied_less, crate::proofs::Loops::multiplied_on, crate::proofs::Loops::multiplied_end, crate::proofs::Loops::multiplied_bad))]
+fn multiplied_list(
+    alloc: Global,
+    tokens: &[Token],
+    room: u32,
+) -> Result<(Seq<Multiplied>, &[Token]), Fault>
+    ensures { Gives (λ x. (x.0, x.1.now)) result (many MULTIPLY (multiplied_by (factor_read room)) tokens.now) }
+{
+    let mut left = tokens;
+    let mut list = Seq::new(alloc);
+    'factors: while starts_in(left, &[words::TIMES, words::OVER, words::MOD]) {
+        let (multiplied, after) = multiplied(alloc, left, room)?;
+        if let Err(_) = list.push(multiplied) {
+            return Err(Fault::Memory);
+        }
+        left = after;
+    }
+    Ok((list, left))
+}
+
+#[cycle(reading)]
+#[tactic(auto, unfolding(crate::specs::Readers::multiplied_by))]
+fn multiplied(alloc: Global, tokens: &[Token], room: u32) -> Result<(Multiplied, &[Token]), Fault>
+    ensures { Gives (λ x. (x.0, x.1.now)) result (multiplied_by (factor_read room) tokens.now) }
+{
+    if starts(tokens, words::TIMES) {
+        let (_, left) = word(tokens, words::TIMES)?;
+        let (factor, left) = factor(alloc, left, room)?;
+        Ok((Multiplied::Times(factor), left))
+    } else if starts(tokens, words::OVER) {
+        let (_, left) = word(tokens, words::OVER)?;
+        let (factor, left) = factor(alloc, left, room)?;
+        Ok((Multiplied::Over(factor), left))
+    } else {
+        let (_, left) = word(tokens, words::MOD)?;
+        let (factor, left) = factor(alloc, left, room)?;
+        Ok((Multiplied::Mod(factor), left))
+    }
+}
+
+#[cycle(reading)]
+#[tactic(auto, unfolding(crate::specs::Readers::factor_read, crate::specs::Readers::factor_by))]
+fn factor(alloc: Global, tokens: &[Token], room: u32) -> Result<(Factor, &[Token]), Fault>
+    ensures { Gives (λ x. (x.0, x.1.now)) result (factor_read room tokens.now) }
+{
+    let line = line_of(tokens);
+    let (kind, left) = factor_kind(alloc, tokens, room)?;
+    Ok((Factor { line, kind }, left))
+}
+
+#[cycle(reading)]
+fn factor_kind(alloc: Global, tokens: &[Token], room: u32) -> Result<(FactorKind, &[Token]), Fault>
+    ensures { Gives (λ x. (x.0, x.1.now)) result (kind_with (bracket_at room (inside_read room)) tokens.now) }
+{
+    if starts_in(tokens, &PLAIN) {
+        return plain(tokens);
+    }
+    if room == 0 {
+        return Err(Fault::Stuck {
+            left: tokens.len(),
+            deep: starts(tokens, words::OPEN),
+        });
+    }
+    bracket(alloc, tokens, room - 1)
+}
+
+/// `( expr )`, where the brackets in it nest at most `room` deep.
+#[cycle(reading)]
+#[tactic(auto, unfolding(crate::specs::Readers::bracket_read))]
+fn bracket(alloc: Global, tokens: &[Token], room: u32) -> Result<(FactorKind, &[Token]), Fault>
+    ensures { Gives (λ x. (x.0, x.1.now)) result (bracket_read (expr_read room) tokens.now) }
+{
+    let (_, left) = word(tokens, words::OPEN)?;
+    let (inner, left) = expr(alloc, left, room)?;
+    let (_, left) = word(left, words::CLOSE)?;
+    Ok((FactorKind::Bracket(boxed(alloc, inner)?), left))
+}
+
+fn boxed(alloc: Global, value: Expr) -> Result<Boxed<Expr>, Fault>
+    ensures { Holds value result }
+{
+    match Boxed::new(alloc, value) {
+        Ok(place) => Ok(place),
+        Err(_) => Err(Fault::Memory),
+    }
+}

@@ -1,0 +1,96 @@
+// Lists of names and of values, and the receiver of a signal.
+ghost use Rattle.std.specs.Prelude.{◌≡◌};
+ghost use Rattle.token_grammar.specs.Gives.{Gives};
+ghost use Rattle.token_grammar.specs.Reading.{many};
+ghost use Rattle.plex_expr_parser.specs.Readers.{comma_expr_read, comma_name_read, exprs_read, names_read, reference_read};
+ghost use Rattle.plex_ast.specs.Words as classes;
+
+use crate::expression::expr;
+use plex_ast::{Expr, Exprs, Named, Names, Reference, words};
+use plex_lexer::Token;
+use plex_num::Seq;
+use std::alloc::Global;
+use token_grammar::{Fault, line_of, name, starts, word};
+
+/// `WITH name { , name }` and the tokens after it, or where the reading stopped.
+#[tactic(auto, unfolding(crate::specs::Readers::names_read))]
+pub fn names(alloc: Global, tokens: &[Token]) -> Result<(Names, &[Token]), Fault>
+    ensures { Gives (λ x. (x.0, x.1.now)) result (names_read tokens.now) }
+{
+    let line = line_of(tokens);
+    let (_, left) = word(tokens, words::WITH)?;
+    let (first, left) = name(left)?;
+    let (rest, left) = name_list(alloc, left)?;
+    Ok((Names { line, first, rest }, left))
+}
+
+#[tactic(auto, using(crate::proofs::Loops::name_less, crate::proofs::Loops::name_on, crate::proofs::Loops::name_end, crate::proofs::Loops::name_bad))]
+fn name_list(alloc: Global, tokens: &[Token]) -> Result<(Seq<Named>, &[Token]), Fault>
+    ensures { Gives (λ x. (x.0, x.1.now)) result (many classes.COMMA comma_name_read tokens.now) }
+{
+    let mut left = tokens;
+    let mut list = Seq::new(alloc);
+    'names: while starts(left, words::COMMA) {
+        let (named, after) = comma_name(left)?;
+        if let Err(_) = list.push(named) {
+            return Err(Fault::Memory);
+        }
+        left = after;
+    }
+    Ok((list, left))
+}
+
+#[tactic(auto, unfolding(crate::specs::Readers::comma_name_read))]
+fn comma_name(tokens: &[Token]) -> Result<(Named, &[Token]), Fault>
+    ensures { Gives (λ x. (x.0, x.1.now)) result (comma_name_read tokens.now) }
+{
+    let (_, left) = word(tokens, words::COMMA)?;
+    name(left)
+}
+
+/// `WITH expr { , expr }` and the tokens after it, or where the reading stopped.
+#[tactic(auto, unfolding(crate::specs::Readers::exprs_read))]
+pub fn exprs(alloc: Global, tokens: &[Token], room: u32) -> Result<(Exprs, &[Token]), Fault>
+    ensures { Gives (λ x. (x.0, x.1.now)) result (exprs_read room tokens.now) }
+{
+    let line = line_of(tokens);
+    let (_, left) = word(tokens, words::WITH)?;
+    let (first, left) = expr(alloc, left, room)?;
+    let (rest, left) = expr_list(alloc, left, room)?;
+    Ok((Exprs { line, first, rest }, left))
+}
+
+#[tactic(auto, using(crate::proofs::Loops::expr_less, crate::proofs::Loops::expr_on, crate::proofs::Loops::expr_end, crate::proofs::Loops::expr_bad))]
+fn expr_list(alloc: Global, tokens: &[Token], room: u32) -> Result<(Seq<Expr>, &[Token]), Fault>
+    ensures { Gives (λ x. (x.0, x.1.now)) result (many classes.COMMA (comma_expr_read room) tokens.now) }
+{
+    let mut left = tokens;
+    let mut list = Seq::new(alloc);
+    'exprs: while starts(left, words::COMMA) {
+        let (expr, after) = comma_expr(alloc, left, room)?;
+        if let Err(_) = list.push(expr) {
+            return Err(Fault::Memory);
+        }
+        left = after;
+    }
+    Ok((list, left))
+}
+
+#[tactic(auto, unfolding(crate::specs::Readers::comma_expr_read))]
+fn comma_expr(alloc: Global, tokens: &[Token], room: u32) -> Result<(Expr, &[Token]), Fault>
+    ensures { Gives (λ x. (x.0, x.1.now)) result (comma_expr_read room tokens.now) }
+{
+    let (_, left) = word(tokens, words::COMMA)?;
+    expr(alloc, left, room)
+}
+
+/// `REFERENCE name` and the tokens after it, or where the reading stopped.
+#[tactic(auto, unfolding(crate::specs::Readers::reference_read))]
+pub fn reference(tokens: &[Token]) -> Result<(Reference, &[Token]), Fault>
+    ensures { Gives (λ x. (x.0, x.1.now)) result (reference_read tokens.now) }
+{
+    let line = line_of(tokens);
+    let (_, left) = word(tokens, words::REFERENCE)?;
+    let (block, left) = name(left)?;
+    Ok((Reference { line, block }, left))
+}
