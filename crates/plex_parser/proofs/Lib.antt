@@ -1,0 +1,8 @@
+pub mod BlockLoops
+pub mod Blocks
+pub mod Exchange
+pub mod ItemLoops
+pub mod Loops
+pub mod Parsed
+pub mod PlainStatements
+pub mod Statements

@@ -1,0 +1,10 @@
+use Rattle.std.proofs.Common.{◌≡◌, length}
+use Rattle.token_grammar.specs.Reading.{with_front, many}
+use Rattle.plex_parser.specs.Blocks.{DECL, decl_read}
+use Rattle.plex_parser.proofs.declaration.decls.Given as goal
+
+abbrev pub invariant-decls : goal.invariant-decls
+invariant-decls l = with_front l.list (many DECL decl_read l.left) ≡ many DECL decl_read l.tokens
+
+abbrev pub decreases-decls : goal.decreases-decls
+decreases-decls l = length l.left

@@ -1,0 +1,154 @@
+// Surveys and blocks.
+ghost use Rattle.std.specs.Prelude.{◌≡◌, ◌++◌};
+ghost use Rattle.token_grammar.specs.Gives.{Gives};
+ghost use Rattle.token_grammar.specs.Reading.{at, many};
+ghost use Rattle.plex_parser.specs.Blocks.{block_read, end_read, program_read, survey_kind_read, survey_read, surveys_read};
+ghost use Rattle.plex_ast.specs.Words as classes;
+
+use crate::declaration::declarations;
+use crate::item::items;
+use plex_ast::{Block, Item, Survey, SurveyKind, words};
+use plex_lexer::Token;
+use plex_num::Seq;
+use std::alloc::Global;
+use token_grammar::{Fault, line_of, name, starts, starts_in, word};
+
+/// As many blocks as stand there, and the tokens after them.
+#[tactic(auto, using(crate::proofs::BlockLoops::block_less, crate::proofs::BlockLoops::block_on, crate::proofs::BlockLoops::block_end, crate::proofs::BlockLoops::block_bad))]
+pub fn blocks(
+    alloc: Global,
+    tokens: &[Token],
+    room: u32,
+    deep: u32,
+) -> Result<(Seq<Block>, &[Token]), Fault>
+    ensures { Gives (λ x. (x.0, x.1.now)) result (many classes.BLOCK (block_read room deep) tokens.now) }
+{
+    let mut left = tokens;
+    let mut list = Seq::new(alloc);
+    'list: while starts(left, words::BLOCK) {
+        let (block, after) = one_block(alloc, left, room, deep)?;
+        if let Err(_) = list.push(block) {
+            return Err(Fault::Memory);
+        }
+        left = after;
+    }
+    Ok((list, left))
+}
+
+#[tactic(auto, unfolding(crate::specs::Blocks::block_read))]
+fn one_block(
+    alloc: Global,
+    tokens: &[Token],
+    room: u32,
+    deep: u32,
+) -> Result<(Block, &[Token]), Fault>
+    ensures { Gives (λ x. (x.0, x.1.now)) result (block_read room deep tokens.now) }
+{
+    let line = line_of(tokens);
+    let (_, left) = word(tokens, words::BLOCK)?;
+    let (block, left) = name(left)?;
+    let (_, left) = word(left, words::SEMI)?;
+    let (decls, left) = declarations(alloc, left)?;
+    let (surveys, left) = survey(alloc, left)?;
+    let (program, left) = program(alloc, left, room, deep)?;
+    let (items, end_line) = program;
+    Ok((
+        Block {
+            line,
+            name: block,
+            decls,
+            surveys,
+            items,
+            end_line,
+        },
+        left,
+    ))
+}
+
+/// `SURVEY ; { survey }`
+#[tactic(auto, unfolding(crate::specs::Blocks::surveys_read))]
+fn survey(alloc: Global, tokens: &[Token]) -> Result<(Seq<Survey>, &[Token]), Fault>
+    ensures { Gives (λ x. (x.0, x.1.now)) result (surveys_read tokens.now) }
+{
+    let (_, left) = word(tokens, words::SURVEY)?;
+    let (_, left) = word(left, words::SEMI)?;
+    survey_lines(alloc, left)
+}
+
+#[tactic(auto, using(crate::proofs::BlockLoops::survey_less, crate::proofs::BlockLoops::survey_on, crate::proofs::BlockLoops::survey_end, crate::proofs::BlockLoops::survey_bad))]
+fn survey_lines(alloc: Global, tokens: &[Token]) -> Result<(Seq<Survey>, &[Token]), Fault>
+    ensures { Gives (λ x. (x.0, x.1.now)) result (many (classes.RECEIVE ++ classes.SEND) survey_read tokens.now) }
+{
+    let mut left = tokens;
+    let mut list = Seq::new(alloc);
+    'lines: while starts_survey(left) {
+        let (line, after) = survey_line(left)?;
+        if let Err(_) = list.push(line) {
+            return Err(Fault::Memory);
+        }
+        left = after;
+    }
+    Ok((list, left))
+}
+
+fn starts_survey(tokens: &[Token]) -> bool
+    ensures { result ≡ at (classes.RECEIVE ++ classes.SEND) tokens.now }
+{
+    starts_in(tokens, &[words::RECEIVE, words::SEND])
+}
+
+#[tactic(auto, unfolding(crate::specs::Blocks::survey_read))]
+fn survey_line(tokens: &[Token]) -> Result<(Survey, &[Token]), Fault>
+    ensures { Gives (λ x. (x.0, x.1.now)) result (survey_read tokens.now) }
+{
+    let line = line_of(tokens);
+    let (kind, left) = survey_kind(tokens)?;
+    Ok((Survey { line, kind }, left))
+}
+
+/// `RECEIVE name ; | SEND name ;`
+#[tactic(auto, unfolding(crate::specs::Blocks::survey_kind_read))]
+fn survey_kind(tokens: &[Token]) -> Result<(SurveyKind, &[Token]), Fault>
+    ensures { Gives (λ x. (x.0, x.1.now)) result (survey_kind_read tokens.now) }
+{
+    if starts(tokens, words::RECEIVE) {
+        let (_, left) = word(tokens, words::RECEIVE)?;
+        let (signal, left) = name(left)?;
+        let (_, left) = word(left, words::SEMI)?;
+        Ok((SurveyKind::Receive { signal }, left))
+    } else {
+        let (_, left) = word(tokens, words::SEND)?;
+        let (signal, left) = name(left)?;
+        let (_, left) = word(left, words::SEMI)?;
+        Ok((SurveyKind::Send { signal }, left))
+    }
+}
+
+/// `PROGRAM ; { item } END BLOCK ;`: the items and the line of END.
+#[tactic(auto, unfolding(crate::specs::Blocks::program_read))]
+fn program(
+    alloc: Global,
+    tokens: &[Token],
+    room: u32,
+    deep: u32,
+) -> Result<((Seq<Item>, u32), &[Token]), Fault>
+    ensures { Gives (λ x. (x.0, x.1.now)) result (program_read room deep tokens.now) }
+{
+    let (_, left) = word(tokens, words::PROGRAM)?;
+    let (_, left) = word(left, words::SEMI)?;
+    let (items, left) = items(alloc, left, room, deep)?;
+    let (end_line, left) = end(left)?;
+    Ok(((items, end_line), left))
+}
+
+/// `END BLOCK ;`: the line of END.
+#[tactic(auto, unfolding(crate::specs::Blocks::end_read))]
+fn end(tokens: &[Token]) -> Result<(u32, &[Token]), Fault>
+    ensures { Gives (λ x. (x.0, x.1.now)) result (end_read tokens.now) }
+{
+    let line = line_of(tokens);
+    let (_, left) = word(tokens, words::END)?;
+    let (_, left) = word(left, words::BLOCK)?;
+    let (_, left) = word(left, words::SEMI)?;
+    Ok((line, left))
+}

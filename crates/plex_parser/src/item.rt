@@ -1,0 +1,150 @@
+// Items of a program.
+ghost use Rattle.std.specs.Prelude.{◌≡◌, ◌++◌};
+ghost use Rattle.token_grammar.specs.Gives.{Gives};
+ghost use Rattle.token_grammar.specs.Reading.{at, lined, many};
+ghost use Rattle.plex_parser.specs.Blocks.{enter_read, item_kind_read, item_read, name_item, name_item_read, name_tail_read, stmt_item_read, ITEM};
+
+use crate::assignment::{assign, assigned};
+use crate::nested::other;
+use crate::signalling::taken;
+use plex_ast::{Item, ItemKind, Named, Stmt, words};
+use plex_lexer::Token;
+use plex_num::Seq;
+use std::alloc::Global;
+use token_grammar::{Fault, line_of, name, starts, starts_in, starts_name, word};
+
+/// What begins an item.
+const ITEMS: [u64; 18] = [
+    words::NAME,
+    words::NAME_A,
+    words::NAME_B,
+    words::NAME_C,
+    words::NAME_D,
+    words::ENTER,
+    words::SEND,
+    words::RETRIEVE,
+    words::RETURN,
+    words::TRANSFER,
+    words::GOTO,
+    words::FOR,
+    words::SEIZE,
+    words::FREE,
+    words::EXIT,
+    words::IF,
+    words::CASE,
+    words::ON,
+];
+
+/// As many items as stand there, and the tokens after them.
+#[tactic(auto, using(crate::proofs::ItemLoops::item_less, crate::proofs::ItemLoops::item_on, crate::proofs::ItemLoops::item_end, crate::proofs::ItemLoops::item_bad))]
+pub fn items(
+    alloc: Global,
+    tokens: &[Token],
+    room: u32,
+    deep: u32,
+) -> Result<(Seq<Item>, &[Token]), Fault>
+    ensures { Gives (λ x. (x.0, x.1.now)) result (many ITEM (item_read room deep) tokens.now) }
+{
+    let mut left = tokens;
+    let mut list = Seq::new(alloc);
+    'items: while starts_item(left) {
+        let (item, after) = item(alloc, left, room, deep)?;
+        if let Err(_) = list.push(item) {
+            return Err(Fault::Memory);
+        }
+        left = after;
+    }
+    Ok((list, left))
+}
+
+fn starts_item(tokens: &[Token]) -> bool
+    ensures { result ≡ at ITEM tokens.now }
+{
+    starts_in(tokens, &ITEMS)
+}
+
+#[tactic(auto, unfolding(crate::specs::Blocks::item_read))]
+fn item(alloc: Global, tokens: &[Token], room: u32, deep: u32) -> Result<(Item, &[Token]), Fault>
+    ensures { Gives (λ x. (x.0, x.1.now)) result (item_read room deep tokens.now) }
+{
+    let line = line_of(tokens);
+    let (kind, left) = item_kind(alloc, tokens, room, deep)?;
+    Ok((Item { line, kind }, left))
+}
+
+#[tactic(auto, unfolding(crate::specs::Blocks::item_kind_read))]
+fn item_kind(
+    alloc: Global,
+    tokens: &[Token],
+    room: u32,
+    deep: u32,
+) -> Result<(ItemKind, &[Token]), Fault>
+    ensures { Gives (λ x. (x.0, x.1.now)) result (item_kind_read room deep tokens.now) }
+{
+    if starts_name(tokens) {
+        from_name(alloc, tokens, room)
+    } else if starts(tokens, words::ENTER) {
+        enter(alloc, tokens)
+    } else {
+        stmt(alloc, tokens, room, deep)
+    }
+}
+
+/// A label or an assignment.
+#[tactic(auto, unfolding(crate::specs::Blocks::name_item_read))]
+fn from_name(alloc: Global, tokens: &[Token], room: u32) -> Result<(ItemKind, &[Token]), Fault>
+    ensures { Gives (λ x. (x.0, x.1.now)) result (name_item_read room tokens.now) }
+{
+    let line = line_of(tokens);
+    let (first, left) = name(tokens)?;
+    after_name(alloc, left, line, first, room)
+}
+
+/// What follows this name, which stands on this line: `)` or the rest of an assignment.
+#[tactic(auto, unfolding(crate::specs::Blocks::name_tail_read))]
+fn after_name(
+    alloc: Global,
+    tokens: &[Token],
+    line: u32,
+    first: Named,
+    room: u32,
+) -> Result<(ItemKind, &[Token]), Fault>
+    ensures { Gives (λ x. (x.0, x.1.now)) result (lined (λ _ tail. name_item line (first, tail)) (name_tail_read room) tokens.now) }
+{
+    if starts(tokens, words::CLOSE) {
+        let (_, left) = word(tokens, words::CLOSE)?;
+        Ok((ItemKind::Label { name: first }, left))
+    } else {
+        let (target, left) = assigned(alloc, tokens, room)?;
+        let (pointer, value) = target;
+        let kind = assign(first, pointer, value);
+        Ok((ItemKind::Stmt(Stmt { line, kind }), left))
+    }
+}
+
+/// `ENTER name [ names ] ;`
+#[tactic(auto, unfolding(crate::specs::Blocks::enter_read))]
+fn enter(alloc: Global, tokens: &[Token]) -> Result<(ItemKind, &[Token]), Fault>
+    ensures { Gives (λ x. (x.0, x.1.now)) result (enter_read tokens.now) }
+{
+    let (_, left) = word(tokens, words::ENTER)?;
+    let (signal, left) = name(left)?;
+    let (names, left) = taken(alloc, left)?;
+    let (_, left) = word(left, words::SEMI)?;
+    Ok((ItemKind::Enter { signal, names }, left))
+}
+
+/// A statement that begins with a word.
+#[tactic(auto, unfolding(crate::specs::Blocks::stmt_item_read))]
+fn stmt(
+    alloc: Global,
+    tokens: &[Token],
+    room: u32,
+    deep: u32,
+) -> Result<(ItemKind, &[Token]), Fault>
+    ensures { Gives (λ x. (x.0, x.1.now)) result (stmt_item_read room deep tokens.now) }
+{
+    let line = line_of(tokens);
+    let (kind, left) = other(alloc, tokens, room, deep)?;
+    Ok((ItemKind::Stmt(Stmt { line, kind }), left))
+}

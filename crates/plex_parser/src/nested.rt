@@ -1,0 +1,344 @@
+// Statements, whose brackets nest at most `room` deep and which hold statements at most `deep` deep.
+ghost use Rattle.std.specs.Prelude.{◌≡◌, ◌++◌};
+ghost use Rattle.token_grammar.specs.Gives.{Gives};
+ghost use Rattle.token_grammar.specs.Reading.{at, lined, many};
+ghost use Rattle.plex_parser.specs.Statements.{body_read, case_by, else_by, gone_read, held_at, if_at, if_made, if_tail_at, kind_at, nest_by, on_by, other_at, stmt_read, then_by, when_by, STMT};
+ghost use Rattle.plex_ast.specs.Words as classes;
+
+use crate::assignment::{assign, assigned};
+use crate::plain::{plain, to_label};
+use plex_ast::{Cond, Stmt, StmtKind, When, words};
+use plex_expr_parser::{cond, expr};
+use plex_lexer::Token;
+use plex_num::Seq;
+use std::alloc::Global;
+use token_grammar::{Fault, line_of, name, number, starts, starts_in, starts_name, word};
+
+/// What begins a statement that holds none, but for a name.
+const PLAIN: [u64; 9] = [
+    words::SEND,
+    words::RETRIEVE,
+    words::RETURN,
+    words::TRANSFER,
+    words::GOTO,
+    words::FOR,
+    words::SEIZE,
+    words::FREE,
+    words::EXIT,
+];
+
+/// What begins a statement.
+const STATEMENT: [u64; 17] = [
+    words::NAME,
+    words::NAME_A,
+    words::NAME_B,
+    words::NAME_C,
+    words::NAME_D,
+    words::SEND,
+    words::RETRIEVE,
+    words::RETURN,
+    words::TRANSFER,
+    words::GOTO,
+    words::FOR,
+    words::SEIZE,
+    words::FREE,
+    words::EXIT,
+    words::IF,
+    words::CASE,
+    words::ON,
+];
+
+/// As many statements as stand there, and the tokens after them.
+#[cycle(statements)]
+#[tactic(auto, using(crate::proofs::Loops::stmt_less, crate::proofs::Loops::stmt_on, crate::proofs::Loops::stmt_end, crate::proofs::Loops::stmt_bad))]
+fn stmts(
+    alloc: Global,
+    tokens: &[Token],
+    room: u32,
+    deep: u32,
+) -> Result<(Seq<Stmt>, &[Token]), Fault>
+    ensures { Gives (λ x. (x.0, x.1.now)) result (many STMT (stmt_read room deep) tokens.now) }
+{
+    let mut left = tokens;
+    let mut list = Seq::new(alloc);
+    'stmts: while starts_stmt(left) {
+        let (stmt, after) = stmt(alloc, left, room, deep)?;
+        if let Err(_) = list.push(stmt) {
+            return Err(Fault::Memory);
+        }
+        left = after;
+    }
+    Ok((list, left))
+}
+
+fn starts_stmt(tokens: &[Token]) -> bool
+    ensures { result ≡ at STMT tokens.now }
+{
+    starts_in(tokens, &STATEMENT)
+}
+
+#[cycle(statements)]
+#[tactic(auto, unfolding(crate::specs::Statements::stmt_read, crate::specs::Statements::stmt_at))]
+fn stmt(alloc: Global, tokens: &[Token], room: u32, deep: u32) -> Result<(Stmt, &[Token]), Fault>
+    ensures { Gives (λ x. (x.0, x.1.now)) result (stmt_read room deep tokens.now) }
+{
+    let line = line_of(tokens);
+    let (kind, left) = kind(alloc, tokens, room, deep)?;
+    Ok((Stmt { line, kind }, left))
+}
+
+#[cycle(statements)]
+#[tactic(auto, unfolding(crate::specs::Statements::kind_at))]
+fn kind(
+    alloc: Global,
+    tokens: &[Token],
+    room: u32,
+    deep: u32,
+) -> Result<(StmtKind, &[Token]), Fault>
+    ensures { Gives (λ x. (x.0, x.1.now)) result (kind_at room deep (body_read room deep) tokens.now) }
+{
+    if starts_name(tokens) {
+        let (name, left) = name(tokens)?;
+        let (target, left) = assigned(alloc, left, room)?;
+        let (pointer, value) = target;
+        Ok((assign(name, pointer, value), left))
+    } else {
+        other(alloc, tokens, room, deep)
+    }
+}
+
+/// A statement that begins with a word, and the tokens after it.
+#[cycle(statements)]
+#[tactic(auto, unfolding(crate::specs::Statements::other_at))]
+pub fn other(
+    alloc: Global,
+    tokens: &[Token],
+    room: u32,
+    deep: u32,
+) -> Result<(StmtKind, &[Token]), Fault>
+    ensures { Gives (λ x. (x.0, x.1.now)) result (other_at room deep (body_read room deep) tokens.now) }
+{
+    if starts_in(tokens, &PLAIN) {
+        plain(alloc, tokens, room)
+    } else {
+        held(alloc, tokens, room, deep)
+    }
+}
+
+/// An IF, a CASE or an ON.
+#[cycle(statements)]
+fn held(
+    alloc: Global,
+    tokens: &[Token],
+    room: u32,
+    deep: u32,
+) -> Result<(StmtKind, &[Token]), Fault>
+    ensures { Gives (λ x. (x.0, x.1.now)) result (held_at room deep (body_read room deep) tokens.now) }
+{
+    if starts(tokens, words::IF) {
+        return if_of(alloc, tokens, room, deep);
+    }
+    if deep == 0 {
+        return Err(Fault::Stuck {
+            left: tokens.len(),
+            deep: starts_in(tokens, &[words::CASE, words::ON]),
+        });
+    }
+    nest(alloc, tokens, room, deep - 1)
+}
+
+#[cycle(statements)]
+#[tactic(auto, unfolding(crate::specs::Statements::if_at))]
+fn if_of(
+    alloc: Global,
+    tokens: &[Token],
+    room: u32,
+    deep: u32,
+) -> Result<(StmtKind, &[Token]), Fault>
+    ensures { Gives (λ x. (x.0, x.1.now)) result (if_at room deep (body_read room deep) tokens.now) }
+{
+    let (_, left) = word(tokens, words::IF)?;
+    let (cond, left) = cond(alloc, left, room)?;
+    if_tail(alloc, left, cond, room, deep)
+}
+
+/// What follows this condition: `GOTO name ;` or THEN and statements.
+#[cycle(statements)]
+fn if_tail(
+    alloc: Global,
+    tokens: &[Token],
+    cond: Cond,
+    room: u32,
+    deep: u32,
+) -> Result<(StmtKind, &[Token]), Fault>
+    ensures { Gives (λ x. (x.0, x.1.now)) result (lined (λ _ tail. if_made cond tail) (if_tail_at deep (body_read room deep)) tokens.now) }
+{
+    if starts(tokens, words::GOTO) {
+        return if_goto(tokens, cond);
+    }
+    if deep == 0 {
+        return Err(Fault::Stuck {
+            left: tokens.len(),
+            deep: starts(tokens, words::THEN),
+        });
+    }
+    then_of(alloc, tokens, cond, room, deep - 1)
+}
+
+#[tactic(auto, unfolding(crate::specs::Statements::gone_read))]
+fn if_goto(tokens: &[Token], cond: Cond) -> Result<(StmtKind, &[Token]), Fault>
+    ensures { Gives (λ x. (x.0, x.1.now)) result (lined (λ _ tail. if_made cond tail) gone_read tokens.now) }
+{
+    let (label, left) = to_label(tokens)?;
+    Ok((StmtKind::IfGoto { cond, label }, left))
+}
+
+/// `THEN { stmt } [ ELSE { stmt } ] FI ;` after this condition.
+#[cycle(statements)]
+#[tactic(auto, unfolding(crate::specs::Statements::then_by))]
+fn then_of(
+    alloc: Global,
+    tokens: &[Token],
+    cond: Cond,
+    room: u32,
+    deep: u32,
+) -> Result<(StmtKind, &[Token]), Fault>
+    ensures { Gives (λ x. (x.0, x.1.now)) result (lined (λ _ tail. if_made cond tail) (then_by (many STMT (stmt_read room deep))) tokens.now) }
+{
+    let (_, left) = word(tokens, words::THEN)?;
+    let (first, left) = stmts(alloc, left, room, deep)?;
+    let (other, left) = else_of(alloc, left, room, deep)?;
+    let (_, left) = word(left, words::FI)?;
+    let (_, left) = word(left, words::SEMI)?;
+    Ok((StmtKind::If { cond, first, other }, left))
+}
+
+#[cycle(statements)]
+#[tactic(auto, unfolding(crate::specs::Statements::else_by))]
+fn else_of(
+    alloc: Global,
+    tokens: &[Token],
+    room: u32,
+    deep: u32,
+) -> Result<(Option<Seq<Stmt>>, &[Token]), Fault>
+    ensures { Gives (λ x. (x.0, x.1.now)) result (else_by (many STMT (stmt_read room deep)) tokens.now) }
+{
+    if starts(tokens, words::ELSE) {
+        let (_, left) = word(tokens, words::ELSE)?;
+        let (list, left) = stmts(alloc, left, room, deep)?;
+        Ok((Some(list), left))
+    } else {
+        Ok((None, tokens))
+    }
+}
+
+/// A CASE or an ON, of which the statements in it hold statements at most `deep` deep.
+#[cycle(statements)]
+#[tactic(auto, unfolding(crate::specs::Statements::nest_by))]
+fn nest(
+    alloc: Global,
+    tokens: &[Token],
+    room: u32,
+    deep: u32,
+) -> Result<(StmtKind, &[Token]), Fault>
+    ensures { Gives (λ x. (x.0, x.1.now)) result (nest_by room (many STMT (stmt_read room deep)) tokens.now) }
+{
+    if starts(tokens, words::CASE) {
+        case(alloc, tokens, room, deep)
+    } else {
+        on(alloc, tokens, room, deep)
+    }
+}
+
+/// `CASE expr IS { WHEN number DO { stmt } } OTHERWISE DO { stmt } ESAC ;`
+#[cycle(statements)]
+#[tactic(auto, unfolding(crate::specs::Statements::case_by))]
+fn case(
+    alloc: Global,
+    tokens: &[Token],
+    room: u32,
+    deep: u32,
+) -> Result<(StmtKind, &[Token]), Fault>
+    ensures { Gives (λ x. (x.0, x.1.now)) result (case_by room (many STMT (stmt_read room deep)) tokens.now) }
+{
+    let (_, left) = word(tokens, words::CASE)?;
+    let (value, left) = expr(alloc, left, room)?;
+    let (_, left) = word(left, words::IS)?;
+    let (whens, left) = whens(alloc, left, room, deep)?;
+    let (_, left) = word(left, words::OTHERWISE)?;
+    let (_, left) = word(left, words::DO)?;
+    let (otherwise, left) = stmts(alloc, left, room, deep)?;
+    let (_, left) = word(left, words::ESAC)?;
+    let (_, left) = word(left, words::SEMI)?;
+    Ok((
+        StmtKind::Case {
+            value,
+            whens,
+            otherwise,
+        },
+        left,
+    ))
+}
+
+#[cycle(statements)]
+#[tactic(auto, using(crate::proofs::Loops::when_less, crate::proofs::Loops::when_on, crate::proofs::Loops::when_end, crate::proofs::Loops::when_bad))]
+fn whens(
+    alloc: Global,
+    tokens: &[Token],
+    room: u32,
+    deep: u32,
+) -> Result<(Seq<When>, &[Token]), Fault>
+    ensures { Gives (λ x. (x.0, x.1.now)) result (many classes.WHEN (when_by (many STMT (stmt_read room deep))) tokens.now) }
+{
+    let mut left = tokens;
+    let mut list = Seq::new(alloc);
+    'whens: while starts(left, words::WHEN) {
+        let (when, after) = when(alloc, left, room, deep)?;
+        if let Err(_) = list.push(when) {
+            return Err(Fault::Memory);
+        }
+        left = after;
+    }
+    Ok((list, left))
+}
+
+/// `WHEN number DO { stmt }`
+#[cycle(statements)]
+#[tactic(auto, unfolding(crate::specs::Statements::when_by))]
+fn when(alloc: Global, tokens: &[Token], room: u32, deep: u32) -> Result<(When, &[Token]), Fault>
+    ensures { Gives (λ x. (x.0, x.1.now)) result (when_by (many STMT (stmt_read room deep)) tokens.now) }
+{
+    let line = line_of(tokens);
+    let (_, left) = word(tokens, words::WHEN)?;
+    let (number, left) = number(left)?;
+    let (_, left) = word(left, words::DO)?;
+    let (body, left) = stmts(alloc, left, room, deep)?;
+    Ok((When { line, number, body }, left))
+}
+
+/// `ON name FROM expr UPTO expr DO { stmt } NO ;`
+#[cycle(statements)]
+#[tactic(auto, unfolding(crate::specs::Statements::on_by))]
+fn on(alloc: Global, tokens: &[Token], room: u32, deep: u32) -> Result<(StmtKind, &[Token]), Fault>
+    ensures { Gives (λ x. (x.0, x.1.now)) result (on_by room (many STMT (stmt_read room deep)) tokens.now) }
+{
+    let (_, left) = word(tokens, words::ON)?;
+    let (counter, left) = name(left)?;
+    let (_, left) = word(left, words::FROM)?;
+    let (from, left) = expr(alloc, left, room)?;
+    let (_, left) = word(left, words::UPTO)?;
+    let (upto, left) = expr(alloc, left, room)?;
+    let (_, left) = word(left, words::DO)?;
+    let (body, left) = stmts(alloc, left, room, deep)?;
+    let (_, left) = word(left, words::NO)?;
+    let (_, left) = word(left, words::SEMI)?;
+    Ok((
+        StmtKind::On {
+            name: counter,
+            from,
+            upto,
+            body,
+        },
+        left,
+    ))
+}

@@ -1,0 +1,130 @@
+// Statements that begin with a word and hold no statement.
+ghost use Rattle.std.specs.Prelude.{◌≡◌};
+ghost use Rattle.token_grammar.specs.Gives.{Gives};
+ghost use Rattle.plex_parser.specs.Statements.{exit_read, first_read, free_read, goto_read, plain_read, seize_read, to_label_read};
+
+use crate::signalling::signalling;
+use plex_ast::{Named, StmtKind, words};
+use plex_expr_parser::{expr, rel};
+use plex_lexer::Token;
+use std::alloc::Global;
+use token_grammar::{Fault, name, starts, starts_in, word};
+
+const SIGNALLING: [u64; 4] = [words::SEND, words::RETRIEVE, words::RETURN, words::TRANSFER];
+
+/// One of them, and the tokens after it.
+#[tactic(auto, unfolding(crate::specs::Statements::plain_read))]
+pub fn plain(alloc: Global, tokens: &[Token], room: u32) -> Result<(StmtKind, &[Token]), Fault>
+    ensures { Gives (λ x. (x.0, x.1.now)) result (plain_read room tokens.now) }
+{
+    if starts_in(tokens, &SIGNALLING) {
+        signalling(alloc, tokens, room)
+    } else if starts(tokens, words::GOTO) {
+        goto(tokens)
+    } else if starts(tokens, words::FOR) {
+        for_first(alloc, tokens, room)
+    } else if starts(tokens, words::SEIZE) {
+        seize(tokens)
+    } else if starts(tokens, words::FREE) {
+        free(tokens)
+    } else {
+        exit(tokens)
+    }
+}
+
+/// `GOTO name ;`: the label, and the tokens after it.
+#[tactic(auto, unfolding(crate::specs::Statements::to_label_read))]
+pub fn to_label(tokens: &[Token]) -> Result<(Named, &[Token]), Fault>
+    ensures { Gives (λ x. (x.0, x.1.now)) result (to_label_read tokens.now) }
+{
+    let (_, left) = word(tokens, words::GOTO)?;
+    let (label, left) = name(left)?;
+    let (_, left) = word(left, words::SEMI)?;
+    Ok((label, left))
+}
+
+#[tactic(auto, unfolding(crate::specs::Statements::goto_read))]
+fn goto(tokens: &[Token]) -> Result<(StmtKind, &[Token]), Fault>
+    ensures { Gives (λ x. (x.0, x.1.now)) result (goto_read tokens.now) }
+{
+    let (label, left) = to_label(tokens)?;
+    Ok((StmtKind::Goto { label }, left))
+}
+
+/// `FOR FIRST name IN name WHERE name rel expr GOTO name ;`
+#[tactic(auto, unfolding(crate::specs::Statements::first_read))]
+fn for_first(alloc: Global, tokens: &[Token], room: u32) -> Result<(StmtKind, &[Token]), Fault>
+    ensures { Gives (λ x. (x.0, x.1.now)) result (first_read room tokens.now) }
+{
+    let (_, left) = word(tokens, words::FOR)?;
+    let (_, left) = word(left, words::FIRST)?;
+    let (pointer, left) = name(left)?;
+    let (_, left) = word(left, words::IN)?;
+    let (file, left) = name(left)?;
+    let (_, left) = word(left, words::WHERE)?;
+    let (field, left) = name(left)?;
+    let (rel, left) = rel(left)?;
+    let (value, left) = expr(alloc, left, room)?;
+    let (label, left) = to_label(left)?;
+    Ok((
+        StmtKind::ForFirst {
+            name: pointer,
+            file,
+            field,
+            rel,
+            value,
+            label,
+        },
+        left,
+    ))
+}
+
+/// `SEIZE name IN name ELSE GOTO name ;`
+#[tactic(auto, unfolding(crate::specs::Statements::seize_read))]
+fn seize(tokens: &[Token]) -> Result<(StmtKind, &[Token]), Fault>
+    ensures { Gives (λ x. (x.0, x.1.now)) result (seize_read tokens.now) }
+{
+    let (_, left) = word(tokens, words::SEIZE)?;
+    let (pointer, left) = name(left)?;
+    let (_, left) = word(left, words::IN)?;
+    let (file, left) = name(left)?;
+    let (_, left) = word(left, words::ELSE)?;
+    let (label, left) = to_label(left)?;
+    Ok((
+        StmtKind::Seize {
+            name: pointer,
+            file,
+            label,
+        },
+        left,
+    ))
+}
+
+/// `FREE name IN name ;`
+#[tactic(auto, unfolding(crate::specs::Statements::free_read))]
+fn free(tokens: &[Token]) -> Result<(StmtKind, &[Token]), Fault>
+    ensures { Gives (λ x. (x.0, x.1.now)) result (free_read tokens.now) }
+{
+    let (_, left) = word(tokens, words::FREE)?;
+    let (pointer, left) = name(left)?;
+    let (_, left) = word(left, words::IN)?;
+    let (file, left) = name(left)?;
+    let (_, left) = word(left, words::SEMI)?;
+    Ok((
+        StmtKind::Free {
+            name: pointer,
+            file,
+        },
+        left,
+    ))
+}
+
+/// `EXIT ;`
+#[tactic(auto, unfolding(crate::specs::Statements::exit_read))]
+fn exit(tokens: &[Token]) -> Result<(StmtKind, &[Token]), Fault>
+    ensures { Gives (λ x. (x.0, x.1.now)) result (exit_read tokens.now) }
+{
+    let (_, left) = word(tokens, words::EXIT)?;
+    let (_, left) = word(left, words::SEMI)?;
+    Ok((StmtKind::Exit, left))
+}

@@ -1,0 +1,144 @@
+// Signals.
+ghost use Rattle.std.specs.Prelude.{◌≡◌};
+ghost use Rattle.token_grammar.specs.Gives.{Gives};
+ghost use Rattle.token_grammar.specs.Reading.{many};
+ghost use Rattle.plex_parser.specs.Blocks.{buffered_read, combined_read, data_read, direct_read, outside_read, shape_kind_read, shape_read, signal_read, single_read};
+ghost use Rattle.plex_ast.specs.Words as classes;
+
+use plex_ast::{Numbered, Shape, ShapeKind, Signal, words};
+use plex_lexer::Token;
+use plex_num::Seq;
+use std::alloc::Global;
+use token_grammar::{Fault, level, line_of, name, number, starts, word};
+
+/// As many signals as stand there, and the tokens after them.
+#[tactic(auto, using(crate::proofs::BlockLoops::signal_less, crate::proofs::BlockLoops::signal_on, crate::proofs::BlockLoops::signal_end, crate::proofs::BlockLoops::signal_bad))]
+pub fn signals(alloc: Global, tokens: &[Token]) -> Result<(Seq<Signal>, &[Token]), Fault>
+    ensures { Gives (λ x. (x.0, x.1.now)) result (many classes.SIGNAL signal_read tokens.now) }
+{
+    let mut left = tokens;
+    let mut list = Seq::new(alloc);
+    'signals: while starts(left, words::SIGNAL) {
+        let (signal, after) = one_signal(left)?;
+        if let Err(_) = list.push(signal) {
+            return Err(Fault::Memory);
+        }
+        left = after;
+    }
+    Ok((list, left))
+}
+
+/// `SIGNAL name shape ;`
+#[tactic(auto, unfolding(crate::specs::Blocks::signal_read))]
+fn one_signal(tokens: &[Token]) -> Result<(Signal, &[Token]), Fault>
+    ensures { Gives (λ x. (x.0, x.1.now)) result (signal_read tokens.now) }
+{
+    let line = line_of(tokens);
+    let (_, left) = word(tokens, words::SIGNAL)?;
+    let (signal, left) = name(left)?;
+    let (shape, left) = shape(left)?;
+    let (_, left) = word(left, words::SEMI)?;
+    Ok((
+        Signal {
+            line,
+            name: signal,
+            shape,
+        },
+        left,
+    ))
+}
+
+#[tactic(auto, unfolding(crate::specs::Blocks::shape_read))]
+fn shape(tokens: &[Token]) -> Result<(Shape, &[Token]), Fault>
+    ensures { Gives (λ x. (x.0, x.1.now)) result (shape_read tokens.now) }
+{
+    let line = line_of(tokens);
+    let (kind, left) = shape_kind(tokens)?;
+    Ok((Shape { line, kind }, left))
+}
+
+#[tactic(auto, unfolding(crate::specs::Blocks::shape_kind_read))]
+fn shape_kind(tokens: &[Token]) -> Result<(ShapeKind, &[Token]), Fault>
+    ensures { Gives (λ x. (x.0, x.1.now)) result (shape_kind_read tokens.now) }
+{
+    if starts(tokens, words::SINGLE) {
+        single(tokens)
+    } else if starts(tokens, words::COMBINED) {
+        combined(tokens)
+    } else {
+        outside(tokens)
+    }
+}
+
+/// `SINGLE BUFFERED level DATA number | SINGLE DIRECT DATA number`
+#[tactic(auto, unfolding(crate::specs::Blocks::single_read))]
+fn single(tokens: &[Token]) -> Result<(ShapeKind, &[Token]), Fault>
+    ensures { Gives (λ x. (x.0, x.1.now)) result (single_read tokens.now) }
+{
+    let (_, left) = word(tokens, words::SINGLE)?;
+    if starts(left, words::BUFFERED) {
+        buffered(left)
+    } else {
+        direct(left)
+    }
+}
+
+/// `BUFFERED level DATA number`
+#[tactic(auto, unfolding(crate::specs::Blocks::buffered_read))]
+fn buffered(tokens: &[Token]) -> Result<(ShapeKind, &[Token]), Fault>
+    ensures { Gives (λ x. (x.0, x.1.now)) result (buffered_read tokens.now) }
+{
+    let (_, left) = word(tokens, words::BUFFERED)?;
+    let (level, left) = level(left)?;
+    let (data, left) = data(left)?;
+    Ok((ShapeKind::Buffered { level, data }, left))
+}
+
+/// `DIRECT DATA number`
+#[tactic(auto, unfolding(crate::specs::Blocks::direct_read))]
+fn direct(tokens: &[Token]) -> Result<(ShapeKind, &[Token]), Fault>
+    ensures { Gives (λ x. (x.0, x.1.now)) result (direct_read tokens.now) }
+{
+    let (_, left) = word(tokens, words::DIRECT)?;
+    let (data, left) = data(left)?;
+    Ok((ShapeKind::Direct { data }, left))
+}
+
+/// `COMBINED DATA number ANSWER name DATA number`
+#[tactic(auto, unfolding(crate::specs::Blocks::combined_read))]
+fn combined(tokens: &[Token]) -> Result<(ShapeKind, &[Token]), Fault>
+    ensures { Gives (λ x. (x.0, x.1.now)) result (combined_read tokens.now) }
+{
+    let (_, left) = word(tokens, words::COMBINED)?;
+    let (sent, left) = data(left)?;
+    let (_, left) = word(left, words::ANSWER)?;
+    let (answer, left) = name(left)?;
+    let (answered, left) = data(left)?;
+    Ok((
+        ShapeKind::Combined {
+            data: sent,
+            answer,
+            answer_data: answered,
+        },
+        left,
+    ))
+}
+
+/// `OUTSIDE DATA number`
+#[tactic(auto, unfolding(crate::specs::Blocks::outside_read))]
+fn outside(tokens: &[Token]) -> Result<(ShapeKind, &[Token]), Fault>
+    ensures { Gives (λ x. (x.0, x.1.now)) result (outside_read tokens.now) }
+{
+    let (_, left) = word(tokens, words::OUTSIDE)?;
+    let (data, left) = data(left)?;
+    Ok((ShapeKind::Outside { data }, left))
+}
+
+/// `DATA number`
+#[tactic(auto, unfolding(crate::specs::Blocks::data_read))]
+fn data(tokens: &[Token]) -> Result<(Numbered, &[Token]), Fault>
+    ensures { Gives (λ x. (x.0, x.1.now)) result (data_read tokens.now) }
+{
+    let (_, left) = word(tokens, words::DATA)?;
+    number(left)
+}

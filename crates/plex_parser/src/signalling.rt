@@ -1,0 +1,137 @@
+// Statements that send, take and answer signals.
+ghost use Rattle.std.specs.Prelude.{◌≡◌};
+ghost use Rattle.token_grammar.specs.Gives.{Gives};
+ghost use Rattle.plex_parser.specs.Statements.{fresh_read, receiver_read, retrieve_read, return_read, send_read, signal_read, taken_read, transfer_read, values_read};
+
+use plex_ast::{Exprs, Names, Reference, StmtKind, words};
+use plex_expr_parser::{exprs, names, reference};
+use plex_lexer::Token;
+use std::alloc::Global;
+use token_grammar::{Fault, name, starts, word};
+
+/// One of the four, and the tokens after it.
+#[tactic(auto, unfolding(crate::specs::Statements::signal_read))]
+pub fn signalling(alloc: Global, tokens: &[Token], room: u32) -> Result<(StmtKind, &[Token]), Fault>
+    ensures { Gives (λ x. (x.0, x.1.now)) result (signal_read room tokens.now) }
+{
+    if starts(tokens, words::SEND) {
+        send(alloc, tokens, room)
+    } else if starts(tokens, words::RETRIEVE) {
+        retrieve(alloc, tokens)
+    } else if starts(tokens, words::RETURN) {
+        return_of(alloc, tokens, room)
+    } else {
+        transfer(tokens)
+    }
+}
+
+/// `SEND name [ ref ] [ exprs ] [ NEW FORLOPP ] ;`
+#[tactic(auto, unfolding(crate::specs::Statements::send_read))]
+fn send(alloc: Global, tokens: &[Token], room: u32) -> Result<(StmtKind, &[Token]), Fault>
+    ensures { Gives (λ x. (x.0, x.1.now)) result (send_read room tokens.now) }
+{
+    let (_, left) = word(tokens, words::SEND)?;
+    let (signal, left) = name(left)?;
+    let (reference, left) = receiver(left)?;
+    let (values, left) = values(alloc, left, room)?;
+    let (fresh, left) = fresh(left)?;
+    let (_, left) = word(left, words::SEMI)?;
+    Ok((
+        StmtKind::Send {
+            signal,
+            reference,
+            values,
+            fresh,
+        },
+        left,
+    ))
+}
+
+/// `RETRIEVE name [ names ] ;`
+#[tactic(auto, unfolding(crate::specs::Statements::retrieve_read))]
+fn retrieve(alloc: Global, tokens: &[Token]) -> Result<(StmtKind, &[Token]), Fault>
+    ensures { Gives (λ x. (x.0, x.1.now)) result (retrieve_read tokens.now) }
+{
+    let (_, left) = word(tokens, words::RETRIEVE)?;
+    let (signal, left) = name(left)?;
+    let (names, left) = taken(alloc, left)?;
+    let (_, left) = word(left, words::SEMI)?;
+    Ok((StmtKind::Retrieve { signal, names }, left))
+}
+
+/// `RETURN name [ exprs ] ;`
+#[tactic(auto, unfolding(crate::specs::Statements::return_read))]
+fn return_of(alloc: Global, tokens: &[Token], room: u32) -> Result<(StmtKind, &[Token]), Fault>
+    ensures { Gives (λ x. (x.0, x.1.now)) result (return_read room tokens.now) }
+{
+    let (_, left) = word(tokens, words::RETURN)?;
+    let (signal, left) = name(left)?;
+    let (values, left) = values(alloc, left, room)?;
+    let (_, left) = word(left, words::SEMI)?;
+    Ok((StmtKind::Return { signal, values }, left))
+}
+
+/// `TRANSFER name [ ref ] ;`
+#[tactic(auto, unfolding(crate::specs::Statements::transfer_read))]
+fn transfer(tokens: &[Token]) -> Result<(StmtKind, &[Token]), Fault>
+    ensures { Gives (λ x. (x.0, x.1.now)) result (transfer_read tokens.now) }
+{
+    let (_, left) = word(tokens, words::TRANSFER)?;
+    let (signal, left) = name(left)?;
+    let (reference, left) = receiver(left)?;
+    let (_, left) = word(left, words::SEMI)?;
+    Ok((StmtKind::Transfer { signal, reference }, left))
+}
+
+/// `[ ref ]`
+#[tactic(auto, unfolding(crate::specs::Statements::receiver_read))]
+fn receiver(tokens: &[Token]) -> Result<(Option<Reference>, &[Token]), Fault>
+    ensures { Gives (λ x. (x.0, x.1.now)) result (receiver_read tokens.now) }
+{
+    if starts(tokens, words::REFERENCE) {
+        let (reference, left) = reference(tokens)?;
+        Ok((Some(reference), left))
+    } else {
+        Ok((None, tokens))
+    }
+}
+
+/// `[ exprs ]`
+#[tactic(auto, unfolding(crate::specs::Statements::values_read))]
+fn values(alloc: Global, tokens: &[Token], room: u32) -> Result<(Option<Exprs>, &[Token]), Fault>
+    ensures { Gives (λ x. (x.0, x.1.now)) result (values_read room tokens.now) }
+{
+    if starts(tokens, words::WITH) {
+        let (exprs, left) = exprs(alloc, tokens, room)?;
+        Ok((Some(exprs), left))
+    } else {
+        Ok((None, tokens))
+    }
+}
+
+/// `[ names ]` and the tokens after it.
+#[tactic(auto, unfolding(crate::specs::Statements::taken_read))]
+pub fn taken(alloc: Global, tokens: &[Token]) -> Result<(Option<Names>, &[Token]), Fault>
+    ensures { Gives (λ x. (x.0, x.1.now)) result (taken_read tokens.now) }
+{
+    if starts(tokens, words::WITH) {
+        let (names, left) = names(alloc, tokens)?;
+        Ok((Some(names), left))
+    } else {
+        Ok((None, tokens))
+    }
+}
+
+/// Whether `NEW FORLOPP` stands there.
+#[tactic(auto, unfolding(crate::specs::Statements::fresh_read))]
+fn fresh(tokens: &[Token]) -> Result<(bool, &[Token]), Fault>
+    ensures { Gives (λ x. (x.0, x.1.now)) result (fresh_read tokens.now) }
+{
+    if starts(tokens, words::NEW) {
+        let (_, left) = word(tokens, words::NEW)?;
+        let (_, left) = word(left, words::FORLOPP)?;
+        Ok((true, left))
+    } else {
+        Ok((false, tokens))
+    }
+}
