@@ -1,0 +1,7 @@
+pub mod Fits
+pub mod Lexing
+pub mod Numbers
+pub mod Productions
+pub mod Texts
+pub mod Vocabulary
+pub mod Words

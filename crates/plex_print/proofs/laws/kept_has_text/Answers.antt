@@ -1,0 +1,5 @@
+use Rattle.plex_print.proofs.Texts.{kept}
+use Rattle.plex_print.proofs.laws.kept_has_text.Goals as goal
+
+pub returns : goal.returns
+returns c = kept

@@ -1,0 +1,4 @@
+pub mod Keeps
+pub mod Printed
+pub mod Spelled
+pub mod Writing
