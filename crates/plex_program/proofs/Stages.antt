@@ -1,0 +1,111 @@
+-- Stages, one after the other.
+use Rattle.std.proofs.Common.{◌≡◌, ℕ, ◌+◌, ◌<◌, ◌≤◌, List, length, take, Option, Some, None, Result, Ok, Err, IfSome, IsSomeAnd, refl, ap, ◌∙◌, arith, min}
+use Rattle.std.proofs.lemmas.List.{take_all, length-take}
+use Rattle.std.proofs.lemmas.Bool.{lt-ltb, le-ltb}
+use Rattle.plex_io.specs.Files.{Files, Gives, Lacks}
+use Rattle.plex_io.specs.Causes.{Rose}
+use Rattle.plex_program.specs.Answer.{fitting, Out, goes_on, text_held, text_at, Comes, StopsBy, Reads}
+use Rattle.plex_program.specs.declared.limits.TheConstants.{TEXT_LIMIT}
+use Rattle.plex_program.specs.declared.perform.Stop.{Stop}
+use Rattle.plex_program.specs.declared.perform.Stop.TheVariants as stop
+
+module _ (limit : ℕ) where
+  same_size : (bytes got : List ℕ) → got ≡ take (limit + 1) bytes → length got ≡ min (limit + 1) (length bytes)
+  same_size bytes got e = ap length e ∙ length-take (limit + 1) bytes
+
+  fits_one : (bytes got : List ℕ) → got ≡ take (limit + 1) bytes → length got ≤ limit → fitting limit bytes ≡ Some got
+  fits_one bytes got e le =
+      let all : length bytes ≤ limit = (let n : length got ≡ min (limit + 1) (length bytes) = same_size bytes got e in omega (arith, n, le)) in
+      let same : got ≡ bytes = e ∙ take_all (limit + 1) bytes (let l : length bytes ≤ limit = all in omega (arith, l)) in
+      rw (le-ltb limit (length bytes) all, same) refl
+
+  large_one : (bytes got : List ℕ) → got ≡ take (limit + 1) bytes → limit < length got → fitting limit bytes ≡ None
+  large_one bytes got e lt =
+      let all : limit < length bytes = (let n : length got ≡ min (limit + 1) (length bytes) = same_size bytes got e in omega (arith, n, lt)) in
+      rw (lt-ltb limit (length bytes) all) refl
+
+fits_held : (o : Option (List ℕ)) (got : List ℕ) → Gives o TEXT_LIMIT got → length got ≤ TEXT_LIMIT → text_held o ≡ Ok (Some got)
+fits_held None got e le = absurd e
+fits_held (Some bytes) got e le = ap Ok (fits_one TEXT_LIMIT bytes got e le)
+
+large_held : (o : Option (List ℕ)) (got : List ℕ) → Gives o TEXT_LIMIT got → TEXT_LIMIT < length got → text_held o ≡ Ok None
+large_held None got e lt = absurd e
+large_held (Some bytes) got e lt = ap Ok (large_one TEXT_LIMIT bytes got e lt)
+
+-- the file fits
+pub text_fits : (files : Option Files) (name got : List ℕ) → IfSome files (λ f. Gives (f name) TEXT_LIMIT got) → length got ≤ TEXT_LIMIT → IfSome files (λ f. text_at name f ≡ Ok (Some got))
+text_fits None name got e le = tt
+text_fits (Some files) name got e le = fits_held (files name) got e le
+
+-- the file is too large
+pub text_large : (files : Option Files) (name got : List ℕ) → IfSome files (λ f. Gives (f name) TEXT_LIMIT got) → TEXT_LIMIT < length got → IfSome files (λ f. text_at name f ≡ Ok None)
+text_large None name got e lt = tt
+text_large (Some files) name got e lt = large_held (files name) got e lt
+
+-- the file is not held
+pub text_absent : (files : Option Files) (name : List ℕ) → Lacks files name → IsSomeAnd files (λ f. text_at name f ≡ Err None)
+text_absent None name e = absurd e
+text_absent (Some files) name e = rw e refl
+
+-- a count that rose
+pub rose_on : (b m a : ℕ) → b ≤ m → Rose m a → Rose b a
+rose_on b m a le r = omega arith
+
+pub rose_before : (b m a : ℕ) → m ≤ a → Rose b m → Rose b a
+rose_before b m a le r = omega arith
+
+-- a stage that stops
+pub comes_stop : {A B : Type 0} (held : Option Files) (f : Files → Out A) (g : Files → A → Out B) (b a : ℕ) (e : Stop) → Comes held f b a (Err e) → Comes held (λ files. goes_on (f files) (g files)) b a (Err e)
+comes_stop {A = A} {B = B} held f g b a e c = record { ok = tt; stops = stops_on held f g b a e c.stops; later = c.later } where
+  stops_on : (held : Option Files) (f : Files → Out A) (g : Files → A → Out B) (b a : ℕ) (e : Stop) → StopsBy held f b a e → StopsBy held (λ files. goes_on (f files) (g files)) b a e
+  stops_on None f g b a (stop.Refused r) s = tt
+  stops_on (Some files) f g b a (stop.Refused r) s = ap (λ r. goes_on r (g files)) s
+  stops_on None f g b a stop.NotHeld s = s
+  stops_on (Some files) f g b a stop.NotHeld s = ap (λ r. goes_on r (g files)) s
+  stops_on held f g b a stop.Failed s = s
+  stops_on held f g b a stop.Memory s = tt
+
+-- a stage after another
+pub comes_go : {A B : Type 0} (held : Option Files) (f : Files → Out A) (g : Files → A → Out B) (b m a : ℕ) (v : A) (r : Result B Stop) → Comes held f b m (Ok v) → Comes held (λ files. g files v) m a r → Comes held (λ files. goes_on (f files) (g files)) b a r
+comes_go {A = A} {B = B} held f g b m a v (Ok w) c d = record { ok = goes held f g v w c.ok d.ok; stops = tt; later = omega (arith, c.later, d.later) } where
+  goes : (held : Option Files) (f : Files → Out A) (g : Files → A → Out B) (v : A) (w : B) → IfSome held (λ files. f files ≡ Ok v) → IfSome held (λ files. g files v ≡ Ok w) → IfSome held (λ files. goes_on (f files) (g files) ≡ Ok w)
+  goes None f g v w c d = tt
+  goes (Some files) f g v w c d = ap (λ r. goes_on r (g files)) c ∙ d
+comes_go {A = A} {B = B} held f g b m a v (Err e) c d = record { ok = tt; stops = goes held f g b m a v e c.ok c.later d.stops; later = omega (arith, c.later, d.later) } where
+  goes : (held : Option Files) (f : Files → Out A) (g : Files → A → Out B) (b m a : ℕ) (v : A) (e : Stop) → IfSome held (λ files. f files ≡ Ok v) → b ≤ m → StopsBy held (λ files. g files v) m a e → StopsBy held (λ files. goes_on (f files) (g files)) b a e
+  goes None f g b m a v (stop.Refused r) c le s = tt
+  goes (Some files) f g b m a v (stop.Refused r) c le s = ap (λ r. goes_on r (g files)) c ∙ s
+  goes None f g b m a v stop.NotHeld c le s = s
+  goes (Some files) f g b m a v stop.NotHeld c le s = ap (λ r. goes_on r (g files)) c ∙ s
+  goes held f g b m a v stop.Failed c le s = rose_on b m a le s
+  goes held f g b m a v stop.Memory c le s = tt
+
+-- a value that needs no file
+pub comes_value : {A : Type 0} (held : Option Files) (stage : Files → Out A) (n : ℕ) (v : A) → ((files : Files) → stage files ≡ Ok v) → Comes held stage n n (Ok v)
+comes_value None stage n v e = record { ok = tt; stops = tt; later = omega arith }
+comes_value (Some files) stage n v e = record { ok = e files; stops = tt; later = omega arith }
+
+-- a text's refusal
+pub reads_stop : {A B : Type 0} (f : Out A) (g : A → Out B) (e : Stop) → Reads f (Err e) → Reads (goes_on f g) (Err e)
+reads_stop f g (stop.Refused r) s = ap (λ o. goes_on o g) s
+reads_stop f g stop.NotHeld s = s
+reads_stop f g stop.Failed s = s
+reads_stop f g stop.Memory s = tt
+
+-- a text's value, and what comes of it
+pub reads_go : {A B : Type 0} (f : Out A) (g : A → Out B) (v : A) (r : Result B Stop) → f ≡ Ok v → Reads (g v) r → Reads (goes_on f g) r
+reads_go f g v (Ok w) is s = ap (λ o. goes_on o g) is ∙ s
+reads_go f g v (Err (stop.Refused r)) is s = ap (λ o. goes_on o g) is ∙ s
+reads_go f g v (Err stop.NotHeld) is s = s
+reads_go f g v (Err stop.Failed) is s = s
+reads_go f g v (Err stop.Memory) is s = tt
+
+-- a text as a stage
+pub comes_reads : {A : Type 0} (held : Option Files) (f : Out A) (n : ℕ) (r : Result A Stop) → Reads f r → Comes held (λ files. f) n n r
+comes_reads None f n (Ok v) s = record { ok = tt; stops = tt; later = omega arith }
+comes_reads (Some files) f n (Ok v) s = record { ok = s; stops = tt; later = omega arith }
+comes_reads None f n (Err (stop.Refused r)) s = record { ok = tt; stops = tt; later = omega arith }
+comes_reads (Some files) f n (Err (stop.Refused r)) s = record { ok = tt; stops = s; later = omega arith }
+comes_reads held f n (Err stop.NotHeld) s = absurd s
+comes_reads held f n (Err stop.Failed) s = absurd s
+comes_reads held f n (Err stop.Memory) s = record { ok = tt; stops = tt; later = omega arith }

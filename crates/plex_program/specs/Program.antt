@@ -1,0 +1,86 @@
+-- What the top call promises.
+use Rattle.std.specs.Prelude.{◌≡◌, ℕ, List, [], Option, None, Result, Ok, Err, IfSome, IsSomeAnd, ◌⊎◌}
+use Rattle.plex_io.specs.Causes.{Rose}
+use Rattle.plex_io.specs.Files.{Files}
+use Rattle.plex_io.specs.Written.{appended, WroteLess, IsFull}
+use Rattle.plex_program.specs.Words.{Word, shape}
+use Rattle.plex_program.specs.Answer.{answer}
+use Rattle.plex_program.specs.Text.{usage_text}
+use Rattle.plex_program.specs.declared.perform.Answer.{Answer}
+use Rattle.plex_program.specs.declared.program.Quit.{Quit}
+use Rattle.plex_program.specs.declared.program.Quit.TheVariants as quit
+use Rattle.plex_program.specs.declared.program.Status.{Status}
+use Rattle.plex_program.specs.declared.program.Status.TheVariants as status
+
+-- the whole text was written, and the status is the answer's
+pub record IsWritten (a : Answer) (before after : Option (List ℕ)) (s : Status) : Type 0 where
+  pub status : s ≡ a.status
+  pub text : after ≡ appended before a.text
+
+-- an end with this status, where this is the answer
+abbrev pub Ends : Answer → Option (List ℕ) → Option (List ℕ) → Status → Type 0
+Ends a before after status.Read = Unit {0}
+Ends a before after status.Memory = Unit {0}
+Ends a before after status.Write = WroteLess before after a.text
+Ends a before after s = IsWritten a before after s
+
+-- the answer is that a file is not held
+abbrev pub IsNotHeld : Answer → Type 0
+IsNotHeld a = a ≡ record { status = status.Read; text = [] }
+
+-- a read failed in this call, or the shelf tells its files and the answer is that one is not held; nothing was written
+pub record ReadCause (held : Option Files) (words : List Word) (faults faults' : ℕ) (before after : Option (List ℕ)) : Type 0 where
+  pub cause : Rose faults faults' ⊎ IsSomeAnd held (λ files. IsNotHeld (answer words files))
+  pub silent : after ≡ before
+
+-- a write failed in this call, and a sink that tells its size is full
+pub record WriteCause (size : Option ℕ) (written : Option (List ℕ)) (faults faults' : ℕ) : Type 0 where
+  pub cause : Rose faults faults'
+  pub full : IsFull size written
+
+-- where neither count rose, the status is the answer's, or memory was refused
+abbrev pub IsComplete : Answer → ℕ → ℕ → ℕ → ℕ → Status → Type 0
+IsComplete a shelf shelf' sink sink' s = ¬ (Rose shelf shelf') → ¬ (Rose sink sink') → (s ≡ a.status) ⊎ (s ≡ status.Memory)
+
+-- the usage line
+abbrev pub usage_answer : Answer
+usage_answer = record { status = status.Usage; text = usage_text }
+
+-- a status with which a text is written
+abbrev pub IsPlain : Status → Type 0
+IsPlain status.Read = ⊥
+IsPlain status.Write = ⊥
+IsPlain status.Memory = ⊥
+IsPlain s = Unit {0}
+
+-- what is written, or why nothing is
+abbrev pub QuitsBy : Option Files → List Word → ℕ → ℕ → Quit → Type 0
+QuitsBy held words faults faults' quit.Read = Rose faults faults' ⊎ IsSomeAnd held (λ files. IsNotHeld (answer words files))
+QuitsBy held words faults faults' quit.Memory = Unit {0}
+
+-- an answer that is to be written
+pub record IsAnswer (held : Option Files) (words : List Word) (a : Answer) : Type 0 where
+  pub same : IfSome held (λ files. answer words files ≡ a)
+  pub plain : IsPlain a.status
+  pub usage : a.status ≡ status.Usage → shape words ≡ None
+  pub unshaped : shape words ≡ None → a ≡ usage_answer
+
+abbrev pub Answers : Option Files → List Word → ℕ → ℕ → Result Answer Quit → Type 0
+Answers held words faults faults' (Ok a) = IsAnswer held words a
+Answers held words faults faults' (Err q) = QuitsBy held words faults faults' q
+
+-- this answer is made, or memory was refused
+abbrev pub Makes : Answer → Result Answer Quit → Type 0
+Makes a (Ok b) = b ≡ a
+Makes a (Err quit.Memory) = Unit {0}
+Makes a (Err quit.Read) = ⊥
+
+-- the number with which the program ends
+abbrev pub exit_number : Status → ℕ
+exit_number status.Done = 0
+exit_number status.Usage = 1
+exit_number status.Source = 2
+exit_number status.Read = 6
+exit_number status.Write = 7
+exit_number status.Memory = 8
+exit_number status.NotYet = 10

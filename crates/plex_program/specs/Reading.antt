@@ -1,0 +1,67 @@
+-- The tree of an exchange text, or its first fault: a fault of its size, then of its tokens, then of its sentence.
+use Rattle.std.specs.Prelude.{ℕ, ◌+◌, List, slice_get, Option, Some, None, Result, Ok, Err}
+use Rattle.plex_lexer.specs.Lexed.{tokens_of}
+use Rattle.plex_lexer.specs.Lines.{feeds}
+use Rattle.plex_lexer.specs.declared.token.Token.{Token}
+use Rattle.plex_lexer.specs.declared.fault.LexFault.{LexFault}
+use Rattle.plex_lexer.specs.declared.fault.LexFault.TheVariants as lexing
+use Rattle.plex_ast.specs.declared.tree.Tree.{Tree}
+use Rattle.plex_parser.specs.Parses.{parsed}
+use Rattle.plex_parser.specs.declared.parser.ParseFault.{ParseFault}
+use Rattle.plex_parser.specs.declared.parser.ParseFault.TheVariants as parsing
+use Rattle.plex_program.specs.declared.fault.SourceFault.{SourceFault}
+use Rattle.plex_program.specs.declared.fault.Rule.{Rule}
+use Rattle.plex_program.specs.declared.fault.Rule.TheVariants as rule
+
+abbrev pub at_line : ℕ → Rule → SourceFault
+at_line line r = record { line = line; rule = r }
+
+-- a text that is too large has no line
+abbrev pub too_large : SourceFault
+too_large = at_line 0 rule.TooLarge
+
+-- a fault of the tokens; want of memory is none, and is never the answer of a definition
+abbrev pub lex_fault : LexFault → SourceFault
+lex_fault (lexing.BadByte offset line) = at_line line rule.BadByte
+lex_fault (lexing.BadNumber offset line) = at_line line rule.BadNumber
+lex_fault (lexing.LongName offset line) = at_line line rule.LongName
+lex_fault lexing.Memory = too_large
+
+abbrev pub line_at : Option Token → ℕ
+line_at None = 0
+line_at (Some t) = t.line
+
+-- the line of the token at a place
+abbrev pub token_line : List Token → ℕ → ℕ
+token_line tokens i = line_at (slice_get tokens i)
+
+-- the line on which a text ends
+abbrev pub end_line : List ℕ → ℕ
+end_line text = 1 + feeds text
+
+-- a fault of the sentence; want of memory is none
+abbrev pub parse_fault : List ℕ → List Token → ParseFault → SourceFault
+parse_fault text tokens (parsing.Unexpected i) = at_line (token_line tokens i) rule.Unexpected
+parse_fault text tokens parsing.Ended = at_line (end_line text) rule.Ended
+parse_fault text tokens (parsing.TooDeep i) = at_line (token_line tokens i) rule.TooDeep
+parse_fault text tokens parsing.Memory = too_large
+
+abbrev pub tree_or_fault : List ℕ → List Token → Result Tree ParseFault → Result Tree SourceFault
+tree_or_fault text tokens (Ok t) = Ok t
+tree_or_fault text tokens (Err f) = Err (parse_fault text tokens f)
+
+abbrev pub tree_of_tokens : List ℕ → List Token → Result Tree SourceFault
+tree_of_tokens text tokens = tree_or_fault text tokens (parsed tokens)
+
+abbrev pub tree_of_lexed : List ℕ → Result (List Token) LexFault → Result Tree SourceFault
+tree_of_lexed text (Err f) = Err (lex_fault f)
+tree_of_lexed text (Ok tokens) = tree_of_tokens text tokens
+
+-- the tree that the tokens of a text spell, or its first fault
+unfoldable pub tree_of : List ℕ → Result Tree SourceFault
+tree_of text = tree_of_lexed text (tokens_of text)
+
+-- the same where the text may be too large
+abbrev pub tree_of_file : Option (List ℕ) → Result Tree SourceFault
+tree_of_file None = Err too_large
+tree_of_file (Some text) = tree_of text

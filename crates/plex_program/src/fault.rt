@@ -1,0 +1,28 @@
+// The first fault of an exchange text.
+
+/// Why an exchange text is refused, and where.
+#[derive(Clone, Copy, Debug)]
+pub struct SourceFault {
+    /// The line of the fault, from 1; 0 where the fault has none.
+    pub line: u32,
+    pub rule: Rule,
+}
+
+/// The rules whose first breach is told (docs/FORMATS.md, Refusals).
+#[derive(Clone, Copy, Debug)]
+pub enum Rule {
+    /// The text has more than 16,777,216 bytes.
+    TooLarge,
+    /// A byte begins no token.
+    BadByte,
+    /// A number has over 10 digits, or is not below 2^32.
+    BadNumber,
+    /// A word has over 31 bytes.
+    LongName,
+    /// A token may not stand there.
+    Unexpected,
+    /// The text ends too soon.
+    Ended,
+    /// A token would be allowed if brackets and statements could nest deeper.
+    TooDeep,
+}

@@ -1,0 +1,33 @@
+// The program as one call.
+//
+// What goes in: the words of the command, a shelf of files and a sink. What comes out: a status, and the
+// text in the sink. The contract of `plex` says which: the answer is a function of the words and the
+// files, the report of the single run among it.
+// It knows no process: main gives it the real devices.
+#![tactic(auto)]
+
+mod buffers;
+mod command;
+mod fault;
+mod job;
+mod limits;
+mod line;
+mod names;
+mod perform;
+mod program;
+mod reading;
+mod report;
+mod rules;
+mod run;
+mod signals;
+mod source;
+#[cfg(test)]
+mod tests;
+mod text;
+mod value;
+
+pub use command::Command;
+pub use fault::{Rule, SourceFault};
+pub use limits::TEXT_LIMIT;
+pub use perform::{Answer, Refused, Stop};
+pub use program::{Quit, Status, plex};

@@ -1,0 +1,184 @@
+// The work of each command, up to its text.
+ghost use Rattle.std.specs.Prelude.{◌≡◌, ◌≤◌, IfOk, IfSome, length};
+ghost use Rattle.plex_program.specs.Answer.{Builds, Comes, Reads, exchange_at, exchange_of_file, exchange_of_tree, lines_at, lines_of_file, or_refused, performed, run_of, run_report, text_at};
+
+use crate::command::Command;
+use crate::fault::SourceFault;
+use crate::limits::TEXT_LIMIT;
+use crate::line::Line;
+use crate::program::Status;
+use crate::reading::tree_of_file;
+use crate::report::report;
+use crate::run::run;
+use crate::signals::read_signals;
+use crate::source::read_text;
+use exchange_model::Exchange;
+use plex_ast::Tree;
+use plex_io::{Shelf, ShelfFault, Word};
+use plex_num::{Memory, Seq};
+use small_form::small_text;
+use std::alloc::Global;
+
+/// The first refusal.
+#[derive(Clone, Copy, Debug)]
+pub enum Refused {
+    /// The exchange text has a fault.
+    Source(SourceFault),
+    /// The exchange text is not of the small form.
+    NotYetSource,
+    /// The signal file is not of the first form.
+    NotYetSignals,
+}
+
+/// What the program writes and ends with.
+#[derive(Drop)]
+pub struct Answer {
+    pub status: Status,
+    pub text: Seq<u8>,
+}
+
+/// Why the work stops.
+#[derive(Clone, Copy, Debug)]
+pub enum Stop {
+    Refused(Refused),
+    /// The shelf holds no file of this name.
+    NotHeld,
+    /// A file could not be read.
+    Failed,
+    Memory,
+}
+
+/// The text of a file, where it is not too large.
+#[tactic(auto, using(crate::proofs::Stages::text_absent))]
+fn text_in<S: Shelf>(alloc: Global, shelf: &mut S, name: &Word) -> Result<Option<Seq<u8>>, Stop>
+    ensures comes { Comes (S.held shelf.old) (text_at name.now) (S.faults shelf.old) (S.faults shelf.new) result }
+    ensures kept { S.held shelf.new ≡ S.held shelf.old }
+    ensures size { IfOk result (λ t. IfSome t (λ text. length text ≤ TEXT_LIMIT)) }
+{
+    match shelf.read_file(alloc, name, TEXT_LIMIT) {
+        Ok(text) => {
+            if text.len() as u64 > TEXT_LIMIT {
+                Ok(None)
+            } else {
+                Ok(Some(text))
+            }
+        }
+        Err(ShelfFault::Absent) => Err(Stop::NotHeld),
+        Err(ShelfFault::Failed) => Err(Stop::Failed),
+        Err(ShelfFault::Memory) => Err(Stop::Memory),
+    }
+}
+
+/// The exchange of a file.
+#[tactic(auto, using(crate::proofs::Stages::comes_stop, crate::proofs::Stages::comes_go, crate::proofs::Stages::comes_reads))]
+fn exchange_in<S: Shelf>(alloc: Global, shelf: &mut S, name: &Word) -> Result<Exchange, Stop>
+    ensures comes { Comes (S.held shelf.old) (exchange_at name.now) (S.faults shelf.old) (S.faults shelf.new) result }
+    ensures kept { S.held shelf.new ≡ S.held shelf.old }
+{
+    let text = text_in(alloc, shelf, name)?;
+    exchange_of_file(alloc, &text)
+}
+
+/// The exchange that a file's text means.
+#[tactic(auto, using(crate::proofs::Stages::reads_stop, crate::proofs::Stages::reads_go))]
+fn exchange_of_file(alloc: Global, text: &Option<Seq<u8>>) -> Result<Exchange, Stop>
+    requires { IfSome text.now (λ t. length t ≤ TEXT_LIMIT) }
+    ensures { Reads (exchange_of_file text.now) result }
+{
+    let tree = tree_of_file(alloc, text)?;
+    small_exchange(alloc, &tree)
+}
+
+/// The exchange of a tree that is of the small form and keeps its rules.
+fn small_exchange(alloc: Global, tree: &Tree) -> Result<Exchange, Stop>
+    ensures { Reads (or_refused Refused.NotYetSource (exchange_of_tree tree.now)) result }
+{
+    match exchange_of_tree(alloc, tree) {
+        Ok(Some(exchange)) => Ok(exchange),
+        Ok(None) => Err(Stop::Refused(Refused::NotYetSource)),
+        Err(Memory) => Err(Stop::Memory),
+    }
+}
+
+fn exchange_of_tree(alloc: Global, tree: &Tree) -> Result<Option<Exchange>, Memory>
+    ensures { IfOk result (λ x. x ≡ exchange_of_tree tree.now) }
+{
+    match small_text(alloc, tree)? {
+        Some(text) => read_text(alloc, &text),
+        None => Ok(None),
+    }
+}
+
+/// The signal lines of a file.
+#[tactic(auto, using(crate::proofs::Stages::comes_stop))]
+fn lines_of<S: Shelf>(
+    alloc: Global,
+    shelf: &mut S,
+    exchange: &Exchange,
+    name: &Word,
+) -> Result<Seq<Line>, Stop>
+    ensures comes { Comes (S.held shelf.old) (lines_at exchange.now name.now) (S.faults shelf.old) (S.faults shelf.new) result }
+    ensures kept { S.held shelf.new ≡ S.held shelf.old }
+{
+    let text = text_in(alloc, shelf, name)?;
+    match lines_of_file(alloc, exchange, &text) {
+        Ok(Some(lines)) => Ok(lines),
+        Ok(None) => Err(Stop::Refused(Refused::NotYetSignals)),
+        Err(Memory) => Err(Stop::Memory),
+    }
+}
+
+fn lines_of_file(
+    alloc: Global,
+    exchange: &Exchange,
+    text: &Option<Seq<u8>>,
+) -> Result<Option<Seq<Line>>, Memory>
+    ensures { IfOk result (λ lines. lines ≡ lines_of_file exchange.now text.now) }
+{
+    match text {
+        Some(text) => read_signals(alloc, exchange, text.as_slice()),
+        None => Ok(None),
+    }
+}
+
+/// The report of the single run.
+fn run_report(alloc: Global, exchange: &Exchange, lines: &[Line]) -> Result<Seq<u8>, Memory>
+    ensures { IfOk result (λ text. text ≡ run_report exchange.now lines.now) }
+{
+    let books = run(alloc, exchange, lines)?;
+    report(alloc, exchange, &books)
+}
+
+/// The same as a stage.
+fn run_text(alloc: Global, exchange: &Exchange, lines: &[Line]) -> Result<Seq<u8>, Stop>
+    ensures { Builds (run_report exchange.now lines.now) result }
+{
+    match run_report(alloc, exchange, lines) {
+        Ok(text) => Ok(text),
+        Err(Memory) => Err(Stop::Memory),
+    }
+}
+
+/// `run`.
+#[tactic(auto, using(crate::proofs::Stages::comes_stop, crate::proofs::Stages::comes_go))]
+fn perform_run<S: Shelf>(
+    alloc: Global,
+    shelf: &mut S,
+    exchange: &Word,
+    signals: &Word,
+) -> Result<Seq<u8>, Stop>
+    ensures comes { Comes (S.held shelf.old) (run_of exchange.now signals.now) (S.faults shelf.old) (S.faults shelf.new) result }
+{
+    let exchange = exchange_in(alloc, shelf, exchange)?;
+    let lines = lines_of(alloc, shelf, &exchange, signals)?;
+    run_text(alloc, &exchange, lines.as_slice())
+}
+
+/// The text that a command comes to.
+pub fn perform<S: Shelf>(alloc: Global, shelf: &mut S, command: &Command) -> Result<Seq<u8>, Stop>
+    ensures comes { Comes (S.held shelf.old) (performed command.now) (S.faults shelf.old) (S.faults shelf.new) result }
+{
+    match command {
+        Command::Run { exchange, signals } => perform_run(alloc, shelf, exchange, signals),
+    }
+}

@@ -1,0 +1,167 @@
+// The program as one call.
+ghost use Rattle.std.specs.Prelude.{◌≡◌, IfSome, None, ◌⊎◌};
+ghost use Rattle.plex_program.specs.Answer.{answer, refused_answer, refused_status};
+ghost use Rattle.plex_program.specs.Program.{Answers, Ends, IsComplete, IsPlain, Makes, ReadCause, WriteCause, exit_number, usage_answer};
+ghost use Rattle.plex_program.specs.Words.{shape};
+
+use crate::command::read_command;
+use crate::perform::{Answer, Refused, Stop, perform};
+use crate::text::{refusal_line, usage_line};
+use plex_io::{Gate, Shelf, Sink, Word, write_all};
+use plex_num::Seq;
+use std::alloc::Global;
+use std::sync::Wait;
+use std::thread::Threads;
+
+/// How the program ends.
+#[derive(Clone, Copy, Debug, PartialEq, Eq)]
+pub enum Status {
+    /// The report was written.
+    Done,
+    /// The words are no command; the usage line was written.
+    Usage,
+    /// The exchange text has a fault; the line that tells the first one was written.
+    Source,
+    /// A file could not be read; nothing was written.
+    Read,
+    /// The text could not be written whole.
+    Write,
+    /// Memory was refused; nothing was written.
+    Memory,
+    /// A file is not of the form that runs so far; a line that says which was written.
+    NotYet,
+}
+
+impl Status {
+    /// The exit status of the process (docs/FORMATS.md, Exit statuses).
+    pub fn number(self) -> u8
+        ensures { result ≡ exit_number self }
+    {
+        match self {
+            Status::Done => 0,
+            Status::Usage => 1,
+            Status::Source => 2,
+            Status::Read => 6,
+            Status::Write => 7,
+            Status::Memory => 8,
+            Status::NotYet => 10,
+        }
+    }
+}
+
+/// The program: reads the files that the words name, and writes the answer.
+///
+/// `words` are the command's words without the program's name. Where the shelf tells its files, the
+/// status and the text are those of `answer`, but for `Read` where a read failed, `Write` where the sink
+/// failed or is full, and then a proper front of the text was written, and `Memory`. The threads and the
+/// gate are not used yet: one job runs at a time.
+#[tactic(auto, using(crate::proofs::Endings::ends_same))]
+pub fn plex<R: Threads + Wait + Sync, S: Shelf, K: Sink, G: Gate + Sync>(
+    rt: &R,
+    alloc: Global,
+    words: &[Word],
+    shelf: &mut S,
+    sink: &mut K,
+    gate: &G,
+) -> Status
+    ensures answers { IfSome (S.held shelf.old) (λ files. Ends (answer words.now files) (K.written sink.old) (K.written sink.new) result) }
+    ensures unshaped { shape words.now ≡ None → Ends usage_answer (K.written sink.old) (K.written sink.new) result }
+    ensures usage { result ≡ Status.Usage → shape words.now ≡ None }
+    ensures read { result ≡ Status.Read → ReadCause (S.held shelf.old) words.now (S.faults shelf.old) (S.faults shelf.new) (K.written sink.old) (K.written sink.new) }
+    ensures write { result ≡ Status.Write → WriteCause (K.size sink.old) (K.written sink.new) (K.faults sink.old) (K.faults sink.new) }
+    ensures memory { result ≡ Status.Memory → K.written sink.new ≡ K.written sink.old }
+    ensures complete { IfSome (S.held shelf.old) (λ files. IsComplete (answer words.now files) (S.faults shelf.old) (S.faults shelf.new) (K.faults sink.old) (K.faults sink.new) result) }
+{
+    let _ = rt;
+    let _ = gate;
+    match answered(alloc, words, shelf) {
+        Ok(answer) => write_answer(sink, &answer),
+        Err(Quit::Read) => Status::Read,
+        Err(Quit::Memory) => Status::Memory,
+    }
+}
+
+/// Why nothing is written.
+#[derive(Clone, Copy, Debug)]
+pub enum Quit {
+    Read,
+    Memory,
+}
+
+/// The answer to the words.
+#[tactic(auto, using(crate::proofs::Endings::answered_usage, crate::proofs::Endings::answered_report, crate::proofs::Endings::answered_not_held, crate::proofs::Endings::answered_refused))]
+fn answered<S: Shelf>(alloc: Global, words: &[Word], shelf: &mut S) -> Result<Answer, Quit>
+    ensures answers { Answers (S.held shelf.old) words.now (S.faults shelf.old) (S.faults shelf.new) result }
+{
+    let command = match read_command(alloc, words) {
+        Ok(Some(command)) => command,
+        Ok(None) => return usage_answer(alloc),
+        Err(_) => return Err(Quit::Memory),
+    };
+    match perform(alloc, shelf, &command) {
+        Ok(text) => Ok(done_answer(text)),
+        Err(Stop::NotHeld) => Err(Quit::Read),
+        Err(Stop::Refused(refused)) => refused_answer(alloc, refused),
+        Err(Stop::Failed) => Err(Quit::Read),
+        Err(Stop::Memory) => Err(Quit::Memory),
+    }
+}
+
+/// The answer of a refusal.
+fn refused_answer(alloc: Global, refused: Refused) -> Result<Answer, Quit>
+    ensures { Makes (refused_answer refused) result }
+{
+    match refusal_line(alloc, refused) {
+        Ok(text) => Ok(Answer {
+            status: refused_status(refused),
+            text,
+        }),
+        Err(_) => Err(Quit::Memory),
+    }
+}
+
+fn refused_status(refused: Refused) -> Status
+    ensures { result ≡ refused_status refused }
+{
+    match refused {
+        Refused::Source(_) => Status::Source,
+        Refused::NotYetSource => Status::NotYet,
+        Refused::NotYetSignals => Status::NotYet,
+    }
+}
+
+/// The usage line.
+fn usage_answer(alloc: Global) -> Result<Answer, Quit>
+    ensures { Makes usage_answer result }
+{
+    match Seq::copied(alloc, usage_line()) {
+        Ok(text) => Ok(Answer {
+            status: Status::Usage,
+            text,
+        }),
+        Err(_) => Err(Quit::Memory),
+    }
+}
+
+/// The answer of a report.
+fn done_answer(text: Seq<u8>) -> Answer
+    ensures { result ≡ record { status = Status.Done; text = text } }
+{
+    Answer {
+        status: Status::Done,
+        text,
+    }
+}
+
+/// Writes the answer.
+fn write_answer<K: Sink>(sink: &mut K, answer: &Answer) -> Status
+    requires { IsPlain answer.now.status }
+    ensures ends { Ends answer.now (K.written sink.old) (K.written sink.new) result }
+    ensures write { result ≡ Status.Write → WriteCause (K.size sink.old) (K.written sink.new) (K.faults sink.old) (K.faults sink.new) }
+    ensures plain { (result ≡ Status.Write) ⊎ (result ≡ answer.now.status) }
+{
+    match write_all(sink, answer.text.as_slice()) {
+        Ok(()) => answer.status,
+        Err(_) => Status::Write,
+    }
+}

@@ -1,0 +1,90 @@
+// The tree of an exchange text, or its first fault.
+ghost use Rattle.std.specs.Prelude.{◌≡◌, ◌≤◌, ◌^◌, IfSome, length};
+ghost use Rattle.plex_lexer.specs.Lines.{feeds};
+ghost use Rattle.plex_program.specs.Answer.{Reads, or_fault};
+ghost use Rattle.plex_program.specs.Reading.{at_line, end_line, token_line, tree_of, tree_of_file, tree_of_tokens};
+
+use crate::fault::{Rule, SourceFault};
+use crate::limits::TEXT_LIMIT;
+use crate::perform::{Refused, Stop};
+use plex_ast::Tree;
+use plex_lexer::{LexFault, Token, lex};
+use plex_num::Seq;
+use plex_parser::{ParseFault, parse};
+use std::alloc::Global;
+
+/// The tree of a file's text, which may be too large.
+pub fn tree_of_file(alloc: Global, text: &Option<Seq<u8>>) -> Result<Tree, Stop>
+    requires { IfSome text.now (λ t. length t ≤ TEXT_LIMIT) }
+    ensures { Reads (or_fault (tree_of_file text.now)) result }
+{
+    match text {
+        Some(text) => tree_of(alloc, text.as_slice()),
+        None => Err(refused(0, Rule::TooLarge)),
+    }
+}
+
+#[tactic(auto, unfolding(crate::specs::Reading::tree_of))]
+fn tree_of(alloc: Global, text: &[u8]) -> Result<Tree, Stop>
+    requires { length text.now ≤ TEXT_LIMIT }
+    ensures { Reads (or_fault (tree_of text.now)) result }
+{
+    match lex(alloc, text) {
+        Ok(tokens) => tree_of_tokens(alloc, text, tokens.as_slice()),
+        Err(LexFault::BadByte { line, .. }) => Err(refused(line, Rule::BadByte)),
+        Err(LexFault::BadNumber { line, .. }) => Err(refused(line, Rule::BadNumber)),
+        Err(LexFault::LongName { line, .. }) => Err(refused(line, Rule::LongName)),
+        Err(LexFault::Memory) => Err(Stop::Memory),
+    }
+}
+
+fn tree_of_tokens(alloc: Global, text: &[u8], tokens: &[Token]) -> Result<Tree, Stop>
+    requires text { length text.now ≤ 2 ^ 24 }
+    requires tokens { length tokens.now ≤ 2 ^ 24 }
+    ensures { Reads (or_fault (tree_of_tokens text.now tokens.now)) result }
+{
+    match parse(alloc, tokens) {
+        Ok(tree) => Ok(tree),
+        Err(ParseFault::Unexpected { token }) => {
+            Err(refused(token_line(tokens, token), Rule::Unexpected))
+        }
+        Err(ParseFault::Ended) => Err(refused(end_line(text), Rule::Ended)),
+        Err(ParseFault::TooDeep { token }) => {
+            Err(refused(token_line(tokens, token), Rule::TooDeep))
+        }
+        Err(ParseFault::Memory) => Err(Stop::Memory),
+    }
+}
+
+/// The stop at a fault of the source.
+fn refused(line: u32, rule: Rule) -> Stop
+    ensures { result ≡ Stop.Refused (Refused.Source (at_line line rule)) }
+{
+    Stop::Refused(Refused::Source(SourceFault { line, rule }))
+}
+
+/// The line of the token at a place; 0 where there is none.
+fn token_line(tokens: &[Token], place: u32) -> u32
+    ensures { result ≡ token_line tokens.now place }
+{
+    match tokens.get(place as usize) {
+        Some(token) => token.line,
+        None => 0,
+    }
+}
+
+/// The line on which a text ends.
+fn end_line(text: &[u8]) -> u32
+    requires { length text.now ≤ 2 ^ 24 }
+    ensures { result ≡ end_line text.now }
+{
+    1 + feeds(text) as u32
+}
+
+/// How many LF bytes there are.
+fn feeds(text: &[u8]) -> usize
+    ensures count { result ≡ feeds text.now }
+    ensures few { result ≤ length text.now }
+{
+    text.iter().filter(|byte| **byte == 10).count()
+}
