@@ -2,9 +2,9 @@
 use Rattle.std.proofs.Common.{◌≡◌, ℕ, ◌+◌, ◌<◌, ◌≤◌, List, [], ◌∷◌, ◌++◌, length, drop, get_or, Some, None, refl, sym, ap, ◌∙◌, append_assoc}
 use Rattle.std.proofs.lemmas.List.{drop_more, drop_all, append-nil}
 use Rattle.small_form.specs.declared.text.SmallItem.{SmallItem}
-use Rattle.exchange_model.specs.declared.block.Enter.{Enter}
-use Rattle.exchange_model.specs.declared.block.Stmt.{Stmt}
-use Rattle.exchange_model.specs.declared.block.StmtKind.{StmtKind}
+use Rattle.small_exchange.specs.declared.block.Enter.{Enter}
+use Rattle.small_exchange.specs.declared.block.Stmt.{Stmt}
+use Rattle.small_exchange.specs.declared.block.StmtKind.{StmtKind}
 use Rattle.plex_program.specs.Source.{kind_of, statements_from, enters_from, enter_row, entered, place_of}
 
 module _ (signals variables : List (List ℕ)) (items : List SmallItem) where

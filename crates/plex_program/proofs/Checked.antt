@@ -5,11 +5,11 @@ use Rattle.std.proofs.lemmas.Bool.Decides.{nat_tests}
 use Rattle.small_form.specs.declared.text.SmallBlock.{SmallBlock}
 use Rattle.small_form.specs.declared.text.SmallVariable.{SmallVariable}
 use Rattle.small_form.specs.declared.text.SmallItem.{SmallItem}
-use Rattle.exchange_model.specs.declared.block.Enter.{Enter}
+use Rattle.small_exchange.specs.declared.block.Enter.{Enter}
 use Rattle.plex_program.specs.Names.{each_new, different, declared_by, with_name}
 use Rattle.small_form.specs.declared.text.SmallSignal.{SmallSignal}
 use Rattle.small_form.specs.declared.text.SmallText.{SmallText}
-use Rattle.exchange_model.specs.declared.exchange.Exchange.{Exchange}
+use Rattle.small_exchange.specs.declared.exchange.Exchange.{Exchange}
 use Rattle.std.specs.List.{list_all}
 use Rattle.plex_program.specs.Source.{enter_row, enters_from, entered, block_is_fine, blocks_are_fine, keeps_rules, variable_names, entered_names, signal_name, signal_names, signal_kind, signals_are_fine, carries_nothing, is_small, meant_by, exchange_in, exchange_of_text}
 

@@ -4,15 +4,15 @@ use Rattle.std.specs.Prelude.{if◌then◌else◌}
 use Rattle.std.proofs.lemmas.List.{drop_more, drop_all}
 use Rattle.std.proofs.lemmas.Option.{slice_get_past}
 use Rattle.std.proofs.lemmas.Bool.Decides.{nat_tests}
-use Rattle.exchange_model.specs.declared.exchange.Exchange.{Exchange}
-use Rattle.exchange_model.specs.declared.entry.Entry.{Entry}
-use Rattle.exchange_model.specs.declared.block.Block.{Block}
-use Rattle.exchange_model.specs.declared.block.Enter.{Enter as Row}
-use Rattle.exchange_model.specs.declared.block.Stmt.{Stmt}
-use Rattle.exchange_model.specs.declared.block.StmtKind.{StmtKind}
-use Rattle.exchange_model.specs.declared.block.StmtKind.TheVariants.{Enter, SetVariable, Exit, Finish}
-use Rattle.exchange_model.specs.declared.expr.Expr.{Expr}
-use Rattle.exchange_model.specs.Cells.{first_cell, variable_cell}
+use Rattle.small_exchange.specs.declared.exchange.Exchange.{Exchange}
+use Rattle.small_exchange.specs.declared.entry.Entry.{Entry}
+use Rattle.small_exchange.specs.declared.block.Block.{Block}
+use Rattle.small_exchange.specs.declared.block.Enter.{Enter as Row}
+use Rattle.small_exchange.specs.declared.block.Stmt.{Stmt}
+use Rattle.small_exchange.specs.declared.block.StmtKind.{StmtKind}
+use Rattle.small_exchange.specs.declared.block.StmtKind.TheVariants.{Enter, SetVariable, Exit, Finish}
+use Rattle.small_exchange.specs.declared.expr.Expr.{Expr}
+use Rattle.small_exchange.specs.Cells.{first_cell, variable_cell}
 use Rattle.plex_program.specs.Value.{Got, expr_value}
 use Rattle.plex_program.specs.Job.{Touch, Reads, Writes, Config, ends, does, step, run, from_enter, block_start, begins, end_of, job}
 

@@ -6,7 +6,7 @@ use Rattle.std.specs.Str.Lines.{lines, lines_of_parts, strip_carriage_return}
 use Rattle.std.proofs.lemmas.List.Splits.{slice_split_first}
 use Rattle.std.proofs.lemmas.List.{drop_all}
 use Rattle.std.proofs.lemmas.Bool.Decides.{nat_tests}
-use Rattle.exchange_model.specs.declared.exchange.Exchange.{Exchange}
+use Rattle.small_exchange.specs.declared.exchange.Exchange.{Exchange}
 use Rattle.plex_program.specs.declared.line.Line.{Line}
 use Rattle.plex_program.specs.Signals.{is_blank, is_line_end, is_some_byte, lines_in, read_line, signal_lines, with, with_line, words}
 

@@ -1,10 +1,10 @@
 -- The lines of a report, one after the other.
 use Rattle.std.proofs.Common.{◌≡◌, ℕ, ◌+◌, ◌<◌, ◌≤◌, List, [], ◌++◌, length, drop, take, get_or, slice_index, refl, sym, ap, ◌∙◌, append_assoc, arith}
 use Rattle.std.proofs.lemmas.List.{drop_more, drop_all, append-nil}
-use Rattle.exchange_model.specs.declared.block.Block.{Block}
-use Rattle.exchange_model.specs.declared.block.Variable.{Variable}
+use Rattle.small_exchange.specs.declared.block.Block.{Block}
+use Rattle.small_exchange.specs.declared.block.Variable.{Variable}
 use Rattle.std.proofs.lemmas.List.Sums.{sum_by_more, sum_by_more_le}
-use Rattle.exchange_model.specs.Cells.{cell_count}
+use Rattle.small_exchange.specs.Cells.{cell_count}
 use Rattle.plex_program.specs.Report.{variable_line, variable_lines, block_lines}
 
 -- the text so far, and the lines that are left, are the text before and all lines

@@ -2,9 +2,9 @@
 use Rattle.std.proofs.Common.{◌≡◌, ℕ, suc, ◌+◌, ◌<◌, ◌≤◌, Bool, true, false, List, [], ◌∷◌, ◌++◌, length, drop, get_or, map, Option, Some, None, refl, sym, ap, ◌∙◌, append_assoc, arith}
 use Rattle.std.specs.Prelude.{if◌then◌else◌}
 use Rattle.std.proofs.lemmas.List.{drop_more, drop_all, append-nil}
-use Rattle.exchange_model.specs.declared.exchange.Exchange.{Exchange}
-use Rattle.exchange_model.specs.declared.block.Block.{Block}
-use Rattle.exchange_model.specs.declared.block.Variable.{Variable}
+use Rattle.small_exchange.specs.declared.exchange.Exchange.{Exchange}
+use Rattle.small_exchange.specs.declared.block.Block.{Block}
+use Rattle.small_exchange.specs.declared.block.Variable.{Variable}
 use Rattle.plex_program.specs.declared.line.Line.{Line}
 use Rattle.plex_program.specs.Run.{Waiting, State, pick, is_due, arrives, arrivals, arrivals_of, retires, turn, turn_of, after, opening, opening_store, single_run}
 

@@ -1,8 +1,8 @@
 -- Sums and products, from the front.
 use Rattle.std.proofs.Common.{◌≡◌, ℕ, ◌+◌, ◌<◌, ◌≤◌, List, length, drop, get_or, refl, sym, ap, ◌∙◌}
 use Rattle.std.proofs.lemmas.List.{drop_more, drop_all}
-use Rattle.exchange_model.specs.declared.expr.Term.{Term}
-use Rattle.exchange_model.specs.declared.expr.Joined.{Joined}
+use Rattle.small_exchange.specs.declared.expr.Term.{Term}
+use Rattle.small_exchange.specs.declared.expr.Joined.{Joined}
 use Rattle.plex_program.specs.Value.{Sight, factor_value, factors_value, terms_value, joined, summed}
 
 -- the value of what is left is that of all

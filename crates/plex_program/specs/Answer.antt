@@ -5,7 +5,7 @@ use Rattle.plex_io.specs.Files.{Files}
 use Rattle.plex_ast.specs.declared.tree.Tree.{Tree}
 use Rattle.small_form.specs.Small.{small_of}
 use Rattle.small_form.specs.declared.text.SmallText.{SmallText}
-use Rattle.exchange_model.specs.declared.exchange.Exchange.{Exchange}
+use Rattle.small_exchange.specs.declared.exchange.Exchange.{Exchange}
 use Rattle.plex_program.specs.Reading.{tree_of_file}
 use Rattle.plex_program.specs.Report.{report}
 use Rattle.plex_program.specs.Run.{single_run}
@@ -15,7 +15,7 @@ use Rattle.plex_program.specs.Text.{refusal_text, usage_text}
 use Rattle.plex_program.specs.Words.{Word, shape}
 use Rattle.plex_program.specs.declared.fault.SourceFault.{SourceFault}
 use Rattle.plex_program.specs.declared.command.Command.{Command}
-use Rattle.plex_program.specs.declared.command.Command.TheVariants.{Run}
+use Rattle.plex_program.specs.declared.command.Command.TheVariants.{Run, Single}
 use Rattle.plex_program.specs.declared.limits.TheConstants.{TEXT_LIMIT}
 use Rattle.plex_program.specs.declared.line.Line.{Line}
 use Rattle.plex_program.specs.declared.perform.Answer.{Answer}
@@ -91,9 +91,10 @@ run_of e s files =
     goes_on (lines_at x s files) (λ lines.
     Ok (run_report x lines)))
 
--- the text that a command comes to
+-- the text that a command comes to, which is the same for both
 abbrev pub performed : Command → Files → Out (List ℕ)
 performed (Run e s) files = run_of e s files
+performed (Single e s) files = run_of e s files
 
 -- the status of a refusal
 abbrev pub refused_status : Refused → Status

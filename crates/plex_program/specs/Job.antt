@@ -3,14 +3,14 @@
 -- The trace lists the cells read and written in order: what another job may disturb is told by it alone. Statements
 -- have no jump yet, so a job makes at most one step for each statement and its end.
 use Rattle.std.specs.Prelude.{ℕ, zero, suc, ◌+◌, nat_eq, Bool, true, false, List, [], ◌∷◌, ◌++◌, length, drop, map, slice_get, slice_set, Option, Some, None, if◌then◌else◌}
-use Rattle.exchange_model.specs.declared.exchange.Exchange.{Exchange}
-use Rattle.exchange_model.specs.declared.entry.Entry.{Entry}
-use Rattle.exchange_model.specs.declared.block.Block.{Block}
-use Rattle.exchange_model.specs.declared.block.Enter.{Enter as Row}
-use Rattle.exchange_model.specs.declared.block.Stmt.{Stmt}
-use Rattle.exchange_model.specs.declared.block.StmtKind.{StmtKind}
-use Rattle.exchange_model.specs.declared.block.StmtKind.TheVariants.{Enter, SetVariable, Exit, Finish}
-use Rattle.exchange_model.specs.Cells.{first_cell, variable_cell}
+use Rattle.small_exchange.specs.declared.exchange.Exchange.{Exchange}
+use Rattle.small_exchange.specs.declared.entry.Entry.{Entry}
+use Rattle.small_exchange.specs.declared.block.Block.{Block}
+use Rattle.small_exchange.specs.declared.block.Enter.{Enter as Row}
+use Rattle.small_exchange.specs.declared.block.Stmt.{Stmt}
+use Rattle.small_exchange.specs.declared.block.StmtKind.{StmtKind}
+use Rattle.small_exchange.specs.declared.block.StmtKind.TheVariants.{Enter, SetVariable, Exit, Finish}
+use Rattle.small_exchange.specs.Cells.{first_cell, variable_cell}
 use Rattle.plex_program.specs.Value.{Got, Sight, expr_value}
 
 -- a cell is read, or written

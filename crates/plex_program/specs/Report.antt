@@ -1,9 +1,9 @@
 -- The report of a run: the ended jobs, the value of every variable in the order of the cells, and the ending.
 use Rattle.std.specs.Prelude.{ℕ, ◌+◌, List, [], ◌∷◌, ◌++◌, length, slice_index, codes}
 use Rattle.std.specs.Fmt.{decimal}
-use Rattle.exchange_model.specs.declared.block.Block.{Block}
-use Rattle.exchange_model.specs.declared.block.Variable.{Variable}
-use Rattle.exchange_model.specs.declared.exchange.Exchange.{Exchange}
+use Rattle.small_exchange.specs.declared.block.Block.{Block}
+use Rattle.small_exchange.specs.declared.block.Variable.{Variable}
+use Rattle.small_exchange.specs.declared.exchange.Exchange.{Exchange}
 use Rattle.plex_program.specs.Run.{State}
 
 -- the end of a line

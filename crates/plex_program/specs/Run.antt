@@ -5,12 +5,12 @@
 use Rattle.std.specs.Prelude.{ℕ, zero, suc, ◌+◌, nat_le, Bool, true, false, ◌||◌, List, [], ◌∷◌, ◌++◌, length, map, slice_get, Option, Some, None, if◌then◌else◌}
 use Rattle.plex_num.specs.declared.level.Level.{Level}
 use Rattle.plex_num.specs.declared.level.Level.TheVariants.{A, B, C, D}
-use Rattle.exchange_model.specs.declared.exchange.Exchange.{Exchange}
-use Rattle.exchange_model.specs.declared.entry.Entry.{Entry}
-use Rattle.exchange_model.specs.declared.signal.SignalKind.{SignalKind}
-use Rattle.exchange_model.specs.declared.signal.SignalKind.TheVariants.{Buffered}
-use Rattle.exchange_model.specs.declared.block.Block.{Block}
-use Rattle.exchange_model.specs.declared.block.Variable.{Variable}
+use Rattle.small_exchange.specs.declared.exchange.Exchange.{Exchange}
+use Rattle.small_exchange.specs.declared.entry.Entry.{Entry}
+use Rattle.small_exchange.specs.declared.signal.SignalKind.{SignalKind}
+use Rattle.small_exchange.specs.declared.signal.SignalKind.TheVariants.{Buffered}
+use Rattle.small_exchange.specs.declared.block.Block.{Block}
+use Rattle.small_exchange.specs.declared.block.Variable.{Variable}
 use Rattle.plex_program.specs.declared.line.Line.{Line}
 use Rattle.plex_program.specs.Job.{job}
 

@@ -19,24 +19,24 @@ use Rattle.small_form.specs.declared.text.Added.TheVariants.{Plus, Minus}
 use Rattle.small_form.specs.declared.text.Atom.{Atom}
 use Rattle.small_form.specs.declared.text.Atom.TheVariants as atom
 use Rattle.plex_num.specs.declared.level.Level.TheVariants.{B}
-use Rattle.exchange_model.specs.declared.signal.SignalKind.{SignalKind}
-use Rattle.exchange_model.specs.declared.signal.SignalKind.TheVariants.{Buffered}
-use Rattle.exchange_model.specs.declared.expr.Expr.{Expr}
-use Rattle.exchange_model.specs.declared.expr.Term.{Term}
-use Rattle.exchange_model.specs.declared.expr.FactorOp.TheVariants.{Times}
-use Rattle.exchange_model.specs.declared.expr.Factor.{Factor}
-use Rattle.exchange_model.specs.declared.expr.Factor.TheVariants as factor
-use Rattle.exchange_model.specs.declared.block.Block.{Block}
-use Rattle.exchange_model.specs.declared.block.Variable.{Variable}
-use Rattle.exchange_model.specs.declared.block.Enter.{Enter}
-use Rattle.exchange_model.specs.declared.block.Stmt.{Stmt}
-use Rattle.exchange_model.specs.declared.block.StmtKind.{StmtKind}
-use Rattle.exchange_model.specs.declared.block.StmtKind.TheVariants as stmt
-use Rattle.exchange_model.specs.declared.exchange.Exchange.{Exchange}
-use Rattle.exchange_model.specs.declared.entry.Entry.{Entry}
-use Rattle.exchange_model.specs.declared.entry.PointInfo.{PointInfo}
+use Rattle.small_exchange.specs.declared.signal.SignalKind.{SignalKind}
+use Rattle.small_exchange.specs.declared.signal.SignalKind.TheVariants.{Buffered}
+use Rattle.small_exchange.specs.declared.expr.Expr.{Expr}
+use Rattle.small_exchange.specs.declared.expr.Term.{Term}
+use Rattle.small_exchange.specs.declared.expr.FactorOp.TheVariants.{Times}
+use Rattle.small_exchange.specs.declared.expr.Factor.{Factor}
+use Rattle.small_exchange.specs.declared.expr.Factor.TheVariants as factor
+use Rattle.small_exchange.specs.declared.block.Block.{Block}
+use Rattle.small_exchange.specs.declared.block.Variable.{Variable}
+use Rattle.small_exchange.specs.declared.block.Enter.{Enter}
+use Rattle.small_exchange.specs.declared.block.Stmt.{Stmt}
+use Rattle.small_exchange.specs.declared.block.StmtKind.{StmtKind}
+use Rattle.small_exchange.specs.declared.block.StmtKind.TheVariants as stmt
+use Rattle.small_exchange.specs.declared.exchange.Exchange.{Exchange}
+use Rattle.small_exchange.specs.declared.entry.Entry.{Entry}
+use Rattle.small_exchange.specs.declared.entry.PointInfo.{PointInfo}
 use Rattle.plex_program.specs.Names.{is_among, each_new, declared_by}
-use Rattle.exchange_model.specs.declared.limits.TheConstants.{MOST_SIGNALS, MOST_ENTRIES, MOST_STATEMENTS, MOST_OPERANDS, MOST_CELLS}
+use Rattle.small_exchange.specs.declared.limits.TheConstants.{MOST_SIGNALS, MOST_ENTRIES, MOST_STATEMENTS, MOST_OPERANDS, MOST_CELLS}
 
 -- what each part declares
 

@@ -29,4 +29,4 @@ refusal_text NotYetSignals = codes "NOTYET SIGNALS" ++ LF
 
 -- the usage line
 unfoldable pub usage_text : List ℕ
-usage_text = codes "usage: plex run E S" ++ LF
+usage_text = codes "usage: plex run E S | plex single E S" ++ LF

@@ -2,13 +2,13 @@
 -- Numbers are modulo 2^32. A sum begins with 0 and a product with 1, so that the first term and the first
 -- factor are no cases of their own. Past the last cell a store holds 0.
 use Rattle.std.specs.Prelude.{ℕ, ◌+◌, ◌-◌, ◌*◌, ◌%◌, ◌^◌, Bool, List, [], ◌∷◌, ◌++◌, slice_index, if◌then◌else◌}
-use Rattle.exchange_model.specs.declared.expr.Expr.{Expr}
-use Rattle.exchange_model.specs.declared.expr.Term.{Term}
-use Rattle.exchange_model.specs.declared.expr.Joined.{Joined}
-use Rattle.exchange_model.specs.declared.expr.FactorOp.{FactorOp}
-use Rattle.exchange_model.specs.declared.expr.FactorOp.TheVariants.{Times}
-use Rattle.exchange_model.specs.declared.expr.Factor.{Factor}
-use Rattle.exchange_model.specs.declared.expr.Factor.TheVariants.{Number, Variable}
+use Rattle.small_exchange.specs.declared.expr.Expr.{Expr}
+use Rattle.small_exchange.specs.declared.expr.Term.{Term}
+use Rattle.small_exchange.specs.declared.expr.Joined.{Joined}
+use Rattle.small_exchange.specs.declared.expr.FactorOp.{FactorOp}
+use Rattle.small_exchange.specs.declared.expr.FactorOp.TheVariants.{Times}
+use Rattle.small_exchange.specs.declared.expr.Factor.{Factor}
+use Rattle.small_exchange.specs.declared.expr.Factor.TheVariants.{Number, Variable}
 
 -- a value, and the cells that were read for it, in order
 pub record Got : Type 0 where

@@ -3,8 +3,8 @@ ghost use Rattle.std.specs.Prelude.{◌≡◌, ◌+◌, [], drop, false, slice_s
 ghost use Rattle.plex_program.specs.Job.{block_start, end_of, from_enter, job};
 
 use crate::value::value_of;
-use exchange_model::{Block, Exchange, Stmt, StmtKind};
 use plex_num::Seq;
+use small_exchange::{Block, Exchange, Stmt, StmtKind};
 
 /// Runs the job of an entry: the stored values are those that the job leaves.
 #[tactic(auto, using(crate::proofs::Jobs::job_nowhere, crate::proofs::Jobs::job_no_block, crate::proofs::Jobs::job_begins))]

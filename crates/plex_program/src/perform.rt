@@ -12,10 +12,10 @@ use crate::report::report;
 use crate::run::run;
 use crate::signals::read_signals;
 use crate::source::read_text;
-use exchange_model::Exchange;
 use plex_ast::Tree;
 use plex_io::{Shelf, ShelfFault, Word};
 use plex_num::{Memory, Seq};
+use small_exchange::Exchange;
 use small_form::small_text;
 use std::alloc::Global;
 
@@ -180,5 +180,6 @@ pub fn perform<S: Shelf>(alloc: Global, shelf: &mut S, command: &Command) -> Res
 {
     match command {
         Command::Run { exchange, signals } => perform_run(alloc, shelf, exchange, signals),
+        Command::Single { exchange, signals } => perform_run(alloc, shelf, exchange, signals),
     }
 }

@@ -1,12 +1,12 @@
 // The report of a run.
 ghost use Rattle.std.specs.Prelude.{◌≡◌, ◌≤◌, ◌++◌, ◌+◌, IfOk, OnOk, length};
-ghost use Rattle.exchange_model.specs.Cells.{cell_count};
+ghost use Rattle.small_exchange.specs.Cells.{cell_count};
 ghost use Rattle.plex_program.specs.Report.{block_lines, end_line, jobs_line, report, variable_line, variable_lines};
 
 use crate::run::Books;
 use crate::value::value_at;
-use exchange_model::{Block, Exchange, Variable};
 use plex_num::{Memory, Seq, print_number};
+use small_exchange::{Block, Exchange, Variable};
 use std::alloc::Global;
 
 /// The whole report.

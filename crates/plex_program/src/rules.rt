@@ -6,8 +6,8 @@ ghost use Rattle.plex_program.specs.Names.{declared_by, different, each_new, is_
 ghost use Rattle.plex_program.specs.Source.{signal_name, variable_name, entered, kind_entered, carries_nothing, is_wide, are_among, names_in, is_known, added_atom, sum_is_fine, kind_is_fine, items_are_fine, keeps_rules, test_of};
 
 use crate::names::Names;
-use exchange_model::{MOST_CELLS, MOST_ENTRIES, MOST_OPERANDS, MOST_STATEMENTS};
 use plex_num::{Memory, Name};
+use small_exchange::{MOST_CELLS, MOST_ENTRIES, MOST_OPERANDS, MOST_STATEMENTS};
 use small_form::{Added, Atom, SmallBlock, SmallItem, SmallKind, SmallSignal, SmallVariable, Sum};
 use std::alloc::Global;
 use token_grammar::Named;

@@ -5,8 +5,8 @@ ghost use Rattle.plex_program.specs.Run.{arrivals, arrives, is_due, level_of, op
 use crate::buffers::Buffers;
 use crate::job::run_job;
 use crate::line::Line;
-use exchange_model::{Block, Exchange, SignalKind, Variable};
 use plex_num::{Level, Memory, Seq};
+use small_exchange::{Block, Exchange, SignalKind, Variable};
 use std::alloc::Global;
 use std::marker::Model;
 
@@ -110,8 +110,8 @@ impl<'a> Books<'a> {
     }
 }
 
-#[tactic(auto, using(crate::proofs::Turns::reaches_begin, crate::proofs::Turns::reaches_more, crate::proofs::Turns::reaches_end))]
 /// The run of a signal file, to its end.
+#[tactic(auto, using(crate::proofs::Turns::reaches_begin, crate::proofs::Turns::reaches_more, crate::proofs::Turns::reaches_end))]
 pub fn run<'a>(alloc: Global, exchange: &Exchange, lines: &'a [Line]) -> Result<Books<'a>, Memory>
     ensures { IfOk result (λ b. b ≡ single_run exchange.now lines.now) }
 {

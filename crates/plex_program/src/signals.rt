@@ -5,9 +5,10 @@ ghost use Rattle.std.specs.Str.Lines.{lines, strip_carriage_return};
 ghost use Rattle.plex_num.specs.Number.{number_of};
 ghost use Rattle.plex_program.specs.Signals.{block_name, entry_named, is_blank, is_comment, is_entry, is_line_end, is_plain, is_zero, lines_in, plain_line, read_line, signal_line, signal_name, signal_words, words};
 
+use crate::command::is_word;
 use crate::line::Line;
-use exchange_model::{Entry, Exchange, MOST_ENTRIES, SignalKind};
 use plex_num::{Memory, Seq, read_number};
+use small_exchange::{Entry, Exchange, MOST_ENTRIES, SignalKind};
 use std::alloc::Global;
 
 /// The signal lines of a text; `None` where a line is not of the first form.
@@ -151,13 +152,7 @@ fn signal_line(exchange: &Exchange, line: &[u8]) -> Option<Line>
 fn is_plain(words: &SignalWords<'_>) -> bool
     ensures { result ≡ is_plain (record { after = words.now.after.now; count = words.now.count.now; signal = words.now.signal.now; block = words.now.block.now; end = words.now.end.now }) }
 {
-    is_text(words.after, b"AFTER") && is_zero(words.count) && is_text(words.end, b"NONE")
-}
-
-fn is_text(word: &[u8], text: &[u8]) -> bool
-    ensures { result ≡ bytes_eq word.now text.now }
-{
-    word == text
+    is_word(words.after, b"AFTER") && is_zero(words.count) && is_word(words.end, b"NONE")
 }
 
 fn is_zero(word: &[u8]) -> bool
@@ -193,8 +188,8 @@ fn place_of_entry(exchange: &Exchange, signal: &[u8], block: &[u8]) -> Option<us
 fn is_entry(exchange: &Exchange, entry: &Entry, signal: &[u8], block: &[u8]) -> bool
     ensures { result ≡ is_entry exchange.now signal.now block.now entry.now }
 {
-    is_text(signal_name(exchange, entry.signal), signal)
-        && is_text(block_name(exchange, entry.block), block)
+    is_word(signal_name(exchange, entry.signal), signal)
+        && is_word(block_name(exchange, entry.block), block)
 }
 
 fn signal_name(exchange: &Exchange, signal: u32) -> &[u8]

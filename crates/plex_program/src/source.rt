@@ -5,11 +5,11 @@ ghost use Rattle.plex_program.specs.Source.{added_term, entry_of, enters_of, ent
 
 use crate::names::Names;
 use crate::rules::{carry_nothing, different_names, keeps_rules, names_of};
-use exchange_model::{
+use plex_num::{Level, Memory, Seq};
+use small_exchange::{
     Block, Enter, Entry, Exchange, Expr, Factor, FactorOp, Joined, MOST_CELLS, MOST_SIGNALS,
     PointInfo, SignalKind, Stmt, StmtKind, Term, Variable,
 };
-use plex_num::{Level, Memory, Seq};
 use small_form::{
     Added, Atom, SmallBlock, SmallItem, SmallKind, SmallSignal, SmallText, SmallVariable, Sum,
 };

@@ -52,7 +52,8 @@ fn words_of(alloc: Global, words: &[&str]) -> Result<Vec<Word>, Fail> {
 #[test]
 fn answers(rt: HostRuntime) -> Result<(), Fail> {
     let run: &[&str] = &["run", "E", "S"];
-    let usage = "usage: plex run E S\n";
+    let single: &[&str] = &["single", "E", "S"];
+    let usage = "usage: plex run E S | plex single E S\n";
     let nothing = "JOBS 0\nEND DONE\n";
     let cases = [
         (
@@ -62,6 +63,30 @@ fn answers(rt: HostRuntime) -> Result<(), Fail> {
             THREE_TICKS,
             Status::Done,
             "JOBS 3\nVAR COUNTER.N 3\nEND DONE\n",
+        ),
+        (
+            "three ticks by the source",
+            single,
+            COUNTER,
+            THREE_TICKS,
+            Status::Done,
+            "JOBS 3\nVAR COUNTER.N 3\nEND DONE\n",
+        ),
+        (
+            "two empty files by the source",
+            single,
+            "",
+            "",
+            Status::Done,
+            nothing,
+        ),
+        (
+            "two words of single",
+            &["single", "E"],
+            COUNTER,
+            THREE_TICKS,
+            Status::Usage,
+            usage,
         ),
         ("no words", &[], COUNTER, THREE_TICKS, Status::Usage, usage),
         (

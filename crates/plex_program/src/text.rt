@@ -12,7 +12,7 @@ use std::alloc::Global;
 pub fn usage_line() -> &'static [u8]
     ensures { result.now ≡ usage_text }
 {
-    b"usage: plex run E S\n"
+    b"usage: plex run E S | plex single E S\n"
 }
 
 /// The line of a refusal.

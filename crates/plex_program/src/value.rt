@@ -2,8 +2,8 @@
 ghost use Rattle.std.specs.Prelude.{◌≡◌, ◌+◌, slice_index};
 ghost use Rattle.plex_program.specs.Value.{Sight, expr_value, factor_value, factors_value, joined, summed};
 
-use exchange_model::{Expr, Factor, FactorOp, Joined, Term};
 use plex_num::{add, mul, sub};
+use small_exchange::{Expr, Factor, FactorOp, Joined, Term};
 
 /// The value of an expression over the stored values, where its block's variables begin at cell `first`.
 #[tactic(auto, using(crate::proofs::Values::terms_begin, crate::proofs::Values::terms_more, crate::proofs::Values::terms_end))]

@@ -1,5 +1,5 @@
 use Rattle.std.proofs.Common.{◌≡◌, ap, sym, subst, ◌∙◌, drop, get_or}
-use Rattle.exchange_model.specs.declared.block.Enter.{Enter}
+use Rattle.small_exchange.specs.declared.block.Enter.{Enter}
 use Rattle.plex_program.specs.Job.{from_enter}
 use Rattle.plex_program.proofs.Jobs.{Looks, enter_here}
 use Rattle.plex_program.proofs.job.from_enter.Goals as goal

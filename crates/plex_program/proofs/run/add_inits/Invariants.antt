@@ -1,5 +1,5 @@
 use Rattle.std.proofs.Common.{◌≡◌, ◌++◌, map, take}
-use Rattle.exchange_model.specs.declared.block.Variable.{Variable}
+use Rattle.small_exchange.specs.declared.block.Variable.{Variable}
 use Rattle.plex_program.proofs.run.add_inits.Given as goal
 
 abbrev pub invariant-loop-variable : goal.invariant-loop-variable

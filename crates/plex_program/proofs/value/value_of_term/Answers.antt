@@ -1,8 +1,8 @@
 use Rattle.std.proofs.Common.{◌≡◌, ◌+◌, subst, sym, rules}
 use Rattle.std.proofs.lemmas.Grind.{common_steps}
-use Rattle.exchange_model.specs.declared.expr.Factor.TheVariants.{Number}
-use Rattle.exchange_model.specs.declared.expr.FactorOp.TheVariants.{Times}
-use Rattle.exchange_model.specs.declared.expr.Joined.{Joined}
+use Rattle.small_exchange.specs.declared.expr.Factor.TheVariants.{Number}
+use Rattle.small_exchange.specs.declared.expr.FactorOp.TheVariants.{Times}
+use Rattle.small_exchange.specs.declared.expr.Joined.{Joined}
 use Rattle.plex_program.proofs.Values.{Products, factors_more}
 use Rattle.plex_program.proofs.value.value_of_term.Goals as goal
 

@@ -1,6 +1,6 @@
 use Rattle.std.proofs.Common.{◌≡◌, ◌≤◌}
-use Rattle.exchange_model.specs.Cells.{first_cell}
-use Rattle.exchange_model.proofs.exchange.Exchange.first_cell.Given as goal
+use Rattle.small_exchange.specs.Cells.{first_cell}
+use Rattle.small_exchange.proofs.exchange.Exchange.first_cell.Given as goal
 
 abbrev pub invariant-loop-found : goal.invariant-loop-found
 invariant-loop-found l = record {

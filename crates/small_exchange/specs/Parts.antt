@@ -1,11 +1,11 @@
 -- What contracts see of an exchange, and what it keeps.
 use Rattle.std.specs.Prelude.{◌≡◌, ◌≤◌, ℕ, List, length}
-use Rattle.exchange_model.specs.declared.signal.SignalKind.{SignalKind}
-use Rattle.exchange_model.specs.declared.block.Block.{Block}
-use Rattle.exchange_model.specs.declared.entry.Entry.{Entry}
-use Rattle.exchange_model.specs.declared.entry.PointInfo.{PointInfo}
-use Rattle.exchange_model.specs.declared.limits.TheConstants.{MOST_CELLS, MOST_ENTRIES}
-use Rattle.exchange_model.specs.Cells.{cell_count}
+use Rattle.small_exchange.specs.declared.signal.SignalKind.{SignalKind}
+use Rattle.small_exchange.specs.declared.block.Block.{Block}
+use Rattle.small_exchange.specs.declared.entry.Entry.{Entry}
+use Rattle.small_exchange.specs.declared.entry.PointInfo.{PointInfo}
+use Rattle.small_exchange.specs.declared.limits.TheConstants.{MOST_CELLS, MOST_ENTRIES}
+use Rattle.small_exchange.specs.Cells.{cell_count}
 
 pub record Parts : Type 0 where
   pub signals : List SignalKind

@@ -1,5 +1,5 @@
 ghost use Rattle.std.specs.Prelude.{◌≡◌, ◌≤◌, length};
-ghost use Rattle.exchange_model.specs.Cells.{cell_count, first_cell};
+ghost use Rattle.small_exchange.specs.Cells.{cell_count, first_cell};
 
 use crate::block::Block;
 use crate::entry::{Entry, PointInfo};
@@ -21,7 +21,7 @@ pub struct Exchange {
 
 impl Model for Exchange {
     ghost use Rattle.std.specs.Coded.{codes};
-    ghost use Rattle.exchange_model.specs.Parts.{Parts, IsExchange};
+    ghost use Rattle.small_exchange.specs.Parts.{Parts, IsExchange};
 
     ghost Value = { Parts };
 

@@ -1,7 +1,7 @@
 -- The numbering of the cells: the variables of the first block in order, then those of the next.
 -- A store is a list of values in this order, so that a cell is a place in it.
 use Rattle.std.specs.Prelude.{ℕ, ◌+◌, List, length, take, sum_by}
-use Rattle.exchange_model.specs.declared.block.Block.{Block}
+use Rattle.small_exchange.specs.declared.block.Block.{Block}
 
 -- how many cells the blocks have
 abbrev pub cell_count : List Block → ℕ

@@ -1,8 +1,8 @@
 use Rattle.std.proofs.Common.{◌≡◌, arith, rules}
 use Rattle.std.proofs.lemmas.Grind.{common_steps}
-use Rattle.exchange_model.specs.Cells.{cell_count, first_cell}
-use Rattle.exchange_model.proofs.Counts.{block_within}
-use Rattle.exchange_model.proofs.exchange.Exchange.first_cell.Goals as goal
+use Rattle.small_exchange.specs.Cells.{cell_count, first_cell}
+use Rattle.small_exchange.proofs.Counts.{block_within}
+use Rattle.small_exchange.proofs.exchange.Exchange.first_cell.Goals as goal
 
 pub overflow_cast-first : goal.overflow_cast-first
 overflow_cast-first c =
