@@ -1,0 +1,60 @@
+-- What stands at a place of joined lists.
+use Rattle.std.proofs.Common.{◌≡◌, ℕ, zero, suc, ◌+◌, ◌-◌, ◌*◌, ◌<◌, ◌≤◌, List, [], ◌∷◌, ◌++◌, length, take, map, sum_by, replicate, Some, slice_get, refl, subst, ap, ◌∙◌, arith, length-append}
+use Rattle.std.proofs.lemmas.List.Sums.{sum_by-cons}
+use Rattle.std.proofs.lemmas.Option.{none-some, same_Some}
+use Rattle.std.specs.List.{AllByRecursion}
+use Rattle.exchange_model.specs.Inside.{joined}
+
+pub slice_get-append_left : {X : Type 0} (xs ys : List X) (i : ℕ) → i < length xs → slice_get (xs ++ ys) i ≡ slice_get xs i
+slice_get-append_left [] ys i h = absurd (omega arith)
+slice_get-append_left (x ∷ xs) ys zero h = refl
+slice_get-append_left (x ∷ xs) ys (suc i) h = slice_get-append_left xs ys i (omega arith)
+
+pub slice_get-append_right : {X : Type 0} (xs ys : List X) (i : ℕ) → length xs ≤ i → slice_get (xs ++ ys) i ≡ slice_get ys (i - length xs)
+slice_get-append_right [] ys i h = ap (slice_get ys) (omega arith)
+slice_get-append_right (x ∷ xs) ys zero h = absurd (omega arith)
+slice_get-append_right (x ∷ xs) ys (suc i) h = slice_get-append_right xs ys i (omega arith) ∙ ap (slice_get ys) (omega arith)
+
+-- what holds of all holds at each place
+pub AllByRecursion-at : {X : Type 0} (P : X → Type 0) (xs : List X) (i : ℕ) (x : X) → AllByRecursion P xs → slice_get xs i ≡ Some x → P x
+AllByRecursion-at P [] i x all h = absurd (none-some x h)
+AllByRecursion-at P (y ∷ ys) zero x all h = subst P (same_Some y x h) all.0
+AllByRecursion-at P (y ∷ ys) (suc i) x all h = AllByRecursion-at P ys i x all.1 h
+
+-- a list of lists, one after the other
+
+pub length-joined-map : {X T : Type 0} (f : X → List T) (xs : List X) → length (joined (map f xs)) ≡ sum_by (λ x. length (f x)) xs
+length-joined-map f [] = refl
+length-joined-map f (x ∷ xs) =
+    let more : sum_by (λ y. length (f y)) (x ∷ xs) ≡ length (f x) + sum_by (λ y. length (f y)) xs = sum_by-cons (λ y. length (f y)) x xs in
+    omega (arith, length-append (f x) (joined (map f xs)), length-joined-map f xs, more)
+
+pub slice_get-joined-map : {X T : Type 0} (f : X → List T) (xs : List X) (i j : ℕ) (x : X) → slice_get xs i ≡ Some x → j < length (f x) → slice_get (joined (map f xs)) (sum_by (λ y. length (f y)) (take i xs) + j) ≡ slice_get (f x) j
+slice_get-joined-map f [] i j x h lt = absurd (none-some x h)
+slice_get-joined-map f (y ∷ ys) zero j x h lt =
+    let same : y ≡ x = same_Some y x h in
+    let within : j < length (f y) = omega (arith, ap (λ z. length (f z)) same) in
+    let none : 0 + j ≡ j = omega arith in
+    ap (slice_get (f y ++ joined (map f ys))) none ∙ slice_get-append_left (f y) (joined (map f ys)) j within ∙ ap (λ z. slice_get (f z) j) same
+slice_get-joined-map f (y ∷ ys) (suc i) j x h lt =
+    let rest = slice_get-joined-map f ys i j x h lt in
+    let more : sum_by (λ z. length (f z)) (y ∷ take i ys) ≡ length (f y) + sum_by (λ z. length (f z)) (take i ys) = sum_by-cons (λ z. length (f z)) y (take i ys) in
+    let at : ℕ = sum_by (λ z. length (f z)) (y ∷ take i ys) + j in
+    let past : length (f y) ≤ at = omega (arith, more) in
+    let left : at - length (f y) ≡ sum_by (λ z. length (f z)) (take i ys) + j = omega (arith, more) in
+    slice_get-append_right (f y) (joined (map f ys)) at past ∙ ap (slice_get (joined (map f ys))) left ∙ rest
+
+pub length-joined-replicate : {T : Type 0} (n : ℕ) (r : List T) → length (joined (replicate n r)) ≡ n * length r
+length-joined-replicate zero r = omega arith
+length-joined-replicate (suc n) r =
+    omega (arith, length-append r (joined (replicate n r)), length-joined-replicate n r)
+
+pub slice_get-joined-replicate : {T : Type 0} (n : ℕ) (r : List T) (i j : ℕ) → i < n → j < length r → slice_get (joined (replicate n r)) (i * length r + j) ≡ slice_get r j
+slice_get-joined-replicate zero r i j lt within = absurd (omega arith)
+slice_get-joined-replicate (suc n) r zero j lt within =
+    let none : 0 * length r + j ≡ j = omega arith in
+    ap (slice_get (r ++ joined (replicate n r))) none ∙ slice_get-append_left r (joined (replicate n r)) j within
+slice_get-joined-replicate (suc n) r (suc i) j lt within =
+    let past : length r ≤ suc i * length r + j = omega arith in
+    let left : suc i * length r + j - length r ≡ i * length r + j = omega arith in
+    slice_get-append_right r (joined (replicate n r)) (suc i * length r + j) past ∙ ap (slice_get (joined (replicate n r))) left ∙ slice_get-joined-replicate n r i j (omega arith) within

@@ -1,0 +1,9 @@
+pub mod Built
+pub mod Cells
+pub mod Counted
+pub mod Fits
+pub mod Inside
+pub mod Kept
+pub mod Layers
+pub mod Opening
+pub mod Parts

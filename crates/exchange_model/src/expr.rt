@@ -1,0 +1,72 @@
+use plex_num::Seq;
+
+/// A sum of terms, from left to right. In an exchange no list in it is empty, and its first term has no minus.
+#[derive(Drop)]
+#[cycle(expr)]
+pub struct Expr {
+    pub terms: Seq<Term>,
+}
+
+/// A product of factors, from left to right, which is added to what stands before it or taken from it.
+#[derive(Drop)]
+#[cycle(expr)]
+pub struct Term {
+    pub minus: bool,
+    pub factors: Seq<Joined>,
+}
+
+/// A factor, and how it is joined to those before it. In an exchange the first of a term has `Times`.
+#[derive(Drop)]
+#[cycle(expr)]
+pub struct Joined {
+    pub by: FactorOp,
+    pub factor: Factor,
+}
+
+/// How a factor is joined to the product before it.
+#[derive(Clone, Copy, PartialEq, Eq)]
+pub enum FactorOp {
+    Times,
+    Divide,
+    Modulo,
+}
+
+/// What stands alone in an expression, or in brackets.
+#[derive(Drop)]
+#[cycle(expr)]
+pub enum Factor {
+    Number(u32),
+    /// A variable, by its place in the list of its block.
+    Variable(u32),
+    /// A temporary, by its place in the list of its block.
+    Temporary(u8),
+    /// A field of a file, which its number through the exchange tells, of the record whose number the temporary
+    /// `pointer` has. The field is a place in the list of its file.
+    Field { file: u32, field: u32, pointer: u8 },
+    Bracket(Expr),
+}
+
+/// A condition: it holds where all relations of one of the lists hold. In an exchange no list in it is empty.
+#[derive(Drop)]
+pub struct Cond {
+    pub any: Seq<Seq<Relation>>,
+}
+
+/// Two expressions, and how the first must stand to the second.
+#[derive(Drop)]
+pub struct Relation {
+    pub left: Expr,
+    pub rel: Rel,
+    pub right: Expr,
+}
+
+/// How one number stands to another.
+#[derive(Clone, Copy, PartialEq, Eq)]
+pub enum Rel {
+    Equal,
+    Unequal,
+    Below,
+    AtMost,
+    Above,
+    AtLeast,
+}

@@ -1,0 +1,114 @@
+use crate::expr::{Cond, Expr, Rel};
+use plex_num::Seq;
+
+/// A statement: its number through all blocks, the line of its first token, from 1, and what it does.
+#[derive(Drop)]
+#[cycle(stmt)]
+pub struct Stmt {
+    pub point: u32,
+    pub line: u32,
+    pub kind: StmtKind,
+}
+
+/// What a statement does. Temporaries, variables and labels are places in the lists of the block, files and signals are
+/// numbers through the exchange, and a field is a place in the list of its file.
+#[derive(Drop)]
+#[cycle(stmt)]
+pub enum StmtKind {
+    /// Where the signal starts an activation, the temporaries get its values.
+    Enter {
+        signal: u32,
+        temps: Seq<u8>,
+    },
+    SetTemp {
+        temp: u8,
+        value: Expr,
+    },
+    SetVariable {
+        variable: u32,
+        value: Expr,
+    },
+    /// A field of the record whose number the temporary `pointer` has.
+    SetField {
+        file: u32,
+        field: u32,
+        pointer: u8,
+        value: Expr,
+    },
+    Goto {
+        label: u32,
+    },
+    IfGoto {
+        cond: Cond,
+        label: u32,
+    },
+    If {
+        cond: Cond,
+        yes: Seq<Stmt>,
+        no: Seq<Stmt>,
+    },
+    Case {
+        value: Expr,
+        whens: Seq<When>,
+        otherwise: Seq<Stmt>,
+    },
+    On {
+        temp: u8,
+        from: Expr,
+        upto: Expr,
+        body: Seq<Stmt>,
+    },
+    /// The temporary gets the least record whose field stands so to the value, and the text goes on at the label.
+    ForFirst {
+        temp: u8,
+        file: u32,
+        field: u32,
+        rel: Rel,
+        value: Expr,
+        label: u32,
+    },
+    /// `block` is the receiver; in an exchange it is None exactly for an outside signal. `fresh` says that the job
+    /// begins a forlopp of its own.
+    Send {
+        signal: u32,
+        block: Option<u32>,
+        values: Seq<Expr>,
+        fresh: bool,
+    },
+    /// The temporaries get the values of the answer.
+    Retrieve {
+        answer: u32,
+        temps: Seq<u8>,
+    },
+    Return {
+        answer: u32,
+        values: Seq<Expr>,
+    },
+    /// The entry values go on to the receiver.
+    Transfer {
+        signal: u32,
+        block: Option<u32>,
+    },
+    /// The temporary gets the least free record, or the text goes on at the label.
+    Seize {
+        temp: u8,
+        file: u32,
+        label: u32,
+    },
+    /// The record whose number the temporary has becomes free.
+    Free {
+        temp: u8,
+        file: u32,
+    },
+    Exit,
+    /// The end of the text: the last statement of each body, and nowhere else.
+    Finish,
+}
+
+/// One choice of a CASE: the number, and the statements that are done where the value is that number.
+#[derive(Drop)]
+#[cycle(stmt)]
+pub struct When {
+    pub number: u32,
+    pub body: Seq<Stmt>,
+}
