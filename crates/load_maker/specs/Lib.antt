@@ -1,0 +1,3 @@
+pub mod Patterns
+pub mod Exchange
+pub mod Signals

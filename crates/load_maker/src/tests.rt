@@ -1,0 +1,55 @@
+mod texts;
+
+use super::{load_exchange, load_signals};
+use std::test::Fail;
+use texts::{EXCHANGE_OF_ONE, EXCHANGE_OF_TWO};
+
+#[test]
+fn writes_whole_texts(rt: HostRuntime) -> Result<(), Fail> {
+    let alloc = rt.alloc();
+    let one = load_exchange(alloc, 1)?;
+    assert!(rt;
+        one.as_slice() == EXCHANGE_OF_ONE,
+        "the exchange of one call"
+    );
+    let two = load_exchange(alloc, 2)?;
+    assert!(rt;
+        two.as_slice() == EXCHANGE_OF_TWO,
+        "the exchange of two calls"
+    );
+    for (case, calls, want) in [
+        ("no call", 0, ""),
+        ("one call", 1, "AFTER 0 S1 B1 0 0 0 NEW\n"),
+        (
+            "two calls",
+            2,
+            "AFTER 0 S1 B1 0 0 0 NEW\nAFTER 0 S1 B1 1 0 0 NEW\n",
+        ),
+    ] {
+        let signals = load_signals(alloc, calls)?;
+        assert!(rt; signals.as_slice() == want.as_bytes(), "{case}");
+    }
+    Ok(())
+}
+
+fn count_lines(text: &[u8]) -> usize {
+    text.iter().filter(|byte| **byte == b'\n').count()
+}
+
+#[test]
+fn writes_a_line_for_each_call(rt: HostRuntime) -> Result<(), Fail> {
+    let alloc = rt.alloc();
+    let exchange = load_exchange(alloc, 10_000)?;
+    let signals = load_signals(alloc, 10_000)?;
+    for (case, text, lines, bytes) in [
+        ("the exchange", exchange.as_slice(), 110, 2_777),
+        ("the signals", signals.as_slice(), 10_000, 268_890),
+    ] {
+        assert_eq!(rt; count_lines(text), lines, "{case}");
+        assert_eq!(rt; text.len(), bytes, "{case}");
+        assert!(rt; text.ends_with(b"\n"), "{case}");
+    }
+    let last = b"AFTER 0 S1 B1 9999 0 0 NEW\n";
+    assert!(rt; signals.as_slice().ends_with(last), "the last call");
+    Ok(())
+}
