@@ -1,0 +1,111 @@
+-- A job between two steps, and what the exchange says of the place where it is.
+--
+-- What remains to be done is one flat list of items: a branch puts its statements before what follows it, and a jump
+-- replaces the list, which drops all loops that the job was in. A turn of a loop is an item, so that each step counts one.
+use Rattle.std.specs.Prelude.{ℕ, ◌-◌, Bool, true, false, nat_lt, nat_eq, ◌&&◌, List, [], ◌∷◌, ◌++◌, length, map, drop, replicate, position, slice_get, Option, Some, None, if◌then◌else◌}
+use Rattle.job_types.specs.declared.outcome.Outcome.{Outcome}
+use Rattle.exchange_model.specs.declared.exchange.Exchange.{Exchange}
+use Rattle.exchange_model.specs.declared.entry.Entry.{Entry}
+use Rattle.exchange_model.specs.declared.block.Block.{Block}
+use Rattle.exchange_model.specs.declared.block.Enter.{Enter as Row}
+use Rattle.exchange_model.specs.declared.block.Label.{Label}
+use Rattle.exchange_model.specs.declared.stmt.Stmt.{Stmt}
+use Rattle.exchange_model.specs.declared.stmt.StmtKind.{StmtKind-F, out-StmtKind}
+use Rattle.exchange_model.specs.declared.stmt.StmtKind.TheOpen.{Enter}
+use Rattle.exchange_model.specs.Cells.{Placed, placed_files, first_cell}
+use Rattle.source_meaning.specs.Own.{Own, World}
+use Rattle.source_meaning.specs.Value.{Sight}
+
+-- one thing that remains to be done
+pub data Item : Type 0 where
+  -- a statement
+  Do : (s : Stmt) → Item
+  -- the ENTER of the signal that began the activation
+  Start : (s : Stmt) → Item
+  -- the turns of a loop from this number on
+  Turns : (point temp this last : ℕ) (body : List Stmt) → Item
+
+-- a sender that waits for an answer: where it goes on, and what it keeps
+pub record Caller : Type 0 where
+  pub block : ℕ
+  pub todo : List Item
+  pub temps : List ℕ
+  pub given : List ℕ
+  pub awaits : ℕ
+
+-- a job between two steps; the last caller stands first
+pub record Config : Type 0 where
+  pub block : ℕ
+  pub todo : List Item
+  pub temps : List ℕ
+  pub callers : List Caller
+  pub own : Own
+  pub world : World
+  pub over : Option Outcome
+
+abbrev pub found : {A B : Type 0} → Option A → B → (A → B) → B
+found None b f = b
+found (Some a) b f = f a
+
+-- what the exchange says of a block: its text, the place of a label, and that of the ENTER of a signal
+abbrev pub body_of : Exchange → ℕ → List Stmt
+body_of x b = found (slice_get x.blocks b) [] (λ (k : Block). k.body)
+
+abbrev pub label_of : Exchange → ℕ → ℕ → ℕ
+label_of x b l = found (slice_get x.blocks b) 0 (λ (k : Block). found (slice_get k.labels l) 0 (λ (e : Label). e.place))
+
+abbrev pub row_place : List Row → ℕ → ℕ
+row_place [] signal = 0
+row_place (r ∷ rest) signal = (if nat_eq r.signal signal then r.place else row_place rest signal)
+
+abbrev pub enter_place : Exchange → ℕ → ℕ → ℕ
+enter_place x b signal = found (slice_get x.blocks b) 0 (λ (k : Block). row_place k.enters signal)
+
+-- the entry of a signal at a block, by its place in the list of entries
+abbrev pub is_entry : ℕ → ℕ → Entry → Bool
+is_entry b signal e = nat_eq e.block b && nat_eq e.signal signal
+
+abbrev pub entry_number : Exchange → ℕ → ℕ → ℕ
+entry_number x b signal = found (position (is_entry b signal) x.entries) 0 (λ n. n)
+
+-- the cell of the block's first variable
+unfoldable pub base_of : Exchange → ℕ → ℕ
+base_of x b = first_cell x.blocks b
+
+-- the files of the exchange, by number
+unfoldable pub files_of : Exchange → List Placed
+files_of x = placed_files x.blocks
+
+abbrev pub sight : Exchange → Config → Sight
+sight x c = record { temps = c.temps; store = c.world.store; chain = c.own.chain; first = base_of x c.block; files = files_of x }
+
+-- eight values, 0 beyond these
+abbrev pub eight : List ℕ → List ℕ
+eight vs = vs ++ replicate (8 - length vs) 0
+
+-- the temporaries of a new activation
+abbrev pub blank : List ℕ
+blank = replicate 24 0
+
+abbrev pub is_enter : {K S W : Type 0} → StmtKind-F K S W → Bool
+is_enter (Enter signal temps) = true
+is_enter _ = false
+
+-- what the statements from a place of a text on do
+abbrev pub from_place : Exchange → ℕ → ℕ → List Item
+from_place x b place = map Do (drop place (body_of x b))
+
+-- what an activation does: the ENTER of its signal, and what follows
+abbrev pub starting : List Stmt → List Item
+starting [] = []
+starting (s ∷ rest) = (if is_enter (out-StmtKind s.kind) then Start s ∷ map Do rest else [])
+
+abbrev pub from_signal : Exchange → ℕ → ℕ → List Item
+from_signal x b signal = starting (drop (enter_place x b signal) (body_of x b))
+
+-- an ENTER that is reached from above does nothing and is not counted, and neither is a loop with no turn left
+unfoldable pub settle : List Item → List Item
+settle [] = []
+settle (Do s ∷ rest) = (if is_enter (out-StmtKind s.kind) then settle rest else Do s ∷ rest)
+settle (Start s ∷ rest) = Start s ∷ rest
+settle (Turns p t this end body ∷ rest) = (if nat_lt end this then settle rest else Turns p t this end body ∷ rest)
