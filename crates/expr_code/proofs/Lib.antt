@@ -1,0 +1,13 @@
+pub mod Layers
+pub mod Opened
+pub mod Places
+pub mod Runs
+pub mod Emits
+pub mod Each
+pub mod Fitted
+pub mod ExprRuns
+pub mod CondRuns
+pub mod Operands
+pub mod EmitSteps
+pub mod At
+pub mod CondSteps

@@ -1,0 +1,95 @@
+// The code of an expression.
+ghost use Rattle.std.specs.Prelude.{◌≡◌, ◌+◌, ◌*◌, ◌<◌, ◌++◌, OnOk, OnErr};
+ghost use Rattle.exchange_model.specs.Inside.{bracket_depth};
+ghost use Rattle.exchange_model.specs.Counted.{term_depth, factor_own_depth};
+ghost use Rattle.expr_code.specs.Code.{expr_code, term_code, factor_code, term_op as op_of_term, factor_op as op_of_factor};
+ghost use Rattle.expr_code.specs.Sites.{IsExprAt, IsTermAt, IsFactorAt, Begins};
+
+use crate::field::push_field;
+use crate::push::push_all;
+use crate::site::Site;
+use exchange_model::{Expr, Factor, FactorOp, Term};
+use machine_code::Op;
+use plex_num::{Memory, Seq};
+
+/// Appends the code that leaves the value of the expression in the register `first`.
+#[cycle(code)]
+#[tactic(auto, using(crate::proofs::EmitSteps::terms_begin, crate::proofs::EmitSteps::terms_more, crate::proofs::Emits::emitted_end, crate::proofs::Emits::emitted_begins))]
+pub fn expr_code(e: &Expr, site: &Site<'_>, first: u8, ops: &mut Seq<Op>) -> Result<(), Memory>
+    requires of_block { IsExprAt site.now e.now }
+    requires registers { first + (2 * bracket_depth e.now + 2) < 16 }
+    ensures code { OnOk result (ops.new ≡ ops.old ++ expr_code e.now site.now first) }
+    ensures begins { OnErr result (Begins ops.old ops.new) }
+{
+    push_all(ops, &[Op::Ldi { r: first, n: 0 }])?;
+    for term in e.terms.as_slice() {
+        push_term(term, site, first + 1, ops)?;
+        push_all(ops, &[term_op(term.minus, first)])?;
+    }
+    Ok(())
+}
+
+/// Appends the code of a term.
+#[cycle(code)]
+#[tactic(auto, using(crate::proofs::EmitSteps::factors_begin, crate::proofs::EmitSteps::factors_more, crate::proofs::Emits::emitted_end, crate::proofs::Emits::emitted_begins))]
+fn push_term(term: &Term, site: &Site<'_>, r: u8, ops: &mut Seq<Op>) -> Result<(), Memory>
+    requires of_block { IsTermAt site.now term.now }
+    requires registers { r + (2 * term_depth term.now + 1) < 16 }
+    ensures code { OnOk result (ops.new ≡ ops.old ++ term_code term.now site.now r) }
+    ensures begins { OnErr result (Begins ops.old ops.new) }
+{
+    push_all(ops, &[Op::Ldi { r, n: 1 }])?;
+    for joined in term.factors.as_slice() {
+        push_factor(&joined.factor, site, r + 1, ops)?;
+        push_all(ops, &[factor_op(joined.by, r)])?;
+    }
+    Ok(())
+}
+
+/// Appends the code of a factor.
+#[cycle(code)]
+fn push_factor(factor: &Factor, site: &Site<'_>, r: u8, ops: &mut Seq<Op>) -> Result<(), Memory>
+    requires of_block { IsFactorAt site.now factor.now }
+    requires registers { r + 2 * factor_own_depth factor.now < 16 }
+    ensures code { OnOk result (ops.new ≡ ops.old ++ factor_code factor.now site.now r) }
+    ensures begins { OnErr result (Begins ops.old ops.new) }
+{
+    match factor {
+        Factor::Number(number) => push_all(ops, &[Op::Ldi { r, n: *number }]),
+        Factor::Variable(variable) => {
+            let word = site.variable(*variable);
+            push_all(ops, &[Op::Ldw { r, w: word }])
+        }
+        Factor::Temporary(temp) => push_all(ops, &[Op::Ldt { r, i: *temp }]),
+        Factor::Field {
+            file,
+            field,
+            pointer,
+        } => push_field(*file, *field, *pointer, site, r, ops),
+        Factor::Bracket(e) => expr_code(e, site, r, ops),
+    }
+}
+
+/// What adds the term in the register after `r` to the sum in `r`, or takes it from it.
+fn term_op(minus: bool, r: u8) -> Op
+    requires { r < 16 }
+    ensures { result ≡ op_of_term minus r (r + 1) }
+{
+    if minus {
+        Op::Sub { r, s: r + 1 }
+    } else {
+        Op::Add { r, s: r + 1 }
+    }
+}
+
+/// What joins the factor in the register after `r` to the product in `r`.
+fn factor_op(by: FactorOp, r: u8) -> Op
+    requires { r < 16 }
+    ensures { result ≡ op_of_factor by r (r + 1) }
+{
+    match by {
+        FactorOp::Times => Op::Mul { r, s: r + 1 },
+        FactorOp::Divide => Op::Div { r, s: r + 1 },
+        FactorOp::Modulo => Op::Rem { r, s: r + 1 },
+    }
+}
