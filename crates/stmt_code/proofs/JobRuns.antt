@@ -1,0 +1,51 @@
+-- The machine's run of a job leaves what the job means.
+use Rattle.std.proofs.Common.{◌≡◌, ℕ, ◌+◌, ◌-◌, List, [], length, replicate, Some, refl, sym, ◌∙◌, subst}
+use Rattle.std.specs.Prelude.{slice_get}
+use Rattle.job_types.specs.declared.job.JobStart.{JobStart}
+use Rattle.exchange_model.specs.declared.entry.Entry.{Entry}
+use Rattle.source_meaning.specs.Own.{budget}
+use Rattle.source_meaning.specs.Config.{Config}
+use Rattle.source_meaning.specs.Job.{begins, place_of, todo_of, job}
+use Rattle.register_machine.specs.Machine.{Machine}
+use Rattle.stmt_code.specs.Faithful.{AreWords, begun_at, RunsAs}
+use Rattle.stmt_code.proofs.Setting.{Setting}
+use Rattle.stmt_code.proofs.At.{At}
+use Rattle.stmt_code.proofs.Same.{append_small, none_small, zeros_small, zeros_length, blank_temps, Same, Sim, alive, ended}
+use Rattle.stmt_code.proofs.Values.{Laid}
+use Rattle.stmt_code.proofs.Steps.{run_sim}
+use Rattle.stmt_code.proofs.Ends.{job_ends}
+
+module _ {g : Setting} where
+  begins_same : (start : JobStart) (store : List ℕ) (address : ℕ) → AreWords start.job.values → AreWords store → Same g [] (begins g.exchange start store) (begun_at address start store)
+  begins_same start store address small_values small_store = record {
+    own = refl;
+    world = refl;
+    temps = blank_temps;
+    regs = zeros_length 16;
+    small_store = small_store;
+    small_given = append_small start.job.values (replicate (8 - length start.job.values) 0) small_values (zeros_small (8 - length start.job.values));
+    small_answers = zeros_small 8;
+    callers = tt;
+    out = refl;
+    small_out = none_small;
+    runs = refl;
+    going = refl;
+  }
+
+  begins_at : (start : JobStart) (store : List ℕ) (e : Entry) (locals : List ℕ) → slice_get g.exchange.entries start.job.entry ≡ Some e → Laid g → At g (begins g.exchange start store).block locals 0 (begins g.exchange start store).todo (g.table.enter e.block e.signal)
+  begins_at start store e locals there laid =
+      subst (λ o. At g (place_of o) locals 0 (todo_of g.exchange o) (g.table.enter e.block e.signal)) (sym there) (laid.enters e.block e.signal locals)
+
+  told : {c : Config} {m : Machine} (s : Sim g c m) → (m.run.own ≡ c.own) × (m.world ≡ c.world) × (m.run.over ≡ c.over)
+  told (alive s at) = (s.own, s.world, s.runs ∙ sym s.going)
+  told (ended e f own w) = (own, w, f ∙ sym e)
+
+  -- from the address of the job's entry
+  pub job_runs : Laid g → (start : JobStart) (store : List ℕ) (e : Entry) → slice_get g.exchange.entries start.job.entry ≡ Some e → AreWords start.job.values → AreWords store → RunsAs g.exchange g.code (g.table.enter e.block e.signal) start store
+  unfolding job
+  job_runs laid start store e there small_values small_store =
+      let sim : Sim g (begins g.exchange start store) (begun_at (g.table.enter e.block e.signal) start store) = alive (begins_same start store (g.table.enter e.block e.signal) small_values small_store) (begins_at start store e (replicate 50 0) there laid) in
+      let f = run_sim laid (budget + 1) (begins g.exchange start store) (begun_at (g.table.enter e.block e.signal) start store) sim in
+      let t = told f.is in
+      let o = job_ends g.exchange start store in
+      record { end = f.end; goes = f.goes; own = t.0; world = t.1; over = t.2; outcome = o.0; ended = o.1 }

@@ -1,0 +1,85 @@
+-- Assignments to temporaries and variables, jumps and branches.
+use Rattle.std.proofs.Common.{◌≡◌, ℕ, ◌+◌, ◌^◌, List, [], ◌∷◌, ◌++◌, length, map, refl, ap, ◌∙◌, subst, arith, length-append}
+use Rattle.std.specs.Prelude.{nat_lt}
+use Rattle.job_types.specs.declared.fault.Fault.TheVariants.{Range}
+use Rattle.machine_code.specs.declared.op.Op.TheVariants as op
+use Rattle.exchange_model.specs.declared.expr.Expr.{Expr}
+use Rattle.exchange_model.specs.declared.expr.Cond.{Cond}
+use Rattle.exchange_model.specs.declared.stmt.Stmt.{Stmt}
+use Rattle.exchange_model.specs.declared.stmt.StmtKind.TheOpen.{SetTemp, SetVariable, Goto, IfGoto, If}
+use Rattle.source_meaning.specs.Config.{Do, base_of}
+use Rattle.source_meaning.specs.Step.{goes, sets_temp, sets_cell, where_fits, variable_width, to_label, at_zero, does}
+use Rattle.register_machine.specs.Machine.{made_one, checks}
+use Rattle.expr_code.specs.Code.{expr_code, cond_code}
+use Rattle.expr_code.proofs.Places.{has_front, has_back}
+use Rattle.stmt_code.specs.StmtCode.{opened}
+use Rattle.stmt_code.proofs.Setting.{Setting, places, list_code, few_loops, yes_in, no_in}
+use Rattle.stmt_code.proofs.At.{At, jumps, list_at}
+use Rattle.stmt_code.proofs.Instr.{jmp, stt, stw, check}
+use Rattle.stmt_code.proofs.Values.{Laid, expr_in, cond_in, count_sim, value_sim, cond_sim}
+use Rattle.stmt_code.proofs.Kind.{Case, at_kept, at_valued, goes_on_at, label_sim, zero_sim}
+
+module _ {g : Setting} where
+  pub set_temp : (t : ℕ) (e : Expr) → Case g (SetTemp t e)
+  set_temp t e c m p d a rest s at has fits r =
+      let ce = expr_code e (places g c.block).site 0 in
+      let tail = op.Stt t 0 ∷ [] in
+      let h = has_back g.code (a + 1) ce tail has.1 in
+      let len : a + 1 + length ce + 1 ≡ a + length (op.Stmt p ∷ (ce ++ tail)) = omega (arith, length-append ce tail) in
+      let le = few_loops fits in
+      count_sim (does g.exchange p (SetTemp t e) rest) s at has.0 (λ n1 s1 at1 q1.
+      value_sim 0 e (λ v d. goes rest (sets_temp t v d)) (omega arith) (expr_in e [] refl fits) s1 at1 (has_front g.code (a + 1) ce tail has.1) (λ n2 v loads s2 at2 q2.
+      stt v s2 at2 h.0 (omega (arith, fits.fits.names, fits.few)) q2.is q2.small (λ n3 s3 at3 q3.
+      goes_on_at rest s3 (at3 ∙ len) (at_kept le q3 (at_valued le q2 (at_kept le q1 r))))))
+
+  pub set_variable : (i : ℕ) (e : Expr) → Case g (SetVariable i e)
+  set_variable i e c m p d a rest s at has fits r =
+      let ce = expr_code e (places g c.block).site 0 in
+      let w = variable_width g.exchange c.block i in
+      let cell = base_of g.exchange c.block + i in
+      let tail = op.Ckw 0 w ∷ op.Stw cell 0 ∷ [] in
+      let h = has_back g.code (a + 1) ce tail has.1 in
+      let len : a + 1 + length ce + 1 + 1 ≡ a + length (op.Stmt p ∷ (ce ++ tail)) = omega (arith, length-append ce tail) in
+      let le = few_loops fits in
+      count_sim (does g.exchange p (SetVariable i e) rest) s at has.0 (λ n1 s1 at1 q1.
+      value_sim 0 e (λ v d. where_fits v w d (λ d. goes rest (sets_cell cell v d))) (omega arith) (expr_in e [] refl fits) s1 at1 (has_front g.code (a + 1) ce tail has.1) (λ n2 v loads s2 at2 q2.
+      check (nat_lt v (2 ^ w)) (op.Ckw 0 w) Range _ s2 at2 h.0 tt (ap (λ y. record { run = checks (nat_lt y (2 ^ w)) Range (made_one n2.run); world = n2.world }) q2.is) (λ n3 s3 at3 q3.
+      stw v s3 at3 h.1.0 (q3.regs 0 ∙ q2.is) q2.small (λ n4 s4 at4 q4.
+      goes_on_at rest s4 (at4 ∙ len) (at_kept le q4 (at_kept le q3 (at_valued le q2 (at_kept le q1 r))))))))
+
+  pub goto : Laid g → (l : ℕ) → Case g (Goto l)
+  goto laid l c m p d a rest s at has fits r =
+      count_sim (does g.exchange p (Goto l) rest) s at has.0 (λ n1 s1 at1 q1.
+      jmp s1 at1 has.1.0 (λ n2 s2 at2 q2. label_sim laid l s2 at2))
+
+  pub if_goto : Laid g → (cond : Cond) (l : ℕ) → Case g (IfGoto cond l)
+  if_goto laid cond l c m p d a rest s at has fits r =
+      let test = cond_code cond (places g c.block).site in
+      let tail = op.Jz 0 (a + 1 + length test + 2) ∷ op.Jmp (g.table.label c.block l) ∷ [] in
+      let h = has_back g.code (a + 1) test tail has.1 in
+      let len : a + 1 + length test + 2 ≡ a + length (op.Stmt p ∷ (test ++ tail)) = omega (arith, length-append test tail) in
+      let le = few_loops fits in
+      count_sim (does g.exchange p (IfGoto cond l) rest) s at has.0 (λ n1 s1 at1 q1.
+      cond_sim cond (λ v d. at_zero v (goes rest d) (to_label g.exchange l d)) (cond_in cond refl fits) s1 at1 (has_front g.code (a + 1) test tail has.1) (λ n2 v loads s2 at2 q2.
+      zero_sim v _ _ s2 at2 h.0 q2.is
+      (λ n3 s3 at3 q3. goes_on_at rest s3 (at3 ∙ len) (at_kept le q3 (at_valued le q2 (at_kept le q1 r))))
+      (λ n3 s3 at3 q3. jmp s3 at3 h.1.0 (λ n4 s4 at4 q4. label_sim laid l s4 at4))))
+
+  pub choice : (cond : Cond) (ss rs : List Stmt) → Case g (If cond ss rs)
+  choice cond ss rs c m p d a rest s at has fits r =
+      let test = cond_code cond (places g c.block).site in
+      let at_yes = a + 1 + length test + 1 in
+      let c1 = list_code g c.block ss d at_yes in
+      let at_no = at_yes + length c1 + 1 in
+      let c2 = list_code g c.block rs d at_no in
+      let end = at_no + length c2 in
+      let h1 = has_back g.code (a + 1) test (op.Jz 0 at_no ∷ (c1 ++ (op.Jmp end ∷ c2))) has.1 in
+      let h2 = has_back g.code at_yes c1 (op.Jmp end ∷ c2) h1.1 in
+      let len : a + length (opened (If cond ss rs) (places g c.block) p d a) ≡ end = omega (arith, length-append test (op.Jz 0 at_no ∷ (c1 ++ (op.Jmp end ∷ c2))), length-append c1 (op.Jmp end ∷ c2)) in
+      let le = few_loops fits in
+      count_sim (does g.exchange p (If cond ss rs) rest) s at has.0 (λ n1 s1 at1 q1.
+      cond_sim cond (λ v d. at_zero v (goes (map Do rs ++ rest) d) (goes (map Do ss ++ rest) d)) (cond_in cond refl fits) s1 at1 (has_front g.code (a + 1) test (op.Jz 0 at_no ∷ (c1 ++ (op.Jmp end ∷ c2))) has.1) (λ n2 v loads s2 at2 q2.
+      let r2 = subst (At g c.block n2.run.locals d rest) len (at_valued le q2 (at_kept le q1 r)) in
+      zero_sim v _ _ s2 at2 h1.0 q2.is
+      (λ n3 s3 at3 q3. goes_on_at (map Do rs ++ rest) s3 at3 (list_at g c.block d at_no n3.run.locals rest rs h2.1 (no_in fits) (at_kept le q3 r2)))
+      (λ n3 s3 at3 q3. goes_on_at (map Do ss ++ rest) s3 at3 (list_at g c.block d at_yes n3.run.locals rest ss (has_front g.code at_yes c1 (op.Jmp end ∷ c2) h1.1) (yes_in fits) (jumps end h2.0 (at_kept le q3 r2))))))

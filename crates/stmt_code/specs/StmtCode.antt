@@ -1,0 +1,221 @@
+-- The code of statements.
+--
+-- A statement's code is a function of where it stands: the places of its block, its point, the number of loops around it,
+-- and its address. A layer is said from the code of the lists in it. A loop keeps its number and its last number in two
+-- locals of its own, so that a jump out of it has nothing to put right; it compares before it adds, so that the number
+-- never passes 2^32.
+use Rattle.std.specs.Prelude.{◌≡◌, ℕ, suc, ◌+◌, ◌*◌, Bool, true, false, List, [], ◌∷◌, ◌++◌, length, map, slice_get, Option, Some, None}
+use Rattle.plex_num.specs.declared.level.Level.{Level}
+use Rattle.plex_num.specs.declared.level.Level.TheVariants.{A, B, C, D}
+use Rattle.machine_code.specs.declared.op.Op.{Op}
+use Rattle.machine_code.specs.declared.op.Op.TheVariants as op
+use Rattle.exchange_model.specs.declared.signal.SignalKind.{SignalKind}
+use Rattle.exchange_model.specs.declared.signal.SignalKind.TheVariants.{Buffered, Direct, Combined, Answer, Outside}
+use Rattle.exchange_model.specs.declared.block.Variable.{Variable}
+use Rattle.exchange_model.specs.declared.expr.Expr.{Expr}
+use Rattle.exchange_model.specs.declared.expr.Rel.{Rel}
+use Rattle.exchange_model.specs.declared.stmt.Stmt.{Stmt, fold-Stmt, fold_out-Stmt}
+use Rattle.exchange_model.specs.declared.stmt.When.{When, fold-When, fold_out-When, out-When}
+use Rattle.exchange_model.specs.declared.stmt.StmtKind.{StmtKind, StmtKind-F, out-StmtKind, map-StmtKind, fold-StmtKind, fold_out-StmtKind}
+use Rattle.exchange_model.specs.declared.stmt.StmtKind.TheOpen as stmt
+use Rattle.exchange_model.specs.declared.stmt.StmtKind.TheOpen.{Stmt-F, When-F}
+use Rattle.exchange_model.specs.Cells.{Placed, record_cells}
+use Rattle.source_meaning.specs.Step.{block_or, field_width}
+use Rattle.expr_code.specs.Code.{Site, expr_code, cond_code, pointer_code, rel_op}
+
+-- what the code of a block's statements needs to know: where stored words are, the widths of its variables, the addresses
+-- of its labels, those at which a block's signals enter, the numbers of entries, and the signals
+pub record Places : Type 0 where
+  pub site : Site
+  pub width : ℕ → ℕ
+  pub label : ℕ → ℕ
+  pub enter : ℕ → ℕ → ℕ
+  pub entry : ℕ → ℕ → ℕ
+  pub signals : List SignalKind
+
+-- from the places, the point, the number of loops around it, and the address
+abbrev pub KindCode : Type 0
+KindCode = Places → ℕ → ℕ → ℕ → List Op
+
+abbrev pub StmtCode : Type 0
+StmtCode = Places → ℕ → ℕ → List Op
+
+-- a list of statements
+abbrev pub codes : List StmtCode → StmtCode
+codes [] pl d a = []
+codes (c ∷ cs) pl d a = c pl d a ++ codes cs pl d (a + length (c pl d a))
+
+-- a choice of a CASE
+pub record Choice : Type 0 where
+  pub number : ℕ
+  pub body : List StmtCode
+
+-- the temporaries get the entry values from the k-th on
+abbrev pub takes_code : ℕ → List ℕ → List Op
+takes_code k [] = []
+takes_code k (t ∷ ts) = op.Lde 0 k ∷ op.Stt t 0 ∷ takes_code (k + 1) ts
+
+-- the temporaries get the answer values from the k-th on
+abbrev pub retrieve_code : ℕ → List ℕ → List Op
+retrieve_code k [] = []
+retrieve_code k (t ∷ ts) = op.Lda 0 k ∷ op.Stt t 0 ∷ retrieve_code (k + 1) ts
+
+-- values join the outgoing ones
+abbrev pub values_code : List Expr → Site → List Op
+values_code [] site = []
+values_code (e ∷ es) site = expr_code e site 0 ++ (op.Arg 0 ∷ values_code es site)
+
+-- the locals of a loop's number and of its last number
+abbrev pub turn : ℕ → ℕ
+turn d = 24 + 2 * d
+
+abbrev pub last : ℕ → ℕ
+last d = 25 + 2 * d
+
+-- the value in register 0 goes into a field
+abbrev pub field_store : Option Placed → ℕ → ℕ → ℕ → List Op
+field_store None file field pointer = []
+field_store (Some p) file field pointer =
+    op.Ldt 1 pointer ∷ (pointer_code p file 1 ++ op.Ckw 0 (field_width p field) ∷ op.Stx (p.first + field) (record_cells p.file) 1 0 ∷ [])
+
+-- one of two lists, by whether register 0 is 0 after the test
+abbrev pub if_code : ℕ → ℕ → List Op → List Op → (ℕ → List Op) → List Op
+if_code p a test yes_part no_at =
+    let other = a + 1 + length test + 1 + length yes_part + 1 in
+    op.Stmt p ∷ (test ++ (op.Jz 0 other ∷ (yes_part ++ (op.Jmp (other + length (no_at other)) ∷ no_at other))))
+
+-- the choices, where register 0 has the value, and at last the other list
+abbrev pub choices_code : List Choice → List StmtCode → StmtCode
+choices_code [] otherwise pl d a = codes otherwise pl d a
+choices_code (w ∷ ws) otherwise pl d a =
+    let body = codes w.body pl d (a + 3) in
+    let next = a + 3 + length body + 1 in
+    let rest = choices_code ws otherwise pl d next in
+    op.Ldi 1 w.number ∷ op.Eq 1 0 ∷ op.Jz 1 next ∷ (body ++ (op.Jmp (next + length rest) ∷ rest))
+
+-- the turns of a loop, from its head on
+abbrev pub turns_code : ℕ → ℕ → ℕ → ℕ → List Op → List Op
+turns_code p t d head body =
+    op.Stmt p ∷ op.Ldt 0 (turn d) ∷ op.Stt t 0 ∷ (body ++
+    (op.Ldt 0 (turn d) ∷ op.Ldt 1 (last d) ∷ op.Gt 1 0 ∷ op.Jz 1 (head + 3 + length body + 8) ∷ op.Ldi 1 1 ∷ op.Add 0 1 ∷ op.Stt (turn d) 0 ∷ op.Jmp head ∷ []))
+
+abbrev pub on_code : ℕ → ℕ → ℕ → ℕ → List Op → List Op → (ℕ → List Op) → List Op
+on_code p t d a from upto body_at =
+    let head = a + 1 + length from + length upto + 5 in
+    let turns = turns_code p t d head (body_at (head + 3)) in
+    op.Stmt p ∷ (from ++ (upto ++ (op.Stt (turn d) 0 ∷ op.Stt (last d) 1 ∷ op.Gt 0 1 ∷ op.Jz 0 head ∷ op.Jmp (head + length turns) ∷ turns)))
+
+-- the search of FOR FIRST, at this address: register 0 has the value, and register 1 counts the records
+abbrev pub search_code : Placed → ℕ → ℕ → Rel → ℕ → ℕ → List Op
+search_code p temp field rel label a =
+    op.Ldi 1 0 ∷ op.Ldi 2 p.file.size ∷ op.Gt 2 1 ∷ op.Jz 2 (a + 12) ∷ op.Ldx 2 (p.first + field) (record_cells p.file) 1 ∷ rel_op rel 2 0 ∷ op.Jz 2 (a + 9)
+    ∷ op.Stt temp 1 ∷ op.Jmp label ∷ op.Ldi 2 1 ∷ op.Add 1 2 ∷ op.Jmp (a + 1) ∷ []
+
+abbrev pub for_first_code : Option Placed → ℕ → ℕ → Rel → ℕ → ℕ → List Op
+for_first_code None temp field rel label a = []
+for_first_code (Some p) temp field rel label a = search_code p temp field rel label a
+
+-- the search for a free record, at this address, and how it is seized: register 1 counts the records
+abbrev pub seize_code : Option Placed → ℕ → ℕ → ℕ → ℕ → List Op
+seize_code None file temp label a = []
+seize_code (Some p) file temp label a =
+    let mark = p.first + length p.file.fields in
+    op.Ckf ∷ op.Ldi 1 0 ∷ op.Ldi 2 p.file.size ∷ op.Gt 2 1 ∷ op.Jz 2 label ∷ op.Ldx 2 mark (record_cells p.file) 1 ∷ op.Jz 2 (a + 10)
+    ∷ op.Ldi 2 1 ∷ op.Add 1 2 ∷ op.Jmp (a + 2) ∷ op.Chn 1 file ∷ op.Ldi 2 1 ∷ op.Stx mark (record_cells p.file) 1 2 ∷ op.Stt temp 1 ∷ []
+
+-- the fields of the record in register 0 get their INIT values
+abbrev pub inits_code : Placed → ℕ → List Variable → List Op
+inits_code p field [] = []
+inits_code p field (v ∷ rest) = op.Ldi 1 v.init ∷ op.Stx (p.first + field) (record_cells p.file) 0 1 ∷ inits_code p (field + 1) rest
+
+abbrev pub free_code : Option Placed → ℕ → ℕ → List Op
+free_code None file temp = []
+free_code (Some p) file temp =
+    op.Ldt 0 temp ∷ (pointer_code p file 0 ++ (inits_code p 0 p.file.fields ++
+    (op.Ldi 1 0 ∷ op.Stx (p.first + length p.file.fields) (record_cells p.file) 0 1 ∷ op.Unc 0 file ∷ [])))
+
+abbrev pub level_number : Level → ℕ
+level_number A = 0
+level_number B = 1
+level_number C = 2
+level_number D = 3
+
+-- to an entry, in the job's forlopp or a new one
+abbrev pub queue_number : Bool → ℕ
+queue_number false = 0
+queue_number true = 1
+
+-- the outgoing values go to a block, or out of the exchange
+abbrev pub send_code : Option SignalKind → ℕ → ℕ → Bool → Places → List Op
+send_code (Some (Buffered name level count)) signal b fresh pl = op.Snd (queue_number fresh) (pl.entry b signal) (level_number level) ∷ []
+send_code (Some (Direct name count)) signal b fresh pl = op.Dir (pl.enter b signal) ∷ []
+send_code (Some (Combined name count answer)) signal b fresh pl = op.Call (pl.enter b signal) answer ∷ []
+send_code (Some (Outside name count)) signal b fresh pl = op.Snd 2 signal 0 ∷ []
+send_code _ signal b fresh pl = []
+
+abbrev pub count_of : Option SignalKind → ℕ
+count_of (Some (Buffered name level count)) = count
+count_of (Some (Direct name count)) = count
+count_of (Some (Combined name count answer)) = count
+count_of (Some (Answer name count combined)) = count
+count_of (Some (Outside name count)) = count
+count_of None = 0
+
+-- one statement, from the code of those in it: one line a kind
+abbrev pub layer_code : StmtKind-F KindCode StmtCode Choice → KindCode
+layer_code (stmt.Enter signal temps) pl p d a = op.Jmp (a + 2 + length (takes_code 0 temps)) ∷ op.Stmt p ∷ takes_code 0 temps
+layer_code (stmt.SetTemp t e) pl p d a = op.Stmt p ∷ (expr_code e pl.site 0 ++ op.Stt t 0 ∷ [])
+layer_code (stmt.SetVariable v e) pl p d a = op.Stmt p ∷ (expr_code e pl.site 0 ++ op.Ckw 0 (pl.width v) ∷ op.Stw (pl.site.first + v) 0 ∷ [])
+layer_code (stmt.SetField file field pointer e) pl p d a = op.Stmt p ∷ (expr_code e pl.site 0 ++ field_store (slice_get pl.site.files file) file field pointer)
+layer_code (stmt.Goto l) pl p d a = op.Stmt p ∷ op.Jmp (pl.label l) ∷ []
+layer_code (stmt.IfGoto c l) pl p d a =
+    let test = cond_code c pl.site in
+    op.Stmt p ∷ (test ++ op.Jz 0 (a + 1 + length test + 2) ∷ op.Jmp (pl.label l) ∷ [])
+layer_code (stmt.If c yes_part no_part) pl p d a =
+    let test = cond_code c pl.site in
+    if_code p a test (codes yes_part pl d (a + 1 + length test + 1)) (codes no_part pl d)
+layer_code (stmt.Case e whens otherwise) pl p d a =
+    let value = expr_code e pl.site 0 in
+    op.Stmt p ∷ (value ++ choices_code whens otherwise pl d (a + 1 + length value))
+layer_code (stmt.On t from upto body) pl p d a = on_code p t d a (expr_code from pl.site 0) (expr_code upto pl.site 1) (codes body pl (suc d))
+layer_code (stmt.ForFirst t file field rel e l) pl p d a =
+    let value = expr_code e pl.site 0 in
+    op.Stmt p ∷ (value ++ for_first_code (slice_get pl.site.files file) t field rel (pl.label l) (a + 1 + length value))
+layer_code (stmt.Send signal block values fresh) pl p d a = op.Stmt p ∷ (values_code values pl.site ++ send_code (slice_get pl.signals signal) signal (block_or block) fresh pl)
+layer_code (stmt.Retrieve answer temps) pl p d a = op.Stmt p ∷ retrieve_code 0 temps
+layer_code (stmt.Return answer values) pl p d a = op.Stmt p ∷ (values_code values pl.site ++ op.Ret answer ∷ [])
+layer_code (stmt.Transfer signal block) pl p d a = op.Stmt p ∷ op.Trf (pl.enter (block_or block) signal) (count_of (slice_get pl.signals signal)) ∷ []
+layer_code (stmt.Seize t file l) pl p d a = op.Stmt p ∷ seize_code (slice_get pl.site.files file) file t (pl.label l) (a + 1)
+layer_code (stmt.Free t file) pl p d a = op.Stmt p ∷ free_code (slice_get pl.site.files file) file t
+layer_code stmt.Exit pl p d a = op.Stmt p ∷ op.End ∷ []
+layer_code stmt.Finish pl p d a = op.Stmt p ∷ op.End ∷ []
+
+abbrev pub of_stmt : Stmt-F KindCode StmtCode Choice → StmtCode
+of_stmt s pl d a = s.kind pl s.point d a
+
+abbrev pub of_when : When-F KindCode StmtCode Choice → Choice
+of_when w = record { number = w.number; body = w.body }
+
+unfoldable pub kind_code : StmtKind → KindCode
+kind_code = fold-StmtKind KindCode StmtCode Choice layer_code of_stmt of_when
+
+unfoldable pub stmt_code : Stmt → StmtCode
+stmt_code = fold-Stmt KindCode StmtCode Choice layer_code of_stmt of_when
+
+unfoldable pub when_code : When → Choice
+when_code = fold-When KindCode StmtCode Choice layer_code of_stmt of_when
+
+abbrev pub opened : StmtKind-F StmtKind Stmt When → KindCode
+opened l = layer_code (map-StmtKind StmtKind Stmt When KindCode StmtCode Choice kind_code stmt_code when_code l)
+
+pub kind_code-out : (k : StmtKind) → kind_code k ≡ opened (out-StmtKind k)
+unfolding kind_code stmt_code when_code
+kind_code-out k = fold_out-StmtKind KindCode StmtCode Choice layer_code of_stmt of_when k
+
+pub stmt_code-kind : (s : Stmt) → stmt_code s ≡ (λ pl d a. kind_code s.kind pl s.point d a)
+unfolding kind_code stmt_code when_code
+stmt_code-kind s = fold_out-Stmt KindCode StmtCode Choice layer_code of_stmt of_when s
+
+pub when_code-out : (w : When) → when_code w ≡ record { number = (out-When w).number; body = map stmt_code (out-When w).body }
+unfolding kind_code stmt_code when_code
+when_code-out w = fold_out-When KindCode StmtCode Choice layer_code of_stmt of_when w
