@@ -1,0 +1,10 @@
+pub mod Deaths
+pub mod Freed
+pub mod Grouped
+pub mod Maps
+pub mod Members
+pub mod Orders
+pub mod Ranks
+pub mod Runs
+pub mod Sound
+pub mod Steps

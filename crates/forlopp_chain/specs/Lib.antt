@@ -1,0 +1,5 @@
+pub mod Chain
+pub mod Chains
+pub mod Codes
+pub mod Deaths
+pub mod Holdings
