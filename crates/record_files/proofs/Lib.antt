@@ -1,0 +1,5 @@
+pub mod Asked
+pub mod Bare
+pub mod Laying
+pub mod Looking
+pub mod Opened
