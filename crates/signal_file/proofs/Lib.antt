@@ -1,0 +1,9 @@
+mod Behind
+mod Found
+mod Lined
+mod Meant
+mod Named
+mod Sample
+mod Splits
+mod Tails
+mod Worded

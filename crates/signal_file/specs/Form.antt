@@ -1,0 +1,118 @@
+-- The form of a line of a signal file, whatever its names mean.
+--
+-- Lines end with LF, a CR directly before it is no part of them, and the last LF may be missing. The words of a line are its
+-- longest runs of bytes other than space and tab.
+use Rattle.std.specs.Prelude.{◌≡◌, ◌==◌, ℕ, nat_eq, Bool, true, false, ◌||◌, List, [], ◌∷◌, take, length, filter, Option, Some, None, if◌then◌else◌, codes}
+use Rattle.std.specs.Str.{bytes_eq}
+use Rattle.std.specs.List.{slice_split}
+use Rattle.plex_num.specs.Number.{number_of}
+use Rattle.signal_file.specs.declared.form.Said.{Said}
+use Rattle.signal_file.specs.declared.form.Tail.{Tail}
+use Rattle.signal_file.specs.declared.line.LineKind.{LineKind}
+use Rattle.signal_file.specs.declared.line.LineKind.TheVariants.{Fresh, Bare, Same}
+
+abbrev pub is_line_end : ℕ → Bool
+is_line_end b = b == 10
+
+abbrev pub is_blank : ℕ → Bool
+is_blank b = nat_eq b 32 || nat_eq b 9
+
+abbrev pub is_some_byte : List ℕ → Bool
+is_some_byte [] = false
+is_some_byte (b ∷ rest) = true
+
+-- the words of a line
+unfoldable pub words : List ℕ → List (List ℕ)
+words line = filter is_some_byte (slice_split is_blank line)
+
+-- a comment has `!` as its first byte
+abbrev pub is_comment : List ℕ → Bool
+is_comment [] = false
+is_comment (b ∷ rest) = nat_eq b 33
+
+abbrev pub has_no_word : List (List ℕ) → Bool
+has_no_word [] = true
+has_no_word (w ∷ rest) = false
+
+-- a line that is empty or blank, or a comment
+abbrev pub is_skipped : List ℕ → Bool
+is_skipped line = has_no_word (words line) || is_comment line
+
+-- goes on with what there is
+abbrev pub with : {A B : Type 0} → Option A → (A → Option B) → Option B
+with None go = None
+with (Some a) go = go a
+
+-- `NEW` or `NONE` alone, or `AS` and a number
+abbrev pub bare_ending : List ℕ → Option LineKind
+bare_ending w = (if bytes_eq w (codes "NEW") then Some Fresh else (if bytes_eq w (codes "NONE") then Some Bare else None))
+
+abbrev pub same_ending : List ℕ → List ℕ → Option LineKind
+same_ending w n = (if bytes_eq w (codes "AS") then with (number_of n) (λ i. Some (Same i)) else None)
+
+-- these words are the end of a line
+abbrev pub ending : List (List ℕ) → Option LineKind
+ending [] = None
+ending (w ∷ []) = bare_ending w
+ending (w ∷ n ∷ []) = same_ending w n
+ending (w ∷ n ∷ m ∷ rest) = None
+
+-- values, and then the end of the line
+pub record Closing : Type 0 where
+  pub values : List ℕ
+  pub kind : LineKind
+
+abbrev pub one_more : ℕ → Closing → Closing
+one_more v t = record { values = v ∷ t.values; kind = t.kind }
+
+-- this is the end of the line, or else a value before the rest of it
+abbrev pub end_or_value : Option LineKind → Option ℕ → Option Closing → Option Closing
+end_or_value (Some kind) value rest = Some (record { values = []; kind = kind })
+end_or_value None value rest = with value (λ v. with rest (λ t. Some (one_more v t)))
+
+-- each word before the end of the line is a number
+unfoldable pub closing : List (List ℕ) → Option Closing
+closing [] = None
+closing (w ∷ rest) = end_or_value (ending (w ∷ rest)) (number_of w) (closing rest)
+
+-- what a signal line says: its count, the names of its signal and its block, its values, and where its forlopp comes from
+pub record Saying : Type 0 where
+  pub after : ℕ
+  pub signal : List ℕ
+  pub block : List ℕ
+  pub values : List ℕ
+  pub kind : LineKind
+
+-- `AFTER`, a count, a signal, a block, values and the end
+unfoldable pub said_in : List (List ℕ) → Option Saying
+said_in (first ∷ count ∷ signal ∷ block ∷ rest) =
+    (if bytes_eq first (codes "AFTER")
+    then with (number_of count) (λ n. with (closing rest) (λ t. Some (record { after = n; signal = signal; block = block; values = t.values; kind = t.kind })))
+    else None)
+said_in _ = None
+
+-- no signal has more values than are kept
+abbrev pub most_kept : ℕ
+most_kept = 8
+
+-- the first of these values are kept, and all are counted
+pub record Keeps (all kept : List ℕ) (count : ℕ) : Type 0 where
+  pub first : kept ≡ take most_kept all
+  pub counted : count ≡ length all
+
+-- this is the end of a line as it is read
+abbrev pub IsTail : Option Closing → Tail → Type 0
+IsTail None t = ⊥
+IsTail (Some c) t = Keeps c.values t.values t.count × (t.kind ≡ c.kind)
+
+-- this is what a line says, as it is read
+pub record IsRead (s : Saying) (said : Said) : Type 0 where
+  pub after : said.after ≡ s.after
+  pub signal : said.signal.now ≡ s.signal
+  pub block : said.block.now ≡ s.block
+  pub values : Keeps s.values said.values said.count
+  pub kind : said.kind ≡ s.kind
+
+abbrev pub IsSaid : Option Saying → Said → Type 0
+IsSaid None said = ⊥
+IsSaid (Some s) said = IsRead s said

@@ -1,0 +1,130 @@
+-- What a signal line means in an exchange, and its first fault.
+--
+-- A line is looked at with what counts of the lines before it. Its faults are looked for in a fixed order, and the first decides.
+use Rattle.std.specs.Prelude.{◌≡◌, ℕ, ◌+◌, ◌-◌, ◌≤◌, nat_eq, nat_le, Bool, true, false, ◌&&◌, List, length, map, fold, position, slice_get, Option, Some, None, Result, Ok, Err, if◌then◌else◌}
+use Rattle.std.specs.Str.{bytes_eq}
+use Rattle.exchange_model.specs.declared.exchange.Exchange.{Exchange}
+use Rattle.exchange_model.specs.declared.entry.Entry.{Entry}
+use Rattle.exchange_model.specs.declared.block.Block.{Block}
+use Rattle.exchange_model.specs.declared.signal.SignalKind.{SignalKind}
+use Rattle.exchange_model.specs.declared.signal.SignalKind.TheVariants.{Buffered}
+use Rattle.exchange_model.specs.Kept.{signal_name}
+use Rattle.signal_file.specs.declared.before.Before.{Before}
+use Rattle.signal_file.specs.declared.directory.Directory.{Directory}
+use Rattle.signal_file.specs.declared.directory.Signal.{Signal}
+use Rattle.signal_file.specs.declared.fault.SignalFault.{SignalFault}
+use Rattle.signal_file.specs.declared.fault.SignalFault.TheVariants.{BadLine, UnknownSignal, UnknownBlock, WrongData, FallingCount, BadAs}
+use Rattle.signal_file.specs.declared.line.Line.{Line}
+use Rattle.signal_file.specs.declared.line.LineKind.{LineKind}
+use Rattle.signal_file.specs.declared.line.LineKind.TheVariants.{Fresh, Bare, Same}
+use Rattle.signal_file.specs.Form.{Saying, is_skipped, words, said_in, with}
+
+-- names
+
+abbrev pub signal_names : Exchange → List (List ℕ)
+signal_names x = map signal_name x.signals
+
+abbrev pub block_names : Exchange → List (List ℕ)
+block_names x = map (λ (k : Block). k.name) x.blocks
+
+-- a signal, where it is single and buffered: its number, and how many values it has
+abbrev pub if_buffered : ℕ → Option SignalKind → Option Signal
+if_buffered number (Some (Buffered name level count)) = Some (record { number = number; count = count })
+if_buffered number _ = None
+
+-- the single buffered signal of this name
+abbrev pub signal_of : Exchange → List ℕ → Option Signal
+signal_of x name = with (position (bytes_eq name) (signal_names x)) (λ number. if_buffered number (slice_get x.signals number))
+
+abbrev pub is_entry : ℕ → ℕ → Entry → Bool
+is_entry block signal e = nat_eq e.block block && nat_eq e.signal signal
+
+-- the entry of a signal at the block of this name, which is there exactly where the block receives the signal
+abbrev pub entry_of : Exchange → ℕ → List ℕ → Option ℕ
+entry_of x signal name = with (position (bytes_eq name) (block_names x)) (λ block. position (is_entry block signal) x.entries)
+
+-- the lines before
+
+-- what a line says, nothing where it is skipped or of no form
+abbrev pub says : List ℕ → Option Saying
+says line = (if is_skipped line then None else said_in (words line))
+
+abbrev pub count_or : ℕ → Option Saying → ℕ
+count_or n None = n
+count_or n (Some s) = s.after
+
+-- the count of the last signal line, 0 where there is none: each takes the place of the one before
+unfoldable pub last_count : List (List ℕ) → ℕ
+last_count lines = fold (λ n line. count_or n (says line)) 0 lines
+
+-- whether a signal line that ends so has a forlopp to give
+abbrev pub gives : LineKind → Bool
+gives Fresh = true
+gives Bare = false
+gives (Same line) = true
+
+abbrev pub gives_forlopp : Option Saying → Bool
+gives_forlopp None = false
+gives_forlopp (Some s) = gives s.kind
+
+-- whether a line is a signal line that does not end in NONE, so that a later one may take its forlopp
+abbrev pub is_origin : List ℕ → Bool
+is_origin line = gives_forlopp (says line)
+
+-- what counts of the lines before a line
+unfoldable pub before_of : List (List ℕ) → Before
+before_of lines = record { last = last_count lines; origins = map is_origin lines }
+
+-- the number of the line that follows
+abbrev pub next_number : Before → ℕ
+next_number b = length b.origins + 1
+
+abbrev pub is_true : Option Bool → Bool
+is_true None = false
+is_true (Some b) = b
+
+-- the number after AS, if there is one, is that of an origin among the lines before, which are numbered from 1
+abbrev pub has_origin : Before → LineKind → Bool
+has_origin b Fresh = true
+has_origin b Bare = true
+has_origin b (Same line) = (if nat_eq line 0 then false else is_true (slice_get b.origins (line - 1)))
+
+-- the rules
+
+-- goes on with what there is, or stops with this fault
+abbrev pub need : {A B : Type 0} → SignalFault → Option A → (A → Result B SignalFault) → Result B SignalFault
+need fault None go = Err fault
+need fault (Some a) go = go a
+
+-- goes on where the test holds, or stops with this fault
+abbrev pub need_that : {B : Type 0} → SignalFault → Bool → Result B SignalFault → Result B SignalFault
+need_that fault false go = Err fault
+need_that fault true go = go
+
+-- goes on with what came, or stops with the fault
+abbrev pub and_then : {A B : Type 0} → Result A SignalFault → (A → Result B SignalFault) → Result B SignalFault
+and_then (Ok a) go = go a
+and_then (Err f) go = Err f
+
+-- what a signal line means, or its first fault
+unfoldable pub meaning : Exchange → Before → Saying → Result Line SignalFault
+meaning x b s =
+    need (UnknownSignal (next_number b)) (signal_of x s.signal) (λ signal.
+    need (UnknownBlock (next_number b)) (entry_of x signal.number s.block) (λ entry.
+    need_that (WrongData (next_number b)) (nat_eq (length s.values) signal.count) (
+    need_that (FallingCount (next_number b)) (nat_le b.last s.after) (
+    need_that (BadAs (next_number b)) (has_origin b s.kind) (
+    Ok (record { number = next_number b; after = s.after; entry = entry; values = s.values; kind = s.kind }))))))
+
+-- what a line adds, nothing where it is skipped; or its first fault
+abbrev pub told : Exchange → Before → Option Saying → Result (Option Line) SignalFault
+told x b o = need (BadLine (next_number b)) o (λ s. and_then (meaning x b s) (λ l. Ok (Some l)))
+
+unfoldable pub added : Exchange → Before → List ℕ → Result (Option Line) SignalFault
+added x b line = (if is_skipped line then Ok None else told x b (said_in (words line)))
+
+-- the names of an exchange, in the order of their numbers
+pub record IsDirectory (x : Exchange) (d : Directory) : Type 0 where
+  pub signals : d.signals ≡ signal_names x
+  pub blocks : d.blocks ≡ block_names x
+  pub few : (name : List ℕ) (signal : Signal) → signal_of x name ≡ Some signal → signal.count ≤ 8

@@ -1,0 +1,116 @@
+// Signals and entries by their names.
+ghost use Rattle.std.specs.Prelude.{◌≡◌, ◌<◌, IfOk, IfSome, position};
+ghost use Rattle.std.specs.Str.{bytes_eq};
+ghost use Rattle.std.specs.List.{IsDistinct};
+ghost use Rattle.exchange_model.specs.Kept.{signal_name};
+ghost use Rattle.signal_file.specs.Rules.{IsDirectory, block_names, entry_of, is_entry, signal_names, signal_of};
+
+use crate::names::Names;
+use exchange_model::{Exchange, MOST_ENTRIES, SignalKind};
+use plex_num::{Memory, Name};
+use std::alloc::Global;
+
+/// The names of an exchange's signals and blocks, in the order of their numbers.
+#[derive(Drop)]
+pub struct Directory {
+    pub signals: Names,
+    pub blocks: Names,
+}
+
+/// A single buffered signal: its number, and how many values it has.
+#[derive(Clone, Copy)]
+pub struct Signal {
+    pub number: usize,
+    pub count: u8,
+}
+
+/// The directory of an exchange.
+#[tactic(auto, using(crate::proofs::Found::directory))]
+pub fn directory_of(alloc: Global, exchange: &Exchange) -> Result<Directory, Memory>
+    ensures { IfOk result (λ directory. IsDirectory exchange.now directory) }
+{
+    exchange.kept();
+    let signals = signal_names(alloc, exchange)?;
+    let blocks = block_names(alloc, exchange)?;
+    Ok(Directory { signals, blocks })
+}
+
+#[tactic(auto, using(crate::proofs::Named::new_name))]
+fn signal_names(alloc: Global, exchange: &Exchange) -> Result<Names, Memory>
+    requires { IsDistinct bytes_eq (signal_names exchange.now) }
+    ensures { IfOk result (λ names. names ≡ signal_names exchange.now) }
+{
+    let mut names = Names::new(alloc);
+    for signal in exchange.signals.as_slice() {
+        names.add(alloc, name_of(signal).as_slice())?;
+    }
+    Ok(names)
+}
+
+#[tactic(auto, using(crate::proofs::Named::new_name))]
+fn block_names(alloc: Global, exchange: &Exchange) -> Result<Names, Memory>
+    requires { IsDistinct bytes_eq (block_names exchange.now) }
+    ensures { IfOk result (λ names. names ≡ block_names exchange.now) }
+{
+    let mut names = Names::new(alloc);
+    for block in exchange.blocks.as_slice() {
+        names.add(alloc, block.name.as_slice())?;
+    }
+    Ok(names)
+}
+
+fn name_of(signal: &SignalKind) -> &Name
+    ensures { result.now ≡ signal_name signal.now }
+{
+    match signal {
+        SignalKind::Buffered { name, .. }
+        | SignalKind::Direct { name, .. }
+        | SignalKind::Combined { name, .. }
+        | SignalKind::Answer { name, .. }
+        | SignalKind::Outside { name, .. } => name,
+    }
+}
+
+/// The single buffered signal of this name.
+pub fn signal_of(exchange: &Exchange, directory: &Directory, name: &[u8]) -> Option<Signal>
+    requires { IsDirectory exchange.now directory.now }
+    ensures { result ≡ signal_of exchange.now name.now }
+{
+    let Some(number) = directory.signals.place(name) else {
+        return None;
+    };
+    match exchange.signals.get(number) {
+        Some(SignalKind::Buffered { count, .. }) => Some(Signal {
+            number,
+            count: *count,
+        }),
+        _ => None,
+    }
+}
+
+/// The entry of a signal at the block of this name.
+pub fn entry_of(
+    exchange: &Exchange,
+    directory: &Directory,
+    signal: usize,
+    block: &[u8],
+) -> Option<u32>
+    requires { IsDirectory exchange.now directory.now }
+    ensures { result ≡ entry_of exchange.now signal block.now }
+{
+    let Some(block) = directory.blocks.place(block) else {
+        return None;
+    };
+    match place_of_entry(exchange, block, signal) {
+        Some(place) => Some(place as u32),
+        None => None,
+    }
+}
+
+fn place_of_entry(exchange: &Exchange, block: usize, signal: usize) -> Option<usize>
+    ensures place { result ≡ position (is_entry block signal) exchange.now.entries }
+    ensures within { IfSome result (λ place. place < MOST_ENTRIES) }
+{
+    exchange.entries().iter().position(|entry| entry.block as usize == block
+        && entry.signal as usize == signal)
+}

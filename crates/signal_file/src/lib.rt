@@ -1,0 +1,24 @@
+// The signal file: which jobs come from outside, and when.
+//
+// What goes in: an exchange, whose entries the lines name, and the bytes of a text. What comes out: the signal lines in order, or
+// the first faulty line with its first fault. The layers above let the lines arrive as jobs.
+// It does not know when a line arrives: that hangs on the run.
+#![tactic(auto)]
+
+mod before;
+mod directory;
+mod fault;
+mod form;
+mod laws;
+mod line;
+mod meaning;
+mod names;
+mod read;
+#[cfg(test)]
+mod tests;
+mod words;
+
+pub use fault::SignalFault;
+pub use laws::first_faulty_line_decides;
+pub use line::{Line, LineKind};
+pub use read::read_signals;

@@ -1,0 +1,74 @@
+// What a line means in an exchange, or its first fault.
+ghost use Rattle.std.specs.Prelude.{◌≡◌, ◌<◌, ◌^◌, length};
+ghost use Rattle.signal_file.specs.Form.{IsRead, Saying};
+ghost use Rattle.signal_file.specs.Rules.{IsDirectory, added, meaning};
+
+use crate::before::Before;
+use crate::directory::{Directory, entry_of, signal_of};
+use crate::fault::SignalFault;
+use crate::form::{Said, is_skipped, said_of};
+use crate::line::Line;
+use exchange_model::Exchange;
+
+/// What a line adds behind those before, `None` where it is skipped; or its first fault.
+#[tactic(auto, unfolding(crate::specs::Rules::added))]
+pub fn added(
+    exchange: &Exchange,
+    directory: &Directory,
+    before: &Before,
+    line: &[u8],
+) -> Result<Option<Line>, SignalFault>
+    requires directory { IsDirectory exchange.now directory.now }
+    requires few { length before.now.origins < 2 ^ 24 }
+    ensures { result ≡ added exchange.now before.now line.now }
+{
+    if is_skipped(line) {
+        return Ok(None);
+    }
+    let Some(said) = said_of(line) else {
+        return Err(SignalFault::BadLine {
+            line: before.next_number(),
+        });
+    };
+    match meaning(exchange, directory, before, &said) {
+        Ok(line) => Ok(Some(line)),
+        Err(fault) => Err(fault),
+    }
+}
+
+/// What a signal line means, or its first fault.
+#[tactic(auto, using(crate::proofs::Meant::no_signal, crate::proofs::Meant::no_block, crate::proofs::Meant::wrong_data, crate::proofs::Meant::falling, crate::proofs::Meant::no_origin, crate::proofs::Meant::right))]
+fn meaning(
+    exchange: &Exchange,
+    directory: &Directory,
+    before: &Before,
+    said: &Said<'_>,
+) -> Result<Line, SignalFault>
+    requires directory { IsDirectory exchange.now directory.now }
+    requires few { length before.now.origins < 2 ^ 24 }
+    ensures { (s : Saying) → IsRead s said.now → result ≡ meaning exchange.now before.now s }
+{
+    let line = before.next_number();
+    let Some(signal) = signal_of(exchange, directory, said.signal) else {
+        return Err(SignalFault::UnknownSignal { line });
+    };
+    let Some(entry) = entry_of(exchange, directory, signal.number, said.block) else {
+        return Err(SignalFault::UnknownBlock { line });
+    };
+    if said.count != usize::from(signal.count) {
+        return Err(SignalFault::WrongData { line });
+    }
+    if said.after < before.last {
+        return Err(SignalFault::FallingCount { line });
+    }
+    if !before.has_origin(said.kind) {
+        return Err(SignalFault::BadAs { line });
+    }
+    Ok(Line {
+        number: line,
+        after: said.after,
+        entry,
+        values: said.values.copy(),
+        kind: said.kind,
+    })
+}
