@@ -1,0 +1,16 @@
+pub mod Rounds
+pub mod Todo
+pub mod Follow
+pub mod Puts
+pub mod Texts
+pub mod Places
+pub mod Last
+pub mod Turning
+pub mod Sending
+pub mod Searching
+pub mod Budget
+pub mod Chained
+pub mod Performing
+pub mod Stepping
+pub mod Ending
+pub mod Sample

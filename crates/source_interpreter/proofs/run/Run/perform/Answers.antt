@@ -1,0 +1,52 @@
+use Rattle.std.proofs.Common.{ℕ, ◌≤◌, List, length, sym, subst}
+use Rattle.exchange_model.specs.declared.stmt.StmtKind.TheOpen as stmt
+use Rattle.exchange_model.specs.declared.stmt.StmtKind.TheVariants as kind
+use Rattle.exchange_model.specs.declared.expr.Expr.{Expr}
+use Rattle.source_interpreter.specs.Leaves.{Does}
+use Rattle.source_interpreter.specs.Kept.{AreOfText, AreWhensOfText}
+use Rattle.source_interpreter.proofs.Performing.{if_first_kept, if_other_kept, whens_kept, otherwise_kept, body_kept, few_sent, few_returned, by_kind, exits}
+use Rattle.source_interpreter.proofs.run.Run.perform.Goals as goal
+
+pub choose-requires-clause-first : goal.choose-requires-clause-first
+choose-requires-clause-first c = subst AreOfText (sym c.as_slice.ensures) (if_first_kept c.args.statement.now c.in-If.cond c.in-If.yes c.in-If.no c.requires c.in-If.is)
+
+pub choose-requires-clause-other : goal.choose-requires-clause-other
+choose-requires-clause-other c = subst AreOfText (sym c.as_slice-in-If.ensures) (if_other_kept c.args.statement.now c.in-If.cond c.in-If.yes c.in-If.no c.requires c.in-If.is)
+
+pub choose_case-requires-clause-whens : goal.choose_case-requires-clause-whens
+choose_case-requires-clause-whens c = subst AreWhensOfText (sym c.as_slice-in-Case.ensures) (whens_kept c.args.statement.now c.in-Case.value c.in-Case.whens c.in-Case.otherwise c.requires c.in-Case.is)
+
+pub choose_case-requires-clause-otherwise : goal.choose_case-requires-clause-otherwise
+choose_case-requires-clause-otherwise c = subst AreOfText (sym c.as_slice-in-Case-2.ensures) (otherwise_kept c.args.statement.now c.in-Case.value c.in-Case.whens c.in-Case.otherwise c.requires c.in-Case.is)
+
+pub begin_turns-requires : goal.begin_turns-requires
+begin_turns-requires c = subst AreOfText (sym c.as_slice-in-On.ensures) (body_kept c.args.statement.now c.in-On.temp c.in-On.from c.in-On.upto c.in-On.body c.requires c.in-On.is)
+
+pub send-requires : goal.send-requires
+send-requires c = subst (λ (es : List Expr). length es ≤ 8) (sym c.as_slice-in-Send.ensures) (few_sent c.args.statement.now c.in-Send.signal c.in-Send.block c.in-Send.values c.in-Send.fresh c.requires c.in-Send.is)
+
+pub answer-requires : goal.answer-requires
+answer-requires c = subst (λ (es : List Expr). length es ≤ 8) (sym c.as_slice-in-Return.ensures) (few_returned c.args.statement.now c.in-Return.answer c.in-Return.values c.requires c.in-Return.is)
+
+pub returns-in-Goto : goal.returns-in-Goto
+returns-in-Goto c =
+    by_kind c.args.statement.now (kind.Goto c.in-Goto.label) (stmt.Goto c.in-Goto.label) c.args.self.now c.jump.new.self c.args.store.now c.args.store.now c.jump.result c.in-Goto.is (kind.outs-Goto c.in-Goto.label) c.jump.ensures
+
+pub returns-in-Send : goal.returns-in-Send
+returns-in-Send c =
+    let done : Does (stmt.Send c.in-Send.signal c.in-Send.block c.in-Send.values c.in-Send.fresh) c.args.self.now c.args.store.now c.send.result c.send.new.self c.args.store.now =
+    subst (λ (es : List Expr). Does (stmt.Send c.in-Send.signal c.in-Send.block es c.in-Send.fresh) c.args.self.now c.args.store.now c.send.result c.send.new.self c.args.store.now) c.as_slice-in-Send.ensures c.send.ensures in
+    by_kind c.args.statement.now (kind.Send c.in-Send.signal c.in-Send.block c.in-Send.values c.in-Send.fresh) (stmt.Send c.in-Send.signal c.in-Send.block c.in-Send.values c.in-Send.fresh) c.args.self.now c.send.new.self c.args.store.now c.args.store.now c.send.result c.in-Send.is (kind.outs-Send c.in-Send.signal c.in-Send.block c.in-Send.values c.in-Send.fresh) done
+
+pub returns-in-Retrieve : goal.returns-in-Retrieve
+returns-in-Retrieve c =
+    let done : Does (stmt.Retrieve c.in-Retrieve.answer c.in-Retrieve.temps) c.args.self.now c.args.store.now c.retrieve.result c.retrieve.new.self c.args.store.now =
+    subst (λ (ts : List ℕ). Does (stmt.Retrieve c.in-Retrieve.answer ts) c.args.self.now c.args.store.now c.retrieve.result c.retrieve.new.self c.args.store.now) c.as_slice-in-Retrieve.ensures c.retrieve.ensures in
+    by_kind c.args.statement.now (kind.Retrieve c.in-Retrieve.answer c.in-Retrieve.temps) (stmt.Retrieve c.in-Retrieve.answer c.in-Retrieve.temps) c.args.self.now c.retrieve.new.self c.args.store.now c.args.store.now c.retrieve.result c.in-Retrieve.is (kind.outs-Retrieve c.in-Retrieve.answer c.in-Retrieve.temps) done
+
+pub returns-in-Transfer : goal.returns-in-Transfer
+returns-in-Transfer c =
+    by_kind c.args.statement.now (kind.Transfer c.in-Transfer.signal c.in-Transfer.block) (stmt.Transfer c.in-Transfer.signal c.in-Transfer.block) c.args.self.now c.transfer.new.self c.args.store.now c.args.store.now c.transfer.result c.in-Transfer.is (kind.outs-Transfer c.in-Transfer.signal c.in-Transfer.block) c.transfer.ensures
+
+pub returns-in-Exit : goal.returns-in-Exit
+returns-in-Exit c = exits c.args.statement.now c.args.self.now c.args.store.now c.end.result c.in-Exit.is c.end.ensures

@@ -1,0 +1,6 @@
+pub mod Kept
+pub mod Opened
+pub mod Running
+pub mod Leaves
+pub mod Work
+pub mod Taken

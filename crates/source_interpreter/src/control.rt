@@ -1,0 +1,156 @@
+// Statements that choose what comes next.
+ghost use Rattle.std.specs.Prelude.{◌≡◌, ℕ, ◌≤◌, List};
+ghost use Rattle.exchange_model.specs.declared.stmt.StmtKind.{out-StmtKind};
+ghost use Rattle.exchange_model.specs.declared.stmt.StmtKind.TheOpen as stmt;
+ghost use Rattle.source_meaning.specs.Step.{ends, starts, chosen as statements_chosen};
+ghost use Rattle.source_interpreter.specs.Leaves.{Does, Follows, turn};
+ghost use Rattle.source_interpreter.specs.Kept.{AreOfText, AreWhensOfText};
+
+use crate::run::Run;
+use crate::stop::Stop;
+use exchange_model::{Cond, Expr, Stmt, StmtKind, When};
+use job_types::Fault;
+use plex_num::Seq;
+
+impl<'a> Run<'a> {
+    /// GOTO.
+    #[tactic(auto, using(crate::proofs::Turning::goto_goes, crate::proofs::Follow::as_memory))]
+    pub fn jump(&mut self, store: &Seq<u32>, label: u32) -> Result<(), Stop>
+        ensures { Does (stmt.Goto label) self.old store.now result self.new store.now }
+    {
+        self.go_to(label)?;
+        Ok(())
+    }
+
+    /// GOTO where a condition holds.
+    #[tactic(auto, using(crate::proofs::Turning::if_goto_jumps, crate::proofs::Turning::if_goto_passes, crate::proofs::Turning::if_goto_stops, crate::proofs::Follow::as_memory))]
+    pub fn jump_if(&mut self, store: &Seq<u32>, cond: &Cond, label: u32) -> Result<(), Stop>
+        ensures { Does (stmt.IfGoto cond.now label) self.old store.now result self.new store.now }
+    {
+        if self.holds(cond, store)? {
+            self.go_to(label)?;
+            Ok(())
+        } else {
+            Ok(())
+        }
+    }
+
+    /// One of two branches, by whether a condition holds.
+    #[tactic(auto, using(crate::proofs::Turning::if_first, crate::proofs::Turning::if_other, crate::proofs::Turning::if_stops, crate::proofs::Follow::as_memory))]
+    pub fn choose(
+        &mut self,
+        store: &Seq<u32>,
+        cond: &Cond,
+        first: &'a [Stmt],
+        other: &'a [Stmt],
+    ) -> Result<(), Stop>
+        requires first { AreOfText first.now }
+        requires other { AreOfText other.now }
+        ensures { Does (stmt.If cond.now first.now other.now) self.old store.now result self.new store.now }
+    {
+        if self.holds(cond, store)? {
+            self.push_statements(first)?;
+            Ok(())
+        } else {
+            self.push_statements(other)?;
+            Ok(())
+        }
+    }
+
+    /// The choice of a CASE that has the number of a value.
+    #[tactic(auto, using(crate::proofs::Turning::case_goes, crate::proofs::Turning::case_stops, crate::proofs::Follow::as_memory))]
+    pub fn choose_case(
+        &mut self,
+        store: &Seq<u32>,
+        value: &Expr,
+        whens: &'a [When],
+        otherwise: &'a [Stmt],
+    ) -> Result<(), Stop>
+        requires whens { AreWhensOfText whens.now }
+        requires otherwise { AreOfText otherwise.now }
+        ensures { Does (stmt.Case value.now whens.now otherwise.now) self.old store.now result self.new store.now }
+    {
+        let number = self.value(value, store)?;
+        self.push_statements(chosen(whens, number, otherwise))?;
+        Ok(())
+    }
+
+    /// The turns of a loop remain to be done, from the first number to the last.
+    #[tactic(auto, using(crate::proofs::Turning::on_goes, crate::proofs::Turning::on_from_stops, crate::proofs::Turning::on_upto_stops, crate::proofs::Follow::as_memory))]
+    pub fn begin_turns(
+        &mut self,
+        store: &Seq<u32>,
+        temp: u8,
+        from: &Expr,
+        upto: &Expr,
+        body: &'a [Stmt],
+    ) -> Result<(), Stop>
+        requires { AreOfText body.now }
+        ensures { Does (stmt.On temp from.now upto.now body.now) self.old store.now result self.new store.now }
+    {
+        let first = self.value(from, store)?;
+        let last = self.value(upto, store)?;
+        self.push_turns(temp, u64::from(first), last, body)?;
+        Ok(())
+    }
+
+    /// One turn of a loop: the temporary gets the number, the statements are done, and the turns after it remain.
+    #[tactic(auto, using(crate::proofs::Turning::turn_goes, crate::proofs::Follow::as_memory))]
+    pub fn take_turn(
+        &mut self,
+        temp: u8,
+        this: u64,
+        last: u32,
+        body: &'a [Stmt],
+    ) -> Result<(), Stop>
+        requires within { this ≤ last }
+        requires body { AreOfText body.now }
+        ensures { (store : List ℕ) → Follows (turn self.old.own.point temp this last body.now self.old.todo) self.old store result self.new store }
+    {
+        self.set_temp(temp, this as u32);
+        self.push_turns(temp, this + 1, last, body)?;
+        self.push_statements(body)?;
+        Ok(())
+    }
+
+    /// The ENTER of the signal that began the activation: the temporaries get its values.
+    #[tactic(auto, using(crate::proofs::Turning::starts_enter, crate::proofs::Turning::starts_other))]
+    pub fn enter(&mut self, kind: &StmtKind) -> Result<(), Stop>
+        ensures { (store : List ℕ) → Follows (starts (out-StmtKind kind.now) self.old.todo) self.old store result self.new store }
+    {
+        match kind {
+            StmtKind::Enter { temps, .. } => {
+                self.take_given(temps.as_slice());
+                Ok(())
+            }
+            _ => Ok(()),
+        }
+    }
+
+    /// The job ends, unless a caller waits.
+    #[tactic(auto, using(crate::proofs::Turning::ends_alone, crate::proofs::Turning::ends_wrong))]
+    pub fn end(&self) -> Result<(), Stop>
+        ensures { (store : List ℕ) → Follows (ends self.now.callers) self.now store result self.now store }
+    {
+        if self.callers() == 0 {
+            Err(Stop::Ended)
+        } else {
+            Err(Stop::Fault(Fault::BadEnd))
+        }
+    }
+}
+
+// The choice of the number, or else the other one.
+fn chosen<'a>(whens: &'a [When], number: u32, otherwise: &'a [Stmt]) -> &'a [Stmt]
+    requires whens { AreWhensOfText whens.now }
+    requires otherwise { AreOfText otherwise.now }
+    ensures statements { result.now ≡ statements_chosen whens.now number otherwise.now }
+    ensures of_text { AreOfText result.now }
+{
+    for when in whens {
+        if when.number == number {
+            return when.body.as_slice();
+        }
+    }
+    otherwise
+}

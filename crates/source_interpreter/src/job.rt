@@ -1,0 +1,54 @@
+// A job, from its start to its end.
+ghost use Rattle.std.specs.Prelude.{◌≡◌, OnOk, IfOk, Some};
+ghost use Rattle.source_meaning.specs.Job.{job};
+ghost use Rattle.source_interpreter.specs.Leaves.{RunsTo};
+
+use crate::run::Run;
+use crate::stop::Stop;
+use exchange_model::Exchange;
+use job_types::{JobDone, JobStart, Outcome};
+use plex_num::{Memory, Seq};
+use std::alloc::Global;
+
+/// Runs one job of an exchange by what its statements mean, over stored words.
+///
+/// It takes every exchange, start and store; the words of the store and what the job leaves are those of the definition.
+/// `Memory` comes where there is no room for what remains to be done; the store then has the writes made so far.
+#[tactic(auto, using(crate::proofs::Ending::job_ends))]
+pub fn plain_job(
+    alloc: Global,
+    exchange: &Exchange,
+    store: &mut Seq<u32>,
+    start: &JobStart,
+) -> Result<JobDone, Memory>
+    ensures outcome { IfOk result (λ done. (job exchange.now start.now store.old).over ≡ Some done.outcome) }
+    ensures sends { IfOk result (λ done. (job exchange.now start.now store.old).own.sends ≡ done.sends) }
+    ensures chain { IfOk result (λ done. (job exchange.now start.now store.old).own.chain ≡ done.chain) }
+    ensures store { OnOk result (store.new ≡ (job exchange.now start.now store.old).world.store) }
+{
+    let mut run = Run::begin(alloc, exchange, start)?;
+    let outcome = run.finish(store)?;
+    Ok(run.into_done(outcome))
+}
+
+impl<'a> Run<'a> {
+    // Makes step after step until the job is over, and says how it ended.
+    #[tactic(auto, using(crate::proofs::Ending::step_smaller, crate::proofs::Ending::later_begin, crate::proofs::Ending::later_step, crate::proofs::Ending::later_ended, crate::proofs::Ending::later_faulted))]
+    fn finish(&mut self, store: &mut Seq<u32>) -> Result<Outcome, Memory>
+        ensures { IfOk result (λ o. RunsTo self.old store.old o self.new store.new) }
+    {
+        loop {
+            match self.step(store) {
+                Ok(()) => {}
+                Err(Stop::Ended) => return Ok(Outcome::Ended),
+                Err(Stop::Fault(fault)) => {
+                    return Ok(Outcome::Faulted {
+                        fault,
+                        point: self.point(),
+                    });
+                }
+                Err(Stop::Memory) => return Err(Memory),
+            }
+        }
+    }
+}

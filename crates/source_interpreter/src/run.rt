@@ -1,0 +1,471 @@
+// A job as it runs.
+ghost use Rattle.std.specs.Prelude.{◌≡◌, ◌+◌, ◌≤◌, ◌∷◌, ◌++◌, [], List, map, length, nat_lt, nat_eq, not, true, ◌&&◌, position, IfSome, IfNone, MatchOption, OnOk, OnErr, IfOk, None, Some, slice_get, take, slice_index, slice_set, if◌then◌else◌, Ok, Err};
+ghost use Rattle.std.specs.Option.{option_to_list};
+ghost use Rattle.job_types.specs.declared.chain.Held.{Held};
+ghost use Rattle.exchange_model.specs.Cells.{Placed};
+ghost use Rattle.source_meaning.specs.Own.{budget, counted};
+ghost use Rattle.source_meaning.specs.Value.{answer_of, bit_of, expr_value, cond_value, values_of, pointer_fault, unless};
+ghost use Rattle.source_meaning.specs.Config.{Do, Turns, base_of, from_place, from_signal, label_of, blank, eight as eight_of, settle};
+ghost use Rattle.source_meaning.specs.Step.{takes, variable_width as width_of_variable, without as chain_without};
+ghost use Rattle.source_interpreter.specs.Running.{Running, sight_of, at_start};
+ghost use Rattle.source_interpreter.specs.Kept.{AreOfText, IsKept};
+ghost use Rattle.source_interpreter.specs.Taken.{before, item_of, is_counted};
+
+use crate::frame::{Callers, Frame};
+use crate::place::{Place, check_pointer};
+use crate::text::{body, enter_place, first_cell, from, label_place, variable_width};
+use crate::value::{cond_of, value_of};
+use crate::view::View;
+use crate::words::{number_at, put};
+use crate::work::{Next, Work};
+use exchange_model::{Cond, Exchange, Expr, SignalKind, Stmt};
+use job_types::{Chain, Fault, Held, JobDone, JobStart, Outbox, Outcome, SendTo, Sent};
+use plex_num::{Memory, Seq, Values};
+use std::alloc::Global;
+use std::marker::Model;
+use std::mem;
+
+/// The most statements that one job may make.
+const BUDGET: u32 = 1_000_000;
+/// The most senders that may wait.
+pub const MOST_CALLERS: usize = 8;
+/// The most records that a chain holds.
+const MOST_HELD: usize = 64;
+/// The most signals that a job may send.
+const MOST_SENT: usize = 255;
+
+/// A job between two steps, with the memory that it uses again.
+#[derive(Drop)]
+pub struct Run<'a> {
+    alloc: Global,
+    exchange: &'a Exchange,
+    block: u32,
+    // the cell of the block's first variable
+    first: u32,
+    work: Work<'a>,
+    temps: [u32; 24],
+    callers: Callers<'a>,
+    spare: Vec<Work<'a>>,
+    given: [u32; 8],
+    answers: [u32; 8],
+    sends: Outbox,
+    chain: Chain,
+    forlopp: u64,
+    count: u32,
+    point: u32,
+}
+
+impl<'a> Model for Run<'a> {
+    ghost use Rattle.std.specs.Prelude.{◌≡◌};
+    ghost use Rattle.source_interpreter.specs.Running.{Running};
+    ghost use Rattle.source_meaning.specs.Config.{base_of};
+    ghost use Rattle.std.specs.Coded.{codes};
+    ghost use Rattle.exchange_model.specs.contracts.stmt.StmtKind as kind;
+
+    ghost Value = { Running };
+
+    ghost coded = { Prim.hlevel (codes, kind.the_row.coded) };
+
+    ghost view = { λ r. record {
+      exchange = r.exchange.now;
+      block = r.block;
+      todo = r.work;
+      temps = r.temps;
+      callers = r.callers;
+      own = record { given = r.given; answers = r.answers; sends = r.sends; chain = r.chain; forlopp = r.forlopp; count = r.count; point = r.point };
+    } };
+
+    ghost invariant = { λ r. r.first ≡ base_of r.exchange.now r.block };
+}
+
+impl<'a> Run<'a> {
+    /// A job at its start; past the last entry nothing remains to be done.
+    pub fn begin(alloc: Global, exchange: &'a Exchange, start: &JobStart) -> Result<Run<'a>, Memory>
+        ensures { IfOk result (λ run. run ≡ at_start exchange.now start.now) }
+    {
+        let values = start.job.values.as_slice();
+        let mut run = Run {
+            alloc,
+            exchange,
+            block: 0,
+            first: first_cell(exchange, 0),
+            work: Work::new(alloc),
+            temps: [0; 24],
+            callers: Callers::new(alloc),
+            spare: Vec::new(alloc),
+            given: eight(values),
+            answers: [0; 8],
+            sends: Outbox::new(),
+            chain: start.chain.copy(),
+            forlopp: start.job.forlopp,
+            count: 0,
+            point: 0,
+        };
+        if let Some(entry) = exchange.entries.get(start.job.entry as usize) {
+            run.activate(entry.block, entry.signal, values)?;
+        }
+        Ok(run)
+    }
+
+    /// What the job leaves, which ended so.
+    pub fn into_done(self, outcome: Outcome) -> JobDone
+        ensures sends { result.sends ≡ self.entry.own.sends }
+        ensures chain { result.chain ≡ self.entry.own.chain }
+        ensures outcome { result.outcome ≡ outcome }
+    {
+        let Run { sends, chain, .. } = self;
+        JobDone {
+            sends,
+            chain,
+            outcome,
+        }
+    }
+
+    /// The point of the statement that was counted last.
+    pub fn point(&self) -> u32
+        ensures { result ≡ self.now.own.point }
+    {
+        self.point
+    }
+
+    /// The value of an expression, or the fault that comes in its place.
+    pub fn value(&self, e: &Expr, store: &Seq<u32>) -> Result<u32, Fault>
+        ensures { result ≡ answer_of (expr_value e.now (sight_of self.now store.now)) }
+    {
+        value_of(e, &self.view(store))
+    }
+
+    /// Whether a condition holds, or the fault that comes in its place.
+    pub fn holds(&self, cond: &Cond, store: &Seq<u32>) -> Result<bool, Fault>
+        ensures { bit_of result ≡ answer_of (cond_value cond.now (sight_of self.now store.now)) }
+    {
+        cond_of(cond, &self.view(store))
+    }
+
+    // What its expressions see.
+    fn view<'b>(&'b self, store: &'b Seq<u32>) -> View<'b>
+        ensures { result ≡ sight_of self.now store.now }
+    {
+        View {
+            exchange: self.exchange,
+            temps: &self.temps,
+            store: store.as_slice(),
+            chain: self.chain.as_slice(),
+            first: self.first,
+        }
+    }
+
+    /// The values of expressions, or the first fault.
+    pub fn values(&self, exprs: &[Expr], store: &Seq<u32>) -> Result<Values, Fault>
+        requires { length exprs.now ≤ 8 }
+        ensures { result ≡ values_of exprs.now [] (sight_of self.now store.now) }
+    {
+        let mut values = Values::new();
+        for e in exprs {
+            values.push(self.value(e, store)?);
+        }
+        Ok(values)
+    }
+
+    /// The exchange.
+    pub fn exchange(&self) -> &'a Exchange
+        ensures { result.now ≡ self.now.exchange }
+    {
+        self.exchange
+    }
+
+    /// A signal by its number.
+    pub fn signal(&self, signal: u32) -> Option<&'a SignalKind>
+        ensures { MatchOption result (slice_get self.now.exchange.signals signal ≡ None) (λ k. slice_get self.now.exchange.signals signal ≡ Some k.now) }
+    {
+        let exchange = self.exchange;
+        exchange.signals.get(signal as usize)
+    }
+
+    /// Whether it stands in a forlopp.
+    pub fn has_forlopp(&self) -> bool
+        ensures { result ≡ not (nat_eq self.now.own.forlopp 0) }
+    {
+        self.forlopp != 0
+    }
+
+    /// Looks for what is wrong with a pointer to a record.
+    pub fn check_record(&self, file: u32, place: &Place, number: u32) -> Result<(), Fault>
+        ensures { result ≡ unless (pointer_fault self.now.own.chain file place.now number) }
+    {
+        check_pointer(self.chain.as_slice(), file, place, number)
+    }
+
+    /// The cell of a variable of the block.
+    pub fn variable_cell(&self, variable: u32) -> usize
+        ensures { result ≡ base_of self.now.exchange self.now.block + variable }
+    {
+        self.first as usize + variable as usize
+    }
+
+    /// The width of a variable of the block.
+    pub fn variable_width(&self, variable: u32) -> u8
+        ensures { result ≡ width_of_variable self.now.exchange self.now.block variable }
+    {
+        variable_width(self.exchange, self.block, variable)
+    }
+
+    /// How many senders wait.
+    pub fn callers(&self) -> usize
+        ensures { result ≡ length self.now.callers }
+    {
+        self.callers.len()
+    }
+
+    /// The value of a temporary.
+    pub fn temp(&self, temp: u8) -> u32
+        ensures { result ≡ slice_index self.now.temps temp }
+    {
+        number_at(&self.temps, temp as usize)
+    }
+
+    /// Gives a temporary a value.
+    pub fn set_temp(&mut self, temp: u8, value: u32)
+        ensures { self.new ≡ record self.old { temps = slice_set self.old.temps temp value } }
+    {
+        put(&mut self.temps, temp as usize, value);
+    }
+
+    /// The temporaries get the entry values.
+    pub fn take_given(&mut self, temps: &[u8])
+        ensures { self.new ≡ record self.old { temps = takes 0 temps.now self.old.own.given self.old.temps } }
+    {
+        take_values(&mut self.temps, temps, &self.given);
+    }
+
+    /// The temporaries get the values of the last answer.
+    pub fn take_answers(&mut self, temps: &[u8])
+        ensures { self.new ≡ record self.old { temps = takes 0 temps.now self.old.own.answers self.old.temps } }
+    {
+        take_values(&mut self.temps, temps, &self.answers);
+    }
+
+    /// Counts a statement, at its point, unless so many were counted as a job may make.
+    #[tactic(auto, unfolding(source_meaning::specs::Own::budget))]
+    pub fn count(&mut self, point: u32) -> Result<(), Fault>
+        ensures room { result ≡ (if nat_lt self.old.own.count budget then Ok tt else Err Fault.Budget) }
+        ensures counted { OnOk result (self.new ≡ record self.old { own = counted point self.old.own }) }
+        ensures full { OnErr result (self.new ≡ record self.old { own = record self.old.own { point = point } }) }
+    {
+        self.point = point;
+        if self.count >= BUDGET {
+            return Err(Fault::Budget);
+        }
+        self.count += 1;
+        Ok(())
+    }
+
+    /// Takes the next item that counts, and drops those before it.
+    pub fn take_next(&mut self) -> Result<Option<Next<'a>>, Memory>
+        ensures item { IfOk result (λ next. settle self.old.todo ≡ before next self.new.todo) }
+        ensures others { OnOk result (self.new ≡ record self.old { todo = self.new.todo }) }
+        ensures counts { IfOk result (λ next. IfSome next (λ n. is_counted n ≡ true)) }
+        ensures kept { IfOk result (λ next. IfSome next (λ n. IsKept (item_of n))) }
+    {
+        self.work.take_next()
+    }
+
+    /// Puts statements before what remains.
+    pub fn push_statements(&mut self, statements: &'a [Stmt]) -> Result<(), Memory>
+        requires { AreOfText statements.now }
+        ensures { OnOk result (self.new ≡ record self.old { todo = map Do statements.now ++ self.old.todo }) }
+    {
+        self.work.push_statements(statements)
+    }
+
+    /// Puts the turns of a loop before what remains.
+    pub fn push_turns(
+        &mut self,
+        temp: u8,
+        this: u64,
+        last: u32,
+        body: &'a [Stmt],
+    ) -> Result<(), Memory>
+        requires { AreOfText body.now }
+        ensures { OnOk result (self.new ≡ record self.old { todo = Turns self.old.own.point temp this last body.now ∷ self.old.todo }) }
+    {
+        self.work.push_turns(self.point, temp, this, last, body)
+    }
+
+    /// Goes on at a label.
+    pub fn go_to(&mut self, label: u32) -> Result<(), Memory>
+        ensures { OnOk result (self.new ≡ record self.old { todo = from_place self.old.exchange self.old.block (label_of self.old.exchange self.old.block label) }) }
+    {
+        let place = label_place(self.exchange, self.block, label);
+        self.work.clear();
+        self.work
+            .push_statements(from(body(self.exchange, self.block), place))
+    }
+
+    /// Begins an activation in a block, with these entry values.
+    pub fn activate(&mut self, block: u32, signal: u32, values: &[u32]) -> Result<(), Memory>
+        requires { length values.now ≤ 8 }
+        ensures { OnOk result (self.new ≡ record self.old { block = block; todo = from_signal self.old.exchange block signal; temps = blank; own = record self.old.own { given = eight_of values.now } }) }
+    {
+        self.block = block;
+        self.first = first_cell(self.exchange, block);
+        self.temps = [0; 24];
+        self.given = eight(values);
+        let place = enter_place(self.exchange, block, signal);
+        self.work.start(from(body(self.exchange, block), place))
+    }
+
+    /// Begins an activation in a block, with the first so many of its own entry values.
+    pub fn pass_on(&mut self, block: u32, signal: u32, count: u8) -> Result<(), Memory>
+        ensures { OnOk result (self.new ≡ record self.old { block = block; todo = from_signal self.old.exchange block signal; temps = blank; own = record self.old.own { given = eight_of (take count self.old.own.given) } }) }
+    {
+        let given = self.given;
+        self.activate(block, signal, front(&given, count))
+    }
+
+    /// Waits for an answer.
+    pub fn wait(&mut self, answer: u32) -> Result<(), Memory>
+        ensures { OnOk result (self.new ≡ record self.old { todo = []; callers = record { block = self.old.block; todo = self.old.todo; temps = self.old.temps; given = self.old.own.given; awaits = answer } ∷ self.old.callers }) }
+    {
+        let fresh = self.fresh();
+        let work = mem::replace(&mut self.work, fresh);
+        self.callers.push(Frame {
+            block: self.block,
+            work,
+            temps: self.temps,
+            given: self.given,
+            awaits: answer,
+        })
+    }
+
+    // A place for what will remain.
+    fn fresh(&mut self) -> Work<'a>
+        ensures nothing { result ≡ [] }
+        ensures same { self.new ≡ self.old }
+    {
+        match self.spare.pop() {
+            Some(mut work) => {
+                work.clear();
+                work
+            }
+            None => Work::new(self.alloc),
+        }
+    }
+
+    /// Takes out the last sender that waits.
+    pub fn take_caller(&mut self) -> Option<Frame<'a>>
+        ensures caller { self.old.callers ≡ option_to_list result ++ self.new.callers }
+        ensures none { IfNone result (self.old.callers ≡ []) }
+        ensures others { self.new ≡ record self.old { callers = self.new.callers } }
+    {
+        self.callers.pop()
+    }
+
+    /// Goes on at a sender that waited, with the values of its answer.
+    pub fn resume(&mut self, frame: Frame<'a>, values: &[u32])
+        requires { length values.now ≤ 8 }
+        ensures { self.new ≡ record self.old { block = frame.entry.block; todo = frame.entry.todo; temps = frame.entry.temps; own = record self.old.own { given = frame.entry.given; answers = eight_of values.now } } }
+    {
+        let Frame {
+            block,
+            work,
+            temps,
+            given,
+            awaits: _,
+        } = frame;
+        self.block = block;
+        self.first = first_cell(self.exchange, block);
+        self.temps = temps;
+        self.given = given;
+        self.answers = eight(values);
+        let used = mem::replace(&mut self.work, work);
+        let _ = self.spare.push(used);
+    }
+
+    /// Puts a signal in the outbox, unless that is full.
+    pub fn post(&mut self, to: SendTo, values: Values) -> Result<(), Fault>
+        ensures room { result ≡ (if nat_lt (length self.old.own.sends) 255 then Ok tt else Err Fault.Sends) }
+        ensures posted { OnOk result (self.new ≡ record self.old { own = record self.old.own { sends = self.old.own.sends ++ record { to = to; values = values } ∷ [] } }) }
+        ensures full { OnErr result (self.new ≡ self.old) }
+    {
+        if self.sends.as_slice().len() >= MOST_SENT {
+            return Err(Fault::Sends);
+        }
+        self.sends.push(Sent { to, values });
+        Ok(())
+    }
+
+    /// Puts a record in the chain, unless that is full.
+    pub fn hold(&mut self, file: u32, number: u32) -> Result<(), Fault>
+        ensures room { result ≡ (if nat_lt (length self.old.own.chain) 64 then Ok tt else Err Fault.Chain) }
+        ensures held { OnOk result (self.new ≡ record self.old { own = record self.old.own { chain = self.old.own.chain ++ record { file = file; number = number } ∷ [] } }) }
+        ensures full { OnErr result (self.new ≡ self.old) }
+    {
+        if self.chain.as_slice().len() >= MOST_HELD {
+            return Err(Fault::Chain);
+        }
+        self.chain.push(Held { file, number });
+        Ok(())
+    }
+
+    /// Takes a record out of the chain.
+    pub fn let_go(&mut self, file: u32, number: u32)
+        ensures { self.new ≡ record self.old { own = record self.old.own { chain = chain_without self.old.own.chain file number } } }
+    {
+        remove_record(&mut self.chain, file, number);
+    }
+}
+
+// The place of a record in a chain.
+fn place_of(chain: &Chain, file: u32, number: u32) -> Option<usize>
+    ensures { result ≡ position (λ (h : Held). nat_eq h.file file && nat_eq h.number number) chain.now }
+{
+    chain
+        .as_slice()
+        .iter()
+        .position(|held| held.file == file && held.number == number)
+}
+
+// Takes a record out of a chain, if it is there.
+#[tactic(auto, using(crate::proofs::Chained::without_found, crate::proofs::Chained::without_none))]
+fn remove_record(chain: &mut Chain, file: u32, number: u32)
+    ensures { chain.new ≡ chain_without chain.old file number }
+{
+    let Some(i) = place_of(chain, file, number) else {
+        return;
+    };
+    chain.remove(i);
+}
+
+// The temporaries get the values, which are 0 past the end.
+fn take_values(temps: &mut [u32], names: &[u8], values: &[u32])
+    ensures { temps.new ≡ takes 0 names.now values.now temps.old }
+{
+    for (place, name) in names.iter().enumerate() {
+        put(temps, *name as usize, number_at(values, place));
+    }
+}
+
+// The first so many of eight numbers.
+fn front(numbers: &[u32; 8], count: u8) -> &[u32]
+    ensures first { result.now ≡ take count numbers.now }
+    ensures few { length result.now ≤ 8 }
+{
+    if count < 8 {
+        &numbers[..count as usize]
+    } else {
+        numbers
+    }
+}
+
+// Eight values, 0 beyond these.
+fn eight(values: &[u32]) -> [u32; 8]
+    requires { length values.now ≤ 8 }
+    ensures { result ≡ eight_of values.now }
+{
+    let mut eight = [0; 8];
+    for (place, value) in values.iter().enumerate() {
+        eight[place] = *value;
+    }
+    eight
+}

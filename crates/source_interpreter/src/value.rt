@@ -1,0 +1,115 @@
+// The value of an expression, and whether a condition holds.
+ghost use Rattle.std.specs.Prelude.{◌≡◌, slice_index};
+ghost use Rattle.source_meaning.specs.Value.{expr_value, term_value, factor_value, joined, answer_of, cond_value, all_value, relation_value, bit_of, stands as stand};
+
+use crate::view::View;
+use exchange_model::{Cond, Expr, Factor, FactorOp, Rel, Relation, Term};
+use job_types::Fault;
+
+/// The value, or the fault that comes in its place.
+#[cycle(value)]
+#[tactic(auto, using(crate::proofs::Rounds::terms_begin, crate::proofs::Rounds::terms_gives, crate::proofs::Rounds::terms_fails))]
+pub fn value_of(e: &Expr, view: &View) -> Result<u32, Fault>
+    ensures { result ≡ answer_of (expr_value e.now view.now) }
+{
+    let mut sum: u32 = 0;
+    for term in e.terms.as_slice() {
+        let value = value_of_term(term, view)?;
+        sum = if term.minus {
+            sum.wrapping_sub(value)
+        } else {
+            sum.wrapping_add(value)
+        };
+    }
+    Ok(sum)
+}
+
+#[cycle(value)]
+#[tactic(auto, using(crate::proofs::Rounds::factors_begin, crate::proofs::Rounds::factors_gives))]
+fn value_of_term(term: &Term, view: &View) -> Result<u32, Fault>
+    ensures { result ≡ answer_of (term_value term.now view.now) }
+{
+    let mut product: u32 = 1;
+    for joined in term.factors.as_slice() {
+        let value = value_of_factor(&joined.factor, view)?;
+        product = join(joined.by, product, value)?;
+    }
+    Ok(product)
+}
+
+#[cycle(value)]
+#[tactic(auto, using(crate::proofs::Rounds::factor_number, crate::proofs::Rounds::factor_variable, crate::proofs::Rounds::factor_temporary, crate::proofs::Rounds::factor_field, crate::proofs::Rounds::factor_bracket))]
+fn value_of_factor(factor: &Factor, view: &View) -> Result<u32, Fault>
+    ensures { result ≡ answer_of (factor_value factor.now view.now) }
+{
+    match factor {
+        Factor::Number(number) => Ok(*number),
+        Factor::Variable(variable) => Ok(view.variable(*variable)),
+        Factor::Temporary(temp) => Ok(view.temporary(*temp)),
+        Factor::Field {
+            file,
+            field,
+            pointer,
+        } => view.field(*file, *field, *pointer),
+        Factor::Bracket(e) => value_of(e, view),
+    }
+}
+
+// A product so far, joined with a factor.
+fn join(by: FactorOp, product: u32, value: u32) -> Result<u32, Fault>
+    ensures { result ≡ answer_of (joined by product value) }
+{
+    match by {
+        FactorOp::Times => Ok(product.wrapping_mul(value)),
+        FactorOp::Divide => product.checked_div(value).ok_or(Fault::Divide),
+        FactorOp::Modulo => product.checked_rem(value).ok_or(Fault::Divide),
+    }
+}
+
+/// Whether the condition holds, or the fault that comes in its place. Each of its relations is evaluated.
+#[tactic(auto, using(crate::proofs::Rounds::any_gives, crate::proofs::Rounds::any_fails))]
+pub fn cond_of(cond: &Cond, view: &View) -> Result<bool, Fault>
+    ensures { bit_of result ≡ answer_of (cond_value cond.now view.now) }
+{
+    let mut any = false;
+    for relations in cond.any.as_slice() {
+        any |= all_hold(relations.as_slice(), view)?;
+    }
+    Ok(any)
+}
+
+// Whether all these relations hold.
+#[tactic(auto, using(crate::proofs::Rounds::all_gives, crate::proofs::Rounds::all_fails))]
+fn all_hold(relations: &[Relation], view: &View) -> Result<bool, Fault>
+    ensures { bit_of result ≡ answer_of (all_value relations.now 1 view.now) }
+{
+    let mut all = true;
+    for relation in relations {
+        all &= relation_holds(relation, view)?;
+    }
+    Ok(all)
+}
+
+// Whether a relation holds: the left side is evaluated first.
+#[tactic(auto, using(crate::proofs::Rounds::relation_gives, crate::proofs::Rounds::left_fails, crate::proofs::Rounds::right_fails))]
+fn relation_holds(relation: &Relation, view: &View) -> Result<bool, Fault>
+    ensures { bit_of result ≡ answer_of (relation_value relation.now view.now) }
+{
+    let left = value_of(&relation.left, view)?;
+    let right = value_of(&relation.right, view)?;
+    Ok(stands(relation.rel, left, right))
+}
+
+/// Whether a number stands so to another.
+pub fn stands(rel: Rel, a: u32, b: u32) -> bool
+    ensures { result ≡ stand rel a b }
+{
+    match rel {
+        Rel::Equal => a == b,
+        Rel::Unequal => a != b,
+        Rel::Below => a < b,
+        Rel::AtMost => a <= b,
+        Rel::Above => a > b,
+        Rel::AtLeast => a >= b,
+    }
+}
