@@ -1,3 +1,6 @@
 pub mod Chained
 pub mod Counting
+pub mod Going
+pub mod Meaning
 pub mod Returning
+pub mod Stopping

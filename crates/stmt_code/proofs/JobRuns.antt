@@ -1,13 +1,16 @@
 -- The machine's run of a job leaves what the job means.
-use Rattle.std.proofs.Common.{◌≡◌, ℕ, ◌+◌, ◌-◌, List, [], length, replicate, Some, refl, sym, ◌∙◌, subst}
-use Rattle.std.specs.Prelude.{slice_get}
+use Rattle.std.proofs.Common.{◌≡◌, ℕ, ◌+◌, ◌-◌, List, [], length, replicate, Some, refl, sym, ap, ◌∙◌, subst}
+use Rattle.std.specs.Prelude.{slice_get, is_some}
 use Rattle.job_types.specs.declared.job.JobStart.{JobStart}
+use Rattle.machine_code.specs.declared.op.Op.{Op}
+use Rattle.exchange_model.specs.declared.exchange.Exchange.{Exchange}
 use Rattle.exchange_model.specs.declared.entry.Entry.{Entry}
 use Rattle.source_meaning.specs.Own.{budget}
 use Rattle.source_meaning.specs.Config.{Config}
 use Rattle.source_meaning.specs.Job.{begins, place_of, todo_of, job}
 use Rattle.register_machine.specs.Machine.{Machine}
-use Rattle.stmt_code.specs.Faithful.{AreWords, begun_at, RunsAs}
+use Rattle.register_machine.specs.Private.{fresh}
+use Rattle.register_machine.specs.Faithful.{AreWords, Ends, Means, begun}
 use Rattle.stmt_code.proofs.Setting.{Setting}
 use Rattle.stmt_code.proofs.At.{At}
 use Rattle.stmt_code.proofs.Same.{append_small, none_small, zeros_small, zeros_length, blank_temps, Same, Sim, alive, ended}
@@ -15,8 +18,14 @@ use Rattle.stmt_code.proofs.Values.{Laid}
 use Rattle.stmt_code.proofs.Steps.{run_sim}
 use Rattle.stmt_code.proofs.Ends.{job_ends}
 
+-- the machine runs a start from an address to an end, which is what the job comes to
+pub record RunsFrom (x : Exchange) (code : List Op) (address : ℕ) (start : JobStart) (store : List ℕ) : Type 0 where
+  pub end : Machine
+  pub ends : Ends code (begun (fresh address start) store) end
+  pub means : Means (job x start store) end
+
 module _ {g : Setting} where
-  begins_same : (start : JobStart) (store : List ℕ) (address : ℕ) → AreWords start.job.values → AreWords store → Same g [] (begins g.exchange start store) (begun_at address start store)
+  begins_same : (start : JobStart) (store : List ℕ) (address : ℕ) → AreWords start.job.values → AreWords store → Same g [] (begins g.exchange start store) (begun (fresh address start) store)
   begins_same start store address small_values small_store = record {
     own = refl;
     world = refl;
@@ -41,11 +50,15 @@ module _ {g : Setting} where
   told (ended e f own w) = (own, w, f ∙ sym e)
 
   -- from the address of the job's entry
-  pub job_runs : Laid g → (start : JobStart) (store : List ℕ) (e : Entry) → slice_get g.exchange.entries start.job.entry ≡ Some e → AreWords start.job.values → AreWords store → RunsAs g.exchange g.code (g.table.enter e.block e.signal) start store
+  pub job_runs : Laid g → (start : JobStart) (store : List ℕ) (e : Entry) → slice_get g.exchange.entries start.job.entry ≡ Some e → AreWords start.job.values → AreWords store → RunsFrom g.exchange g.code (g.table.enter e.block e.signal) start store
   unfolding job
   job_runs laid start store e there small_values small_store =
-      let sim : Sim g (begins g.exchange start store) (begun_at (g.table.enter e.block e.signal) start store) = alive (begins_same start store (g.table.enter e.block e.signal) small_values small_store) (begins_at start store e (replicate 50 0) there laid) in
-      let f = run_sim laid (budget + 1) (begins g.exchange start store) (begun_at (g.table.enter e.block e.signal) start store) sim in
+      let sim : Sim g (begins g.exchange start store) (begun (fresh (g.table.enter e.block e.signal) start) store) = alive (begins_same start store (g.table.enter e.block e.signal) small_values small_store) (begins_at start store e (replicate 50 0) there laid) in
+      let f = run_sim laid (budget + 1) (begins g.exchange start store) (begun (fresh (g.table.enter e.block e.signal) start) store) sim in
       let t = told f.is in
       let o = job_ends g.exchange start store in
-      record { end = f.end; goes = f.goes; own = t.0; world = t.1; over = t.2; outcome = o.0; ended = o.1 }
+      record {
+        end = f.end;
+        ends = record { goes = f.goes; over = ap is_some (t.2 ∙ o.1) };
+        means = record { own = t.0; world = t.1; over = t.2 };
+      }

@@ -24,3 +24,7 @@ pub mod States
 pub mod WholeRuns
 pub mod Sizes
 pub mod Addresses
+pub mod Narrow
+pub mod NarrowKinds
+pub mod NarrowCode
+pub mod Numbered

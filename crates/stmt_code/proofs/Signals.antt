@@ -78,7 +78,7 @@ send_few (Some (Combined name n answer)) scope block count signal fresh fits few
 send_few (Some (Answer name n combined)) scope block count signal fresh fits few = absurd fits
 send_few (Some (Outside name n)) scope block count signal fresh fits few = omega (arith, fits.0, few (Outside name n) refl)
 
-answer_few : (kind : Option SignalKind) (count : ℕ) → AnswerFits kind count → ((k : SignalKind) → kind ≡ Some k → signal_count k ≤ 8) → count ≤ 8
+pub answer_few : (kind : Option SignalKind) (count : ℕ) → AnswerFits kind count → ((k : SignalKind) → kind ≡ Some k → signal_count k ≤ 8) → count ≤ 8
 answer_few None count fits few = absurd fits
 answer_few (Some (Buffered name level n)) count fits few = absurd fits
 answer_few (Some (Direct name n)) count fits few = absurd fits

@@ -7,13 +7,13 @@ use Rattle.exchange_model.specs.declared.signal.SignalKind.{SignalKind}
 use Rattle.exchange_model.specs.declared.signal.SignalKind.TheVariants.{Buffered, Direct, Combined, Answer, Outside}
 use Rattle.exchange_model.specs.declared.expr.Rel.{Rel}
 use Rattle.exchange_model.specs.declared.stmt.Stmt.{Stmt, roll-Stmt, map-Stmt}
-use Rattle.exchange_model.specs.declared.stmt.When.{When, roll-When, map-When, out-roll-When, out-When}
+use Rattle.exchange_model.specs.declared.stmt.When.{When, roll-When, map-When, out-roll-When}
 use Rattle.exchange_model.specs.declared.stmt.StmtKind.{StmtKind, StmtKind-F, roll-StmtKind, ind-StmtKind, out-roll-StmtKind, map-StmtKind}
 use Rattle.exchange_model.specs.declared.stmt.StmtKind.TheOpen as stmt
 use Rattle.exchange_model.specs.Cells.{Placed}
 use Rattle.source_meaning.specs.Step.{block_or}
 use Rattle.expr_code.specs.Code.{expr_code, cond_code}
-use Rattle.stmt_code.specs.StmtCode.{Places, Choice, codes, choices_code, values_code, turn, last, if_code, on_code, turns_code, for_first_code, seize_code, send_code, opened, stmt_code, kind_code, when_code, kind_code-out, stmt_code-kind, when_code-out}
+use Rattle.stmt_code.specs.StmtCode.{Places, codes, choices_code, values_code, turn, last, if_code, on_code, turns_code, for_first_code, seize_code, send_code, opened, stmt_code, kind_code, when_code, kind_code-out, stmt_code-kind, when_code-out}
 
 -- the addresses of labels, and of ENTERs by block and signal
 abbrev pub Addresses : Type 0

@@ -12,7 +12,7 @@ use Rattle.source_meaning.specs.Value.{holds}
 use Rattle.source_meaning.specs.Config.{files_of}
 use Rattle.source_meaning.specs.State.{State}
 use Rattle.source_meaning.specs.Valid.{IsValid, HasRecords}
-use Rattle.stmt_code.specs.Faithful.{AreWords}
+use Rattle.register_machine.specs.Faithful.{AreWords}
 use Rattle.stmt_code.proofs.Records.{all_at, placed_fits}
 use Rattle.stmt_code.proofs.Words.{IsOf, of_field, of_mark, IsCellOf, variable, of_record, is_cell}
 

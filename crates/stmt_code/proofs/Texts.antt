@@ -54,7 +54,7 @@ in_found : (x : Exchange) (b place : ℕ) (o : Option Block) → slice_get x.blo
 in_found x b place None e kept lt = absurd (within_some x.blocks b lt e)
 in_found x b place (Some k) e kept lt = drop_in place k.body (text_in x b k kept e)
 
-from_in : (x : Exchange) (b place : ℕ) → IsExchange x → b < length x.blocks → ListIn x b 0 (drop place (body_of x b))
+pub from_in : (x : Exchange) (b place : ℕ) → IsExchange x → b < length x.blocks → ListIn x b 0 (drop place (body_of x b))
 from_in x b place kept lt = in_found x b place (slice_get x.blocks b) refl kept lt
 
 module _ (x : Exchange) (kept : IsExchange x) (stands : TextsAt x) where

@@ -1,3 +1,3 @@
-pub mod Faithful
+pub mod Numbers
 pub mod StmtCode
 pub mod Whole

@@ -2,10 +2,13 @@
 //
 // What goes in: an exchange, whose facts it takes from `Exchange::kept`. What comes out: definitions of its code, as lists of
 // instructions with the addresses of labels and entries, and the law that the machine's run of a job leaves what the
-// job means, for every kind of statement. The code generator is to write this code and no other.
+// job means, for every kind of statement, and that each operand is in its range. The code generator is to write this code
+// and no other.
 // It knows no list that grows: which code there is, and not how it is made.
 #![tactic(auto)]
 
 mod laws;
+mod ranges;
 
 pub use laws::whole_code_is_faithful;
+pub use ranges::files_are_numbered;
