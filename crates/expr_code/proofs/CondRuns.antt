@@ -1,5 +1,5 @@
 -- The code of a condition leaves its value, or comes to its fault.
-use Rattle.std.proofs.Common.{◌≡◌, ℕ, zero, suc, ◌+◌, ◌*◌, ◌^◌, ◌<◌, ◌≤◌, Bool, true, false, List, [], ◌∷◌, ◌++◌, length, map, Some, None, refl, sym, ap, ◌∙◌, subst, arith, length-append, slice_get, if◌then◌else◌}
+use Rattle.std.proofs.Common.{◌≡◌, ℕ, ◌+◌, ◌^◌, ◌<◌, ◌≤◌, Bool, true, false, List, [], ◌∷◌, ◌++◌, length, map, refl, sym, ap, ◌∙◌, subst, arith, length-append}
 use Rattle.std.proofs.Math.ListN.{length-set}
 use Rattle.std.proofs.lemmas.List.{get_or-set_other, get_or-set_same}
 use Rattle.std.specs.Prelude.{slice_index, slice_set, ◌&&◌, ◌||◌, ◌≢◌}
@@ -16,7 +16,7 @@ use Rattle.exchange_model.specs.Fits.{Scope, ExprFits, ExprsFit}
 use Rattle.source_meaning.specs.Value.{Got, Gives, Sight, with_value, stands, one_if, is_set, expr_value, relation_value, all_value, any_value, cond_value}
 use Rattle.register_machine.specs.Machine.{Machine, Allowed, machine_step, reg, sets, made_one, next}
 use Rattle.expr_code.specs.Code.{rel_op, and_local, or_local, expr_code, relation_code, all_code, any_code, cond_code}
-use Rattle.expr_code.specs.Runs.{HasAt, site_of, Agrees, Calc, Computes, gives}
+use Rattle.expr_code.specs.Runs.{HasAt, site_of, Agrees, Calc, Computes}
 use Rattle.expr_code.proofs.Each.{all_left, all_right, all_both}
 use Rattle.expr_code.proofs.Places.{has_front, has_back}
 use Rattle.expr_code.proofs.Runs.{agrees_on, after_none, extend, computes_fewer, bind_runs, then_runs, StandsAt, one_step, op_sets_plain, seen_none}

@@ -1,51 +1,98 @@
 -- One more relation, and one more list of relations, is appended.
-use Rattle.std.proofs.Common.{◌≡◌, ℕ, suc, ◌+◌, ◌<◌, ◌≤◌, List, [], ◌∷◌, ◌++◌, length, drop, map, get_or, refl, sym, ap, ◌∙◌, subst, append_assoc}
+use Rattle.std.proofs.Common.{◌≡◌, ℕ, ◌+◌, ◌<◌, ◌≤◌, List, [], ◌∷◌, ◌++◌, length, drop, get_or, refl, sym, ap, ◌∙◌, subst, append-nil}
 use Rattle.std.proofs.Math.ListN.{drop_of_length-le}
 use Rattle.machine_code.specs.declared.op.Op.{Op}
 use Rattle.machine_code.specs.declared.op.Op.TheVariants.{Ldi, Ldt, Stt, And, Or}
 use Rattle.exchange_model.specs.declared.expr.Cond.{Cond}
 use Rattle.exchange_model.specs.declared.expr.Relation.{Relation}
+use Rattle.record_files.specs.Rows.{Rows}
 use Rattle.expr_code.specs.Code.{Site, rel_op, and_local, or_local, expr_code, relation_code, all_code, any_code, cond_code}
-use Rattle.expr_code.specs.Sites.{Begins}
-use Rattle.expr_code.proofs.Emits.{Emitted, emitted_begin, emitted_on, emitted_last, emitted_begins, two_parts, three_parts, opens, begins_is, begins_on}
+use Rattle.expr_code.specs.Sites.{Begins, Grows}
+use Rattle.expr_code.proofs.Emits.{Emitted, Emitting, emitting_begin, emitting_on, emitting_with, emitting_end, grows_plain, begins_is, begins_on, opens}
 
-pub relation_is : (r : Relation) (site : Site) (old n1 n2 new : List Op) → n1 ≡ old ++ expr_code r.left site 0 → n2 ≡ n1 ++ expr_code r.right site 1 → new ≡ n2 ++ rel_op r.rel 0 1 ∷ [] → new ≡ old ++ relation_code r site
-relation_is r site old n1 n2 new e1 e2 e3 =
-    emitted_last old n2 new (rel_op r.rel 0 1 ∷ []) (relation_code r site)
-    (two_parts old old n1 n2 (expr_code r.left site 0) (expr_code r.right site 1) (rel_op r.rel 0 1 ∷ []) (relation_code r site) e1 e2 (emitted_begin old (relation_code r site) (relation_code r site) refl)) e3
+-- the last part is appended
+emitting_last : (l : Rows) (b : ℕ) (old now new part : List Op) (left all : Site → List Op) → ((site : Site) → left site ≡ part) → Emitting l b old now left all → new ≡ now ++ part → Grows l b old new all
+emitting_last l b old now new part left all is h e =
+    emitting_end l b old new (λ site. []) all (λ site. refl)
+    (emitting_on l b old now new left (λ site. []) all (record { begins = (grows_plain l b now new part e).begins; is = λ site s. e ∙ ap (λ c. now ++ c) (sym (is site)) })
+    (record { begins = h.begins; is = λ site s. subst (λ c. Emitted old now c (all site)) (sym (append-nil (left site))) (h.is site s) }))
+
+pub relation_is : (r : Relation) (l : Rows) (b : ℕ) (old n1 n2 new : List Op) → Grows l b old n1 (λ site. expr_code r.left site 0) → Grows l b n1 n2 (λ site. expr_code r.right site 1) → new ≡ n2 ++ rel_op r.rel 0 1 ∷ [] → Grows l b old new (λ site. relation_code r site)
+relation_is r l b old n1 n2 new g1 g2 e3 =
+    let op : List Op = rel_op r.rel 0 1 ∷ [] in
+    let all : Site → List Op = λ site. relation_code r site in
+    emitting_last l b old n2 new op (λ site. op) all (λ site. refl)
+    (emitting_on l b old n1 n2 (λ site. expr_code r.right site 1) (λ site. op) all g2
+    (emitting_on l b old old n1 (λ site. expr_code r.left site 0) (λ site. expr_code r.right site 1 ++ op) all g1
+    (emitting_begin l b old all all (λ site. refl)))) e3
 
 -- relations
+
+-- these relations are left of a list
+unfoldable pub RelationsLeft : (l : Rows) (b : ℕ) (old now : List Op) (left_of all : List Relation) → Type 0
+RelationsLeft l b old now left_of all = Emitting l b old now (λ site. all_code left_of site) (λ site. all_code all site)
 
 abbrev and_part : List Op
 and_part = Ldt 1 and_local ∷ And 0 1 ∷ Stt and_local 0 ∷ []
 
-pub relations_begin : (rs : List Relation) (site : Site) (old : List Op) → Emitted old old (all_code rs site) (all_code rs site)
-relations_begin rs site old = emitted_begin old (all_code rs site) (all_code rs site) refl
+pub relations_begin : (rs : List Relation) (l : Rows) (b : ℕ) (old : List Op) → RelationsLeft l b old old rs rs
+unfolding RelationsLeft
+relations_begin rs l b old = emitting_begin l b old (λ site. all_code rs site) (λ site. all_code rs site) (λ site. refl)
 
-pub relations_more : (rs : List Relation) (i : ℕ) (r : Relation) (site : Site) (old now mid new all : List Op) → i < length rs → r ≡ get_or rs i r → mid ≡ now ++ relation_code r site → new ≡ mid ++ (Ldt 1 and_local ∷ And 0 1 ∷ Stt and_local 0 ∷ []) → Emitted old now (all_code (drop i rs) site) all → Emitted old new (all_code (drop (i + 1) rs) site) all
-relations_more rs i r site old now mid new all lt is e1 e2 h =
-    two_parts old now mid new (relation_code r site) and_part (all_code (drop (i + 1) rs) site) all e1 e2
-    (subst (λ l. Emitted old now (all_code l site) all) (opens rs i r lt is) h)
+pub relations_more : (rs all_rs : List Relation) (i : ℕ) (r : Relation) (l : Rows) (b : ℕ) (old now mid new : List Op) → i < length rs → r ≡ get_or rs i r → Grows l b now mid (λ site. relation_code r site) → new ≡ mid ++ (Ldt 1 and_local ∷ And 0 1 ∷ Stt and_local 0 ∷ []) → RelationsLeft l b old now (drop i rs) all_rs → RelationsLeft l b old new (drop (i + 1) rs) all_rs
+unfolding RelationsLeft
+relations_more rs all_rs i r l b old now mid new lt is g e h =
+    let left : Site → List Op = λ site. all_code (drop (i + 1) rs) site in
+    let all : Site → List Op = λ site. all_code all_rs site in
+    emitting_with l b old mid new and_part left all e
+    (emitting_on l b old now mid (λ site. relation_code r site) (λ site. and_part ++ left site) all g
+    (subst (λ us. Emitting l b old now (λ site. all_code us site) all) (opens rs i r lt is) h))
 
-pub relations_end : (rs : List Relation) (i : ℕ) (site : Site) (old now new all : List Op) → length rs ≤ i → Emitted old now (all_code (drop i rs) site) all → new ≡ now ++ Ldt 0 and_local ∷ [] → new ≡ old ++ all
-relations_end rs i site old now new all past h e =
-    emitted_last old now new (Ldt 0 and_local ∷ []) all (subst (λ l. Emitted old now (all_code l site) all) (drop_of_length-le rs past) h) e
+pub relations_end : (rs all_rs : List Relation) (i : ℕ) (l : Rows) (b : ℕ) (old now new : List Op) → length rs ≤ i → RelationsLeft l b old now (drop i rs) all_rs → new ≡ now ++ Ldt 0 and_local ∷ [] → Grows l b old new (λ site. all_code all_rs site)
+unfolding RelationsLeft
+relations_end rs all_rs i l b old now new past h e = emitting_last l b old now new (Ldt 0 and_local ∷ []) (λ site. all_code (drop i rs) site) (λ site. all_code all_rs site) (λ site. ap (λ us. all_code us site) (drop_of_length-le rs past)) h e
+
+pub relations_begins : (l : Rows) (b : ℕ) (old now new : List Op) (rs all_rs : List Relation) → RelationsLeft l b old now rs all_rs → Begins now new → Begins old new
+unfolding RelationsLeft
+relations_begins l b old now new rs all_rs h more = begins_on old now new h.begins more
 
 -- lists of relations
+
+-- these lists are left of a condition
+unfoldable pub ListsLeft : (l : Rows) (b : ℕ) (old now : List Op) (rss : List (List Relation)) (c : Cond) → Type 0
+ListsLeft l b old now rss c = Emitting l b old now (λ site. any_code rss site) (λ site. cond_code c site)
 
 abbrev or_part : List Op
 or_part = Ldt 1 or_local ∷ Or 0 1 ∷ Stt or_local 0 ∷ []
 
-pub lists_begin : (c : Cond) (rss : List (List Relation)) (site : Site) (old now : List Op) → rss ≡ c.any → now ≡ old ++ (Ldi 0 0 ∷ Stt or_local 0 ∷ []) → Emitted old now (any_code rss site) (cond_code c site)
-lists_begin c rss site old now is e =
-    emitted_on old old now (Ldi 0 0 ∷ Stt or_local 0 ∷ []) (any_code rss site) (cond_code c site) e
-    (emitted_begin old (Ldi 0 0 ∷ Stt or_local 0 ∷ any_code rss site) (cond_code c site) (ap (λ l. Ldi 0 0 ∷ Stt or_local 0 ∷ any_code l site) is))
+abbrev and_first : List Op
+and_first = Ldi 0 1 ∷ Stt and_local 0 ∷ []
 
-pub lists_more : (rss : List (List Relation)) (i : ℕ) (rs : List Relation) (site : Site) (old now n1 n2 new all : List Op) → i < length rss → rs ≡ get_or rss i rs → n1 ≡ now ++ (Ldi 0 1 ∷ Stt and_local 0 ∷ []) → n2 ≡ n1 ++ all_code rs site → new ≡ n2 ++ (Ldt 1 or_local ∷ Or 0 1 ∷ Stt or_local 0 ∷ []) → Emitted old now (any_code (drop i rss) site) all → Emitted old new (any_code (drop (i + 1) rss) site) all
-lists_more rss i rs site old now n1 n2 new all lt is e1 e2 e3 h =
-    three_parts old now n1 n2 new (Ldi 0 1 ∷ Stt and_local 0 ∷ []) (all_code rs site) or_part (any_code (drop (i + 1) rss) site) all e1 e2 e3
-    (subst (λ l. Emitted old now (any_code l site) all) (opens rss i rs lt is) h)
+pub lists_begin : (c : Cond) (rss : List (List Relation)) (l : Rows) (b : ℕ) (old now : List Op) → rss ≡ c.any → now ≡ old ++ (Ldi 0 0 ∷ Stt or_local 0 ∷ []) → ListsLeft l b old now rss c
+unfolding ListsLeft
+lists_begin c rss l b old now is e =
+    emitting_with l b old old now (Ldi 0 0 ∷ Stt or_local 0 ∷ []) (λ site. any_code rss site) (λ site. cond_code c site) e
+    (emitting_begin l b old (λ site. Ldi 0 0 ∷ Stt or_local 0 ∷ any_code rss site) (λ site. cond_code c site) (λ site. ap (λ us. Ldi 0 0 ∷ Stt or_local 0 ∷ any_code us site) is))
 
-pub lists_end : (rss : List (List Relation)) (i : ℕ) (site : Site) (old now new all : List Op) → length rss ≤ i → Emitted old now (any_code (drop i rss) site) all → new ≡ now ++ Ldt 0 or_local ∷ [] → new ≡ old ++ all
-lists_end rss i site old now new all past h e =
-    emitted_last old now new (Ldt 0 or_local ∷ []) all (subst (λ l. Emitted old now (any_code l site) all) (drop_of_length-le rss past) h) e
+pub lists_more : (rss : List (List Relation)) (i : ℕ) (rs now_rs : List Relation) (l : Rows) (b : ℕ) (old now n1 n2 new : List Op) (c : Cond) → i < length rss → rs ≡ get_or rss i rs → now_rs ≡ rs → n1 ≡ now ++ (Ldi 0 1 ∷ Stt and_local 0 ∷ []) → Grows l b n1 n2 (λ site. all_code now_rs site) → new ≡ n2 ++ (Ldt 1 or_local ∷ Or 0 1 ∷ Stt or_local 0 ∷ []) → ListsLeft l b old now (drop i rss) c → ListsLeft l b old new (drop (i + 1) rss) c
+unfolding ListsLeft
+lists_more rss i rs now_rs l b old now n1 n2 new c lt is same e1 g e3 h =
+    let left : Site → List Op = λ site. any_code (drop (i + 1) rss) site in
+    let all : Site → List Op = λ site. cond_code c site in
+    let g' : Grows l b n1 n2 (λ site. all_code rs site) = subst (λ us. Grows l b n1 n2 (λ site. all_code us site)) same g in
+    emitting_with l b old n2 new or_part left all e3
+    (emitting_on l b old n1 n2 (λ site. all_code rs site) (λ site. or_part ++ left site) all g'
+    (emitting_with l b old now n1 and_first (λ site. all_code rs site ++ (or_part ++ left site)) all e1
+    (subst (λ us. Emitting l b old now (λ site. any_code us site) all) (opens rss i rs lt is) h)))
+
+pub lists_end : (rss : List (List Relation)) (i : ℕ) (l : Rows) (b : ℕ) (old now new : List Op) (c : Cond) → length rss ≤ i → ListsLeft l b old now (drop i rss) c → new ≡ now ++ Ldt 0 or_local ∷ [] → Grows l b old new (λ site. cond_code c site)
+unfolding ListsLeft
+lists_end rss i l b old now new c past h e = emitting_last l b old now new (Ldt 0 or_local ∷ []) (λ site. any_code (drop i rss) site) (λ site. cond_code c site) (λ site. ap (λ us. any_code us site) (drop_of_length-le rss past)) h e
+
+pub lists_begins : (l : Rows) (b : ℕ) (old now new : List Op) (rss : List (List Relation)) (c : Cond) → ListsLeft l b old now rss c → Begins now new → Begins old new
+unfolding ListsLeft
+lists_begins l b old now new rss c h more = begins_on old now new h.begins more
+
+-- the last part of a list of relations was not appended whole
+pub lists_stop : (l : Rows) (b : ℕ) (old now n1 n2 new : List Op) (rss : List (List Relation)) (rs : List Relation) (c : Cond) → ListsLeft l b old now rss c → n1 ≡ now ++ (Ldi 0 1 ∷ Stt and_local 0 ∷ []) → Grows l b n1 n2 (λ site. all_code rs site) → Begins n2 new → Begins old new
+lists_stop l b old now n1 n2 new rss rs c h e1 g more = lists_begins l b old now new rss c h (begins_on now n1 new (begins_is now n1 and_first e1) (begins_on n1 n2 new g.begins more))

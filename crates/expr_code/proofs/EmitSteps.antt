@@ -1,33 +1,77 @@
 -- One more term or factor is appended.
-use Rattle.std.proofs.Common.{◌≡◌, ℕ, suc, ◌+◌, ◌*◌, ◌<◌, ◌^◌, List, [], ◌∷◌, ◌++◌, length, drop, map, get_or, Option, Some, None, slice_get, refl, sym, ap, ◌∙◌, subst, arith, add-one, drop-cons, append_assoc}
-use Rattle.std.specs.List.{AllByRecursion}
+use Rattle.std.proofs.Common.{◌≡◌, ℕ, ◌+◌, ◌<◌, ◌≤◌, List, [], ◌∷◌, ◌++◌, length, drop, map, get_or, sym, ap, ◌∙◌, subst}
+use Rattle.std.proofs.Math.ListN.{drop_of_length-le}
 use Rattle.machine_code.specs.declared.op.Op.{Op}
 use Rattle.machine_code.specs.declared.op.Op.TheVariants.{Ldi}
 use Rattle.exchange_model.specs.declared.expr.Expr.{Expr, out-Expr}
 use Rattle.exchange_model.specs.declared.expr.Term.{Term, out-Term}
 use Rattle.exchange_model.specs.declared.expr.Joined.{Joined}
+use Rattle.record_files.specs.Rows.{Rows}
 use Rattle.expr_code.specs.Code.{Site, term_op, factor_op, sum_code, product_code, expr_code, term_code, factor_code, joined_code, summand_code}
-use Rattle.expr_code.proofs.Emits.{Emitted, emitted_begin, emitted_on, two_parts, opens}
+use Rattle.expr_code.specs.Sites.{Begins, Grows}
+use Rattle.expr_code.proofs.Emits.{Emitting, emitting_begin, emitting_on, emitting_with, emitting_end, begins_on, opens}
 use Rattle.expr_code.proofs.Opened.{expr_code-out, term_code-out}
 
-pub terms_begin : (e : Expr) (ts : List Term) (site : Site) (r : ℕ) (old now : List Op) → ts ≡ (out-Expr e).terms → now ≡ old ++ Ldi r 0 ∷ [] → Emitted old now (sum_code (map summand_code ts) site r) (expr_code e site r)
-terms_begin e ts site r old now is e1 =
-    emitted_on old old now (Ldi r 0 ∷ []) (sum_code (map summand_code ts) site r) (expr_code e site r) e1
-    (emitted_begin old (Ldi r 0 ∷ sum_code (map summand_code ts) site r) (expr_code e site r)
-    (ap (λ l. Ldi r 0 ∷ sum_code (map summand_code l) site r) is ∙ sym (ap (λ c. c site r) (expr_code-out e))))
+-- terms
 
-pub terms_more : (ts : List Term) (i : ℕ) (t : Term) (site : Site) (r : ℕ) (old now mid new all : List Op) → i < length ts → t ≡ get_or ts i t → mid ≡ now ++ term_code t site (r + 1) → new ≡ mid ++ term_op (out-Term t).minus r (r + 1) ∷ [] → Emitted old now (sum_code (map summand_code (drop i ts)) site r) all → Emitted old new (sum_code (map summand_code (drop (i + 1) ts)) site r) all
-terms_more ts i t site r old now mid new all lt is e1 e2 h =
-    two_parts old now mid new (term_code t site (r + 1)) (term_op (out-Term t).minus r (r + 1) ∷ []) (sum_code (map summand_code (drop (i + 1) ts)) site r) all e1 e2
-    (subst (λ l. Emitted old now (sum_code (map summand_code l) site r) all) (opens ts i t lt is) h)
+-- these terms are left of an expression
+unfoldable pub TermsLeft : (l : Rows) (b r : ℕ) (old now : List Op) (ts : List Term) (e : Expr) → Type 0
+TermsLeft l b r old now ts e = Emitting l b old now (λ site. sum_code (map summand_code ts) site r) (λ site. expr_code e site r)
 
-pub factors_begin : (t : Term) (js : List Joined) (site : Site) (r : ℕ) (old now : List Op) → js ≡ (out-Term t).factors → now ≡ old ++ Ldi r 1 ∷ [] → Emitted old now (product_code (map joined_code js) site r) (term_code t site r)
-factors_begin t js site r old now is e1 =
-    emitted_on old old now (Ldi r 1 ∷ []) (product_code (map joined_code js) site r) (term_code t site r) e1
-    (emitted_begin old (Ldi r 1 ∷ product_code (map joined_code js) site r) (term_code t site r)
-    (ap (λ l. Ldi r 1 ∷ product_code (map joined_code l) site r) is ∙ sym (ap (λ c. c site r) (term_code-out t))))
+pub terms_begin : (e : Expr) (ts : List Term) (l : Rows) (b r : ℕ) (old now : List Op) → ts ≡ (out-Expr e).terms → now ≡ old ++ Ldi r 0 ∷ [] → TermsLeft l b r old now ts e
+unfolding TermsLeft
+terms_begin e ts l b r old now is e1 =
+    let left : Site → List Op = λ site. sum_code (map summand_code ts) site r in
+    emitting_with l b old old now (Ldi r 0 ∷ []) left (λ site. expr_code e site r) e1
+    (emitting_begin l b old (λ site. Ldi r 0 ∷ left site) (λ site. expr_code e site r)
+    (λ site. ap (λ us. Ldi r 0 ∷ sum_code (map summand_code us) site r) is ∙ sym (ap (λ c. c site r) (expr_code-out e))))
 
-pub factors_more : (js : List Joined) (i : ℕ) (j : Joined) (site : Site) (r : ℕ) (old now mid new all : List Op) → i < length js → j ≡ get_or js i j → mid ≡ now ++ factor_code j.factor site (r + 1) → new ≡ mid ++ factor_op j.by r (r + 1) ∷ [] → Emitted old now (product_code (map joined_code (drop i js)) site r) all → Emitted old new (product_code (map joined_code (drop (i + 1) js)) site r) all
-factors_more js i j site r old now mid new all lt is e1 e2 h =
-    two_parts old now mid new (factor_code j.factor site (r + 1)) (factor_op j.by r (r + 1) ∷ []) (product_code (map joined_code (drop (i + 1) js)) site r) all e1 e2
-    (subst (λ l. Emitted old now (product_code (map joined_code l) site r) all) (opens js i j lt is) h)
+pub terms_more : (ts : List Term) (i : ℕ) (t : Term) (l : Rows) (b r : ℕ) (old now mid new : List Op) (e : Expr) → i < length ts → t ≡ get_or ts i t → Grows l b now mid (λ site. term_code t site (r + 1)) → new ≡ mid ++ term_op (out-Term t).minus r (r + 1) ∷ [] → TermsLeft l b r old now (drop i ts) e → TermsLeft l b r old new (drop (i + 1) ts) e
+unfolding TermsLeft
+terms_more ts i t l b r old now mid new e lt is g e1 h =
+    let op : List Op = term_op (out-Term t).minus r (r + 1) ∷ [] in
+    let left : Site → List Op = λ site. sum_code (map summand_code (drop (i + 1) ts)) site r in
+    let all : Site → List Op = λ site. expr_code e site r in
+    emitting_with l b old mid new op left all e1
+    (emitting_on l b old now mid (λ site. term_code t site (r + 1)) (λ site. op ++ left site) all g
+    (subst (λ us. Emitting l b old now (λ site. sum_code (map summand_code us) site r) all) (opens ts i t lt is) h))
+
+pub terms_end : (ts : List Term) (i : ℕ) (l : Rows) (b r : ℕ) (old now : List Op) (e : Expr) → length ts ≤ i → TermsLeft l b r old now (drop i ts) e → Grows l b old now (λ site. expr_code e site r)
+unfolding TermsLeft
+terms_end ts i l b r old now e past h = emitting_end l b old now (λ site. sum_code (map summand_code (drop i ts)) site r) (λ site. expr_code e site r) (λ site. ap (λ us. sum_code (map summand_code us) site r) (drop_of_length-le ts past)) h
+
+pub terms_begins : (l : Rows) (b r : ℕ) (old now new : List Op) (ts : List Term) (e : Expr) → TermsLeft l b r old now ts e → Begins now new → Begins old new
+unfolding TermsLeft
+terms_begins l b r old now new ts e h more = begins_on old now new h.begins more
+
+-- factors
+
+-- these factors are left of a term
+unfoldable pub FactorsLeft : (l : Rows) (b r : ℕ) (old now : List Op) (js : List Joined) (t : Term) → Type 0
+FactorsLeft l b r old now js t = Emitting l b old now (λ site. product_code (map joined_code js) site r) (λ site. term_code t site r)
+
+pub factors_begin : (t : Term) (js : List Joined) (l : Rows) (b r : ℕ) (old now : List Op) → js ≡ (out-Term t).factors → now ≡ old ++ Ldi r 1 ∷ [] → FactorsLeft l b r old now js t
+unfolding FactorsLeft
+factors_begin t js l b r old now is e1 =
+    let left : Site → List Op = λ site. product_code (map joined_code js) site r in
+    emitting_with l b old old now (Ldi r 1 ∷ []) left (λ site. term_code t site r) e1
+    (emitting_begin l b old (λ site. Ldi r 1 ∷ left site) (λ site. term_code t site r)
+    (λ site. ap (λ us. Ldi r 1 ∷ product_code (map joined_code us) site r) is ∙ sym (ap (λ c. c site r) (term_code-out t))))
+
+pub factors_more : (js : List Joined) (i : ℕ) (j : Joined) (l : Rows) (b r : ℕ) (old now mid new : List Op) (t : Term) → i < length js → j ≡ get_or js i j → Grows l b now mid (λ site. factor_code j.factor site (r + 1)) → new ≡ mid ++ factor_op j.by r (r + 1) ∷ [] → FactorsLeft l b r old now (drop i js) t → FactorsLeft l b r old new (drop (i + 1) js) t
+unfolding FactorsLeft
+factors_more js i j l b r old now mid new t lt is g e1 h =
+    let op : List Op = factor_op j.by r (r + 1) ∷ [] in
+    let left : Site → List Op = λ site. product_code (map joined_code (drop (i + 1) js)) site r in
+    let all : Site → List Op = λ site. term_code t site r in
+    emitting_with l b old mid new op left all e1
+    (emitting_on l b old now mid (λ site. factor_code j.factor site (r + 1)) (λ site. op ++ left site) all g
+    (subst (λ us. Emitting l b old now (λ site. product_code (map joined_code us) site r) all) (opens js i j lt is) h))
+
+pub factors_end : (js : List Joined) (i : ℕ) (l : Rows) (b r : ℕ) (old now : List Op) (t : Term) → length js ≤ i → FactorsLeft l b r old now (drop i js) t → Grows l b old now (λ site. term_code t site r)
+unfolding FactorsLeft
+factors_end js i l b r old now t past h = emitting_end l b old now (λ site. product_code (map joined_code (drop i js)) site r) (λ site. term_code t site r) (λ site. ap (λ us. product_code (map joined_code us) site r) (drop_of_length-le js past)) h
+
+pub factors_begins : (l : Rows) (b r : ℕ) (old now new : List Op) (js : List Joined) (t : Term) → FactorsLeft l b r old now js t → Begins now new → Begins old new
+unfolding FactorsLeft
+factors_begins l b r old now new js t h more = begins_on old now new h.begins more

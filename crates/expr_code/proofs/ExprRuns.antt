@@ -12,7 +12,7 @@ use Rattle.exchange_model.specs.declared.expr.Joined.{Joined}
 use Rattle.exchange_model.specs.declared.expr.FactorOp.{FactorOp}
 use Rattle.exchange_model.specs.declared.expr.FactorOp.TheVariants.{Times, Divide, Modulo}
 use Rattle.exchange_model.specs.declared.expr.Factor.{Factor}
-use Rattle.exchange_model.specs.declared.expr.Factor.TheVariants.{Number, Variable, Temporary, Field, Bracket}
+use Rattle.exchange_model.specs.declared.expr.Factor.TheVariants.{Number, Variable, Temporary, Field}
 use Rattle.exchange_model.specs.Cells.{Placed, field_cell, record_cells}
 use Rattle.exchange_model.specs.Inside.{most, bracket_depth}
 use Rattle.exchange_model.specs.Fits.{Scope, ExprFits}
@@ -22,8 +22,8 @@ use Rattle.source_meaning.specs.Own.{seen}
 use Rattle.source_meaning.specs.Value.{Got, Gives, Fails, Eval, Sight, with_value, load_of, cell_value, field_value, load_or_fault, may_use, holds, joined, summed, sum_value, product_value, summand_of, multiplier_of, expr_value, term_value, factor_value}
 use Rattle.source_meaning.proofs.Layers.{expr_value-out, term_value-out, factor_value-Number, factor_value-Variable, factor_value-Temporary, factor_value-Field, factor_value-Bracket}
 use Rattle.register_machine.specs.Machine.{Machine, Allowed, machine_step, reg, sets, checks, fails, divides, made_one}
-use Rattle.expr_code.specs.Code.{Code, term_op, factor_op, own_code, field_code, sum_code, product_code, sum_from_0, product_from_1, expr_code, term_code, factor_code, joined_code, summand_code}
-use Rattle.expr_code.specs.Runs.{HasAt, site_of, Agrees, Calc, Computes}
+use Rattle.expr_code.specs.Code.{Code, term_op, factor_op, own_code, field_code, sum_code, product_code, expr_code, term_code, factor_code, joined_code, summand_code}
+use Rattle.expr_code.specs.Runs.{HasAt, site_of, Agrees, Computes}
 use Rattle.expr_code.proofs.Each.{all_fit}
 use Rattle.expr_code.proofs.Places.{has_front, has_back}
 use Rattle.expr_code.proofs.Runs.{agrees_on, bind_runs, then_runs, check_runs, nothing, StandsAt, op_sets, op_sets_plain, op_fails, op_checks}

@@ -5,12 +5,11 @@ use Rattle.std.specs.List.{AllByRecursion}
 use Rattle.exchange_model.specs.declared.expr.Expr.{Expr}
 use Rattle.exchange_model.specs.declared.expr.Term.{Term, out-Term}
 use Rattle.exchange_model.specs.declared.expr.Joined.{Joined}
-use Rattle.exchange_model.specs.declared.expr.Factor.{Factor}
 use Rattle.exchange_model.specs.declared.expr.Factor.TheVariants.{Number, Variable, Temporary, Field, Bracket, outs-Number, outs-Variable, outs-Temporary, outs-Field, outs-Bracket}
 use Rattle.exchange_model.specs.Inside.{most, bracket_depth}
 use Rattle.exchange_model.specs.Fits.{Scope, IsField, FactorFits, ExprFits}
 use Rattle.exchange_model.specs.Layers.{TermFits, JoinedFits, FactorOwnFits, InsideFits, term_fits-out, joined_fits-out, factor_fits-out}
-use Rattle.exchange_model.specs.Counted.{term_depth, joined_depth, factor_own_depth, inside_depth, term_depth-out, joined_depth-out, factor_own_depth-out}
+use Rattle.exchange_model.specs.Counted.{term_depth, factor_own_depth, inside_depth, term_depth-out, joined_depth-out, factor_own_depth-out}
 
 pub number_fits : (s : Scope) (n : ℕ) → FactorOwnFits s (Number n) → n < 2 ^ 32
 number_fits s n h = subst (FactorFits s) (outs-Number n) (factor_fits-out s (Number n) h).0

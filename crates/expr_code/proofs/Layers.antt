@@ -1,5 +1,5 @@
 -- Induction over an expression by the lists of its parts.
-use Rattle.std.proofs.Common.{◌≡◌, ℕ, sym, ap, ◌∙◌, subst}
+use Rattle.std.proofs.Common.{ℕ, sym, ap, ◌∙◌, subst}
 use Rattle.std.specs.List.{AllByRecursion}
 use Rattle.exchange_model.specs.declared.expr.Expr.{Expr, Expr', out-Expr, outs-Expr', Row_of-Term, end_of-Term, more_of-Term, items-the_row-Term, items_shown-the_row-Term-0}
 use Rattle.exchange_model.specs.declared.expr.Term.{Term, Term', out-Term, outs-Term', Row_of-Joined, end_of-Joined, more_of-Joined, items-the_row-Joined, items_shown-the_row-Joined-1}

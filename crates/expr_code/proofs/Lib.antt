@@ -11,3 +11,5 @@ pub mod Operands
 pub mod EmitSteps
 pub mod At
 pub mod CondSteps
+pub mod Rows
+pub mod FieldSteps

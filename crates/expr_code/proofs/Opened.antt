@@ -1,5 +1,5 @@
 -- The code of an expression, told by its outermost layer.
-use Rattle.std.proofs.Common.{◌≡◌, ℕ, ◌+◌, List, [], ◌∷◌, map, refl, ap, ◌∙◌, slice_get}
+use Rattle.std.proofs.Common.{◌≡◌, ℕ, ◌+◌, [], ◌∷◌, map, refl, ap, ◌∙◌, slice_get}
 use mathlib.Core.Path.{fun_ext}
 use Rattle.machine_code.specs.declared.op.Op.TheVariants.{Ldi, Ldt, Ldw}
 use Rattle.exchange_model.specs.declared.expr.Expr.{Expr, out-Expr, fold_out-Expr}

@@ -1,8 +1,7 @@
 -- The operands of the code are in range.
-use Rattle.std.proofs.Common.{◌≡◌, ℕ, ◌+◌, ◌*◌, ◌^◌, ◌<◌, ◌≤◌, Bool, true, false, List, [], ◌∷◌, ◌++◌, length, map, Option, Some, None, refl, sym, ap, ◌∙◌, subst, arith, slice_get}
+use Rattle.std.proofs.Common.{◌≡◌, ℕ, ◌+◌, ◌*◌, ◌^◌, ◌<◌, ◌≤◌, Bool, true, false, List, [], ◌∷◌, length, map, Option, Some, None, refl, sym, ap, ◌∙◌, subst, arith, slice_get}
 use Rattle.std.proofs.lemmas.Option.{slice_get_within, same_Some}
 use Rattle.std.specs.List.{AllByRecursion}
-use Rattle.machine_code.specs.declared.op.Op.{Op}
 use Rattle.machine_code.specs.declared.op.Op.TheVariants.{Ldx}
 use Rattle.machine_code.specs.Operands.{OpFits}
 use Rattle.exchange_model.specs.declared.expr.Expr.{Expr, out-Expr}
@@ -11,7 +10,7 @@ use Rattle.exchange_model.specs.declared.expr.Joined.{Joined}
 use Rattle.exchange_model.specs.declared.expr.FactorOp.{FactorOp}
 use Rattle.exchange_model.specs.declared.expr.FactorOp.TheVariants.{Times, Divide, Modulo}
 use Rattle.exchange_model.specs.declared.expr.Factor.{Factor}
-use Rattle.exchange_model.specs.declared.expr.Factor.TheVariants.{Number, Variable, Temporary, Field, Bracket}
+use Rattle.exchange_model.specs.declared.expr.Factor.TheVariants.{Number, Variable, Temporary, Field}
 use Rattle.exchange_model.specs.declared.expr.Cond.{Cond}
 use Rattle.exchange_model.specs.declared.expr.Relation.{Relation}
 use Rattle.exchange_model.specs.declared.expr.Rel.{Rel}

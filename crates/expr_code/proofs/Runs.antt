@@ -1,16 +1,16 @@
 -- Computations one after the other, and those of one instruction.
-use Rattle.std.proofs.Common.{◌≡◌, ◌≢◌, ℕ, zero, suc, ◌+◌, ◌^◌, ◌<◌, ◌≤◌, Bool, true, false, List, [], ◌∷◌, ◌++◌, length, Some, None, refl, sym, ap, ◌∙◌, subst, arith, append_assoc, if◌then◌else◌}
+use Rattle.std.proofs.Common.{◌≡◌, ◌≢◌, ℕ, ◌+◌, ◌^◌, ◌<◌, ◌≤◌, Bool, true, false, List, [], ◌++◌, length, Some, None, refl, sym, ap, ◌∙◌, subst, arith, append_assoc, if◌then◌else◌}
 use Rattle.std.proofs.Math.ListN.{length-set}
 use Rattle.std.proofs.lemmas.List.{get_or-set_other, get_or-set_same, append-nil}
-use Rattle.std.specs.Prelude.{slice_get, slice_index, slice_set}
+use Rattle.std.specs.Prelude.{slice_get}
 use Rattle.job_types.specs.declared.fault.Fault.{Fault}
 use Rattle.job_types.specs.declared.outcome.Outcome.TheVariants.{Faulted}
 use Rattle.machine_code.specs.declared.op.Op.{Op}
 use Rattle.machine_code.specs.declared.permit.Touch.{Touch}
 use Rattle.source_meaning.specs.Own.{World, seen}
 use Rattle.source_meaning.specs.Value.{Got, Gives, Fails, Sight, after_loads, with_value}
-use Rattle.register_machine.specs.Machine.{Machine, Goes, here, by_op, Allowed, machine_step, reg, sets, next, fails, checks, made_one}
-use Rattle.expr_code.specs.Runs.{HasAt, Agrees, Calc, Stops, Computes, gives, stops}
+use Rattle.register_machine.specs.Machine.{Machine, Goes, here, by_op, Allowed, machine_step, reg, sets, fails, checks, made_one}
+use Rattle.expr_code.specs.Runs.{Agrees, Calc, Computes, gives, stops}
 
 pub goes_on : {code : List Op} {a b c : Machine} → Goes code a b → Goes code b c → Goes code a c
 goes_on here h = h

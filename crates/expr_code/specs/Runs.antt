@@ -3,7 +3,7 @@
 -- From a machine that has what an expression sees, the code of the expression goes to its end, with the value in its
 -- register and the same loads in the trace, or it stops at the same fault. All that stands below its registers and its
 -- locals is as before, and so is all else but the number of instructions made.
-use Rattle.std.specs.Prelude.{◌≡◌, ℕ, ◌+◌, ◌^◌, ◌<◌, List, [], ◌∷◌, length, slice_get, slice_index, Option, Some, None}
+use Rattle.std.specs.Prelude.{◌≡◌, ℕ, ◌+◌, ◌^◌, ◌<◌, List, [], ◌∷◌, length, slice_get, slice_index, Some, None}
 use Rattle.job_types.specs.declared.fault.Fault.{Fault}
 use Rattle.job_types.specs.declared.outcome.Outcome.TheVariants.{Faulted}
 use Rattle.machine_code.specs.declared.op.Op.{Op}

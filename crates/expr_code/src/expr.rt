@@ -3,27 +3,34 @@ ghost use Rattle.std.specs.Prelude.{◌≡◌, ◌+◌, ◌*◌, ◌<◌, ◌++�
 ghost use Rattle.exchange_model.specs.Inside.{bracket_depth};
 ghost use Rattle.exchange_model.specs.Counted.{term_depth, factor_own_depth};
 ghost use Rattle.expr_code.specs.Code.{expr_code, term_code, factor_code, term_op as op_of_term, factor_op as op_of_factor};
-ghost use Rattle.expr_code.specs.Sites.{IsExprAt, IsTermAt, IsFactorAt, Begins};
+ghost use Rattle.expr_code.specs.Sites.{IsExprOf, IsTermOf, IsFactorOf, Begins, Grows};
 
 use crate::field::push_field;
 use crate::push::push_all;
-use crate::site::Site;
-use exchange_model::{Expr, Factor, FactorOp, Term};
+use exchange_model::{Cell, Expr, Factor, FactorOp, Term};
 use machine_code::Op;
 use plex_num::{Memory, Seq};
+use record_files::{Layout, word_of};
 
-/// Appends the code that leaves the value of the expression in the register `first`.
+/// Appends the code that leaves the value of an expression of the block in the register `first`, and uses none below it. After
+/// `Memory` the list begins as before.
 #[cycle(code)]
-#[tactic(auto, using(crate::proofs::EmitSteps::terms_begin, crate::proofs::EmitSteps::terms_more, crate::proofs::Emits::emitted_end, crate::proofs::Emits::emitted_begins))]
-pub fn expr_code(e: &Expr, site: &Site<'_>, first: u8, ops: &mut Seq<Op>) -> Result<(), Memory>
-    requires of_block { IsExprAt site.now e.now }
+#[tactic(auto, using(crate::proofs::EmitSteps::terms_begin, crate::proofs::EmitSteps::terms_more, crate::proofs::EmitSteps::terms_end, crate::proofs::EmitSteps::terms_begins, crate::proofs::Emits::begins_is, crate::proofs::Emits::begins_on, crate::proofs::Emits::grows_begins))]
+pub fn expr_code(
+    e: &Expr,
+    layout: &Layout,
+    block: u32,
+    first: u8,
+    ops: &mut Seq<Op>,
+) -> Result<(), Memory>
+    requires of_block { IsExprOf layout.now block e.now }
     requires registers { first + (2 * bracket_depth e.now + 2) < 16 }
-    ensures code { OnOk result (ops.new ≡ ops.old ++ expr_code e.now site.now first) }
+    ensures code { OnOk result (Grows layout.now block ops.old ops.new (λ site. expr_code e.now site first)) }
     ensures begins { OnErr result (Begins ops.old ops.new) }
 {
     push_all(ops, &[Op::Ldi { r: first, n: 0 }])?;
     for term in e.terms.as_slice() {
-        push_term(term, site, first + 1, ops)?;
+        push_term(term, layout, block, first + 1, ops)?;
         push_all(ops, &[term_op(term.minus, first)])?;
     }
     Ok(())
@@ -31,16 +38,22 @@ pub fn expr_code(e: &Expr, site: &Site<'_>, first: u8, ops: &mut Seq<Op>) -> Res
 
 /// Appends the code of a term.
 #[cycle(code)]
-#[tactic(auto, using(crate::proofs::EmitSteps::factors_begin, crate::proofs::EmitSteps::factors_more, crate::proofs::Emits::emitted_end, crate::proofs::Emits::emitted_begins))]
-fn push_term(term: &Term, site: &Site<'_>, r: u8, ops: &mut Seq<Op>) -> Result<(), Memory>
-    requires of_block { IsTermAt site.now term.now }
+#[tactic(auto, using(crate::proofs::EmitSteps::factors_begin, crate::proofs::EmitSteps::factors_more, crate::proofs::EmitSteps::factors_end, crate::proofs::EmitSteps::factors_begins, crate::proofs::Emits::begins_is, crate::proofs::Emits::begins_on, crate::proofs::Emits::grows_begins))]
+fn push_term(
+    term: &Term,
+    layout: &Layout,
+    block: u32,
+    r: u8,
+    ops: &mut Seq<Op>,
+) -> Result<(), Memory>
+    requires of_block { IsTermOf layout.now block term.now }
     requires registers { r + (2 * term_depth term.now + 1) < 16 }
-    ensures code { OnOk result (ops.new ≡ ops.old ++ term_code term.now site.now r) }
+    ensures code { OnOk result (Grows layout.now block ops.old ops.new (λ site. term_code term.now site r)) }
     ensures begins { OnErr result (Begins ops.old ops.new) }
 {
     push_all(ops, &[Op::Ldi { r, n: 1 }])?;
     for joined in term.factors.as_slice() {
-        push_factor(&joined.factor, site, r + 1, ops)?;
+        push_factor(&joined.factor, layout, block, r + 1, ops)?;
         push_all(ops, &[factor_op(joined.by, r)])?;
     }
     Ok(())
@@ -48,16 +61,26 @@ fn push_term(term: &Term, site: &Site<'_>, r: u8, ops: &mut Seq<Op>) -> Result<(
 
 /// Appends the code of a factor.
 #[cycle(code)]
-fn push_factor(factor: &Factor, site: &Site<'_>, r: u8, ops: &mut Seq<Op>) -> Result<(), Memory>
-    requires of_block { IsFactorAt site.now factor.now }
+fn push_factor(
+    factor: &Factor,
+    layout: &Layout,
+    block: u32,
+    r: u8,
+    ops: &mut Seq<Op>,
+) -> Result<(), Memory>
+    requires of_block { IsFactorOf layout.now block factor.now }
     requires registers { r + 2 * factor_own_depth factor.now < 16 }
-    ensures code { OnOk result (ops.new ≡ ops.old ++ factor_code factor.now site.now r) }
+    ensures code { OnOk result (Grows layout.now block ops.old ops.new (λ site. factor_code factor.now site r)) }
     ensures begins { OnErr result (Begins ops.old ops.new) }
 {
     match factor {
         Factor::Number(number) => push_all(ops, &[Op::Ldi { r, n: *number }]),
         Factor::Variable(variable) => {
-            let word = site.variable(*variable);
+            let cell = Cell::Variable {
+                block,
+                index: *variable,
+            };
+            let word = word_of(layout, cell);
             push_all(ops, &[Op::Ldw { r, w: word }])
         }
         Factor::Temporary(temp) => push_all(ops, &[Op::Ldt { r, i: *temp }]),
@@ -65,8 +88,8 @@ fn push_factor(factor: &Factor, site: &Site<'_>, r: u8, ops: &mut Seq<Op>) -> Re
             file,
             field,
             pointer,
-        } => push_field(*file, *field, *pointer, site, r, ops),
-        Factor::Bracket(e) => expr_code(e, site, r, ops),
+        } => push_field(*file, *field, *pointer, layout, block, r, ops),
+        Factor::Bracket(e) => expr_code(e, layout, block, r, ops),
     }
 }
 

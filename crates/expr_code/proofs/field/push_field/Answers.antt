@@ -1,11 +1,8 @@
-use Rattle.std.proofs.Common.{arith}
-use Rattle.expr_code.specs.Sites.{placed_of}
+use Rattle.std.proofs.Common.{rules, sym}
+use Rattle.expr_code.proofs.FieldSteps.{field_grows}
 use Rattle.expr_code.proofs.field.push_field.Goals as goal
 
-pub overflow_add-load : goal.overflow_add-load
-overflow_add-load c =
-    let h = c.requires.inside (placed_of c.in-Some.place.now) c.in-Some.ensures in
-    omega (arith, h.0)
-
-pub record_cells-requires : goal.record_cells-requires
-record_cells-requires c = (c.requires.inside (placed_of c.in-Some.place.now) c.in-Some.ensures).1
+pub returns-clause-code : goal.returns-clause-code
+returns-clause-code c =
+    let grows = field_grows c.args.layout.now c.args.block c.args.file c.args.field c.args.pointer c.args.r c.in-Some.row c.args.ops.now c.push_all-2.new.ops c.push_pointer.new.ops c.push_all-3.new.ops (sym (c.in-Some.ensures)) c.in_ok-push_all.ensures.code c.in_ok-push_pointer.ensures.code in
+    search (rules, grows)
