@@ -1,0 +1,184 @@
+-- What is known of the parts of a statement.
+use Rattle.std.proofs.Common.{◌≡◌, ℕ, zero, suc, ◌+◌, ◌*◌, ◌^◌, ◌<◌, ◌≤◌, Bool, List, [], ◌∷◌, ◌++◌, length, get_or, Option, Some, None, slice_get, refl, sym, ap, ◌∙◌, subst, arith}
+use Rattle.std.specs.List.{AllByRecursion}
+use Rattle.std.proofs.lemmas.Option.{none-some, same_Some}
+use Rattle.machine_code.specs.declared.op.Op.{Op}
+use Rattle.exchange_model.specs.declared.block.Block.{Block}
+use Rattle.exchange_model.specs.declared.block.FilePlace.{FilePlace}
+use Rattle.exchange_model.specs.declared.signal.SignalKind.{SignalKind}
+use Rattle.exchange_model.specs.declared.signal.SignalKind.TheVariants.{Buffered, Direct, Combined, Answer, Outside}
+use Rattle.exchange_model.specs.declared.entry.Cell.TheVariants as cell
+use Rattle.exchange_model.specs.declared.expr.Expr.{Expr}
+use Rattle.exchange_model.specs.declared.expr.Cond.{Cond}
+use Rattle.exchange_model.specs.declared.expr.Rel.{Rel}
+use Rattle.exchange_model.specs.declared.stmt.Stmt.{Stmt}
+use Rattle.exchange_model.specs.declared.stmt.When.{When}
+use Rattle.exchange_model.specs.declared.stmt.StmtKind.{StmtKind, StmtKind-F}
+use Rattle.exchange_model.specs.declared.stmt.StmtKind.TheOpen as layer
+use Rattle.exchange_model.specs.Cells.{Placed, placed_files, record_cells, IsCell, cell_number}
+use Rattle.exchange_model.specs.Fits.{ExprFits, EnterFits, AnswerFits}
+use Rattle.exchange_model.specs.Inside.{bracket_depth, own_exprs}
+use Rattle.exchange_model.specs.Kept.{scope_of, signal_count}
+use Rattle.exchange_model.specs.declared.limits.TheConstants.{MOST_BRACKETS, MOST_VALUES}
+use Rattle.exchange_model.proofs.Facts.{file_kept}
+use Rattle.exchange_model.proofs.Numbers.{variable_is_cell}
+use Rattle.record_files.specs.Laid.{HasCell, IsLayout}
+use Rattle.source_meaning.specs.Config.{base_of}
+use Rattle.expr_code.specs.Code.{expr_code, cond_code}
+use Rattle.expr_code.specs.Sites.{IsScopeOf, IsExprOf, IsCondOf, Grows}
+use Rattle.stmt_code.proofs.Setting.{few_loops}
+use Rattle.code_gen.specs.declared.setting.Setting.{Setting}
+use Rattle.code_gen.specs.Settings.{placed_of, places_in, IsSetting, IsFileIn, IsValueIn, IsTestIn, IsVariableIn, IsFieldIn, IsIn}
+use Rattle.code_gen.proofs.Files.{site_files, site_in}
+
+-- for the code of expressions
+
+scope_in : (s : Setting) (block : Block) → IsSetting s → slice_get s.exchange.now.blocks s.block ≡ Some block → IsScopeOf s.layout.now s.block (scope_of s.exchange.now s.block block)
+scope_in s block h there = record {
+  layout = h.layout;
+  there = there;
+  files = refl;
+  filled = λ n p is. (file_kept s.exchange.now h.kept n p is).some;
+}
+
+pub expr_of : (s : Setting) (e : Expr) → IsValueIn s e → IsExprOf s.layout.now s.block e
+expr_of s e h = record { scope = scope_of s.exchange.now s.block h.block; is_scope = scope_in s h.block h.setting h.there; fits = h.fits }
+
+pub cond_of : (s : Setting) (c : Cond) → IsTestIn s c → IsCondOf s.layout.now s.block c
+cond_of s c h = record { scope = scope_of s.exchange.now s.block h.block; is_scope = scope_in s h.block h.setting h.there; fits = h.fits }
+
+pub value_registers : (s : Setting) (e : Expr) (first : ℕ) → IsValueIn s e → first ≤ 1 → first + (2 * bracket_depth e + 2) < 16
+value_registers s e first h le = omega (arith, h.shallow)
+
+pub value_grows : (s : Setting) (e : Expr) (first : ℕ) (old new : List Op) → IsValueIn s e → Grows s.layout.now s.block old new (λ site. expr_code e site first) → new ≡ old ++ expr_code e (places_in s).site first
+value_grows s e first old new h g = g.is (places_in s).site (site_in s h.setting h.block h.there)
+
+pub test_grows : (s : Setting) (c : Cond) (old new : List Op) → IsTestIn s c → Grows s.layout.now s.block old new (λ site. cond_code c site) → new ≡ old ++ cond_code c (places_in s).site
+test_grows s c old new h g = g.is (places_in s).site (site_in s h.setting h.block h.there)
+
+-- values
+
+value_at : (s : Setting) (es : List Expr) (i : ℕ) (e : Expr) → AllByRecursion (IsValueIn s) es → i < length es → e ≡ get_or es i e → IsValueIn s e
+value_at s [] i e all lt is = absurd (omega arith)
+value_at s (y ∷ es) zero e all lt is = subst (IsValueIn s) (sym is) all.0
+value_at s (y ∷ es) (suc i) e all lt is = value_at s es i e all.1 (omega arith) is
+
+pub value_in : (s : Setting) (es given : List Expr) (i : ℕ) (e : Expr) → AllByRecursion (IsValueIn s) es → given ≡ es → i < length given → e ≡ get_or given i e → IsValueIn s e
+value_in s es given i e all same lt is = value_at s given i e (subst (AllByRecursion (IsValueIn s)) (sym same) all) lt is
+
+values_of : (s : Setting) (block : Block) (es : List Expr) → IsSetting s → slice_get s.exchange.now.blocks s.block ≡ Some block → AllByRecursion (ExprFits (scope_of s.exchange.now s.block block)) es → AllByRecursion (λ e. bracket_depth e ≤ MOST_BRACKETS) es → AllByRecursion (IsValueIn s) es
+values_of s block [] h there fits shallow = tt
+values_of s block (e ∷ es) h there fits shallow = (record { setting = h; block = block; there = there; fits = fits.0; shallow = shallow.0 }, values_of s block es h there fits.1 shallow.1)
+
+-- all expressions of a statement
+own_values : {s : Setting} {d : ℕ} {l : StmtKind-F StmtKind Stmt When} → IsIn s d l → AllByRecursion (IsValueIn s) (own_exprs l)
+own_values {s = s} {l = l} h = values_of s h.inside.block (own_exprs l) h.setting h.inside.there h.inside.fits.exprs.each h.inside.fits.exprs.shallow
+
+pub set_temp_value : (s : Setting) (d t : ℕ) (e : Expr) → IsIn s d (layer.SetTemp t e) → IsValueIn s e
+set_temp_value s d t e h = (own_values h).0
+
+pub set_variable_value : (s : Setting) (d v : ℕ) (e : Expr) → IsIn s d (layer.SetVariable v e) → IsValueIn s e
+set_variable_value s d v e h = (own_values h).0
+
+pub set_field_value : (s : Setting) (d file field pointer : ℕ) (e : Expr) → IsIn s d (layer.SetField file field pointer e) → IsValueIn s e
+set_field_value s d file field pointer e h = (own_values h).0
+
+pub for_first_value : (s : Setting) (d t file field label : ℕ) (rel : Rel) (e : Expr) → IsIn s d (layer.ForFirst t file field rel e label) → IsValueIn s e
+for_first_value s d t file field label rel e h = (own_values h).0
+
+pub case_value : (s : Setting) (d : ℕ) (e : Expr) (ws : List When) (ss : List Stmt) → IsIn s d (layer.Case e ws ss) → IsValueIn s e
+case_value s d e ws ss h = (own_values h).0
+
+pub on_from : (s : Setting) (d t : ℕ) (e f : Expr) (ss : List Stmt) → IsIn s d (layer.On t e f ss) → IsValueIn s e
+on_from s d t e f ss h = (own_values h).0
+
+pub on_upto : (s : Setting) (d t : ℕ) (e f : Expr) (ss : List Stmt) → IsIn s d (layer.On t e f ss) → IsValueIn s f
+on_upto s d t e f ss h = (own_values h).1.0
+
+pub if_test : (s : Setting) (d : ℕ) (c : Cond) (ss rs : List Stmt) → IsIn s d (layer.If c ss rs) → IsTestIn s c
+if_test s d c ss rs h = record { setting = h.setting; block = h.inside.block; there = h.inside.there; fits = h.inside.fits.exprs }
+
+pub if_goto_test : (s : Setting) (d : ℕ) (c : Cond) (label : ℕ) → IsIn s d (layer.IfGoto c label) → IsTestIn s c
+if_goto_test s d c label h = record { setting = h.setting; block = h.inside.block; there = h.inside.there; fits = h.inside.fits.exprs }
+
+-- a variable
+
+pub set_variable_in : (s : Setting) (d v : ℕ) (e : Expr) → IsIn s d (layer.SetVariable v e) → IsVariableIn s v
+set_variable_in s d v e h = record { setting = h.setting; block = h.inside.block; there = h.inside.there; within = h.inside.fits.names }
+
+pub variable_cell : (s : Setting) (v : ℕ) → IsVariableIn s v → HasCell s.layout.now (cell.Variable s.block v)
+variable_cell s v h = record { blocks = s.exchange.now.blocks; layout = h.setting.layout; cell = variable_is_cell s.exchange.now.blocks s.block v h.block h.there h.within }
+
+pub variable_word : (s : Setting) (v word : ℕ) → IsVariableIn s v → ((bs : List Block) → IsLayout bs s.layout.now → IsCell bs (cell.Variable s.block v) → word ≡ cell_number bs (cell.Variable s.block v)) → word ≡ (places_in s).site.first + v
+unfolding places_in base_of
+variable_word s v word h tells = tells s.exchange.now.blocks h.setting.layout (variable_is_cell s.exchange.now.blocks s.block v h.block h.there h.within)
+
+-- fields
+
+pub set_field_in : (s : Setting) (d file field pointer : ℕ) (e : Expr) → IsIn s d (layer.SetField file field pointer e) → IsFieldIn s file field
+set_field_in s d file field pointer e h = record { setting = h.setting; block = h.inside.block; fits = h.inside.fits.names.0 }
+
+pub for_first_field : (s : Setting) (d t file field label : ℕ) (rel : Rel) (e : Expr) → IsIn s d (layer.ForFirst t file field rel e label) → IsFieldIn s file field
+for_first_field s d t file field label rel e h = record { setting = h.setting; block = h.inside.block; fits = h.inside.fits.names.2 }
+
+pub field_setting : (s : Setting) (file field : ℕ) → IsFieldIn s file field → IsSetting s
+field_setting s file field h = h.setting
+
+pub in_setting : (s : Setting) (d : ℕ) (l : StmtKind-F StmtKind Stmt When) → IsIn s d l → IsSetting s
+in_setting s d l h = h.setting
+
+pub cells_fit : (s : Setting) (file : ℕ) (p : Placed) → IsFileIn s file p → record_cells p.file < 2 ^ 32
+cells_fit s file p h = omega (arith, h.cells)
+
+pub field_fits : (s : Setting) (file field : ℕ) (p : Placed) → IsFieldIn s file field → IsFileIn s file p → p.first + field < 2 ^ 32
+field_fits s file field p h at =
+    let q : Placed = record { block = at.block; file = p.file; first = p.first } in
+    let there : slice_get (placed_files s.exchange.now.blocks) file ≡ Some q = ap (λ ps. slice_get ps file) (sym (site_files s h.setting)) ∙ at.there in
+    let same : h.fits.placed ≡ q = same_Some h.fits.placed q (sym h.fits.there ∙ there) in
+    let inside : field < length p.file.fields = subst (λ (r : Placed). field < length r.file.fields) same h.fits.within in
+    omega (arith, at.cells, inside)
+
+pub field_in_place : (s : Setting) (file field : ℕ) (place : FilePlace) → IsFieldIn s file field → IsFileIn s file (placed_of place) → place.first + field < 2 ^ 32
+field_in_place s file field place h at = field_fits s file field (placed_of place) h at
+
+-- lists of temporaries
+
+all_at : (xs : List SignalKind) (i : ℕ) (x : SignalKind) → AllByRecursion (λ k. signal_count k ≤ MOST_VALUES) xs → slice_get xs i ≡ Some x → signal_count x ≤ MOST_VALUES
+all_at [] i x all e = absurd (none-some x e)
+all_at (y ∷ xs) zero x all e = subst (λ (k : SignalKind). signal_count k ≤ MOST_VALUES) (same_Some y x e) all.0
+all_at (y ∷ xs) (suc i) x all e = all_at xs i x all.1 e
+
+enter_few : (o : Option SignalKind) (count : ℕ) → EnterFits o count → ((k : SignalKind) → o ≡ Some k → signal_count k ≤ MOST_VALUES) → count ≤ MOST_VALUES
+enter_few None count fits most = absurd fits
+enter_few (Some (Buffered name level n)) count fits most = omega (arith, fits, most (Buffered name level n) refl)
+enter_few (Some (Direct name n)) count fits most = omega (arith, fits, most (Direct name n) refl)
+enter_few (Some (Combined name n answer)) count fits most = omega (arith, fits, most (Combined name n answer) refl)
+enter_few (Some (Answer name n combined)) count fits most = absurd fits
+enter_few (Some (Outside name n)) count fits most = absurd fits
+
+answer_few : (o : Option SignalKind) (count : ℕ) → AnswerFits o count → ((k : SignalKind) → o ≡ Some k → signal_count k ≤ MOST_VALUES) → count ≤ MOST_VALUES
+answer_few None count fits most = absurd fits
+answer_few (Some (Buffered name level n)) count fits most = absurd fits
+answer_few (Some (Direct name n)) count fits most = absurd fits
+answer_few (Some (Combined name n answer)) count fits most = absurd fits
+answer_few (Some (Answer name n combined)) count fits most = omega (arith, fits, most (Answer name n combined) refl)
+answer_few (Some (Outside name n)) count fits most = absurd fits
+
+pub enter_temps_few : (s : Setting) (d signal : ℕ) (temps : List ℕ) → IsIn s d (layer.Enter signal temps) → length temps ≤ MOST_VALUES
+enter_temps_few s d signal temps h = enter_few (slice_get s.exchange.now.signals signal) (length temps) h.inside.fits.names.0 (λ k e. all_at s.exchange.now.signals signal k h.setting.kept.signals.values e)
+
+pub retrieve_temps_few : (s : Setting) (d answer : ℕ) (temps : List ℕ) → IsIn s d (layer.Retrieve answer temps) → length temps ≤ MOST_VALUES
+retrieve_temps_few s d answer temps h = answer_few (slice_get s.exchange.now.signals answer) (length temps) h.inside.fits.names.0 (λ k e. all_at s.exchange.now.signals answer k h.setting.kept.signals.values e)
+
+-- values that are sent
+
+pub send_values : (s : Setting) (d signal : ℕ) (block : Option ℕ) (es : List Expr) (fresh : Bool) → IsIn s d (layer.Send signal block es fresh) → AllByRecursion (IsValueIn s) es
+send_values s d signal block es fresh h = own_values h
+
+pub return_values : (s : Setting) (d answer : ℕ) (es : List Expr) → IsIn s d (layer.Return answer es) → AllByRecursion (IsValueIn s) es
+return_values s d answer es h = own_values h
+
+-- loops
+
+pub few_loops_in : (s : Setting) (d : ℕ) (l : StmtKind-F StmtKind Stmt When) → IsIn s d l → d ≤ 12
+few_loops_in s d l h = few_loops h.inside

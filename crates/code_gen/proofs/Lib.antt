@@ -1,0 +1,12 @@
+pub mod Lookups
+pub mod Files
+pub mod Parts
+pub mod Inside
+pub mod DataSteps
+pub mod ControlSteps
+pub mod SignalSteps
+pub mod RecordSteps
+pub mod TextSteps
+pub mod Tables
+pub mod PassSteps
+pub mod Sample

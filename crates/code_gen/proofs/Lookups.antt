@@ -1,0 +1,139 @@
+-- What look-ups find.
+use Rattle.std.proofs.Common.{◌≡◌, ◌≢◌, ℕ, zero, suc, ◌+◌, ◌-◌, ◌^◌, ◌<◌, ◌≤◌, min, Bool, true, false, List, [], ◌∷◌, length, drop, get_or, Some, None, slice_get, slice_index, position, refl, sym, ap, ◌∙◌, arith, if◌then◌else◌}
+use Rattle.std.proofs.Math.ListN.{drop_of_length-le}
+use Rattle.std.proofs.Math.Seq.{drop-nil}
+use Rattle.std.proofs.lemmas.Bool.{eq-eqb, ne_eqb}
+use Rattle.std.proofs.lemmas.List.Quantifiers.{position-Some}
+use Rattle.std.proofs.lemmas.Option.{slice_get_past, none-some, same_Some}
+use Rattle.exchange_model.specs.declared.exchange.Exchange.{Exchange}
+use Rattle.exchange_model.specs.declared.block.Block.{Block}
+use Rattle.exchange_model.specs.declared.block.Enter.{Enter as Row}
+use Rattle.exchange_model.specs.declared.entry.Entry.{Entry}
+use Rattle.exchange_model.specs.declared.limits.TheConstants.{MOST_ENTRIES}
+use Rattle.exchange_model.specs.declared.block.Label.{Label}
+use Rattle.exchange_model.specs.declared.block.Variable.{Variable}
+use Rattle.exchange_model.specs.declared.stmt.Stmt.{Stmt}
+use Rattle.exchange_model.specs.declared.stmt.StmtKind.{out-StmtKind}
+use Rattle.exchange_model.specs.Cells.{Placed}
+use Rattle.source_meaning.specs.Config.{found, body_of, label_of, row_place, enter_place, entry_number, is_entry, is_enter}
+use Rattle.source_meaning.specs.Step.{field_width, variable_width}
+use Rattle.expr_code.proofs.Emits.{opens}
+use Rattle.stmt_code.specs.Whole.{behind_enter}
+use Rattle.code_gen.specs.declared.addresses.Addresses.{Addresses}
+use Rattle.code_gen.specs.Addresses.{address_in, opens_with_enter}
+
+found_past : {A B : Type 0} (xs : List A) (i : ℕ) (b : B) (f : A → B) → length xs ≤ i → found (slice_get xs i) b f ≡ b
+found_past xs i b f past = ap (λ o. found o b f) (slice_get_past xs i past)
+
+found_at : {A B : Type 0} (xs : List A) (i : ℕ) (x : A) (b : B) (f : A → B) → slice_get xs i ≡ Some x → found (slice_get xs i) b f ≡ f x
+found_at xs i x b f there = ap (λ o. found o b f) there
+
+pub address_none : (a : Addresses) (b place : ℕ) → length a.blocks ≤ b → a.end ≡ address_in a b place
+address_none a b place past = sym (found_past a.blocks b a.end (λ places. slice_index places (min place (length places - 1))) past)
+
+pub address_some : (a : Addresses) (b place n : ℕ) (places : List ℕ) → slice_get a.blocks b ≡ Some places → n ≡ slice_index places (min place (length places - 1)) → n ≡ address_in a b place
+address_some a b place n places there is = is ∙ sym (found_at a.blocks b places a.end (λ places. slice_index places (min place (length places - 1))) there)
+
+abbrev place_in : ℕ → Block → ℕ
+place_in l k = found (slice_get k.labels l) 0 (λ (e : Label). e.place)
+
+pub found_none : (x : Exchange) (b l : ℕ) → length x.blocks ≤ b → 0 ≡ label_of x b l
+found_none x b l past = sym (found_past x.blocks b 0 (place_in l) past)
+
+pub label_none : (x : Exchange) (b l : ℕ) (k : Block) → slice_get x.blocks b ≡ Some k → length k.labels ≤ l → 0 ≡ label_of x b l
+label_none x b l k there past = sym (found_at x.blocks b k 0 (place_in l) there ∙ found_past k.labels l 0 (λ (e : Label). e.place) past)
+
+pub label_some : (x : Exchange) (b l : ℕ) (k : Block) (e : Label) → slice_get x.blocks b ≡ Some k → slice_get k.labels l ≡ Some e → e.place ≡ label_of x b l
+label_some x b l k e there is = sym (found_at x.blocks b k 0 (place_in l) there ∙ found_at k.labels l e 0 (λ (e : Label). e.place) is)
+
+abbrev width_in : ℕ → Block → ℕ
+width_in v k = found (slice_get k.variables v) 0 (λ (e : Variable). e.width)
+
+pub width_no_block : (x : Exchange) (b v : ℕ) → length x.blocks ≤ b → 0 ≡ variable_width x b v
+width_no_block x b v past = sym (found_past x.blocks b 0 (width_in v) past)
+
+pub width_none : (x : Exchange) (b v : ℕ) (k : Block) → slice_get x.blocks b ≡ Some k → length k.variables ≤ v → 0 ≡ variable_width x b v
+width_none x b v k there past = sym (found_at x.blocks b k 0 (width_in v) there ∙ found_past k.variables v 0 (λ (e : Variable). e.width) past)
+
+pub width_some : (x : Exchange) (b v : ℕ) (k : Block) (e : Variable) → slice_get x.blocks b ≡ Some k → slice_get k.variables v ≡ Some e → e.width ≡ variable_width x b v
+width_some x b v k e there is = sym (found_at x.blocks b k 0 (width_in v) there ∙ found_at k.variables v e 0 (λ (e : Variable). e.width) is)
+
+abbrev row_in : ℕ → Block → ℕ
+row_in signal k = row_place k.enters signal
+
+pub enter_no_block : (x : Exchange) (b signal : ℕ) → length x.blocks ≤ b → 0 ≡ enter_place x b signal
+enter_no_block x b signal past = sym (found_past x.blocks b 0 (row_in signal) past)
+
+pub enter_some : (x : Exchange) (b signal n : ℕ) (k : Block) → slice_get x.blocks b ≡ Some k → n ≡ row_place k.enters signal → n ≡ enter_place x b signal
+enter_some x b signal n k there is = is ∙ sym (found_at x.blocks b k 0 (row_in signal) there)
+
+-- rows
+
+pub rows_begin : (rows : List Row) (signal : ℕ) → row_place (drop 0 rows) signal ≡ row_place rows signal
+rows_begin rows signal = refl
+
+pub rows_found : (rows : List Row) (i signal : ℕ) (r : Row) → i < length rows → r ≡ get_or rows i r → r.signal ≡ signal → row_place (drop i rows) signal ≡ row_place rows signal → r.place ≡ row_place rows signal
+rows_found rows i signal r lt is e h =
+    sym (ap (λ t. if t then r.place else row_place (drop (i + 1) rows) signal) (eq-eqb r.signal signal e)) ∙ sym (ap (λ rs. row_place rs signal) (opens rows i r lt is)) ∙ h
+
+pub rows_more : (rows : List Row) (i signal : ℕ) (r : Row) → i < length rows → r ≡ get_or rows i r → r.signal ≢ signal → row_place (drop i rows) signal ≡ row_place rows signal → row_place (drop (i + 1) rows) signal ≡ row_place rows signal
+rows_more rows i signal r lt is ne h =
+    sym (ap (λ t. if t then r.place else row_place (drop (i + 1) rows) signal) (ne_eqb r.signal signal ne)) ∙ sym (ap (λ rs. row_place rs signal) (opens rows i r lt is)) ∙ h
+
+pub rows_end : (rows : List Row) (i signal : ℕ) → length rows ≤ i → row_place (drop i rows) signal ≡ row_place rows signal → 0 ≡ row_place rows signal
+rows_end rows i signal past h = sym (ap (λ rs. row_place rs signal) (drop_of_length-le rows past)) ∙ h
+
+-- entries
+
+pub number_small : (xs : List Entry) (b signal n : ℕ) → position (is_entry b signal) xs ≡ Some n → length xs ≤ MOST_ENTRIES → n < 2 ^ 32
+number_small xs b signal n e few =
+    let none : Entry = record { block = 0; signal = 0; point = 0 } in
+    omega (arith, (position-Some (is_entry b signal) xs n none e).0, few)
+
+pub number_some : (x : Exchange) (b signal n : ℕ) → position (is_entry b signal) x.entries ≡ Some n → n ≡ entry_number x b signal
+number_some x b signal n e = sym (ap (λ o. found o 0 (λ n. n)) e)
+
+pub number_none : (x : Exchange) (b signal : ℕ) → position (is_entry b signal) x.entries ≡ None → 0 ≡ entry_number x b signal
+number_none x b signal e = sym (ap (λ o. found o 0 (λ n. n)) e)
+
+-- an ENTER at a place
+
+abbrev enter_at_place : ℕ → Block → Bool
+enter_at_place place k = opens_with_enter (drop place k.body)
+
+body_past : (x : Exchange) (b : ℕ) → length x.blocks ≤ b → body_of x b ≡ []
+body_past x b past = found_past x.blocks b [] (λ (k : Block). k.body) past
+
+pub opens_no_block : (x : Exchange) (b place : ℕ) → length x.blocks ≤ b → false ≡ opens_with_enter (drop place (body_of x b))
+opens_no_block x b place past = sym (ap (λ ss. opens_with_enter (drop place ss)) (body_past x b past) ∙ ap opens_with_enter (drop-nil place))
+
+body_is : (x : Exchange) (b : ℕ) (k : Block) → slice_get x.blocks b ≡ Some k → body_of x b ≡ k.body
+body_is x b k there = found_at x.blocks b k [] (λ (k : Block). k.body) there
+
+pub opens_no_place : (x : Exchange) (b place : ℕ) (k : Block) → slice_get x.blocks b ≡ Some k → length k.body ≤ place → false ≡ opens_with_enter (drop place (body_of x b))
+opens_no_place x b place k there past = sym (ap (λ ss. opens_with_enter (drop place ss)) (body_is x b k there) ∙ ap opens_with_enter (drop_of_length-le k.body past))
+
+opened_at : (ss : List Stmt) (place : ℕ) (s : Stmt) → slice_get ss place ≡ Some s → opens_with_enter (drop place ss) ≡ is_enter (out-StmtKind s.kind)
+opened_at [] place s e = absurd (none-some s e)
+opened_at (t ∷ ss) zero s e = ap (λ (s : Stmt). is_enter (out-StmtKind s.kind)) (same_Some t s e)
+opened_at (t ∷ ss) (suc place) s e = opened_at ss place s e
+
+pub opens_at : (x : Exchange) (b place : ℕ) (k : Block) (s : Stmt) (is : Bool) → slice_get x.blocks b ≡ Some k → slice_get k.body place ≡ Some s → is ≡ is_enter (out-StmtKind s.kind) → is ≡ opens_with_enter (drop place (body_of x b))
+opens_at x b place k s is there at e = e ∙ sym (ap (λ ss. opens_with_enter (drop place ss)) (body_is x b k there) ∙ opened_at k.body place s at)
+
+-- fields
+
+pub field_none : (p : Placed) (field : ℕ) → length p.file.fields ≤ field → 0 ≡ field_width p field
+field_none p field past = sym (found_past p.file.fields field 0 (λ (e : Variable). e.width) past)
+
+pub field_some : (p : Placed) (field : ℕ) (v : Variable) → slice_get p.file.fields field ≡ Some v → v.width ≡ field_width p field
+field_some p field v there = sym (found_at p.file.fields field v 0 (λ (e : Variable). e.width) there)
+
+-- the address at which a signal enters
+pub enter_is : (ss : List Stmt) (a end n : ℕ) → opens_with_enter ss ≡ true → n ≡ a + 1 → n ≡ behind_enter ss a end
+enter_is [] a end n e is = cc
+enter_is (s ∷ ss) a end n e is = is ∙ sym (ap (λ t. if t then a + 1 else end) e)
+
+pub no_enter_is : (ss : List Stmt) (a end : ℕ) → opens_with_enter ss ≡ false → end ≡ behind_enter ss a end
+no_enter_is [] a end e = refl
+no_enter_is (s ∷ ss) a end e = sym (ap (λ t. if t then a + 1 else end) e)

@@ -1,0 +1,4 @@
+pub mod Addresses
+pub mod Settings
+pub mod Choices
+pub mod Records

@@ -1,0 +1,203 @@
+// Sends, answers and transfers.
+ghost use Rattle.std.specs.Prelude.{◌≡◌, ◌≤◌, ◌++◌, length, slice_get, OnOk};
+ghost use Rattle.exchange_model.specs.declared.limits.TheConstants.{MOST_VALUES};
+ghost use Rattle.exchange_model.specs.declared.stmt.StmtKind.TheOpen as layer;
+ghost use Rattle.exchange_model.specs.Kept.{signal_count};
+ghost use Rattle.source_meaning.specs.Step.{block_or};
+ghost use Rattle.stmt_code.specs.StmtCode.{count_of, level_number as number_of_level, queue_number as number_of_queue, retrieve_code, send_code};
+ghost use Rattle.code_gen.specs.Settings.{IsIn, code_in, places_in};
+
+use crate::setting::{Setting, Spot};
+use crate::value::push_values;
+use exchange_model::{Expr, SignalKind};
+use expr_code::push_all;
+use machine_code::Op;
+use plex_num::{Level, Memory, Seq};
+
+/// A signal is sent with values: to an entry, to a block in which the job goes on, or out of the exchange.
+#[tactic(auto, using(crate::proofs::Inside::send_values, crate::proofs::SignalSteps::send_is))]
+pub fn send(
+    signal: u32,
+    block: Option<u32>,
+    values: &Seq<Expr>,
+    fresh: bool,
+    at: &Setting<'_>,
+    spot: Spot,
+    ops: &mut Seq<Op>,
+) -> Result<(), Memory>
+    requires { IsIn at.now spot.loops (layer.Send signal block values.now fresh) }
+    ensures { OnOk result (ops.new ≡ ops.old ++ code_in (layer.Send signal block values.now fresh) at.now spot) }
+{
+    push_all(ops, &[Op::Stmt { p: spot.point }])?;
+    push_values(values, at, ops)?;
+    push_send(signal, block_number(block), fresh, at, ops)
+}
+
+/// The number of a block; 0 of none.
+fn block_number(block: Option<u32>) -> u32
+    ensures { result ≡ block_or block }
+{
+    match block {
+        Some(number) => number,
+        None => 0,
+    }
+}
+
+/// Appends the instruction by which the outgoing values go.
+#[tactic(auto, using(crate::proofs::SignalSteps::no_send, crate::proofs::SignalSteps::buffered_is, crate::proofs::SignalSteps::direct_is, crate::proofs::SignalSteps::combined_is, crate::proofs::SignalSteps::outside_is, crate::proofs::SignalSteps::answer_is))]
+fn push_send(
+    signal: u32,
+    block: u32,
+    fresh: bool,
+    at: &Setting<'_>,
+    ops: &mut Seq<Op>,
+) -> Result<(), Memory>
+    ensures { OnOk result (ops.new ≡ ops.old ++ send_code (slice_get (places_in at.now).signals signal) signal block fresh (places_in at.now)) }
+{
+    let Some(kind) = at.signal(signal) else {
+        return Ok(());
+    };
+    match kind {
+        SignalKind::Buffered { level, .. } => push_all(
+            ops,
+            &[Op::Snd {
+                q: queue_number(fresh),
+                x: at.entry(block, signal),
+                l: level_number(*level),
+            }],
+        ),
+        SignalKind::Direct { .. } => {
+            let there = at.enter(block, signal)?;
+            push_all(ops, &[Op::Dir { a: there }])
+        }
+        SignalKind::Combined { answer, .. } => {
+            let there = at.enter(block, signal)?;
+            push_all(
+                ops,
+                &[Op::Call {
+                    a: there,
+                    m: *answer,
+                }],
+            )
+        }
+        SignalKind::Outside { .. } => push_all(
+            ops,
+            &[Op::Snd {
+                q: 2,
+                x: signal,
+                l: 0,
+            }],
+        ),
+        SignalKind::Answer { .. } => Ok(()),
+    }
+}
+
+/// How a send goes to an entry: in the job's forlopp or in a new one.
+fn queue_number(fresh: bool) -> u8
+    ensures { result ≡ number_of_queue fresh }
+{
+    if fresh { 1 } else { 0 }
+}
+
+/// The number of a level, from 0 for A.
+fn level_number(level: Level) -> u8
+    ensures { result ≡ number_of_level level }
+{
+    match level {
+        Level::A => 0,
+        Level::B => 1,
+        Level::C => 2,
+        Level::D => 3,
+    }
+}
+
+/// The temporaries get the values of the answer.
+#[tactic(auto, using(crate::proofs::Inside::retrieve_temps_few, crate::proofs::SignalSteps::retrieve_is))]
+pub fn retrieve(
+    answer: u32,
+    temps: &Seq<u8>,
+    at: &Setting<'_>,
+    spot: Spot,
+    ops: &mut Seq<Op>,
+) -> Result<(), Memory>
+    requires { IsIn at.now spot.loops (layer.Retrieve answer temps.now) }
+    ensures { OnOk result (ops.new ≡ ops.old ++ code_in (layer.Retrieve answer temps.now) at.now spot) }
+{
+    push_all(ops, &[Op::Stmt { p: spot.point }])?;
+    push_retrieves(temps.as_slice(), ops)
+}
+
+/// Appends the code by which temporaries get the answer values.
+#[tactic(auto, using(crate::proofs::SignalSteps::retrieves_more, crate::proofs::SignalSteps::retrieves_end))]
+fn push_retrieves(temps: &[u8], ops: &mut Seq<Op>) -> Result<(), Memory>
+    requires { length temps.now ≤ MOST_VALUES }
+    ensures { OnOk result (ops.new ≡ ops.old ++ retrieve_code 0 temps.now) }
+{
+    for (k, temp) in temps.iter().enumerate() {
+        push_all(
+            ops,
+            &[Op::Lda { r: 0, k: k as u8 }, Op::Stt { i: *temp, r: 0 }],
+        )?;
+    }
+    Ok(())
+}
+
+/// The sender that waits gets an answer with values.
+#[tactic(auto, using(crate::proofs::Inside::return_values, crate::proofs::SignalSteps::answer_sent_is))]
+pub fn answer(
+    answer: u32,
+    values: &Seq<Expr>,
+    at: &Setting<'_>,
+    spot: Spot,
+    ops: &mut Seq<Op>,
+) -> Result<(), Memory>
+    requires { IsIn at.now spot.loops (layer.Return answer values.now) }
+    ensures { OnOk result (ops.new ≡ ops.old ++ code_in (layer.Return answer values.now) at.now spot) }
+{
+    push_all(ops, &[Op::Stmt { p: spot.point }])?;
+    push_values(values, at, ops)?;
+    push_all(ops, &[Op::Ret { m: answer }])
+}
+
+/// The entry values go on to another block.
+#[tactic(auto, using(crate::proofs::SignalSteps::transfer_is))]
+pub fn transfer(
+    signal: u32,
+    block: Option<u32>,
+    at: &Setting<'_>,
+    spot: Spot,
+    ops: &mut Seq<Op>,
+) -> Result<(), Memory>
+    ensures { OnOk result (ops.new ≡ ops.old ++ code_in (layer.Transfer signal block) at.now spot) }
+{
+    let there = at.enter(block_number(block), signal)?;
+    let count = value_count(signal, at);
+    push_all(
+        ops,
+        &[Op::Stmt { p: spot.point }, Op::Trf { a: there, n: count }],
+    )
+}
+
+/// How many values a signal carries; 0 where there is no such signal.
+#[tactic(auto, using(crate::proofs::SignalSteps::count_none, crate::proofs::SignalSteps::count_some))]
+fn value_count(signal: u32, at: &Setting<'_>) -> u32
+    ensures { result ≡ count_of (slice_get (places_in at.now).signals signal) }
+{
+    match at.signal(signal) {
+        Some(kind) => values_of(kind),
+        None => 0,
+    }
+}
+
+/// How many values a signal of this kind carries.
+fn values_of(kind: &SignalKind) -> u32
+    ensures { result ≡ signal_count kind.now }
+{
+    match kind {
+        SignalKind::Buffered { count, .. }
+        | SignalKind::Direct { count, .. }
+        | SignalKind::Combined { count, .. }
+        | SignalKind::Answer { count, .. }
+        | SignalKind::Outside { count, .. } => u32::from(*count),
+    }
+}
