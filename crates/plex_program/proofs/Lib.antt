@@ -1,11 +1,4 @@
-pub mod Built
-pub mod Checked
-pub mod Declared
 pub mod Endings
-pub mod Jobs
-pub mod Lined
+pub mod Forms
 pub mod Lines
-pub mod Picks
 pub mod Stages
-pub mod Turns
-pub mod Values

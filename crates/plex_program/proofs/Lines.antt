@@ -1,10 +1,10 @@
 -- The lines of a report, one after the other.
 use Rattle.std.proofs.Common.{◌≡◌, ℕ, ◌+◌, ◌<◌, ◌≤◌, List, [], ◌++◌, length, drop, take, get_or, slice_index, refl, sym, ap, ◌∙◌, append_assoc, arith}
 use Rattle.std.proofs.lemmas.List.{drop_more, drop_all, append-nil}
-use Rattle.small_exchange.specs.declared.block.Block.{Block}
-use Rattle.small_exchange.specs.declared.block.Variable.{Variable}
+use Rattle.exchange_model.specs.declared.block.Block.{Block}
+use Rattle.exchange_model.specs.declared.block.Variable.{Variable}
 use Rattle.std.proofs.lemmas.List.Sums.{sum_by_more, sum_by_more_le}
-use Rattle.small_exchange.specs.Cells.{cell_count}
+use Rattle.exchange_model.specs.Cells.{block_cells, cell_count}
 use Rattle.plex_program.specs.Report.{variable_line, variable_lines, block_lines}
 
 -- the text so far, and the lines that are left, are the text before and all lines
@@ -42,22 +42,22 @@ pub record ToldBlocks (bs : List Block) (store before : List ℕ) (i cell : ℕ)
 pub blocks_begin : (bs : List Block) (store before : List ℕ) → ToldBlocks bs store before 0 0 before
 blocks_begin bs store before = record { at = refl; all = refl }
 
-pub blocks_more : (bs : List Block) (store before : List ℕ) (i cell n : ℕ) (text new : List ℕ) (b : Block) → i < length bs → b ≡ get_or bs i b → n ≡ length b.variables → new ≡ text ++ variable_lines b.name b.variables cell store → ToldBlocks bs store before i cell text → ToldBlocks bs store before (i + 1) (cell + n) new
+pub blocks_more : (bs : List Block) (store before : List ℕ) (i cell n : ℕ) (text new : List ℕ) (b : Block) → i < length bs → b ≡ get_or bs i b → n ≡ block_cells b → new ≡ text ++ variable_lines b.name b.variables cell store → ToldBlocks bs store before i cell text → ToldBlocks bs store before (i + 1) (cell + n) new
 unfolding block_lines
 blocks_more bs store before i cell n text new b inside is size wrote t =
     let lines = variable_lines b.name b.variables cell store in
-    let rest = block_lines (drop (i + 1) bs) (cell + length b.variables) store in
+    let rest = block_lines (drop (i + 1) bs) (cell + block_cells b) store in
     let cons : block_lines (drop i bs) cell store ≡ lines ++ rest = rw (drop_more bs i b inside, ← is) refl in
-    let more : cell_count (take (i + 1) bs) ≡ cell_count (take i bs) + length (get_or bs i b).variables = sum_by_more (λ (k : Block). length k.variables) bs i b inside in
-    let this : length (get_or bs i b).variables ≡ length b.variables = ap (λ (k : Block). length k.variables) (sym is) in
+    let more : cell_count (take (i + 1) bs) ≡ cell_count (take i bs) + block_cells (get_or bs i b) = sum_by_more block_cells bs i b inside in
+    let this : block_cells (get_or bs i b) ≡ block_cells b = ap block_cells (sym is) in
     let counted = t.at in
     record { at = omega (arith, more, this, counted, size); all = ap (λ m. new ++ block_lines (drop (i + 1) bs) (cell + m) store) size ∙ ap (λ l. l ++ rest) wrote ∙ append_assoc text lines rest ∙ ap (λ r. text ++ r) (sym cons) ∙ t.all }
 
 -- a block's cells are within all
-pub block_within : (bs : List Block) (store before : List ℕ) (i cell : ℕ) (text : List ℕ) (b : Block) → cell_count bs ≤ 1000000 → i < length bs → b ≡ get_or bs i b → ToldBlocks bs store before i cell text → cell + length b.variables ≤ 1000000
+pub block_within : (bs : List Block) (store before : List ℕ) (i cell : ℕ) (text : List ℕ) (b : Block) → cell_count bs ≤ 1000000 → i < length bs → b ≡ get_or bs i b → ToldBlocks bs store before i cell text → cell + block_cells b ≤ 1000000
 block_within bs store before i cell text b few inside is t =
-    let more : cell_count (take i bs) + length (get_or bs i b).variables ≤ cell_count bs = sum_by_more_le (λ (k : Block). length k.variables) bs i b inside in
-    let this : length (get_or bs i b).variables ≡ length b.variables = ap (λ (k : Block). length k.variables) (sym is) in
+    let more : cell_count (take i bs) + block_cells (get_or bs i b) ≤ cell_count bs = sum_by_more_le block_cells bs i b inside in
+    let this : block_cells (get_or bs i b) ≡ block_cells b = ap block_cells (sym is) in
     let counted = t.at in
     omega (arith, more, this, counted, few)
 

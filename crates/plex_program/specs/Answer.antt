@@ -1,23 +1,26 @@
 -- What the program answers: a status and a text for each list of words and each set of files.
 use Rattle.std.specs.Prelude.{◌≡◌, ℕ, ◌≤◌, nat_lt, List, [], length, Option, Some, None, Result, Ok, Err, IfOk, IfErr, IfSome, IsSomeAnd, if◌then◌else◌}
+use Rattle.std.specs.List.{list_all}
 use Rattle.plex_io.specs.Causes.{Rose}
 use Rattle.plex_io.specs.Files.{Files}
 use Rattle.plex_ast.specs.declared.tree.Tree.{Tree}
 use Rattle.small_form.specs.Small.{small_of}
 use Rattle.small_form.specs.declared.text.SmallText.{SmallText}
-use Rattle.small_exchange.specs.declared.exchange.Exchange.{Exchange}
+use Rattle.small_source.specs.Source.{exchange_of_text}
+use Rattle.exchange_model.specs.declared.exchange.Exchange.{Exchange}
+use Rattle.signal_file.specs.declared.fault.SignalFault.{SignalFault}
+use Rattle.signal_file.specs.declared.line.Line.{Line}
+use Rattle.signal_file.specs.Lines.{signal_lines}
+use Rattle.small_meaning.specs.Bare.{end_of}
+use Rattle.small_run.specs.Runs.{comes_at_once, comings}
 use Rattle.plex_program.specs.Reading.{tree_of_file}
 use Rattle.plex_program.specs.Report.{report}
-use Rattle.plex_program.specs.Run.{single_run}
-use Rattle.plex_program.specs.Signals.{lines_in}
-use Rattle.plex_program.specs.Source.{exchange_of_text}
 use Rattle.plex_program.specs.Text.{refusal_text, usage_text}
 use Rattle.plex_program.specs.Words.{Word, shape}
 use Rattle.plex_program.specs.declared.fault.SourceFault.{SourceFault}
 use Rattle.plex_program.specs.declared.command.Command.{Command}
 use Rattle.plex_program.specs.declared.command.Command.TheVariants.{Run, Single}
 use Rattle.plex_program.specs.declared.limits.TheConstants.{TEXT_LIMIT}
-use Rattle.plex_program.specs.declared.line.Line.{Line}
 use Rattle.plex_program.specs.declared.perform.Answer.{Answer}
 use Rattle.plex_program.specs.declared.perform.Refused.{Refused}
 use Rattle.plex_program.specs.declared.perform.Refused.TheVariants.{Source, NotYetSource, NotYetSignals}
@@ -73,9 +76,14 @@ exchange_of_file text = goes_on (or_fault (tree_of_file text)) (λ t. or_refused
 abbrev pub exchange_at : Word → Files → Out Exchange
 exchange_at name files = goes_on (text_at name files) (λ text. exchange_of_file text)
 
+-- lines of the first form: each of them comes at once, in no forlopp
+abbrev pub of_first_form : Result (List Line) SignalFault → Option (List Line)
+of_first_form (Ok lines) = (if list_all comes_at_once lines then Some lines else None)
+of_first_form (Err fault) = None
+
 abbrev pub lines_of_file : Exchange → Option (List ℕ) → Option (List Line)
 lines_of_file x None = None
-lines_of_file x (Some text) = lines_in x text
+lines_of_file x (Some text) = of_first_form (signal_lines x text)
 
 -- the signal lines of a file
 abbrev pub lines_at : Exchange → Word → Files → Out (List Line)
@@ -83,7 +91,7 @@ lines_at x name files = goes_on (text_at name files) (λ text. or_refused NotYet
 
 -- the report of the single run
 abbrev pub run_report : Exchange → List Line → List ℕ
-run_report x lines = report x (single_run x lines)
+run_report x lines = report x (end_of x (comings lines))
 
 abbrev pub run_of : Word → Word → Files → Out (List ℕ)
 run_of e s files =
@@ -91,7 +99,7 @@ run_of e s files =
     goes_on (lines_at x s files) (λ lines.
     Ok (run_report x lines)))
 
--- the text that a command comes to, which is the same for both
+-- the text that a command comes to: what the compiled code leaves is what the source means
 abbrev pub performed : Command → Files → Out (List ℕ)
 performed (Run e s) files = run_of e s files
 performed (Single e s) files = run_of e s files

@@ -1,12 +1,6 @@
 pub mod Answer
-pub mod Job
-pub mod Names
 pub mod Program
 pub mod Reading
 pub mod Report
-pub mod Run
-pub mod Signals
-pub mod Source
 pub mod Text
-pub mod Value
 pub mod Words

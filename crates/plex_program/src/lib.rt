@@ -6,25 +6,16 @@
 // It knows no process: main gives it the real devices.
 #![tactic(auto)]
 
-mod buffers;
 mod command;
 mod fault;
-mod job;
 mod limits;
-mod line;
-mod names;
 mod perform;
 mod program;
 mod reading;
 mod report;
-mod rules;
-mod run;
-mod signals;
-mod source;
 #[cfg(test)]
 mod tests;
 mod text;
-mod value;
 
 pub use command::Command;
 pub use fault::{Rule, SourceFault};

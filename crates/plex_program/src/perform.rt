@@ -1,22 +1,24 @@
 // The work of each command, up to its text.
 ghost use Rattle.std.specs.Prelude.{◌≡◌, ◌≤◌, IfOk, IfSome, length};
-ghost use Rattle.plex_program.specs.Answer.{Builds, Comes, Reads, exchange_at, exchange_of_file, exchange_of_tree, lines_at, lines_of_file, or_refused, performed, run_of, run_report, text_at};
+ghost use Rattle.small_meaning.specs.Small.{IsSmall};
+ghost use Rattle.small_run.specs.Runs.{AreOf, ComesTo};
+ghost use Rattle.signal_file.specs.Lines.{signal_lines};
+ghost use Rattle.plex_program.specs.Answer.{Builds, Comes, Reads, exchange_at, exchange_of_file, exchange_of_tree, lines_at, lines_of_file, of_first_form, or_refused, performed, run_of, run_report, text_at};
 
 use crate::command::Command;
 use crate::fault::SourceFault;
 use crate::limits::TEXT_LIMIT;
-use crate::line::Line;
 use crate::program::Status;
 use crate::reading::tree_of_file;
 use crate::report::report;
-use crate::run::run;
-use crate::signals::read_signals;
-use crate::source::read_text;
+use exchange_model::Exchange;
 use plex_ast::Tree;
 use plex_io::{Shelf, ShelfFault, Word};
 use plex_num::{Memory, Seq};
-use small_exchange::Exchange;
+use signal_file::{Line, SignalFault, read_signals};
 use small_form::small_text;
+use small_run::{Finished, come_at_once, compiled_run, single_run};
+use small_source::read_text;
 use std::alloc::Global;
 
 /// The first refusal.
@@ -74,6 +76,7 @@ fn text_in<S: Shelf>(alloc: Global, shelf: &mut S, name: &Word) -> Result<Option
 fn exchange_in<S: Shelf>(alloc: Global, shelf: &mut S, name: &Word) -> Result<Exchange, Stop>
     ensures comes { Comes (S.held shelf.old) (exchange_at name.now) (S.faults shelf.old) (S.faults shelf.new) result }
     ensures kept { S.held shelf.new ≡ S.held shelf.old }
+    ensures small { IfOk result (λ x. IsSmall x) }
 {
     let text = text_in(alloc, shelf, name)?;
     exchange_of_file(alloc, &text)
@@ -83,7 +86,8 @@ fn exchange_in<S: Shelf>(alloc: Global, shelf: &mut S, name: &Word) -> Result<Ex
 #[tactic(auto, using(crate::proofs::Stages::reads_stop, crate::proofs::Stages::reads_go))]
 fn exchange_of_file(alloc: Global, text: &Option<Seq<u8>>) -> Result<Exchange, Stop>
     requires { IfSome text.now (λ t. length t ≤ TEXT_LIMIT) }
-    ensures { Reads (exchange_of_file text.now) result }
+    ensures reads { Reads (exchange_of_file text.now) result }
+    ensures small { IfOk result (λ x. IsSmall x) }
 {
     let tree = tree_of_file(alloc, text)?;
     small_exchange(alloc, &tree)
@@ -91,7 +95,8 @@ fn exchange_of_file(alloc: Global, text: &Option<Seq<u8>>) -> Result<Exchange, S
 
 /// The exchange of a tree that is of the small form and keeps its rules.
 fn small_exchange(alloc: Global, tree: &Tree) -> Result<Exchange, Stop>
-    ensures { Reads (or_refused Refused.NotYetSource (exchange_of_tree tree.now)) result }
+    ensures reads { Reads (or_refused Refused.NotYetSource (exchange_of_tree tree.now)) result }
+    ensures small { IfOk result (λ x. IsSmall x) }
 {
     match exchange_of_tree(alloc, tree) {
         Ok(Some(exchange)) => Ok(exchange),
@@ -101,7 +106,8 @@ fn small_exchange(alloc: Global, tree: &Tree) -> Result<Exchange, Stop>
 }
 
 fn exchange_of_tree(alloc: Global, tree: &Tree) -> Result<Option<Exchange>, Memory>
-    ensures { IfOk result (λ x. x ≡ exchange_of_tree tree.now) }
+    ensures exchange { IfOk result (λ x. x ≡ exchange_of_tree tree.now) }
+    ensures small { IfOk result (λ x. IfSome x (λ x. IsSmall x)) }
 {
     match small_text(alloc, tree)? {
         Some(text) => read_text(alloc, &text),
@@ -117,8 +123,10 @@ fn lines_of<S: Shelf>(
     exchange: &Exchange,
     name: &Word,
 ) -> Result<Seq<Line>, Stop>
+    requires { IsSmall exchange.now }
     ensures comes { Comes (S.held shelf.old) (lines_at exchange.now name.now) (S.faults shelf.old) (S.faults shelf.new) result }
     ensures kept { S.held shelf.new ≡ S.held shelf.old }
+    ensures lines { IfOk result (λ lines. AreOf exchange.now lines) }
 {
     let text = text_in(alloc, shelf, name)?;
     match lines_of_file(alloc, exchange, &text) {
@@ -133,36 +141,102 @@ fn lines_of_file(
     exchange: &Exchange,
     text: &Option<Seq<u8>>,
 ) -> Result<Option<Seq<Line>>, Memory>
-    ensures { IfOk result (λ lines. lines ≡ lines_of_file exchange.now text.now) }
+    requires small { IsSmall exchange.now }
+    requires size { IfSome text.now (λ t. length t ≤ TEXT_LIMIT) }
+    ensures lines { IfOk result (λ lines. lines ≡ lines_of_file exchange.now text.now) }
+    ensures fit { IfOk result (λ lines. IfSome lines (λ lines. AreOf exchange.now lines)) }
 {
     match text {
-        Some(text) => read_signals(alloc, exchange, text.as_slice()),
+        Some(text) => first_form(alloc, exchange, text.as_slice()),
         None => Ok(None),
     }
 }
 
+/// The lines of a text of the first form.
+#[tactic(auto, using(crate::proofs::Forms::form_fault, crate::proofs::Forms::form_no, crate::proofs::Forms::form_yes, crate::proofs::Forms::form_fits))]
+fn first_form(alloc: Global, exchange: &Exchange, text: &[u8]) -> Result<Option<Seq<Line>>, Memory>
+    requires small { IsSmall exchange.now }
+    requires size { length text.now ≤ TEXT_LIMIT }
+    ensures lines { IfOk result (λ lines. lines ≡ of_first_form (signal_lines exchange.now text.now)) }
+    ensures fit { IfOk result (λ lines. IfSome lines (λ lines. AreOf exchange.now lines)) }
+{
+    match read_signals(alloc, exchange, text) {
+        Ok(lines) => {
+            if come_at_once(lines.as_slice()) {
+                Ok(Some(lines))
+            } else {
+                Ok(None)
+            }
+        }
+        Err(SignalFault::Memory) => Err(Memory),
+        Err(_fault) => Ok(None),
+    }
+}
+
+/// What runs the jobs of an exchange.
+#[derive(Clone, Copy)]
+enum Runner {
+    /// The source interpreter.
+    Source,
+    /// The register machine, on the compiled code.
+    Code,
+}
+
+/// Where the single run comes to.
+fn run_by(
+    alloc: Global,
+    runner: Runner,
+    exchange: &Exchange,
+    lines: &[Line],
+) -> Result<Finished, Memory>
+    requires small { IsSmall exchange.now }
+    requires lines { AreOf exchange.now lines.now }
+    ensures { IfOk result (λ end. ComesTo exchange.now lines.now end.ended end.store) }
+{
+    match runner {
+        Runner::Source => single_run(alloc, exchange, lines),
+        Runner::Code => compiled_run(alloc, exchange, lines),
+    }
+}
+
 /// The report of the single run.
-fn run_report(alloc: Global, exchange: &Exchange, lines: &[Line]) -> Result<Seq<u8>, Memory>
+#[tactic(auto, using(crate::proofs::Forms::report_is))]
+fn run_report(
+    alloc: Global,
+    runner: Runner,
+    exchange: &Exchange,
+    lines: &[Line],
+) -> Result<Seq<u8>, Memory>
+    requires small { IsSmall exchange.now }
+    requires lines { AreOf exchange.now lines.now }
     ensures { IfOk result (λ text. text ≡ run_report exchange.now lines.now) }
 {
-    let books = run(alloc, exchange, lines)?;
-    report(alloc, exchange, &books)
+    let end = run_by(alloc, runner, exchange, lines)?;
+    report(alloc, exchange, end.ended, end.store.as_slice())
 }
 
 /// The same as a stage.
-fn run_text(alloc: Global, exchange: &Exchange, lines: &[Line]) -> Result<Seq<u8>, Stop>
+fn run_text(
+    alloc: Global,
+    runner: Runner,
+    exchange: &Exchange,
+    lines: &[Line],
+) -> Result<Seq<u8>, Stop>
+    requires small { IsSmall exchange.now }
+    requires lines { AreOf exchange.now lines.now }
     ensures { Builds (run_report exchange.now lines.now) result }
 {
-    match run_report(alloc, exchange, lines) {
+    match run_report(alloc, runner, exchange, lines) {
         Ok(text) => Ok(text),
         Err(Memory) => Err(Stop::Memory),
     }
 }
 
-/// `run`.
+/// `run` and `single`.
 #[tactic(auto, using(crate::proofs::Stages::comes_stop, crate::proofs::Stages::comes_go))]
 fn perform_run<S: Shelf>(
     alloc: Global,
+    runner: Runner,
     shelf: &mut S,
     exchange: &Word,
     signals: &Word,
@@ -171,7 +245,7 @@ fn perform_run<S: Shelf>(
 {
     let exchange = exchange_in(alloc, shelf, exchange)?;
     let lines = lines_of(alloc, shelf, &exchange, signals)?;
-    run_text(alloc, &exchange, lines.as_slice())
+    run_text(alloc, runner, &exchange, lines.as_slice())
 }
 
 /// The text that a command comes to.
@@ -179,7 +253,11 @@ pub fn perform<S: Shelf>(alloc: Global, shelf: &mut S, command: &Command) -> Res
     ensures comes { Comes (S.held shelf.old) (performed command.now) (S.faults shelf.old) (S.faults shelf.new) result }
 {
     match command {
-        Command::Run { exchange, signals } => perform_run(alloc, shelf, exchange, signals),
-        Command::Single { exchange, signals } => perform_run(alloc, shelf, exchange, signals),
+        Command::Run { exchange, signals } => {
+            perform_run(alloc, Runner::Code, shelf, exchange, signals)
+        }
+        Command::Single { exchange, signals } => {
+            perform_run(alloc, Runner::Source, shelf, exchange, signals)
+        }
     }
 }

@@ -1,22 +1,26 @@
 // The report of a run.
-ghost use Rattle.std.specs.Prelude.{◌≡◌, ◌≤◌, ◌++◌, ◌+◌, IfOk, OnOk, length};
-ghost use Rattle.small_exchange.specs.Cells.{cell_count};
-ghost use Rattle.plex_program.specs.Report.{block_lines, end_line, jobs_line, report, variable_line, variable_lines};
+ghost use Rattle.std.specs.Prelude.{◌≡◌, ◌≤◌, ◌++◌, ◌+◌, IfOk, OnOk, length, slice_index};
+ghost use Rattle.exchange_model.specs.Cells.{cell_count};
+ghost use Rattle.plex_program.specs.Report.{block_lines, end_line, jobs_line, report_of, variable_line, variable_lines};
 
-use crate::run::Books;
-use crate::value::value_at;
+use exchange_model::{Block, Exchange, Variable};
 use plex_num::{Memory, Seq, print_number};
-use small_exchange::{Block, Exchange, Variable};
 use std::alloc::Global;
 
-/// The whole report.
-#[tactic(auto, unfolding(crate::specs::Report::report))]
-pub fn report(alloc: Global, exchange: &Exchange, books: &Books<'_>) -> Result<Seq<u8>, Memory>
-    ensures { IfOk result (λ text. text ≡ report exchange.now books.now) }
+/// The whole report, after so many jobs, over these stored words.
+#[tactic(auto, unfolding(crate::specs::Report::report_of))]
+pub fn report(
+    alloc: Global,
+    exchange: &Exchange,
+    ended: u64,
+    store: &[u32],
+) -> Result<Seq<u8>, Memory>
+    ensures { IfOk result (λ text. text ≡ report_of exchange.now.blocks ended store.now) }
 {
+    exchange.kept();
     let mut text = Seq::new(alloc);
-    add_jobs_line(&mut text, books.ended())?;
-    add_block_lines(&mut text, exchange.blocks.as_slice(), books.store())?;
+    add_jobs_line(&mut text, ended)?;
+    add_block_lines(&mut text, exchange.blocks.as_slice(), store)?;
     text.append(b"END DONE\n")?;
     Ok(text)
 }
@@ -41,7 +45,7 @@ fn add_block_lines(text: &mut Seq<u8>, blocks: &[Block], store: &[u32]) -> Resul
     for block in blocks {
         let variables = block.variables.as_slice();
         add_variable_lines(text, block.name.as_slice(), variables, cell, store)?;
-        cell += variables.len();
+        cell += block.cells() as usize;
     }
     Ok(())
 }
@@ -64,6 +68,13 @@ fn add_variable_lines(
         cell += 1;
     }
     Ok(())
+}
+
+/// The value of a cell; 0 past the last one.
+fn value_at(store: &[u32], cell: usize) -> u32
+    ensures { result ≡ slice_index store.now cell }
+{
+    if cell < store.len() { store[cell] } else { 0 }
 }
 
 /// `VAR BLOCK.NAME v`.

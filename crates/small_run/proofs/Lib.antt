@@ -1,0 +1,4 @@
+pub mod Waits
+pub mod Stands
+pub mod FirstForm
+pub mod Machines

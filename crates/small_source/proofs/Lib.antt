@@ -1,0 +1,12 @@
+pub mod Bodies
+pub mod Built
+pub mod Checked
+pub mod Declared
+pub mod Differ
+pub mod Flat
+pub mod Kept
+pub mod Meant
+pub mod Places
+pub mod Rows
+pub mod Sums
+pub mod Small
