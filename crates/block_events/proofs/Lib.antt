@@ -1,0 +1,4 @@
+pub mod BlockSteps
+pub mod Choices
+pub mod Layers
+pub mod Steps
