@@ -1,0 +1,4 @@
+pub mod Blocks
+pub mod Everywhere
+pub mod Meanings
+pub mod Shares

@@ -1,0 +1,5 @@
+pub mod EntrySteps
+pub mod Fits
+pub mod LinkedSteps
+pub mod Lists
+pub mod PointSteps
