@@ -4,16 +4,16 @@ use Rattle.std.specs.List.{list_all}
 use Rattle.plex_io.specs.Causes.{Rose}
 use Rattle.plex_io.specs.Files.{Files}
 use Rattle.plex_ast.specs.declared.tree.Tree.{Tree}
-use Rattle.small_form.specs.Small.{small_of}
-use Rattle.small_form.specs.declared.text.SmallText.{SmallText}
-use Rattle.small_source.specs.Source.{exchange_of_text}
+use Rattle.resolver.specs.Resolved.{resolved}
+use Rattle.resolver.specs.declared.fault.TextFault.{TextFault}
+use Rattle.small_check.specs.Form.{is_small}
 use Rattle.exchange_model.specs.declared.exchange.Exchange.{Exchange}
 use Rattle.signal_file.specs.declared.fault.SignalFault.{SignalFault}
 use Rattle.signal_file.specs.declared.line.Line.{Line}
 use Rattle.signal_file.specs.Lines.{signal_lines}
 use Rattle.small_meaning.specs.Bare.{end_of}
 use Rattle.small_run.specs.Runs.{comes_at_once, comings}
-use Rattle.plex_program.specs.Reading.{tree_of_file}
+use Rattle.plex_program.specs.Reading.{resolve_fault, tree_of_file}
 use Rattle.plex_program.specs.Report.{report}
 use Rattle.plex_program.specs.Text.{refusal_text, usage_text}
 use Rattle.plex_program.specs.Words.{Word, shape}
@@ -60,17 +60,22 @@ abbrev pub or_fault : {A : Type 0} → Result A SourceFault → Out A
 or_fault (Ok a) = Ok a
 or_fault (Err f) = Err (Some (Source f))
 
--- the exchange of a tree that is of the small form and keeps its rules
-abbrev pub exchange_of_small : Option SmallText → Option Exchange
-exchange_of_small None = None
-exchange_of_small (Some t) = exchange_of_text t
+-- the exchange, or the first fault of the rules of a text
+abbrev pub or_broken : Result Exchange TextFault → Out Exchange
+or_broken (Ok x) = Ok x
+or_broken (Err f) = Err (Some (Source (resolve_fault f)))
 
-abbrev pub exchange_of_tree : Tree → Option Exchange
-exchange_of_tree t = exchange_of_small (small_of t)
+-- the exchange, where it runs so far
+abbrev pub or_waits : Exchange → Out Exchange
+or_waits x = (if is_small x then Ok x else Err (Some NotYetSource))
+
+-- the exchange that a tree means
+abbrev pub exchange_of_tree : Tree → Out Exchange
+exchange_of_tree t = goes_on (or_broken (resolved t)) (λ x. or_waits x)
 
 -- the exchange that an exchange text means
 abbrev pub exchange_of_file : Option (List ℕ) → Out Exchange
-exchange_of_file text = goes_on (or_fault (tree_of_file text)) (λ t. or_refused NotYetSource (exchange_of_tree t))
+exchange_of_file text = goes_on (or_fault (tree_of_file text)) (λ t. exchange_of_tree t)
 
 -- the exchange of a file
 abbrev pub exchange_at : Word → Files → Out Exchange

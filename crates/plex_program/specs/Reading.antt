@@ -1,5 +1,5 @@
 -- The tree of an exchange text, or its first fault: a fault of its size, then of its tokens, then of its sentence.
-use Rattle.std.specs.Prelude.{ℕ, ◌+◌, List, slice_get, Option, Some, None, Result, Ok, Err}
+use Rattle.std.specs.Prelude.{ℕ, ◌≤◌, ◌+◌, List, slice_get, Option, Some, None, Result, Ok, Err}
 use Rattle.plex_lexer.specs.Lexed.{tokens_of}
 use Rattle.plex_lexer.specs.Lines.{feeds}
 use Rattle.plex_lexer.specs.declared.token.Token.{Token}
@@ -9,6 +9,13 @@ use Rattle.plex_ast.specs.declared.tree.Tree.{Tree}
 use Rattle.plex_parser.specs.Parses.{parsed}
 use Rattle.plex_parser.specs.declared.parser.ParseFault.{ParseFault}
 use Rattle.plex_parser.specs.declared.parser.ParseFault.TheVariants as parsing
+use Rattle.exchange_model.specs.declared.limits.TheConstants.{MOST_WHENS}
+use Rattle.plex_print.specs.Keeps.{Keeps}
+use Rattle.exchange_fits.specs.Texts.{choices_in, exchange_of_tree}
+use Rattle.link_rules.specs.declared.link.LinkRule.{LinkRule}
+use Rattle.link_rules.specs.declared.link.LinkRule.TheVariants as links
+use Rattle.resolver.specs.declared.fault.TextFault.{TextFault}
+use Rattle.resolver.specs.declared.fault.TextFault.TheVariants as resolving
 use Rattle.plex_program.specs.declared.fault.SourceFault.{SourceFault}
 use Rattle.plex_program.specs.declared.fault.Rule.{Rule}
 use Rattle.plex_program.specs.declared.fault.Rule.TheVariants as rule
@@ -65,3 +72,26 @@ tree_of text = tree_of_lexed text (tokens_of text)
 abbrev pub tree_of_file : Option (List ℕ) → Result Tree SourceFault
 tree_of_file None = Err too_large
 tree_of_file (Some text) = tree_of text
+
+-- a tree that a text spells: its numbers have 32 bits, its brackets and statements nest as deep as they may, and its CASEs have no more
+-- choices than a text has bytes
+pub record IsSpelled (t : Tree) : Type 0 where
+  pub keeps : Keeps 6 12 t
+  pub few : choices_in (exchange_of_tree t) ≤ MOST_WHENS
+
+-- a fault of the rules of a text
+
+abbrev pub link_rule : LinkRule → Rule
+link_rule links.NoReceiver = rule.NoReceiver
+link_rule links.NeedsReference = rule.NeedsReference
+link_rule links.NotReceived = rule.NotReceived
+link_rule links.NotInSurvey = rule.NotInSurvey
+link_rule links.TwoEnters = rule.TwoEnters
+link_rule links.NoEnter = rule.NoEnter
+link_rule links.Limit = rule.Limit
+
+-- want of memory is none
+abbrev pub resolve_fault : TextFault → SourceFault
+resolve_fault (resolving.Rule number line) = at_line line (rule.Numbered number)
+resolve_fault (resolving.Link broken line) = at_line line (link_rule broken)
+resolve_fault resolving.Memory = too_large

@@ -8,6 +8,10 @@ use Rattle.plex_program.specs.Report.{LF}
 use Rattle.plex_program.specs.declared.perform.Refused.{Refused}
 use Rattle.plex_program.specs.declared.perform.Refused.TheVariants.{Source, NotYetSource, NotYetSignals}
 
+-- `N` and a number
+abbrev pub numbered_name : ℕ → List ℕ
+numbered_name number = codes "N" ++ decimal number
+
 abbrev pub rule_name : Rule → List ℕ
 rule_name rule.TooLarge = codes "TOOLARGE"
 rule_name rule.BadByte = codes "BADBYTE"
@@ -16,6 +20,14 @@ rule_name rule.LongName = codes "LONGNAME"
 rule_name rule.Unexpected = codes "UNEXPECTED"
 rule_name rule.Ended = codes "ENDED"
 rule_name rule.TooDeep = codes "TOODEEP"
+rule_name (rule.Numbered number) = numbered_name number
+rule_name rule.NoReceiver = codes "NORECEIVER"
+rule_name rule.NeedsReference = codes "NEEDSREFERENCE"
+rule_name rule.NotReceived = codes "NOTRECEIVED"
+rule_name rule.NotInSurvey = codes "NOTINSURVEY"
+rule_name rule.TwoEnters = codes "TWOENTERS"
+rule_name rule.NoEnter = codes "NOENTER"
+rule_name rule.Limit = codes "LIMIT"
 
 -- `SOURCE line L RULE`
 abbrev pub fault_text : SourceFault → List ℕ

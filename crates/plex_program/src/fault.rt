@@ -25,4 +25,20 @@ pub enum Rule {
     Ended,
     /// A token would be allowed if brackets and statements could nest deeper.
     TooDeep,
+    /// A rule of signals and blocks, by its number from 1 to 16 (docs/LANGUAGE.md, Rules).
+    Numbered(u8),
+    /// A signal is sent that nobody receives.
+    NoReceiver,
+    /// Several blocks receive a signal, and none is named.
+    NeedsReference,
+    /// The named block does not receive the signal.
+    NotReceived,
+    /// A block's survey does not send what it sends, or receive what it enters.
+    NotInSurvey,
+    /// A block enters a signal twice.
+    TwoEnters,
+    /// A block does not enter what it receives.
+    NoEnter,
+    /// A limit is passed.
+    Limit,
 }

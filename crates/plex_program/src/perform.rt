@@ -3,22 +3,24 @@ ghost use Rattle.std.specs.Prelude.{◌≡◌, ◌≤◌, IfOk, IfSome, length};
 ghost use Rattle.small_meaning.specs.Small.{IsSmall};
 ghost use Rattle.small_run.specs.Runs.{AreOf, ComesTo};
 ghost use Rattle.signal_file.specs.Lines.{signal_lines};
-ghost use Rattle.plex_program.specs.Answer.{Builds, Comes, Reads, exchange_at, exchange_of_file, exchange_of_tree, lines_at, lines_of_file, of_first_form, or_refused, performed, run_of, run_report, text_at};
+ghost use Rattle.resolver.specs.Resolved.{resolved};
+ghost use Rattle.plex_program.specs.Reading.{IsSpelled};
+ghost use Rattle.plex_program.specs.Answer.{Builds, Comes, Reads, exchange_at, exchange_of_file, exchange_of_tree, lines_at, lines_of_file, of_first_form, or_broken, or_waits, performed, run_of, run_report, text_at};
 
 use crate::command::Command;
-use crate::fault::SourceFault;
+use crate::fault::{Rule, SourceFault};
 use crate::limits::TEXT_LIMIT;
 use crate::program::Status;
-use crate::reading::tree_of_file;
+use crate::reading::{link_rule, refused, tree_of_file};
 use crate::report::report;
 use exchange_model::Exchange;
 use plex_ast::Tree;
 use plex_io::{Shelf, ShelfFault, Word};
 use plex_num::{Memory, Seq};
+use resolver::{TextFault, resolve};
 use signal_file::{Line, SignalFault, read_signals};
-use small_form::small_text;
+use small_check::is_small;
 use small_run::{Finished, come_at_once, compiled_run, single_run};
-use small_source::read_text;
 use std::alloc::Global;
 
 /// The first refusal.
@@ -26,7 +28,7 @@ use std::alloc::Global;
 pub enum Refused {
     /// The exchange text has a fault.
     Source(SourceFault),
-    /// The exchange text is not of the small form.
+    /// The exchange text is right, but its exchange does not run yet.
     NotYetSource,
     /// The signal file is not of the first form.
     NotYetSignals,
@@ -90,28 +92,43 @@ fn exchange_of_file(alloc: Global, text: &Option<Seq<u8>>) -> Result<Exchange, S
     ensures small { IfOk result (λ x. IsSmall x) }
 {
     let tree = tree_of_file(alloc, text)?;
-    small_exchange(alloc, &tree)
+    exchange_of_tree(alloc, &tree)
 }
 
-/// The exchange of a tree that is of the small form and keeps its rules.
-fn small_exchange(alloc: Global, tree: &Tree) -> Result<Exchange, Stop>
-    ensures reads { Reads (or_refused Refused.NotYetSource (exchange_of_tree tree.now)) result }
+/// The exchange that a tree means.
+#[tactic(auto, using(crate::proofs::Stages::reads_stop, crate::proofs::Stages::reads_go))]
+fn exchange_of_tree(alloc: Global, tree: &Tree) -> Result<Exchange, Stop>
+    requires { IsSpelled tree.now }
+    ensures reads { Reads (exchange_of_tree tree.now) result }
     ensures small { IfOk result (λ x. IsSmall x) }
 {
-    match exchange_of_tree(alloc, tree) {
-        Ok(Some(exchange)) => Ok(exchange),
-        Ok(None) => Err(Stop::Refused(Refused::NotYetSource)),
-        Err(Memory) => Err(Stop::Memory),
+    let exchange = resolved_tree(alloc, tree)?;
+    running(exchange)
+}
+
+/// The exchange of a tree that breaks no rule.
+#[tactic(auto, using(crate::proofs::Resolving::resolves_ok, crate::proofs::Resolving::resolves_rule, crate::proofs::Resolving::resolves_link))]
+fn resolved_tree(alloc: Global, tree: &Tree) -> Result<Exchange, Stop>
+    requires { IsSpelled tree.now }
+    ensures { Reads (or_broken (resolved tree.now)) result }
+{
+    match resolve(alloc, tree) {
+        Ok(exchange) => Ok(exchange),
+        Err(TextFault::Rule { number, line }) => Err(refused(line, Rule::Numbered(number))),
+        Err(TextFault::Link { rule, line }) => Err(refused(line, link_rule(rule))),
+        Err(TextFault::Memory) => Err(Stop::Memory),
     }
 }
 
-fn exchange_of_tree(alloc: Global, tree: &Tree) -> Result<Option<Exchange>, Memory>
-    ensures exchange { IfOk result (λ x. x ≡ exchange_of_tree tree.now) }
-    ensures small { IfOk result (λ x. IfSome x (λ x. IsSmall x)) }
+/// An exchange that runs so far.
+fn running(exchange: Exchange) -> Result<Exchange, Stop>
+    ensures reads { Reads (or_waits exchange) result }
+    ensures small { IfOk result (λ x. IsSmall x) }
 {
-    match small_text(alloc, tree)? {
-        Some(text) => read_text(alloc, &text),
-        None => Ok(None),
+    if is_small(&exchange) {
+        Ok(exchange)
+    } else {
+        Err(Stop::Refused(Refused::NotYetSource))
     }
 }
 

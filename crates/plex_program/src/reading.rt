@@ -1,12 +1,14 @@
 // The tree of an exchange text, or its first fault.
-ghost use Rattle.std.specs.Prelude.{◌≡◌, ◌≤◌, ◌^◌, IfSome, length};
+ghost use Rattle.std.specs.Prelude.{◌≡◌, ◌≤◌, ◌^◌, true, IfOk, IfSome, length};
+ghost use Rattle.plex_ast.specs.Grammar.{tree};
 ghost use Rattle.plex_lexer.specs.Lines.{feeds};
 ghost use Rattle.plex_program.specs.Answer.{Reads, or_fault};
-ghost use Rattle.plex_program.specs.Reading.{at_line, end_line, token_line, tree_of, tree_of_file, tree_of_tokens};
+ghost use Rattle.plex_program.specs.Reading.{at_line, end_line, link_rule, token_line, tree_of, tree_of_file, tree_of_tokens, IsSpelled};
 
 use crate::fault::{Rule, SourceFault};
 use crate::limits::TEXT_LIMIT;
 use crate::perform::{Refused, Stop};
+use link_rules::LinkRule;
 use plex_ast::Tree;
 use plex_lexer::{LexFault, Token, lex};
 use plex_num::Seq;
@@ -16,7 +18,8 @@ use std::alloc::Global;
 /// The tree of a file's text, which may be too large.
 pub fn tree_of_file(alloc: Global, text: &Option<Seq<u8>>) -> Result<Tree, Stop>
     requires { IfSome text.now (λ t. length t ≤ TEXT_LIMIT) }
-    ensures { Reads (or_fault (tree_of_file text.now)) result }
+    ensures reads { Reads (or_fault (tree_of_file text.now)) result }
+    ensures spelled { IfOk result IsSpelled }
 {
     match text {
         Some(text) => tree_of(alloc, text.as_slice()),
@@ -24,10 +27,11 @@ pub fn tree_of_file(alloc: Global, text: &Option<Seq<u8>>) -> Result<Tree, Stop>
     }
 }
 
-#[tactic(auto, unfolding(crate::specs::Reading::tree_of))]
+#[tactic(auto, unfolding(crate::specs::Reading::tree_of), using(crate::proofs::Spelled::text_spells))]
 fn tree_of(alloc: Global, text: &[u8]) -> Result<Tree, Stop>
     requires { length text.now ≤ TEXT_LIMIT }
-    ensures { Reads (or_fault (tree_of text.now)) result }
+    ensures reads { Reads (or_fault (tree_of text.now)) result }
+    ensures spelled { IfOk result IsSpelled }
 {
     match lex(alloc, text) {
         Ok(tokens) => tree_of_tokens(alloc, text, tokens.as_slice()),
@@ -41,7 +45,8 @@ fn tree_of(alloc: Global, text: &[u8]) -> Result<Tree, Stop>
 fn tree_of_tokens(alloc: Global, text: &[u8], tokens: &[Token]) -> Result<Tree, Stop>
     requires text { length text.now ≤ 2 ^ 24 }
     requires tokens { length tokens.now ≤ 2 ^ 24 }
-    ensures { Reads (or_fault (tree_of_tokens text.now tokens.now)) result }
+    ensures reads { Reads (or_fault (tree_of_tokens text.now tokens.now)) result }
+    ensures spelled { IfOk result (λ t. tree true 6 12 t tokens.now) }
 {
     match parse(alloc, tokens) {
         Ok(tree) => Ok(tree),
@@ -56,8 +61,23 @@ fn tree_of_tokens(alloc: Global, text: &[u8], tokens: &[Token]) -> Result<Tree, 
     }
 }
 
+/// The word of a link rule.
+pub fn link_rule(rule: LinkRule) -> Rule
+    ensures { result ≡ link_rule rule }
+{
+    match rule {
+        LinkRule::NoReceiver => Rule::NoReceiver,
+        LinkRule::NeedsReference => Rule::NeedsReference,
+        LinkRule::NotReceived => Rule::NotReceived,
+        LinkRule::NotInSurvey => Rule::NotInSurvey,
+        LinkRule::TwoEnters => Rule::TwoEnters,
+        LinkRule::NoEnter => Rule::NoEnter,
+        LinkRule::Limit => Rule::Limit,
+    }
+}
+
 /// The stop at a fault of the source.
-fn refused(line: u32, rule: Rule) -> Stop
+pub fn refused(line: u32, rule: Rule) -> Stop
     ensures { result ≡ Stop.Refused (Refused.Source (at_line line rule)) }
 {
     Stop::Refused(Refused::Source(SourceFault { line, rule }))

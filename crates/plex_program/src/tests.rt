@@ -80,9 +80,9 @@ fn code_and_source_write_the_same_report(rt: HostRuntime) -> Result<(), Fail> {
             "JOBS 1\nVAR C.N 14\nVAR C.M 4294967295\nEND DONE\n",
         ),
         (
-            "SIGNAL X SINGLE BUFFERED B DATA 0; SIGNAL Y SINGLE BUFFERED B DATA 0; BLOCK C; DECLARE; VARIABLE N WIDTH 32; SURVEY; RECEIVE X; RECEIVE Y; PROGRAM; ENTER Y; N = N + N; ENTER X; N = N + 3; END BLOCK;",
-            "! jobs in their order\r\n\n \t\nAFTER 0 X C NONE\r\n\tAFTER\t0  Y C NONE\nAFTER 0 Y C NONE ",
-            "JOBS 3\nVAR C.N 21\nEND DONE\n",
+            "SIGNAL X SINGLE BUFFERED A DATA 0; SIGNAL Y SINGLE BUFFERED B DATA 0; BLOCK C; DECLARE; VARIABLE N WIDTH 32; SURVEY; RECEIVE X; RECEIVE Y; PROGRAM; ENTER Y; N = N + N; ENTER X; N = N + 3; END BLOCK; BLOCK D; DECLARE; TEMPORARY T; VARIABLE N WIDTH 32 INIT 5; SURVEY; RECEIVE Y; PROGRAM; L) ENTER Y; N = N + 1; END BLOCK;",
+            "! jobs in their order\r\n\n \t\n\tAFTER\t0  Y C NONE\r\nAFTER 0 X C NONE\nAFTER 0 Y D NONE ",
+            "JOBS 3\nVAR C.N 9\nVAR D.N 6\nEND DONE\n",
         ),
     ];
     for (exchange, lines, text) in cases {
@@ -127,12 +127,7 @@ fn tells_what_is_not_run_yet(rt: HostRuntime) -> Result<(), Fail> {
             source,
         ),
         (
-            "SIGNAL T SINGLE BUFFERED B DATA 0; SIGNAL T SINGLE BUFFERED B DATA 0;",
-            "",
-            source,
-        ),
-        (
-            "BLOCK C; DECLARE; SURVEY; PROGRAM; END BLOCK; BLOCK D; DECLARE; SURVEY; PROGRAM; END BLOCK;",
+            "SIGNAL T SINGLE BUFFERED B DATA 0; BLOCK C; DECLARE; SURVEY; RECEIVE T; SEND T; PROGRAM; ENTER T; SEND T; END BLOCK;",
             "",
             source,
         ),
@@ -166,6 +161,38 @@ fn tells_the_first_fault(rt: HostRuntime) -> Result<(), Fail> {
         (
             "BLOCK C; DECLARE; VARIABLE N WIDTH 32; SURVEY; PROGRAM;\nN = (((((((1)))))));",
             "SOURCE line 2 TOODEEP\n",
+        ),
+    ];
+    for (exchange, text) in cases {
+        let (status, sink) = ends(&rt, rt.alloc(), &["run", "E", "S"], exchange, "")?;
+        assert_eq!(rt; status, Status::Source, "{exchange}");
+        assert_eq!(rt; sink.bytes(), text.as_bytes(), "{exchange}");
+    }
+    Ok(())
+}
+
+#[test]
+fn tells_the_first_rule_that_is_broken(rt: HostRuntime) -> Result<(), Fail> {
+    let cases = [
+        (
+            "SIGNAL T SINGLE BUFFERED B DATA 0;\nSIGNAL T SINGLE DIRECT\nDATA 9;",
+            "SOURCE line 2 N1\n",
+        ),
+        (
+            "SIGNAL T SINGLE BUFFERED B DATA 0;\nBLOCK A; DECLARE; SURVEY; PROGRAM;\nENTER T; END BLOCK;\nBLOCK B; DECLARE; SURVEY; PROGRAM;\nV = 1;\nEND BLOCK;",
+            "SOURCE line 5 N6\n",
+        ),
+        (
+            "SIGNAL T SINGLE BUFFERED B DATA 0;\nBLOCK A; DECLARE; SURVEY; PROGRAM;\nENTER T; END BLOCK;",
+            "SOURCE line 3 NOTINSURVEY\n",
+        ),
+        (
+            "SIGNAL T SINGLE BUFFERED B DATA 1;\nBLOCK A; DECLARE; SURVEY; RECEIVE T; PROGRAM;\nENTER T\nWITH V, W; END BLOCK;",
+            "SOURCE line 3 N11\n",
+        ),
+        (
+            "BLOCK A; DECLARE;\nFILE F SIZE 65535; FIELD G WIDTH 1; FIELD H WIDTH 1; FIELD I WIDTH 1; FIELD J WIDTH 1; FIELD K WIDTH 1; FIELD L WIDTH 1; FIELD M WIDTH 1; FIELD N WIDTH 1; FIELD O WIDTH 1; FIELD P WIDTH 1; FIELD Q WIDTH 1; FIELD R WIDTH 1; FIELD S WIDTH 1; FIELD T WIDTH 1; FIELD U WIDTH 1; FIELD V WIDTH 1;\nSURVEY; PROGRAM; END BLOCK;",
+            "SOURCE line 2 LIMIT\n",
         ),
     ];
     for (exchange, text) in cases {

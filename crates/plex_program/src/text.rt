@@ -1,6 +1,6 @@
 // The lines that are written in place of a report.
-ghost use Rattle.std.specs.Prelude.{◌≡◌, IfOk};
-ghost use Rattle.plex_program.specs.Text.{fault_text, refusal_text, rule_name, usage_text};
+ghost use Rattle.std.specs.Prelude.{◌≡◌, ◌++◌, IfOk, OnOk};
+ghost use Rattle.plex_program.specs.Text.{fault_text, numbered_name, refusal_text, rule_name, usage_text};
 
 use crate::fault::{Rule, SourceFault};
 use crate::perform::Refused;
@@ -34,21 +34,48 @@ fn fault_line(alloc: Global, fault: SourceFault) -> Result<Seq<u8>, Memory>
     let mut text = Seq::copied(alloc, b"SOURCE line ")?;
     print_number(u64::from(fault.line), &mut text)?;
     text.append(b" ")?;
-    text.append(rule_name(fault.rule))?;
+    add_rule(&mut text, fault.rule)?;
     text.append(b"\n")?;
     Ok(text)
 }
 
-fn rule_name(rule: Rule) -> &'static [u8]
-    ensures { result.now ≡ rule_name rule }
+/// Appends a word.
+fn add_word(text: &mut Seq<u8>, word: &[u8]) -> Result<(), Memory>
+    ensures { OnOk result (text.new ≡ text.old ++ word.now) }
+{
+    text.append(word)?;
+    Ok(())
+}
+
+/// Appends `N` and the number of a rule.
+#[tactic(auto, using(crate::proofs::Words::two_pieces))]
+fn add_number(text: &mut Seq<u8>, number: u8) -> Result<(), Memory>
+    ensures { OnOk result (text.new ≡ text.old ++ numbered_name number) }
+{
+    text.append(b"N")?;
+    print_number(u64::from(number), text)?;
+    Ok(())
+}
+
+/// Appends the word of a rule.
+fn add_rule(text: &mut Seq<u8>, rule: Rule) -> Result<(), Memory>
+    ensures { OnOk result (text.new ≡ text.old ++ rule_name rule) }
 {
     match rule {
-        Rule::TooLarge => b"TOOLARGE",
-        Rule::BadByte => b"BADBYTE",
-        Rule::BadNumber => b"BADNUMBER",
-        Rule::LongName => b"LONGNAME",
-        Rule::Unexpected => b"UNEXPECTED",
-        Rule::Ended => b"ENDED",
-        Rule::TooDeep => b"TOODEEP",
+        Rule::TooLarge => add_word(text, b"TOOLARGE"),
+        Rule::BadByte => add_word(text, b"BADBYTE"),
+        Rule::BadNumber => add_word(text, b"BADNUMBER"),
+        Rule::LongName => add_word(text, b"LONGNAME"),
+        Rule::Unexpected => add_word(text, b"UNEXPECTED"),
+        Rule::Ended => add_word(text, b"ENDED"),
+        Rule::TooDeep => add_word(text, b"TOODEEP"),
+        Rule::Numbered(number) => add_number(text, number),
+        Rule::NoReceiver => add_word(text, b"NORECEIVER"),
+        Rule::NeedsReference => add_word(text, b"NEEDSREFERENCE"),
+        Rule::NotReceived => add_word(text, b"NOTRECEIVED"),
+        Rule::NotInSurvey => add_word(text, b"NOTINSURVEY"),
+        Rule::TwoEnters => add_word(text, b"TWOENTERS"),
+        Rule::NoEnter => add_word(text, b"NOENTER"),
+        Rule::Limit => add_word(text, b"LIMIT"),
     }
 }
