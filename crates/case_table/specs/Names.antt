@@ -12,7 +12,7 @@ keyword_names =
     codes "ESAC" ∷ codes "ON" ∷ codes "FROM" ∷ codes "UPTO" ∷ codes "NO" ∷ codes "FOR" ∷ codes "FIRST" ∷
     codes "IN" ∷ codes "WHERE" ∷ codes "ENTER" ∷ codes "WITH" ∷ codes "REFERENCE" ∷ codes "NEW" ∷ codes "RETRIEVE" ∷
     codes "RETURN" ∷ codes "TRANSFER" ∷ codes "EXIT" ∷ codes "SEIZE" ∷ codes "FREE" ∷ codes "AND" ∷ codes "OR" ∷
-    codes "MOD" ∷ []
+    codes "MOD" ∷ codes "CLEAR" ∷ []
 
 -- the instructions of the machine
 abbrev pub operation_names : List (List ℕ)

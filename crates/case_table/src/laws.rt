@@ -5,16 +5,19 @@ ghost use Rattle.case_table.specs.Rows.{NamesDiffer, place_of};
 /// `find` and `name_of` are inverse where names differ: a name is found at the very place that has it.
 #[tactic(auto, using(crate::proofs::Places::found_where_it_stands))]
 pub fn found_where_it_stands()
-    ensures { (names : List (List ℕ)) (name : List ℕ) (i : ℕ) → NamesDiffer names → (place_of names name ≡ Some i) ↔ (slice_get names i ≡ Some name) }
+    ensures { (names : List (List ℕ)) (name : List ℕ) (i : ℕ) → NamesDiffer names →
+        (place_of names name ≡ Some i) ↔ (slice_get names i ≡ Some name) }
 {}
 
 /// What is found is the first of that name.
 pub fn found_is_first()
-    ensures { (names : List (List ℕ)) (name : List ℕ) (i : ℕ) → place_of names name ≡ Some i → (slice_get names i ≡ Some name) × ((k : ℕ) → k < i → slice_get names k ≢ Some name) }
+    ensures { (names : List (List ℕ)) (name : List ℕ) (i : ℕ) → place_of names name ≡ Some i →
+        (slice_get names i ≡ Some name) × ((k : ℕ) → k < i → slice_get names k ≢ Some name) }
 {}
 
 /// A name is found nowhere exactly where no place has it.
 #[tactic(auto, using(crate::proofs::Places::absent_where_none))]
 pub fn absent_where_none()
-    ensures { (names : List (List ℕ)) (name : List ℕ) → (place_of names name ≡ None) ↔ ((i : ℕ) → slice_get names i ≢ Some name) }
+    ensures { (names : List (List ℕ)) (name : List ℕ) → (place_of names name ≡ None) ↔
+        ((i : ℕ) → slice_get names i ≢ Some name) }
 {}

@@ -45,7 +45,8 @@ fn first_row<R: Named>(table: &[R], name: &[u8]) -> Option<usize>
 
 /// The name of the row at a place, counted from 0; `None` exactly past the end.
 pub fn name_of<const N: usize, R: Named>(table: &[R; N], i: usize) -> Option<&[u8]>
-    ensures { MatchOption result (N ≤ i) (λ name. (i < N) × (slice_get (map R.text table.now) i ≡ Some name.now)) }
+    ensures { MatchOption result (N ≤ i) (λ name. (i < N) ×
+        (slice_get (map R.text table.now) i ≡ Some name.now)) }
 {
     match table.get(i) {
         Some(row) => Some(row.name()),
@@ -79,7 +80,7 @@ mod tests {
         ];
         let found = [
             ("the first row", find(&keywords, b"SIGNAL"), Some(0)),
-            ("the last row", find(&keywords, b"MOD"), Some(54)),
+            ("the last row", find(&keywords, b"CLEAR"), Some(55)),
             ("the beginning of a name", find(&keywords, b"SIGNA"), None),
             ("more than a name", find(&keywords, b"SIGNALS"), None),
             ("an empty name", find(&keywords, b""), None),

@@ -7,9 +7,9 @@ ghost use Rattle.case_table.specs.Names.{keyword_names, operation_names, fault_n
 use crate::row::Row;
 
 /// The keywords of the language, each numbered by its place.
-pub fn keywords() -> [Row; 55]
+pub fn keywords() -> [Row; 56]
     ensures names { names_of result ≡ keyword_names }
-    ensures codes { codes_of result ≡ range_with_len 0 55 }
+    ensures codes { codes_of result ≡ range_with_len 0 56 }
     ensures differ { NamesDiffer (names_of result) }
 {
     macro_rules! rows {
@@ -22,7 +22,8 @@ pub fn keywords() -> [Row; 55]
         b"GOTO" 23, b"IF" 24, b"THEN" 25, b"ELSE" 26, b"FI" 27, b"CASE" 28, b"IS" 29, b"WHEN" 30, b"DO" 31,
         b"OTHERWISE" 32, b"ESAC" 33, b"ON" 34, b"FROM" 35, b"UPTO" 36, b"NO" 37, b"FOR" 38, b"FIRST" 39, b"IN" 40,
         b"WHERE" 41, b"ENTER" 42, b"WITH" 43, b"REFERENCE" 44, b"NEW" 45, b"RETRIEVE" 46, b"RETURN" 47,
-        b"TRANSFER" 48, b"EXIT" 49, b"SEIZE" 50, b"FREE" 51, b"AND" 52, b"OR" 53, b"MOD" 54
+        b"TRANSFER" 48, b"EXIT" 49, b"SEIZE" 50, b"FREE" 51, b"AND" 52, b"OR" 53, b"MOD" 54,
+        b"CLEAR" 55
     )
 }
 

@@ -1,12 +1,13 @@
 -- The code of jumps, choices and loops is appended.
-use Rattle.std.proofs.Common.{◌≡◌, ℕ, ◌+◌, ◌*◌, ◌<◌, ◌≤◌, List, [], ◌∷◌, ◌++◌, length, drop, get_or, sym, ap, ◌∙◌, arith, append-nil, append_assoc}
+use Rattle.std.proofs.Common.{◌≡◌, ℕ, ◌+◌, ◌<◌, ◌≤◌, List, [], ◌∷◌, ◌++◌, length, drop, get_or, sym, ap, ◌∙◌, arith, append-nil, append_assoc}
 use Rattle.std.proofs.Math.ListN.{drop_of_length-le}
 use Rattle.machine_code.specs.declared.op.Op.{Op}
 use Rattle.machine_code.specs.declared.op.Op.TheVariants as op
 use Rattle.exchange_model.specs.declared.expr.Cond.{Cond}
 use Rattle.expr_code.specs.Code.{cond_code}
 use Rattle.expr_code.proofs.Emits.{opens}
-use Rattle.stmt_code.specs.StmtCode.{Places, takes_code, turns_code, turn, last}
+use Rattle.stmt_code.specs.declared.lengths.TheConstants.{TURN_LENGTH, NEXT_LENGTH}
+use Rattle.stmt_code.specs.StmtCode.{Places, takes_code, compare_code, turn, last, turn_code, next_code, turns_code, bounds_code}
 use Rattle.code_gen.specs.declared.control.Choice.{Choice}
 use Rattle.code_gen.specs.Choices.{choice_codes}
 use Rattle.code_gen.proofs.Parts.{two, three, four, six, part_more}
@@ -46,11 +47,11 @@ branches_are p no_at end len test first other old n1 n2 n3 n4 n5 new long after 
 
 -- choices
 
-pub choice_is : (c : Choice) (end : ℕ) (old n1 n2 new : List Op) → n1 ≡ old ++ (op.Ldi 1 c.number ∷ op.Eq 1 0 ∷ op.Jz 1 c.next ∷ []) → n2 ≡ n1 ++ c.body → new ≡ n2 ++ op.Jmp end ∷ [] → new ≡ old ++ choice_codes (c ∷ []) end
-choice_is c end old n1 n2 new e1 e2 e3 = three old n1 n2 new (op.Ldi 1 c.number ∷ op.Eq 1 0 ∷ op.Jz 1 c.next ∷ []) c.body (op.Jmp end ∷ []) e1 e2 e3
+pub choice_is : (c : Choice) (end : ℕ) (old n1 n2 new : List Op) → n1 ≡ old ++ (compare_code c.number c.next) → n2 ≡ n1 ++ c.body → new ≡ n2 ++ op.Jmp end ∷ [] → new ≡ old ++ choice_codes (c ∷ []) end
+choice_is c end old n1 n2 new e1 e2 e3 = three old n1 n2 new (compare_code c.number c.next) c.body (op.Jmp end ∷ []) e1 e2 e3
 
 choices_split : (c : Choice) (cs : List Choice) (end : ℕ) → choice_codes (c ∷ cs) end ≡ choice_codes (c ∷ []) end ++ choice_codes cs end
-choices_split c cs end = ap (λ l. op.Ldi 1 c.number ∷ op.Eq 1 0 ∷ op.Jz 1 c.next ∷ l) (sym (append_assoc c.body (op.Jmp end ∷ []) (choice_codes cs end)))
+choices_split c cs end = ap (λ l. compare_code c.number c.next ++ l) (sym (append_assoc c.body (op.Jmp end ∷ []) (choice_codes cs end)))
 
 pub choices_more : (cs : List Choice) (i : ℕ) (c : Choice) (end : ℕ) (now new all : List Op) → i < length cs → c ≡ get_or cs i c → new ≡ now ++ choice_codes (c ∷ []) end → now ++ choice_codes (drop i cs) end ≡ all → new ++ choice_codes (drop (i + 1) cs) end ≡ all
 choices_more cs i c end now new all lt is e h =
@@ -63,17 +64,19 @@ choices_end cs i end now all past h = sym (append-nil now) ∙ sym (ap (λ l. no
 
 -- loops
 
-pub turns_are : (p t d head exit len : ℕ) (body old n1 n2 new : List Op) → len ≡ length body → exit ≡ head + len + 11 → n1 ≡ old ++ (op.Stmt p ∷ op.Ldt 0 (24 + 2 * d) ∷ op.Stt t 0 ∷ []) → n2 ≡ n1 ++ body
-    → new ≡ n2 ++ (op.Ldt 0 (24 + 2 * d) ∷ op.Ldt 1 (25 + 2 * d) ∷ op.Gt 1 0 ∷ op.Jz 1 exit ∷ op.Ldi 1 1 ∷ op.Add 0 1 ∷ op.Stt (24 + 2 * d) 0 ∷ op.Jmp head ∷ []) → new ≡ old ++ turns_code p t d head body
-turns_are p t d head exit len body old n1 n2 new long after e1 e2 e3 =
-    let address : exit ≡ head + 3 + length body + 8 = omega (arith, after, long) in
-    let tail : ℕ → List Op = λ n. op.Ldt 0 (turn d) ∷ op.Ldt 1 (last d) ∷ op.Gt 1 0 ∷ op.Jz 1 n ∷ op.Ldi 1 1 ∷ op.Add 0 1 ∷ op.Stt (turn d) 0 ∷ op.Jmp head ∷ [] in
-    three old n1 n2 new (op.Stmt p ∷ op.Ldt 0 (turn d) ∷ op.Stt t 0 ∷ []) body (tail (head + 3 + length body + 8)) e1 e2 (e3 ∙ ap (λ n. n2 ++ tail n) address)
+pub turns_are : (p t d head exit len turn_local last_local : ℕ) (body old n1 n2 new : List Op) → turn_local ≡ turn d → last_local ≡ turn_local + 1 → len ≡ length body → exit ≡ head + len + (TURN_LENGTH + NEXT_LENGTH) → n1 ≡ old ++ (op.Stmt p ∷ op.Ldt 0 turn_local ∷ op.Stt t 0 ∷ []) → n2 ≡ n1 ++ body
+    → new ≡ n2 ++ (op.Ldt 0 turn_local ∷ op.Ldt 1 last_local ∷ op.Gt 1 0 ∷ op.Jz 1 exit ∷ op.Ldi 1 1 ∷ op.Add 0 1 ∷ op.Stt turn_local 0 ∷ op.Jmp head ∷ []) → new ≡ old ++ turns_code p t d head body
+turns_are p t d head exit len turn_local last_local body old n1 n2 new is_turn is_last long after e1 e2 e3 =
+    let address : exit ≡ head + TURN_LENGTH + length body + NEXT_LENGTH = omega (arith, after, long) in
+    let behind : last_local ≡ last d = omega (arith, is_turn, is_last) in
+    three old n1 n2 new (turn_code p t d) body (next_code d head (head + TURN_LENGTH + length body + NEXT_LENGTH)) (e1 ∙ λ i. old ++ (op.Stmt p ∷ op.Ldt 0 (is_turn i) ∷ op.Stt t 0 ∷ [])) e2
+    (e3 ∙ λ i. n2 ++ (op.Ldt 0 (is_turn i) ∷ op.Ldt 1 (behind i) ∷ op.Gt 1 0 ∷ op.Jz 1 (address i) ∷ op.Ldi 1 1 ∷ op.Add 0 1 ∷ op.Stt (is_turn i) 0 ∷ op.Jmp head ∷ []))
 
-pub bounds_are : (p d head exit : ℕ) (from upto old n1 n2 n3 new : List Op) → n1 ≡ old ++ op.Stmt p ∷ [] → n2 ≡ n1 ++ from → n3 ≡ n2 ++ upto → new ≡ n3 ++ (op.Stt (24 + 2 * d) 0 ∷ op.Stt (25 + 2 * d) 1 ∷ op.Gt 0 1 ∷ op.Jz 0 head ∷ op.Jmp exit ∷ [])
-    → new ≡ old ++ op.Stmt p ∷ (from ++ (upto ++ (op.Stt (24 + 2 * d) 0 ∷ op.Stt (25 + 2 * d) 1 ∷ op.Gt 0 1 ∷ op.Jz 0 head ∷ op.Jmp exit ∷ [])))
-bounds_are p d head exit from upto old n1 n2 n3 new e1 e2 e3 e4 =
-    four old n1 n2 n3 new (op.Stmt p ∷ []) from upto (op.Stt (24 + 2 * d) 0 ∷ op.Stt (25 + 2 * d) 1 ∷ op.Gt 0 1 ∷ op.Jz 0 head ∷ op.Jmp exit ∷ []) e1 e2 e3 e4
+pub bounds_are : (p d head exit turn_local last_local : ℕ) (from upto old n1 n2 n3 new : List Op) → turn_local ≡ turn d → last_local ≡ turn_local + 1 → n1 ≡ old ++ op.Stmt p ∷ [] → n2 ≡ n1 ++ from → n3 ≡ n2 ++ upto → new ≡ n3 ++ (op.Stt turn_local 0 ∷ op.Stt last_local 1 ∷ op.Gt 0 1 ∷ op.Jz 0 head ∷ op.Jmp exit ∷ [])
+    → new ≡ old ++ op.Stmt p ∷ (from ++ (upto ++ bounds_code d head exit))
+bounds_are p d head exit turn_local last_local from upto old n1 n2 n3 new is_turn is_last e1 e2 e3 e4 =
+    let behind : last_local ≡ last d = omega (arith, is_turn, is_last) in
+    four old n1 n2 n3 new (op.Stmt p ∷ []) from upto (bounds_code d head exit) e1 e2 e3 (e4 ∙ λ i. n3 ++ (op.Stt (is_turn i) 0 ∷ op.Stt (behind i) 1 ∷ op.Gt 0 1 ∷ op.Jz 0 head ∷ op.Jmp exit ∷ []))
 
 pub case_parts : (p next end len : ℕ) (list given : List Choice) (value other old n1 n2 n3 new : List Op) → len ≡ length other → end ≡ next + len + 0 → given ≡ list → n1 ≡ old ++ op.Stmt p ∷ [] → n2 ≡ n1 ++ value → n3 ≡ n2 ++ choice_codes given end → new ≡ n3 ++ other
     → new ≡ old ++ op.Stmt p ∷ (value ++ (choice_codes list (next + length other) ++ other))

@@ -4,7 +4,7 @@ use Rattle.machine_code.specs.declared.op.Op.{Op}
 use Rattle.machine_code.specs.declared.op.Op.TheVariants as op
 use Rattle.exchange_model.specs.declared.expr.Expr.{Expr}
 use Rattle.exchange_model.specs.Cells.{Placed, record_cells}
-use Rattle.source_meaning.specs.Step.{field_width}
+use Rattle.source_meaning.specs.Changes.{field_width}
 use Rattle.expr_code.specs.Code.{expr_code, pointer_code}
 use Rattle.stmt_code.specs.StmtCode.{Places, field_store}
 use Rattle.code_gen.specs.declared.setting.Setting.{Setting}
@@ -29,3 +29,6 @@ store_is s file field pointer width word n p old n1 n2 new at wide words cells e
     let last : List Op = op.Ckw 0 (field_width p field) ∷ op.Stx (p.first + field) (record_cells p.file) 1 0 ∷ [] in
     three old n1 n2 new (op.Ldt 1 pointer ∷ []) (pointer_code p file 1) last e1 e2 (e3 ∙ λ i. n2 ++ (op.Ckw 0 (wide i) ∷ op.Stx (words i) (cells i) 1 0 ∷ []))
     ∙ sym (ap (λ o. old ++ field_store o file field pointer) at.there)
+
+-- a field is stored, where there is a file
+pub ruleset stores = (no_store, store_is)

@@ -1,7 +1,7 @@
 -- What is known of the parts of a statement.
 use Rattle.std.proofs.Common.{◌≡◌, ℕ, zero, suc, ◌+◌, ◌*◌, ◌^◌, ◌<◌, ◌≤◌, Bool, List, [], ◌∷◌, ◌++◌, length, get_or, Option, Some, None, slice_get, refl, sym, ap, ◌∙◌, subst, arith}
 use Rattle.std.specs.List.{AllByRecursion}
-use Rattle.std.proofs.lemmas.Option.{none-some, same_Some}
+use Rattle.std.proofs.lemmas.Option.{same_Some}
 use Rattle.machine_code.specs.declared.op.Op.{Op}
 use Rattle.exchange_model.specs.declared.block.Block.{Block}
 use Rattle.exchange_model.specs.declared.block.FilePlace.{FilePlace}
@@ -11,24 +11,28 @@ use Rattle.exchange_model.specs.declared.entry.Cell.TheVariants as cell
 use Rattle.exchange_model.specs.declared.expr.Expr.{Expr}
 use Rattle.exchange_model.specs.declared.expr.Cond.{Cond}
 use Rattle.exchange_model.specs.declared.expr.Rel.{Rel}
+use Rattle.exchange_model.specs.declared.stmt.Receiver.{Receiver}
+use Rattle.exchange_model.specs.declared.stmt.Receiver.TheVariants as receiver
 use Rattle.exchange_model.specs.declared.stmt.Stmt.{Stmt}
 use Rattle.exchange_model.specs.declared.stmt.When.{When}
 use Rattle.exchange_model.specs.declared.stmt.StmtKind.{StmtKind, StmtKind-F}
 use Rattle.exchange_model.specs.declared.stmt.StmtKind.TheOpen as layer
 use Rattle.exchange_model.specs.Cells.{Placed, placed_files, record_cells, IsCell, cell_number}
-use Rattle.exchange_model.specs.Fits.{ExprFits, EnterFits, AnswerFits}
+use Rattle.exchange_model.specs.Fits.{ExprFits, Reaches, SendFits, TransferFits}
 use Rattle.exchange_model.specs.Inside.{bracket_depth, own_exprs}
 use Rattle.exchange_model.specs.Kept.{scope_of, signal_count}
-use Rattle.exchange_model.specs.declared.limits.TheConstants.{MOST_BRACKETS, MOST_VALUES}
+use Rattle.plex_limits.specs.declared.limits.TheConstants.{MOST_BRACKETS, MOST_VALUES}
 use Rattle.exchange_model.proofs.Facts.{file_kept}
 use Rattle.exchange_model.proofs.Numbers.{variable_is_cell}
-use Rattle.record_files.specs.Laid.{HasCell, IsLayout}
+use Rattle.store_layout.specs.Laid.{HasCell, IsLayout}
 use Rattle.source_meaning.specs.Config.{base_of}
+use Rattle.plex_num.proofs.Lists.{all_at}
 use Rattle.expr_code.specs.Code.{expr_code, cond_code}
 use Rattle.expr_code.specs.Sites.{IsScopeOf, IsExprOf, IsCondOf, Grows}
-use Rattle.stmt_code.proofs.Setting.{few_loops}
+use Rattle.stmt_code.proofs.NarrowKinds.{enter_few}
+use Rattle.stmt_code.proofs.Signals.{answer_few}
 use Rattle.code_gen.specs.declared.setting.Setting.{Setting}
-use Rattle.code_gen.specs.Settings.{placed_of, places_in, IsSetting, IsFileIn, IsValueIn, IsTestIn, IsVariableIn, IsFieldIn, IsIn}
+use Rattle.code_gen.specs.Settings.{placed_of, places_in, IsSetting, IsFileIn, IsValueIn, IsTestIn, IsVariableIn, IsFieldIn, IsReachedIn, IsIn}
 use Rattle.code_gen.proofs.Files.{site_files, site_in}
 
 -- for the code of expressions
@@ -86,18 +90,6 @@ set_field_value s d file field pointer e h = (own_values h).0
 pub for_first_value : (s : Setting) (d t file field label : ℕ) (rel : Rel) (e : Expr) → IsIn s d (layer.ForFirst t file field rel e label) → IsValueIn s e
 for_first_value s d t file field label rel e h = (own_values h).0
 
-pub case_value : (s : Setting) (d : ℕ) (e : Expr) (ws : List When) (ss : List Stmt) → IsIn s d (layer.Case e ws ss) → IsValueIn s e
-case_value s d e ws ss h = (own_values h).0
-
-pub on_from : (s : Setting) (d t : ℕ) (e f : Expr) (ss : List Stmt) → IsIn s d (layer.On t e f ss) → IsValueIn s e
-on_from s d t e f ss h = (own_values h).0
-
-pub on_upto : (s : Setting) (d t : ℕ) (e f : Expr) (ss : List Stmt) → IsIn s d (layer.On t e f ss) → IsValueIn s f
-on_upto s d t e f ss h = (own_values h).1.0
-
-pub if_test : (s : Setting) (d : ℕ) (c : Cond) (ss rs : List Stmt) → IsIn s d (layer.If c ss rs) → IsTestIn s c
-if_test s d c ss rs h = record { setting = h.setting; block = h.inside.block; there = h.inside.there; fits = h.inside.fits.exprs }
-
 pub if_goto_test : (s : Setting) (d : ℕ) (c : Cond) (label : ℕ) → IsIn s d (layer.IfGoto c label) → IsTestIn s c
 if_goto_test s d c label h = record { setting = h.setting; block = h.inside.block; there = h.inside.there; fits = h.inside.fits.exprs }
 
@@ -132,9 +124,8 @@ cells_fit s file p h = omega (arith, h.cells)
 
 pub field_fits : (s : Setting) (file field : ℕ) (p : Placed) → IsFieldIn s file field → IsFileIn s file p → p.first + field < 2 ^ 32
 field_fits s file field p h at =
-    let q : Placed = record { block = at.block; file = p.file; first = p.first } in
-    let there : slice_get (placed_files s.exchange.now.blocks) file ≡ Some q = ap (λ ps. slice_get ps file) (sym (site_files s h.setting)) ∙ at.there in
-    let same : h.fits.placed ≡ q = same_Some h.fits.placed q (sym h.fits.there ∙ there) in
+    let there : slice_get (placed_files s.exchange.now.blocks) file ≡ Some p = ap (λ ps. slice_get ps file) (sym (site_files s h.setting)) ∙ at.there in
+    let same : h.fits.placed ≡ p = same_Some h.fits.placed p (sym h.fits.there ∙ there) in
     let inside : field < length p.file.fields = subst (λ (r : Placed). field < length r.file.fields) same h.fits.within in
     omega (arith, at.cells, inside)
 
@@ -143,42 +134,54 @@ field_in_place s file field place h at = field_fits s file field (placed_of plac
 
 -- lists of temporaries
 
-all_at : (xs : List SignalKind) (i : ℕ) (x : SignalKind) → AllByRecursion (λ k. signal_count k ≤ MOST_VALUES) xs → slice_get xs i ≡ Some x → signal_count x ≤ MOST_VALUES
-all_at [] i x all e = absurd (none-some x e)
-all_at (y ∷ xs) zero x all e = subst (λ (k : SignalKind). signal_count k ≤ MOST_VALUES) (same_Some y x e) all.0
-all_at (y ∷ xs) (suc i) x all e = all_at xs i x all.1 e
-
-enter_few : (o : Option SignalKind) (count : ℕ) → EnterFits o count → ((k : SignalKind) → o ≡ Some k → signal_count k ≤ MOST_VALUES) → count ≤ MOST_VALUES
-enter_few None count fits most = absurd fits
-enter_few (Some (Buffered name level n)) count fits most = omega (arith, fits, most (Buffered name level n) refl)
-enter_few (Some (Direct name n)) count fits most = omega (arith, fits, most (Direct name n) refl)
-enter_few (Some (Combined name n answer)) count fits most = omega (arith, fits, most (Combined name n answer) refl)
-enter_few (Some (Answer name n combined)) count fits most = absurd fits
-enter_few (Some (Outside name n)) count fits most = absurd fits
-
-answer_few : (o : Option SignalKind) (count : ℕ) → AnswerFits o count → ((k : SignalKind) → o ≡ Some k → signal_count k ≤ MOST_VALUES) → count ≤ MOST_VALUES
-answer_few None count fits most = absurd fits
-answer_few (Some (Buffered name level n)) count fits most = absurd fits
-answer_few (Some (Direct name n)) count fits most = absurd fits
-answer_few (Some (Combined name n answer)) count fits most = absurd fits
-answer_few (Some (Answer name n combined)) count fits most = omega (arith, fits, most (Answer name n combined) refl)
-answer_few (Some (Outside name n)) count fits most = absurd fits
-
 pub enter_temps_few : (s : Setting) (d signal : ℕ) (temps : List ℕ) → IsIn s d (layer.Enter signal temps) → length temps ≤ MOST_VALUES
-enter_temps_few s d signal temps h = enter_few (slice_get s.exchange.now.signals signal) (length temps) h.inside.fits.names.0 (λ k e. all_at s.exchange.now.signals signal k h.setting.kept.signals.values e)
+enter_temps_few s d signal temps h = enter_few (slice_get s.exchange.now.signals signal) (length temps) h.inside.fits.names.0 (λ k e. all_at (λ k. signal_count k ≤ MOST_VALUES) s.exchange.now.signals signal k h.setting.kept.signals.values e)
 
 pub retrieve_temps_few : (s : Setting) (d answer : ℕ) (temps : List ℕ) → IsIn s d (layer.Retrieve answer temps) → length temps ≤ MOST_VALUES
-retrieve_temps_few s d answer temps h = answer_few (slice_get s.exchange.now.signals answer) (length temps) h.inside.fits.names.0 (λ k e. all_at s.exchange.now.signals answer k h.setting.kept.signals.values e)
+retrieve_temps_few s d answer temps h = answer_few (slice_get s.exchange.now.signals answer) (length temps) h.inside.fits.names.0 (λ k e. all_at (λ k. signal_count k ≤ MOST_VALUES) s.exchange.now.signals answer k h.setting.kept.signals.values e)
 
 -- values that are sent
 
-pub send_values : (s : Setting) (d signal : ℕ) (block : Option ℕ) (es : List Expr) (fresh : Bool) → IsIn s d (layer.Send signal block es fresh) → AllByRecursion (IsValueIn s) es
-send_values s d signal block es fresh h = own_values h
+pub send_values : (s : Setting) (d signal : ℕ) (to : Option Receiver) (es : List Expr) (fresh : Bool) → IsIn s d (layer.Send signal to es fresh) → AllByRecursion (IsValueIn s) es
+send_values s d signal to es fresh h = own_values h
+
+pub no_values : (s : Setting) (es : List Expr) → es ≡ [] → AllByRecursion (IsValueIn s) es
+no_values s es e = subst (AllByRecursion (IsValueIn s)) (sym e) tt
+
+-- receivers
+
+reached : (s : Setting) (block : Block) (to : Option Receiver) (signal : ℕ) → IsSetting s → slice_get s.exchange.now.blocks s.block ≡ Some block → Reaches (scope_of s.exchange.now s.block block) to signal → IsReachedIn s to
+reached s block None signal h there fits = absurd fits
+reached s block (Some (receiver.Block b)) signal h there fits = tt
+reached s block (Some (receiver.Held holder)) signal h there fits = record { setting = h; block = block; there = there; fits = fits.0.0 }
+
+outside : (s : Setting) (to : Option Receiver) → to ≡ None → IsReachedIn s to
+outside s to e = subst (IsReachedIn s) (sym e) tt
+
+send_fits : (kind : Option SignalKind) (s : Setting) (block : Block) (to : Option Receiver) (signal count : ℕ) (fresh : Bool) → IsSetting s → slice_get s.exchange.now.blocks s.block ≡ Some block → SendFits (scope_of s.exchange.now s.block block) kind signal to count fresh → IsReachedIn s to
+send_fits None s block to signal count fresh h there fits = absurd fits
+send_fits (Some (Buffered name level n)) s block to signal count fresh h there fits = reached s block to signal h there fits.1
+send_fits (Some (Direct name n)) s block to signal count fresh h there fits = reached s block to signal h there fits.1
+send_fits (Some (Combined name n answer)) s block to signal count fresh h there fits = reached s block to signal h there fits.1
+send_fits (Some (Answer name n combined)) s block to signal count fresh h there fits = absurd fits
+send_fits (Some (Outside name n)) s block to signal count fresh h there fits = outside s to fits.1
+
+pub send_reached : (s : Setting) (d signal : ℕ) (to : Option Receiver) (es : List Expr) (fresh : Bool) → IsIn s d (layer.Send signal to es fresh) → IsReachedIn s to
+send_reached s d signal to es fresh h = send_fits (slice_get s.exchange.now.signals signal) s h.inside.block to signal (length es) fresh h.setting h.inside.there h.inside.fits.names
+
+transfer_fits : (kind : Option SignalKind) (s : Setting) (block : Block) (to : Option Receiver) (signal : ℕ) → IsSetting s → slice_get s.exchange.now.blocks s.block ≡ Some block → TransferFits (scope_of s.exchange.now s.block block) kind signal to → IsReachedIn s to
+transfer_fits None s block to signal h there fits = absurd fits
+transfer_fits (Some (Buffered name level n)) s block to signal h there fits = absurd fits
+transfer_fits (Some (Direct name n)) s block to signal h there fits = reached s block to signal h there fits
+transfer_fits (Some (Combined name n answer)) s block to signal h there fits = absurd fits
+transfer_fits (Some (Answer name n combined)) s block to signal h there fits = absurd fits
+transfer_fits (Some (Outside name n)) s block to signal h there fits = absurd fits
+
+pub transfer_reached : (s : Setting) (d signal : ℕ) (to : Option Receiver) → IsIn s d (layer.Transfer signal to) → IsReachedIn s to
+transfer_reached s d signal to h = transfer_fits (slice_get s.exchange.now.signals signal) s h.inside.block to signal h.setting h.inside.there h.inside.fits.names
 
 pub return_values : (s : Setting) (d answer : ℕ) (es : List Expr) → IsIn s d (layer.Return answer es) → AllByRecursion (IsValueIn s) es
 return_values s d answer es h = own_values h
 
--- loops
-
-pub few_loops_in : (s : Setting) (d : ℕ) (l : StmtKind-F StmtKind Stmt When) → IsIn s d l → d ≤ 12
-few_loops_in s d l h = few_loops h.inside
+-- a field of a file of the block
+pub ruleset in_file = (field_in_place, cells_fit, field_setting)

@@ -4,9 +4,9 @@ pub mod Parts
 pub mod Inside
 pub mod DataSteps
 pub mod ControlSteps
+pub mod ReceiverSteps
 pub mod SignalSteps
 pub mod RecordSteps
 pub mod TextSteps
 pub mod Tables
 pub mod PassSteps
-pub mod Sample

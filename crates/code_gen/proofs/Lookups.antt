@@ -1,32 +1,30 @@
 -- What look-ups find.
-use Rattle.std.proofs.Common.{◌≡◌, ◌≢◌, ℕ, zero, suc, ◌+◌, ◌-◌, ◌^◌, ◌<◌, ◌≤◌, min, Bool, true, false, List, [], ◌∷◌, length, drop, get_or, Some, None, slice_get, slice_index, position, refl, sym, ap, ◌∙◌, arith, if◌then◌else◌}
+use Rattle.std.proofs.Common.{◌≡◌, ℕ, zero, suc, ◌+◌, ◌-◌, ◌≤◌, min, Bool, true, false, List, [], ◌∷◌, length, drop, Some, None, slice_get, slice_index, nat_eq, ◌||◌, Option, is_some, unwrap_or, refl, sym, ap, ◌∙◌, if◌then◌else◌}
 use Rattle.std.proofs.Math.ListN.{drop_of_length-le}
 use Rattle.std.proofs.Math.Seq.{drop-nil}
-use Rattle.std.proofs.lemmas.Bool.{eq-eqb, ne_eqb}
-use Rattle.std.proofs.lemmas.List.Quantifiers.{position-Some}
 use Rattle.std.proofs.lemmas.Option.{slice_get_past, none-some, same_Some}
 use Rattle.exchange_model.specs.declared.exchange.Exchange.{Exchange}
 use Rattle.exchange_model.specs.declared.block.Block.{Block}
 use Rattle.exchange_model.specs.declared.block.Enter.{Enter as Row}
-use Rattle.exchange_model.specs.declared.entry.Entry.{Entry}
-use Rattle.exchange_model.specs.declared.limits.TheConstants.{MOST_ENTRIES}
 use Rattle.exchange_model.specs.declared.block.Label.{Label}
 use Rattle.exchange_model.specs.declared.block.Variable.{Variable}
 use Rattle.exchange_model.specs.declared.stmt.Stmt.{Stmt}
 use Rattle.exchange_model.specs.declared.stmt.StmtKind.{out-StmtKind}
 use Rattle.exchange_model.specs.Cells.{Placed}
-use Rattle.source_meaning.specs.Config.{found, body_of, label_of, row_place, enter_place, entry_number, is_entry, is_enter}
-use Rattle.source_meaning.specs.Step.{field_width, variable_width}
-use Rattle.expr_code.proofs.Emits.{opens}
+use Rattle.source_meaning.specs.Config.{body_of, label_of, row_place, enter_place, is_receiver, is_enter}
+use Rattle.std.specs.List.{find, list_any}
+use Rattle.std.specs.Option.{option_map, option_map_or}
+use Rattle.exchange_model.specs.Index.{place_in, rows_of, enter_of}
+use Rattle.source_meaning.specs.Changes.{field_width, variable_width}
 use Rattle.stmt_code.specs.Whole.{behind_enter}
 use Rattle.code_gen.specs.declared.addresses.Addresses.{Addresses}
 use Rattle.code_gen.specs.Addresses.{address_in, opens_with_enter}
 
-found_past : {A B : Type 0} (xs : List A) (i : ℕ) (b : B) (f : A → B) → length xs ≤ i → found (slice_get xs i) b f ≡ b
-found_past xs i b f past = ap (λ o. found o b f) (slice_get_past xs i past)
+found_past : {A B : Type 0} (xs : List A) (i : ℕ) (b : B) (f : A → B) → length xs ≤ i → option_map_or f (slice_get xs i) b ≡ b
+found_past xs i b f past = ap (λ o. option_map_or f o b) (slice_get_past xs i past)
 
-found_at : {A B : Type 0} (xs : List A) (i : ℕ) (x : A) (b : B) (f : A → B) → slice_get xs i ≡ Some x → found (slice_get xs i) b f ≡ f x
-found_at xs i x b f there = ap (λ o. found o b f) there
+found_at : {A B : Type 0} (xs : List A) (i : ℕ) (x : A) (b : B) (f : A → B) → slice_get xs i ≡ Some x → option_map_or f (slice_get xs i) b ≡ f x
+found_at xs i x b f there = ap (λ o. option_map_or f o b) there
 
 pub address_none : (a : Addresses) (b place : ℕ) → length a.blocks ≤ b → a.end ≡ address_in a b place
 address_none a b place past = sym (found_past a.blocks b a.end (λ places. slice_index places (min place (length places - 1))) past)
@@ -34,20 +32,20 @@ address_none a b place past = sym (found_past a.blocks b a.end (λ places. slice
 pub address_some : (a : Addresses) (b place n : ℕ) (places : List ℕ) → slice_get a.blocks b ≡ Some places → n ≡ slice_index places (min place (length places - 1)) → n ≡ address_in a b place
 address_some a b place n places there is = is ∙ sym (found_at a.blocks b places a.end (λ places. slice_index places (min place (length places - 1))) there)
 
-abbrev place_in : ℕ → Block → ℕ
-place_in l k = found (slice_get k.labels l) 0 (λ (e : Label). e.place)
+abbrev label_in : ℕ → Block → ℕ
+label_in l k = option_map_or (λ (e : Label). e.place) (slice_get k.labels l) 0
 
 pub found_none : (x : Exchange) (b l : ℕ) → length x.blocks ≤ b → 0 ≡ label_of x b l
-found_none x b l past = sym (found_past x.blocks b 0 (place_in l) past)
+found_none x b l past = sym (found_past x.blocks b 0 (label_in l) past)
 
 pub label_none : (x : Exchange) (b l : ℕ) (k : Block) → slice_get x.blocks b ≡ Some k → length k.labels ≤ l → 0 ≡ label_of x b l
-label_none x b l k there past = sym (found_at x.blocks b k 0 (place_in l) there ∙ found_past k.labels l 0 (λ (e : Label). e.place) past)
+label_none x b l k there past = sym (found_at x.blocks b k 0 (label_in l) there ∙ found_past k.labels l 0 (λ (e : Label). e.place) past)
 
 pub label_some : (x : Exchange) (b l : ℕ) (k : Block) (e : Label) → slice_get x.blocks b ≡ Some k → slice_get k.labels l ≡ Some e → e.place ≡ label_of x b l
-label_some x b l k e there is = sym (found_at x.blocks b k 0 (place_in l) there ∙ found_at k.labels l e 0 (λ (e : Label). e.place) is)
+label_some x b l k e there is = sym (found_at x.blocks b k 0 (label_in l) there ∙ found_at k.labels l e 0 (λ (e : Label). e.place) is)
 
 abbrev width_in : ℕ → Block → ℕ
-width_in v k = found (slice_get k.variables v) 0 (λ (e : Variable). e.width)
+width_in v k = option_map_or (λ (e : Variable). e.width) (slice_get k.variables v) 0
 
 pub width_no_block : (x : Exchange) (b v : ℕ) → length x.blocks ≤ b → 0 ≡ variable_width x b v
 width_no_block x b v past = sym (found_past x.blocks b 0 (width_in v) past)
@@ -58,48 +56,42 @@ width_none x b v k there past = sym (found_at x.blocks b k 0 (width_in v) there 
 pub width_some : (x : Exchange) (b v : ℕ) (k : Block) (e : Variable) → slice_get x.blocks b ≡ Some k → slice_get k.variables v ≡ Some e → e.width ≡ variable_width x b v
 width_some x b v k e there is = sym (found_at x.blocks b k 0 (width_in v) there ∙ found_at k.variables v e 0 (λ (e : Variable). e.width) is)
 
-abbrev row_in : ℕ → Block → ℕ
-row_in signal k = row_place k.enters signal
+-- the ENTER of a signal
 
-pub enter_no_block : (x : Exchange) (b signal : ℕ) → length x.blocks ≤ b → 0 ≡ enter_place x b signal
-enter_no_block x b signal past = sym (found_past x.blocks b 0 (row_in signal) past)
+abbrev of_signal : ℕ → Row → Bool
+of_signal signal r = nat_eq r.signal signal
 
-pub enter_some : (x : Exchange) (b signal n : ℕ) (k : Block) → slice_get x.blocks b ≡ Some k → n ≡ row_place k.enters signal → n ≡ enter_place x b signal
-enter_some x b signal n k there is = is ∙ sym (found_at x.blocks b k 0 (row_in signal) there)
+row_place_is : (rows : List Row) (signal : ℕ) → unwrap_or (place_in rows signal) 0 ≡ row_place rows signal
+row_place_is [] signal = refl
+row_place_is (r ∷ rows) signal = by_test (of_signal signal r) (row_place_is rows signal)
+  where
+    by_test : (t : Bool) → unwrap_or (place_in rows signal) 0 ≡ row_place rows signal → unwrap_or (option_map (λ (r : Row). r.place) (if t then Some r else find (of_signal signal) rows)) 0 ≡ (if t then r.place else row_place rows signal)
+    by_test true h = refl
+    by_test false h = h
 
--- rows
+in_block : (o : Option Block) (signal : ℕ) → unwrap_or (place_in (rows_of o) signal) 0 ≡ option_map_or (λ (k : Block). row_place k.enters signal) o 0
+in_block None signal = refl
+in_block (Some k) signal = row_place_is k.enters signal
 
-pub rows_begin : (rows : List Row) (signal : ℕ) → row_place (drop 0 rows) signal ≡ row_place rows signal
-rows_begin rows signal = refl
+pub enter_found : (x : Exchange) (b signal : ℕ) → unwrap_or (enter_of x.blocks b signal) 0 ≡ enter_place x b signal
+enter_found x b signal = in_block (slice_get x.blocks b) signal
 
-pub rows_found : (rows : List Row) (i signal : ℕ) (r : Row) → i < length rows → r ≡ get_or rows i r → r.signal ≡ signal → row_place (drop i rows) signal ≡ row_place rows signal → r.place ≡ row_place rows signal
-rows_found rows i signal r lt is e h =
-    sym (ap (λ t. if t then r.place else row_place (drop (i + 1) rows) signal) (eq-eqb r.signal signal e)) ∙ sym (ap (λ rs. row_place rs signal) (opens rows i r lt is)) ∙ h
+some_row : (rows : List Row) (signal : ℕ) → is_some (place_in rows signal) ≡ list_any (of_signal signal) rows
+some_row [] signal = refl
+some_row (r ∷ rows) signal = by_test (of_signal signal r) (some_row rows signal)
+  where
+    by_test : (t : Bool) → is_some (place_in rows signal) ≡ list_any (of_signal signal) rows → is_some (option_map (λ (r : Row). r.place) (if t then Some r else find (of_signal signal) rows)) ≡ (t || list_any (of_signal signal) rows)
+    by_test true h = refl
+    by_test false h = h
 
-pub rows_more : (rows : List Row) (i signal : ℕ) (r : Row) → i < length rows → r ≡ get_or rows i r → r.signal ≢ signal → row_place (drop i rows) signal ≡ row_place rows signal → row_place (drop (i + 1) rows) signal ≡ row_place rows signal
-rows_more rows i signal r lt is ne h =
-    sym (ap (λ t. if t then r.place else row_place (drop (i + 1) rows) signal) (ne_eqb r.signal signal ne)) ∙ sym (ap (λ rs. row_place rs signal) (opens rows i r lt is)) ∙ h
+received_in : (o : Option Block) (signal : ℕ) → is_some (place_in (rows_of o) signal) ≡ option_map_or (is_receiver signal) o false
+received_in None signal = refl
+received_in (Some k) signal = some_row k.enters signal
 
-pub rows_end : (rows : List Row) (i signal : ℕ) → length rows ≤ i → row_place (drop i rows) signal ≡ row_place rows signal → 0 ≡ row_place rows signal
-rows_end rows i signal past h = sym (ap (λ rs. row_place rs signal) (drop_of_length-le rows past)) ∙ h
-
--- entries
-
-pub number_small : (xs : List Entry) (b signal n : ℕ) → position (is_entry b signal) xs ≡ Some n → length xs ≤ MOST_ENTRIES → n < 2 ^ 32
-number_small xs b signal n e few =
-    let none : Entry = record { block = 0; signal = 0; point = 0 } in
-    omega (arith, (position-Some (is_entry b signal) xs n none e).0, few)
-
-pub number_some : (x : Exchange) (b signal n : ℕ) → position (is_entry b signal) x.entries ≡ Some n → n ≡ entry_number x b signal
-number_some x b signal n e = sym (ap (λ o. found o 0 (λ n. n)) e)
-
-pub number_none : (x : Exchange) (b signal : ℕ) → position (is_entry b signal) x.entries ≡ None → 0 ≡ entry_number x b signal
-number_none x b signal e = sym (ap (λ o. found o 0 (λ n. n)) e)
+pub receives_is : (x : Exchange) (b signal : ℕ) → is_some (enter_of x.blocks b signal) ≡ option_map_or (is_receiver signal) (slice_get x.blocks b) false
+receives_is x b signal = received_in (slice_get x.blocks b) signal
 
 -- an ENTER at a place
-
-abbrev enter_at_place : ℕ → Block → Bool
-enter_at_place place k = opens_with_enter (drop place k.body)
 
 body_past : (x : Exchange) (b : ℕ) → length x.blocks ≤ b → body_of x b ≡ []
 body_past x b past = found_past x.blocks b [] (λ (k : Block). k.body) past

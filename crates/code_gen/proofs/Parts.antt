@@ -29,14 +29,14 @@ part_more now new part rest all e h = ap (λ l. l ++ rest) e ∙ append_assoc no
 
 -- values
 
-pub values_begin : (es given : List Expr) (site : Site) (old : List Op) → given ≡ es → old ++ values_code given site ≡ old ++ values_code es site
-values_begin es given site old same = ap (λ l. old ++ values_code l site) same
+pub values_begin : (es given : List Expr) (site : Site) (r : ℕ) (old : List Op) → given ≡ es → old ++ values_code given site r ≡ old ++ values_code es site r
+values_begin es given site r old same = ap (λ l. old ++ values_code l site r) same
 
-pub values_more : (es : List Expr) (i : ℕ) (e : Expr) (site : Site) (now n1 new all : List Op) → i < length es → e ≡ get_or es i e → n1 ≡ now ++ expr_code e site 0 → new ≡ n1 ++ op.Arg 0 ∷ [] → now ++ values_code (drop i es) site ≡ all → new ++ values_code (drop (i + 1) es) site ≡ all
-values_more es i e site now n1 new all lt is e1 e2 h =
-    let rest = values_code (drop (i + 1) es) site in
-    part_more n1 new (op.Arg 0 ∷ []) rest all e2
-    (part_more now n1 (expr_code e site 0) (op.Arg 0 ∷ rest) all e1 (sym (ap (λ l. now ++ values_code l site) (opens es i e lt is)) ∙ h))
+pub values_more : (es : List Expr) (i : ℕ) (e : Expr) (site : Site) (r : ℕ) (now n1 new all : List Op) → i < length es → e ≡ get_or es i e → n1 ≡ now ++ expr_code e site r → new ≡ n1 ++ op.Arg r ∷ [] → now ++ values_code (drop i es) site r ≡ all → new ++ values_code (drop (i + 1) es) site r ≡ all
+values_more es i e site r now n1 new all lt is e1 e2 h =
+    let rest = values_code (drop (i + 1) es) site r in
+    part_more n1 new (op.Arg r ∷ []) rest all e2
+    (part_more now n1 (expr_code e site r) (op.Arg r ∷ rest) all e1 (sym (ap (λ l. now ++ values_code l site r) (opens es i e lt is)) ∙ h))
 
-pub values_end : (es : List Expr) (i : ℕ) (site : Site) (now all : List Op) → length es ≤ i → now ++ values_code (drop i es) site ≡ all → now ≡ all
-values_end es i site now all past h = sym (append-nil now) ∙ sym (ap (λ l. now ++ values_code l site) (drop_of_length-le es past)) ∙ h
+pub values_end : (es : List Expr) (i : ℕ) (site : Site) (r : ℕ) (now all : List Op) → length es ≤ i → now ++ values_code (drop i es) site r ≡ all → now ≡ all
+values_end es i site r now all past h = sym (append-nil now) ∙ sym (ap (λ l. now ++ values_code l site r) (drop_of_length-le es past)) ∙ h

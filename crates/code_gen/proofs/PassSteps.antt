@@ -1,26 +1,23 @@
 -- The code of texts and of blocks is appended, and the addresses of their places are noted.
-use Rattle.std.proofs.Common.{◌≡◌, ℕ, zero, suc, Bor, ◌+◌, ◌<◌, ◌≤◌, List, [], ◌∷◌, ◌++◌, length, map, drop, get_or, Some, slice_get, refl, sym, ap, ◌∙◌, subst, arith, append_assoc, append-nil, add-one, length-append}
+use Rattle.std.proofs.Common.{◌≡◌, ℕ, zero, suc, ◌+◌, ◌<◌, ◌≤◌, List, [], ◌∷◌, ◌++◌, length, map, drop, get_or, Some, slice_get, refl, sym, ap, ◌∙◌, subst, arith, append_assoc, append-nil, add-one, length-append}
 use Rattle.std.proofs.Math.ListN.{drop_of_length-le}
-use Rattle.std.proofs.lemmas.List.{map-append}
 use Rattle.std.proofs.lemmas.Option.{slice_get_read}
 use Rattle.machine_code.specs.declared.op.Op.{Op}
 use Rattle.machine_code.specs.declared.op.Op.TheVariants as op
 use Rattle.exchange_model.specs.declared.exchange.Exchange.{Exchange}
 use Rattle.exchange_model.specs.declared.block.Block.{Block}
-use Rattle.exchange_model.specs.declared.block.File.{File}
 use Rattle.exchange_model.specs.declared.entry.Entry.{Entry}
 use Rattle.exchange_model.specs.declared.stmt.Stmt.{Stmt}
-use Rattle.exchange_model.specs.Cells.{Placed, block_cells, file_cells, placed_files, placed_from, placed_in}
-use Rattle.exchange_model.specs.Inside.{joined}
 use Rattle.exchange_model.specs.Kept.{IsExchange}
-use Rattle.record_files.specs.Laid.{IsLayout}
-use Rattle.source_meaning.specs.Config.{found, body_of}
+use Rattle.store_layout.specs.Laid.{IsLayout}
+use Rattle.source_meaning.specs.Config.{body_of}
+use Rattle.std.specs.Option.{option_map_or}
 use Rattle.stmt_code.specs.StmtCode.{Places, codes, kind_code, stmt_code}
 use Rattle.stmt_code.specs.Whole.{places_of, code_upto}
 use Rattle.code_gen.specs.declared.addresses.Addresses.{Addresses}
 use Rattle.code_gen.specs.declared.setting.Setting.{Setting}
 use Rattle.code_gen.specs.Addresses.{enter_in, table_in, addresses_from, places_upto, addresses_by}
-use Rattle.code_gen.specs.Settings.{places_in, AreFilesOf, AreIn}
+use Rattle.code_gen.specs.Settings.{places_in, AreIn}
 use Rattle.code_gen.proofs.Parts.{part_more}
 use Rattle.code_gen.proofs.TextSteps.{list_opens, stmt_is}
 use Rattle.expr_code.proofs.Emits.{opens}
@@ -88,7 +85,7 @@ unfolding places_in code_upto places_upto
 pass_more x a s items n k now new blocks more places from lt read ex ea en e ep em h =
     let t = table_in x a in
     let there : slice_get x.blocks n ≡ Some k = ap (λ (ks : List Block). slice_get ks n) (sym from) ∙ slice_get_read items (length items) n k refl lt read in
-    let body : body_of x n ≡ k.body = ap (λ o. found o [] (λ (k : Block). k.body)) there in
+    let body : body_of x n ≡ k.body = ap (λ o. option_map_or (λ (k : Block). k.body) o []) there in
     let pl : places_in s ≡ places_of x t n = λ i. places_of (ex i) (table_in (ex i) (ea i)) (en i) in
     let start = h.code in
     subst (BlocksMade x a new more) (sym (add-one n)) record {
@@ -110,15 +107,15 @@ pass_addresses x a items n end ops blocks from past h at =
     λ i. record { blocks = lists i; end = ends i }
 
 -- the text of a block
-pub text_in : (s : Setting) (x : Exchange) (files : List (Bor File)) (items : List Block) (n : ℕ) (k : Block) → IsExchange x → IsLayout x.blocks s.layout.now → AreFilesOf x files → s.files.now ≡ files → items ≡ x.blocks → n < length items → k ≡ get_or items n k → s.exchange.now ≡ x → s.block ≡ n → AreIn s 0 k.body
-text_in s x files items n k kept layout are same from lt read ex en =
+pub text_in : (s : Setting) (x : Exchange) (items : List Block) (n : ℕ) (k : Block) → IsExchange x → IsLayout x.blocks s.layout.now → items ≡ x.blocks → n < length items → k ≡ get_or items n k → s.exchange.now ≡ x → s.block ≡ n → AreIn s 0 k.body
+text_in s x items n k kept layout from lt read ex en =
     let there : slice_get x.blocks n ≡ Some k = ap (λ (ks : List Block). slice_get ks n) (sym from) ∙ slice_get_read items (length items) n k refl lt read in
     let kept' : IsExchange s.exchange.now = subst IsExchange (sym ex) kept in
     let there' : slice_get s.exchange.now.blocks s.block ≡ Some k = (λ i. slice_get (ex i).blocks (en i)) ∙ there in
     let h = kept'.blocks.each s.block k there' in
     record {
-      setting = record { kept = kept'; layout = subst (λ (y : Exchange). IsLayout y.blocks s.layout.now) (sym ex) layout; files = subst (λ y. AreFilesOf y s.files.now) (sym ex) (subst (AreFilesOf x) (sym same) are) };
-      inside = record { block = k; there = there'; few = h.temporaries; fits = h.statements; shallow = omega (arith, h.shallow) };
+      setting = record { kept = kept'; layout = subst (λ (y : Exchange). IsLayout y.blocks s.layout.now) (sym ex) layout };
+      inside = record { block = k; there = there'; limited = record { temporaries = h.temporaries; blocks = kept'.blocks.few }; fits = h.statements; shallow = omega (arith, h.shallow) };
     }
 
 -- entries
@@ -151,53 +148,3 @@ entries_end x a es i now all past h = none now ∙ sym (ap (λ l. now ++ enters 
     none : (xs : List ℕ) → xs ≡ xs ++ []
     none [] = refl
     none (x ∷ xs) = ap (λ l. x ∷ l) (none xs)
-
--- files
-
-abbrev pub files_now : List (Bor File) → List File
-files_now fs = map (λ f. f.now) fs
-
-file_nil : (xs : List File) → xs ++ [] ≡ xs
-file_nil [] = refl
-file_nil (x ∷ xs) = ap (λ l. x ∷ l) (file_nil xs)
-
-file_assoc : (xs ys zs : List File) → (xs ++ ys) ++ zs ≡ xs ++ (ys ++ zs)
-file_assoc [] ys zs = refl
-file_assoc (x ∷ xs) ys zs = ap (λ l. x ∷ l) (file_assoc xs ys zs)
-
-pub file_begin : (old : List (Bor File)) (fs given : List File) → given ≡ fs → files_now old ++ given ≡ files_now old ++ fs
-file_begin old fs given same = ap (λ l. files_now old ++ l) same
-
-pub file_more : (fs : List File) (i : ℕ) (f : Bor File) (now new : List (Bor File)) (all : List File) → i < length fs → f.now ≡ get_or fs i f.now → new ≡ now ++ f ∷ [] → files_now now ++ drop i fs ≡ all → files_now new ++ drop (i + 1) fs ≡ all
-file_more fs i f now new all lt is e h =
-    ap (λ l. files_now l ++ drop (i + 1) fs) e ∙ ap (λ l. l ++ drop (i + 1) fs) (map-append (λ f. f.now) now (f ∷ []))
-    ∙ file_assoc (files_now now) (f.now ∷ []) (drop (i + 1) fs) ∙ sym (ap (λ l. files_now now ++ l) (opens fs i f.now lt is)) ∙ h
-
-pub file_end : (fs : List File) (i : ℕ) (now : List (Bor File)) (all : List File) → length fs ≤ i → files_now now ++ drop i fs ≡ all → files_now now ≡ all
-file_end fs i now all past h = sym (file_nil (files_now now)) ∙ sym (ap (λ l. files_now now ++ l) (drop_of_length-le fs past)) ∙ h
-
--- of all blocks
-
-abbrev pub all_files : List Block → List File
-all_files bs = joined (map (λ (k : Block). k.files) bs)
-
-in_order : (b c : ℕ) (fs : List File) → map (λ (p : Placed). p.file) (placed_in b c fs) ≡ fs
-in_order b c [] = refl
-in_order b c (f ∷ fs) = ap (λ l. f ∷ l) (in_order b (c + file_cells f) fs)
-
-from_order : (b c : ℕ) (bs : List Block) → map (λ (p : Placed). p.file) (placed_from b c bs) ≡ all_files bs
-from_order b c [] = refl
-from_order b c (k ∷ bs) =
-    map-append (λ (p : Placed). p.file) (placed_in b (c + length k.variables) k.files) (placed_from (b + 1) (c + block_cells k) bs)
-    ∙ λ i. in_order b (c + length k.variables) k.files i ++ from_order (b + 1) (c + block_cells k) bs i
-
-pub files_begin : (x : Exchange) (files : List (Bor File)) (given : List Block) → files ≡ [] → given ≡ x.blocks → files_now files ++ all_files given ≡ all_files x.blocks
-files_begin x files given none same = λ i. files_now (none i) ++ all_files (same i)
-
-pub files_more : (bs : List Block) (i : ℕ) (k : Block) (now new : List (Bor File)) (all : List File) → i < length bs → k ≡ get_or bs i k → files_now new ≡ files_now now ++ k.files → files_now now ++ all_files (drop i bs) ≡ all → files_now new ++ all_files (drop (i + 1) bs) ≡ all
-files_more bs i k now new all lt is e h =
-    ap (λ l. l ++ all_files (drop (i + 1) bs)) e ∙ file_assoc (files_now now) k.files (all_files (drop (i + 1) bs)) ∙ sym (ap (λ l. files_now now ++ all_files l) (opens bs i k lt is)) ∙ h
-
-pub files_end : (x : Exchange) (bs : List Block) (i : ℕ) (now : List (Bor File)) → length bs ≤ i → files_now now ++ all_files (drop i bs) ≡ all_files x.blocks → AreFilesOf x now
-unfolding placed_files
-files_end x bs i now past h = sym (file_nil (files_now now)) ∙ sym (ap (λ l. files_now now ++ all_files l) (drop_of_length-le bs past)) ∙ h ∙ sym (from_order 0 0 x.blocks)

@@ -11,9 +11,9 @@ use Rattle.exchange_model.specs.declared.expr.Rel.{Rel}
 use Rattle.exchange_model.specs.Cells.{Placed, record_cells}
 use Rattle.expr_code.specs.Code.{expr_code, pointer_code, rel_op}
 use Rattle.expr_code.proofs.Emits.{opens}
-use Rattle.stmt_code.specs.StmtCode.{Places, for_first_code, seize_code, free_code, inits_code}
+use Rattle.stmt_code.specs.declared.lengths.TheConstants.{LOOK_LENGTH, FOUND_LENGTH, AGAIN_LENGTH}
+use Rattle.stmt_code.specs.StmtCode.{Places, search_code, for_first_code, free_search_code, seize_code, free_code, inits_code}
 use Rattle.code_gen.specs.declared.setting.Setting.{Setting}
-use Rattle.code_gen.specs.Records.{search_at, seize_at}
 use Rattle.code_gen.specs.Settings.{places_in, placed_of, IsFileIn}
 use Rattle.code_gen.proofs.Parts.{two, three, four, part_more}
 
@@ -36,14 +36,16 @@ for_first_is p a len start l t file field label rel e pl value old n1 n2 new is 
 pub no_search : (s : Setting) (t file field l a : ℕ) (rel : Rel) (old : List Op) → slice_get (places_in s).site.files file ≡ None → old ≡ old ++ for_first_code (slice_get (places_in s).site.files file) t field rel l a
 no_search s t file field l a rel old none = sym (ap (λ o. old ++ for_first_code o t field rel l a) none ∙ append-nil old)
 
-pub search_is : (s : Setting) (t file field l a word : ℕ) (rel : Rel) (place : FilePlace) (old new : List Op) → IsFileIn s file (placed_of place) → word ≡ place.first + field → new ≡ old ++ search_at place.file.now word t rel l a → new ≡ old ++ for_first_code (slice_get (places_in s).site.files file) t field rel l a
+pub search_is : (s : Setting) (t file field l a word : ℕ) (rel : Rel) (place : FilePlace) (old new : List Op) → IsFileIn s file (placed_of place) → word ≡ place.first + field → new ≡ old ++ search_code place.file.now word t rel l a → new ≡ old ++ for_first_code (slice_get (places_in s).site.files file) t field rel l a
 search_is s t file field l a word rel place old new h is e =
-    e ∙ ap (λ n. old ++ search_at place.file.now n t rel l a) is ∙ sym (ap (λ o. old ++ for_first_code o t field rel l a) h.there)
+    e ∙ ap (λ n. old ++ search_code place.file.now n t rel l a) is ∙ sym (ap (λ o. old ++ for_first_code o t field rel l a) h.there)
 
-pub search_steps : (f : File) (word t l a step other end cells : ℕ) (rel : Rel) (test : Op) (old new : List Op) → step ≡ a + 1 → other ≡ a + 9 → end ≡ a + 12 → cells ≡ record_cells f → test ≡ rel_op rel 2 0
-    → new ≡ old ++ (op.Ldi 1 0 ∷ op.Ldi 2 f.size ∷ op.Gt 2 1 ∷ op.Jz 2 end ∷ op.Ldx 2 word cells 1 ∷ test ∷ op.Jz 2 other ∷ op.Stt t 1 ∷ op.Jmp l ∷ op.Ldi 2 1 ∷ op.Add 1 2 ∷ op.Jmp step ∷ []) → new ≡ old ++ search_at f word t rel l a
-search_steps f word t l a step other end cells rel test old new e1 e2 e3 e4 e5 e =
-    e ∙ λ i. old ++ (op.Ldi 1 0 ∷ op.Ldi 2 f.size ∷ op.Gt 2 1 ∷ op.Jz 2 (e3 i) ∷ op.Ldx 2 word (e4 i) 1 ∷ e5 i ∷ op.Jz 2 (e2 i) ∷ op.Stt t 1 ∷ op.Jmp l ∷ op.Ldi 2 1 ∷ op.Add 1 2 ∷ op.Jmp (e1 i) ∷ [])
+pub search_steps : (f : File) (word t l a head other end cells : ℕ) (rel : Rel) (test : Op) (old new : List Op) → head ≡ a + 1 → other ≡ head + (LOOK_LENGTH + FOUND_LENGTH) → end ≡ other + AGAIN_LENGTH → cells ≡ record_cells f → test ≡ rel_op rel 2 0
+    → new ≡ old ++ (op.Ldi 1 0 ∷ op.Ldi 2 f.size ∷ op.Gt 2 1 ∷ op.Jz 2 end ∷ op.Ldx 2 word cells 1 ∷ test ∷ op.Jz 2 other ∷ op.Stt t 1 ∷ op.Jmp l ∷ op.Ldi 2 1 ∷ op.Add 1 2 ∷ op.Jmp head ∷ []) → new ≡ old ++ search_code f word t rel l a
+search_steps f word t l a head other end cells rel test old new e1 e2 e3 e4 e5 e =
+    let other_at : other ≡ a + 1 + LOOK_LENGTH + FOUND_LENGTH = omega (arith, e1, e2) in
+    let end_at : end ≡ a + 1 + LOOK_LENGTH + FOUND_LENGTH + AGAIN_LENGTH = omega (arith, other_at, e3) in
+    e ∙ λ i. old ++ (op.Ldi 1 0 ∷ op.Ldi 2 f.size ∷ op.Gt 2 1 ∷ op.Jz 2 (end_at i) ∷ op.Ldx 2 word (e4 i) 1 ∷ e5 i ∷ op.Jz 2 (other_at i) ∷ op.Stt t 1 ∷ op.Jmp l ∷ op.Ldi 2 1 ∷ op.Add 1 2 ∷ op.Jmp (e1 i) ∷ [])
 
 -- SEIZE
 
@@ -55,14 +57,16 @@ seize_is p a start l t file label pl old n1 new address to e1 e2 =
 pub no_seize : (s : Setting) (t file l a : ℕ) (old : List Op) → slice_get (places_in s).site.files file ≡ None → old ≡ old ++ seize_code (slice_get (places_in s).site.files file) file t l a
 no_seize s t file l a old none = sym (ap (λ o. old ++ seize_code o file t l a) none ∙ append-nil old)
 
-pub seizes : (s : Setting) (t file l a mark : ℕ) (place : FilePlace) (old new : List Op) → IsFileIn s file (placed_of place) → mark ≡ place.first + length place.file.now.fields → new ≡ old ++ seize_at place.file.now mark file t l a → new ≡ old ++ seize_code (slice_get (places_in s).site.files file) file t l a
+pub seizes : (s : Setting) (t file l a mark : ℕ) (place : FilePlace) (old new : List Op) → IsFileIn s file (placed_of place) → mark ≡ place.first + length place.file.now.fields → new ≡ old ++ free_search_code place.file.now mark file t l a → new ≡ old ++ seize_code (slice_get (places_in s).site.files file) file t l a
 seizes s t file l a mark place old new h is e =
-    e ∙ ap (λ n. old ++ seize_at place.file.now n file t l a) is ∙ sym (ap (λ o. old ++ seize_code o file t l a) h.there)
+    e ∙ ap (λ n. old ++ free_search_code place.file.now n file t l a) is ∙ sym (ap (λ o. old ++ seize_code o file t l a) h.there)
 
-pub seize_steps : (f : File) (mark file t l a step free cells : ℕ) (old new : List Op) → step ≡ a + 2 → free ≡ a + 10 → cells ≡ record_cells f
-    → new ≡ old ++ (op.Ckf ∷ op.Ldi 1 0 ∷ op.Ldi 2 f.size ∷ op.Gt 2 1 ∷ op.Jz 2 l ∷ op.Ldx 2 mark cells 1 ∷ op.Jz 2 free ∷ op.Ldi 2 1 ∷ op.Add 1 2 ∷ op.Jmp step ∷ op.Chn 1 file ∷ op.Ldi 2 1 ∷ op.Stx mark cells 1 2 ∷ op.Stt t 1 ∷ []) → new ≡ old ++ seize_at f mark file t l a
-seize_steps f mark file t l a step free cells old new e1 e2 e3 e =
-    e ∙ λ i. old ++ (op.Ckf ∷ op.Ldi 1 0 ∷ op.Ldi 2 f.size ∷ op.Gt 2 1 ∷ op.Jz 2 l ∷ op.Ldx 2 mark (e3 i) 1 ∷ op.Jz 2 (e2 i) ∷ op.Ldi 2 1 ∷ op.Add 1 2 ∷ op.Jmp (e1 i) ∷ op.Chn 1 file ∷ op.Ldi 2 1 ∷ op.Stx mark (e3 i) 1 2 ∷ op.Stt t 1 ∷ [])
+pub seize_steps : (f : File) (mark file t l a head free cells : ℕ) (old new : List Op) → head ≡ a + 2 → free ≡ head + (LOOK_LENGTH + 1 + AGAIN_LENGTH) → cells ≡ record_cells f
+    → new ≡ old ++ (op.Ckf ∷ op.Ldi 1 0 ∷ op.Ldi 2 f.size ∷ op.Gt 2 1 ∷ op.Jz 2 l ∷ op.Ldx 2 mark cells 1 ∷ op.Jz 2 free ∷ op.Ldi 2 1 ∷ op.Add 1 2 ∷ op.Jmp head ∷ op.Chn 1 file ∷ op.Ldi 2 1 ∷ op.Stx mark cells 1 2 ∷ op.Stt t 1 ∷ []) → new ≡ old ++ free_search_code f mark file t l a
+seize_steps f mark file t l a head free cells old new e1 e2 e3 e =
+    let head_at : head ≡ a + 1 + 1 = omega (arith, e1) in
+    let free_at : free ≡ a + 1 + 1 + LOOK_LENGTH + 1 + AGAIN_LENGTH = omega (arith, e1, e2) in
+    e ∙ λ i. old ++ (op.Ckf ∷ op.Ldi 1 0 ∷ op.Ldi 2 f.size ∷ op.Gt 2 1 ∷ op.Jz 2 l ∷ op.Ldx 2 mark (e3 i) 1 ∷ op.Jz 2 (free_at i) ∷ op.Ldi 2 1 ∷ op.Add 1 2 ∷ op.Jmp (head_at i) ∷ op.Chn 1 file ∷ op.Ldi 2 1 ∷ op.Stx mark (e3 i) 1 2 ∷ op.Stt t 1 ∷ [])
 
 -- FREE
 
@@ -89,3 +93,10 @@ inits_more p vs i word cells v now new all lt is ew ec e h =
 
 pub inits_end : (p : Placed) (vs : List Variable) (i : ℕ) (now all : List Op) → length vs ≤ i → now ++ inits_code p i (drop i vs) ≡ all → now ≡ all
 inits_end p vs i now all past h = sym (append-nil now) ∙ sym (ap (λ l. now ++ inits_code p i l) (drop_of_length-le vs past)) ∙ h
+
+-- a search, a seizure and a release, where there is a file
+pub ruleset searching = (no_search, search_is, cells_in_place)
+
+pub ruleset seizing = (no_seize, seizes, record_fits, cells_in_place)
+
+pub ruleset freeing = (no_free, frees, record_fits, cells_in_place)

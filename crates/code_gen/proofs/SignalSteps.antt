@@ -1,23 +1,26 @@
 -- The code of sends and answers is appended.
-use Rattle.std.proofs.Common.{◌≡◌, ℕ, ◌+◌, ◌<◌, ◌≤◌, Bool, List, [], ◌∷◌, ◌++◌, length, drop, get_or, Option, Some, None, slice_get, refl, sym, ap, ◌∙◌, append-nil}
+use Rattle.std.proofs.Common.{◌≡◌, ℕ, ◌+◌, ◌<◌, ◌≤◌, Bool, List, [], ◌∷◌, ◌++◌, length, drop, get_or, Option, Some, None, slice_get, sym, ap, ◌∙◌, append-nil}
 use Rattle.std.proofs.Math.ListN.{drop_of_length-le}
+use Rattle.std.specs.Option.{option_map_or}
 use Rattle.plex_num.specs.declared.level.Level.{Level}
 use Rattle.machine_code.specs.declared.op.Op.{Op}
 use Rattle.machine_code.specs.declared.op.Op.TheVariants as op
 use Rattle.exchange_model.specs.declared.expr.Expr.{Expr}
+use Rattle.exchange_model.specs.declared.stmt.Receiver.{Receiver}
 use Rattle.exchange_model.specs.declared.signal.SignalKind.{SignalKind}
 use Rattle.exchange_model.specs.declared.signal.SignalKind.TheVariants.{Buffered, Direct, Combined, Answer, Outside}
 use Rattle.exchange_model.specs.Kept.{signal_count}
-use Rattle.source_meaning.specs.Step.{block_or}
 use Rattle.expr_code.proofs.Emits.{opens}
-use Rattle.stmt_code.specs.StmtCode.{Places, values_code, send_code, count_of, level_number, queue_number, retrieve_code}
+use Rattle.stmt_code.specs.StmtCode.{Places, values_code, send_code, count_in, level_number, queue_number, retrieve_code, receiver_code}
+use Rattle.code_gen.specs.declared.receivers.Arm.TheVariants.{Send, Transfer}
+use Rattle.code_gen.specs.Receivers.{arm_code}
 use Rattle.code_gen.proofs.Parts.{two, three, part_more}
 
-pub send_is : (p signal b : ℕ) (block : Option ℕ) (es : List Expr) (fresh : Bool) (pl : Places) (old n1 n2 new : List Op) → b ≡ block_or block → n1 ≡ old ++ op.Stmt p ∷ [] → n2 ≡ n1 ++ values_code es pl.site → new ≡ n2 ++ send_code (slice_get pl.signals signal) signal b fresh pl
-    → new ≡ old ++ op.Stmt p ∷ (values_code es pl.site ++ send_code (slice_get pl.signals signal) signal (block_or block) fresh pl)
-send_is p signal b block es fresh pl old n1 n2 new is e1 e2 e3 =
-    let code : ℕ → List Op = λ n. send_code (slice_get pl.signals signal) signal n fresh pl in
-    three old n1 n2 new (op.Stmt p ∷ []) (values_code es pl.site) (code (block_or block)) e1 e2 (e3 ∙ ap (λ n. n2 ++ code n) is)
+pub send_is : (p a start : ℕ) (signal : ℕ) (to : Option Receiver) (es : List Expr) (fresh : Bool) (pl : Places) (old n1 new : List Op) → start ≡ a + 1 → n1 ≡ old ++ op.Stmt p ∷ [] → new ≡ n1 ++ receiver_code to (pl.receivers signal) pl.site es (arm_code (Send signal fresh) pl) start
+    → new ≡ old ++ op.Stmt p ∷ receiver_code to (pl.receivers signal) pl.site es (λ b. send_code (slice_get pl.signals signal) signal b fresh pl) (a + 1)
+send_is p a start signal to es fresh pl old n1 new at e1 e2 =
+    let code : ℕ → List Op = λ n. receiver_code to (pl.receivers signal) pl.site es (arm_code (Send signal fresh) pl) n in
+    two old n1 new (op.Stmt p ∷ []) (code (a + 1)) e1 (e2 ∙ ap (λ n. n1 ++ code n) at)
 
 module _ (signal b : ℕ) (fresh : Bool) (pl : Places) where
   abbrev code : Option SignalKind → List Op
@@ -55,25 +58,25 @@ retrieves_end ts i now all past h = sym (append-nil now) ∙ sym (ap (λ l. now 
 pub retrieve_is : (p : ℕ) (ts given : List ℕ) (old n1 new : List Op) → given ≡ ts → n1 ≡ old ++ op.Stmt p ∷ [] → new ≡ n1 ++ retrieve_code 0 given → new ≡ old ++ op.Stmt p ∷ retrieve_code 0 ts
 retrieve_is p ts given old n1 new same e1 e2 = two old n1 new (op.Stmt p ∷ []) (retrieve_code 0 ts) e1 (e2 ∙ ap (λ l. n1 ++ retrieve_code 0 l) same)
 
-pub answer_sent_is : (p answer : ℕ) (es : List Expr) (pl : Places) (old n1 n2 new : List Op) → n1 ≡ old ++ op.Stmt p ∷ [] → n2 ≡ n1 ++ values_code es pl.site → new ≡ n2 ++ op.Ret answer ∷ [] → new ≡ old ++ op.Stmt p ∷ (values_code es pl.site ++ op.Ret answer ∷ [])
-answer_sent_is p answer es pl old n1 n2 new e1 e2 e3 = three old n1 n2 new (op.Stmt p ∷ []) (values_code es pl.site) (op.Ret answer ∷ []) e1 e2 e3
+pub answer_sent_is : (p answer : ℕ) (es : List Expr) (pl : Places) (old n1 n2 new : List Op) → n1 ≡ old ++ op.Stmt p ∷ [] → n2 ≡ n1 ++ values_code es pl.site 0 → new ≡ n2 ++ op.Ret answer ∷ [] → new ≡ old ++ op.Stmt p ∷ (values_code es pl.site 0 ++ op.Ret answer ∷ [])
+answer_sent_is p answer es pl old n1 n2 new e1 e2 e3 = three old n1 n2 new (op.Stmt p ∷ []) (values_code es pl.site 0) (op.Ret answer ∷ []) e1 e2 e3
 
 -- transfers
 
-counts_are : (k : SignalKind) → signal_count k ≡ count_of (Some k)
-counts_are (Buffered name level count) = refl
-counts_are (Direct name count) = refl
-counts_are (Combined name count answer) = refl
-counts_are (Answer name count combined) = refl
-counts_are (Outside name count) = refl
+pub count_none : (signal : ℕ) (pl : Places) → slice_get pl.signals signal ≡ None → 0 ≡ count_in pl signal
+count_none signal pl none = sym (ap (λ o. option_map_or signal_count o 0) none)
 
-pub count_none : (signal : ℕ) (pl : Places) → slice_get pl.signals signal ≡ None → 0 ≡ count_of (slice_get pl.signals signal)
-count_none signal pl none = sym (ap count_of none)
+pub count_some : (signal n : ℕ) (pl : Places) (k : SignalKind) → slice_get pl.signals signal ≡ Some k → n ≡ signal_count k → n ≡ count_in pl signal
+count_some signal n pl k there is = is ∙ sym (ap (λ o. option_map_or signal_count o 0) there)
 
-pub count_some : (signal n : ℕ) (pl : Places) (k : SignalKind) → slice_get pl.signals signal ≡ Some k → n ≡ signal_count k → n ≡ count_of (slice_get pl.signals signal)
-count_some signal n pl k there is = is ∙ counts_are k ∙ sym (ap count_of there)
+pub transfers : (signal b a n : ℕ) (pl : Places) (old new : List Op) → a ≡ pl.enter b signal → n ≡ count_in pl signal → new ≡ old ++ op.Trf a n ∷ [] → new ≡ old ++ op.Trf (pl.enter b signal) (count_in pl signal) ∷ []
+transfers signal b a n pl old new ea en e = e ∙ λ i. old ++ op.Trf (ea i) (en i) ∷ []
 
-pub transfer_is : (p signal b a n : ℕ) (block : Option ℕ) (pl : Places) (old new : List Op) → b ≡ block_or block → a ≡ pl.enter b signal → n ≡ count_of (slice_get pl.signals signal) → new ≡ old ++ (op.Stmt p ∷ op.Trf a n ∷ []) → new ≡ old ++ op.Stmt p ∷ op.Trf (pl.enter (block_or block) signal) (count_of (slice_get pl.signals signal)) ∷ []
-transfer_is p signal b a n block pl old new is ea en e =
-    let address : a ≡ pl.enter (block_or block) signal = ea ∙ ap (λ k. pl.enter k signal) is in
-    e ∙ λ i. old ++ (op.Stmt p ∷ op.Trf (address i) (en i) ∷ [])
+pub transfer_is : (p a start signal : ℕ) (to : Option Receiver) (none : List Expr) (pl : Places) (old n1 new : List Op) → none ≡ [] → start ≡ a + 1 → n1 ≡ old ++ op.Stmt p ∷ [] → new ≡ n1 ++ receiver_code to (pl.receivers signal) pl.site none (arm_code (Transfer signal) pl) start
+    → new ≡ old ++ op.Stmt p ∷ receiver_code to (pl.receivers signal) pl.site [] (λ b. op.Trf (pl.enter b signal) (count_in pl signal) ∷ []) (a + 1)
+transfer_is p a start signal to none pl old n1 new is at e1 e2 =
+    let code : List Expr → ℕ → List Op = λ es n. receiver_code to (pl.receivers signal) pl.site es (arm_code (Transfer signal) pl) n in
+    two old n1 new (op.Stmt p ∷ []) (code [] (a + 1)) e1 (e2 ∙ λ i. n1 ++ code (is i) (at i))
+
+-- a send, by the kind of its signal
+pub ruleset sending = (no_send, buffered_is, direct_is, combined_is, outside_is, answer_is)

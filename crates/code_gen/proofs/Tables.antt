@@ -11,33 +11,14 @@ use Rattle.exchange_model.specs.declared.exchange.Exchange.{Exchange}
 use Rattle.exchange_model.specs.declared.block.Block.{Block}
 use Rattle.exchange_model.specs.declared.entry.Entry.{Entry}
 use Rattle.exchange_model.specs.declared.stmt.Stmt.{Stmt}
-use Rattle.source_meaning.specs.Config.{found, body_of, label_of, enter_place}
+use Rattle.source_meaning.specs.Config.{body_of, label_of, enter_place}
+use Rattle.std.specs.Option.{option_map_or}
 use Rattle.stmt_code.specs.StmtCode.{Places, codes, stmt_code}
 use Rattle.stmt_code.specs.Whole.{Table, places_of, code_upto, no_table, start_of, place_at, behind_enter, enter_at, table_of, whole_code, entry_addresses}
-use Rattle.stmt_code.proofs.Sizes.{stmt_same}
+use Rattle.plex_num.proofs.Lists.{slice_get-append_left, slice_get-append_seam}
+use Rattle.stmt_code.proofs.Addresses.{codes_same, upto_same}
 use Rattle.code_gen.specs.declared.addresses.Addresses.{Addresses}
 use Rattle.code_gen.specs.Addresses.{address_in, enter_in, table_in, addresses_from, places_upto, addresses_by}
-
--- how long code is does not depend on the table
-
-codes_same : (ss : List Stmt) (x : Exchange) (t : Table) (b d a c : ℕ) → length (codes (map stmt_code ss) (places_of x no_table b) d a) ≡ length (codes (map stmt_code ss) (places_of x t b) d c)
-codes_same [] x t b d a c = refl
-codes_same (s ∷ ss) x t b d a c =
-    let pl = places_of x no_table b in
-    let ql = places_of x t b in
-    let y = stmt_code s pl d a in
-    let z = stmt_code s ql d c in
-    omega (arith, length-append y (codes (map stmt_code ss) pl d (a + length y)), length-append z (codes (map stmt_code ss) ql d (c + length z)), stmt_same s pl (t.label b, t.enter) d a c, codes_same ss x t b d (a + length y) (c + length z))
-
-upto_same : (x : Exchange) (t : Table) (n : ℕ) → length (code_upto x no_table n) ≡ length (code_upto x t n)
-unfolding code_upto
-upto_same x t zero = refl
-upto_same x t (suc n) =
-    let u = code_upto x no_table n in
-    let v = code_upto x t n in
-    let cu = codes (map stmt_code (body_of x n)) (places_of x no_table n) 0 (length u) in
-    let cv = codes (map stmt_code (body_of x n)) (places_of x t n) 0 (length v) in
-    omega (arith, length-append u (cu ++ op.End ∷ []), length-append v (cv ++ op.End ∷ []), length-append cu (op.End ∷ []), length-append cv (op.End ∷ []), upto_same x t n, codes_same (body_of x n) x t n 0 (length u) (length v))
 
 -- the addresses of a text
 
@@ -69,15 +50,6 @@ nearest_address ss pl a place =
 
 -- those of all texts
 
-slice_get_left : {A : Type 0} (xs ys : List A) (i : ℕ) → i < length xs → slice_get (xs ++ ys) i ≡ slice_get xs i
-slice_get_left [] ys i lt = absurd (omega (arith, lt))
-slice_get_left (x ∷ xs) ys zero lt = refl
-slice_get_left (x ∷ xs) ys (suc i) lt = slice_get_left xs ys i (omega (arith, lt))
-
-slice_get_seam : {A : Type 0} (xs : List A) (y : A) (ys : List A) → slice_get (xs ++ y ∷ ys) (length xs) ≡ Some y
-slice_get_seam [] y ys = refl
-slice_get_seam (x ∷ xs) y ys = slice_get_seam xs y ys
-
 module _ (x : Exchange) (t : Table) where
   abbrev list_of : ℕ → List ℕ
   list_of b = addresses_from (map stmt_code (body_of x b)) (places_of x t b) (length (code_upto x t b))
@@ -93,8 +65,8 @@ module _ (x : Exchange) (t : Table) where
   places_have b (suc n) lt =
       let pre = places_upto x t n in
       ⊎_elim
-      (λ (same : b ≡ n). ap (slice_get (pre ++ list_of n ∷ [])) (same ∙ sym (length-places n)) ∙ slice_get_seam pre (list_of n) [] ∙ ap (λ m. Some (list_of m)) (sym same))
-      (λ (ne : b ≢ n). let below : b < n = omega (arith, lt, ne) in slice_get_left pre (list_of n ∷ []) b (omega (arith, below, length-places n)) ∙ places_have b n below)
+      (λ (same : b ≡ n). ap (slice_get (pre ++ list_of n ∷ [])) (same ∙ sym (length-places n)) ∙ slice_get-append_seam pre (list_of n) [] ∙ ap (λ m. Some (list_of m)) (sym same))
+      (λ (ne : b ≢ n). let below : b < n = omega (arith, lt, ne) in slice_get-append_left pre (list_of n ∷ []) b (omega (arith, below, length-places n)) ∙ places_have b n below)
       (cases_eq b n)
 
   abbrev made : Addresses
@@ -115,7 +87,7 @@ module _ (x : Exchange) (t : Table) where
       let v = length (code_upto x t b) in
       let start : length (code_upto x no_table (min b (length x.blocks))) ≡ u = ap (λ n. length (code_upto x no_table n)) near in
       let s = length (code_upto x no_table (min b (length x.blocks))) in
-      ap (λ o. found o made.end (λ places. slice_index places (min place (length places - 1)))) (places_have b (length x.blocks) lt)
+      ap (λ o. option_map_or (λ places. slice_index places (min place (length places - 1))) o made.end) (places_have b (length x.blocks) lt)
       ∙ nearest_address body (places_of x t b) v place
       ∙ omega (arith, start, upto_same x t b, codes_same (take place body) x t b 0 s v)
 
@@ -124,12 +96,12 @@ module _ (x : Exchange) (t : Table) where
   address_past b place le =
       let n = length x.blocks in
       let near : min b n ≡ n = omega (arith, le) in
-      let none : body_of x b ≡ [] = ap (λ o. found o [] (λ (k : Block). k.body)) (slice_get_past x.blocks b le) in
+      let none : body_of x b ≡ [] = ap (λ o. option_map_or (λ (k : Block). k.body) o []) (slice_get_past x.blocks b le) in
       let s = length (code_upto x no_table (min b n)) in
       let empty : length (codes (map stmt_code (take place (body_of x b))) (places_of x no_table b) 0 s) ≡ 0 =
       ap (λ ss. length (codes (map stmt_code (take place ss)) (places_of x no_table b) 0 s)) none ∙ ap (λ ss. length (codes (map stmt_code ss) (places_of x no_table b) 0 s)) (take-nil place) in
       let start : s ≡ length (code_upto x no_table n) = ap (λ m. length (code_upto x no_table m)) near in
-      ap (λ o. found o made.end (λ places. slice_index places (min place (length places - 1)))) (slice_get_past made.blocks b (omega (arith, length-places n, le)))
+      ap (λ o. option_map_or (λ places. slice_index places (min place (length places - 1))) o made.end) (slice_get_past made.blocks b (omega (arith, length-places n, le)))
       ∙ omega (arith, empty, start, upto_same x t n)
 
   address_is : (b place : ℕ) → address_in made b place ≡ place_at x b place

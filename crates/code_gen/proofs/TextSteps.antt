@@ -1,5 +1,5 @@
 -- The code of lists of statements, and of choices, is appended.
-use Rattle.std.proofs.Common.{◌≡◌, ℕ, zero, suc, ◌+◌, ◌*◌, ◌<◌, ◌≤◌, List, [], ◌∷◌, ◌++◌, length, map, drop, get_or, refl, sym, ap, ◌∙◌, subst, arith, append-nil, append_assoc, add-one, length-append}
+use Rattle.std.proofs.Common.{◌≡◌, ℕ, zero, suc, ◌+◌, ◌<◌, ◌≤◌, List, [], ◌∷◌, ◌++◌, length, map, drop, get_or, refl, sym, ap, ◌∙◌, subst, arith, append-nil, append_assoc, add-one, length-append}
 use Rattle.std.proofs.Math.ListN.{drop_of_length-le}
 use Rattle.machine_code.specs.declared.op.Op.{Op}
 use Rattle.machine_code.specs.declared.op.Op.TheVariants as op
@@ -11,7 +11,8 @@ use Rattle.exchange_model.specs.declared.stmt.StmtKind.{StmtKind, StmtKind-F, ou
 use Rattle.exchange_model.specs.declared.stmt.StmtKind.TheOpen as layer
 use Rattle.expr_code.specs.Code.{expr_code, cond_code}
 use Rattle.expr_code.proofs.Emits.{opens}
-use Rattle.stmt_code.specs.StmtCode.{Choice as Source, Places, codes, choices_code, turns_code, turn, last, opened, kind_code, stmt_code, when_code, kind_code-out, stmt_code-kind, when_code-out}
+use Rattle.stmt_code.specs.declared.lengths.TheConstants.{COMPARE_LENGTH, TURN_LENGTH, NEXT_LENGTH, BOUNDS_LENGTH}
+use Rattle.stmt_code.specs.StmtCode.{Choice as Source, Places, codes, compare_code, choices_code, next_code, turns_code, bounds_code, opened, kind_code, stmt_code, when_code, kind_code-out, stmt_code-kind, when_code-out}
 use Rattle.stmt_code.proofs.Setting.{first_in, others_in, yes_in, no_in, body_in, otherwise_in, choices_in}
 use Rattle.code_gen.specs.declared.control.Choice.{Choice}
 use Rattle.code_gen.specs.declared.setting.Setting.{Setting}
@@ -66,18 +67,18 @@ choices_begin ws given pl d a now none same = record {
 choices_open : (ws : List When) (i : ℕ) (w : When) → i < length ws → w ≡ get_or ws i w → map when_code (drop i ws) ≡ record { number = (out-When w).number; body = map stmt_code (out-When w).body } ∷ map when_code (drop (i + 1) ws)
 choices_open ws i w lt is = ap (map when_code) (opens ws i w lt is) ∙ ap (λ c. c ∷ map when_code (drop (i + 1) ws)) (when_code-out w)
 
-pub choices_more : (ws : List When) (i : ℕ) (w : When) (pl : Places) (d next body_at len after : ℕ) (body : List Op) (now new all : List Choice) (behind : ℕ) → i < length ws → w ≡ get_or ws i w → body_at ≡ next + 3 → body ≡ codes (map stmt_code (out-When w).body) pl d body_at → len ≡ length body → after ≡ body_at + len + 1
+pub choices_more : (ws : List When) (i : ℕ) (w : When) (pl : Places) (d next body_at len after : ℕ) (body : List Op) (now new all : List Choice) (behind : ℕ) → i < length ws → w ≡ get_or ws i w → body_at ≡ next + COMPARE_LENGTH → body ≡ codes (map stmt_code (out-When w).body) pl d body_at → len ≡ length body → after ≡ body_at + len + 1
     → new ≡ now ++ record { number = (out-When w).number; next = after; body = body } ∷ [] → ChoicesLeft pl d now next (drop i ws) all behind → ChoicesLeft pl d new after (drop (i + 1) ws) all behind
 choices_more ws i w pl d next body_at len after body now new all behind lt is at made long there e h =
     let rest = map when_code (drop (i + 1) ws) in
-    let code : body ≡ codes (map stmt_code (out-When w).body) pl d (next + 3) = made ∙ ap (codes (map stmt_code (out-When w).body) pl d) at in
-    let c = codes (map stmt_code (out-When w).body) pl d (next + 3) in
-    let address : after ≡ next + 3 + length c + 1 = omega (arith, there, at, long, ap length code) in
-    let one : Choice = record { number = (out-When w).number; next = next + 3 + length c + 1; body = c } in
+    let code : body ≡ codes (map stmt_code (out-When w).body) pl d (next + COMPARE_LENGTH) = made ∙ ap (codes (map stmt_code (out-When w).body) pl d) at in
+    let c = codes (map stmt_code (out-When w).body) pl d (next + COMPARE_LENGTH) in
+    let address : after ≡ next + COMPARE_LENGTH + length c + 1 = omega (arith, there, at, long, ap length code) in
+    let one : Choice = record { number = (out-When w).number; next = next + COMPARE_LENGTH + length c + 1; body = c } in
     let opened_ws = choices_open ws i w lt is in
     record {
-      list = (λ j. new ++ chosen rest pl d (address j)) ∙ ap (λ l. l ++ chosen rest pl d (next + 3 + length c + 1)) (e ∙ λ j. now ++ record { number = (out-When w).number; next = address j; body = code j } ∷ [])
-          ∙ append_all now one (chosen rest pl d (next + 3 + length c + 1)) ∙ sym (ap (λ us. now ++ chosen us pl d next) opened_ws) ∙ h.list;
+      list = (λ j. new ++ chosen rest pl d (address j)) ∙ ap (λ l. l ++ chosen rest pl d (next + COMPARE_LENGTH + length c + 1)) (e ∙ λ j. now ++ record { number = (out-When w).number; next = address j; body = code j } ∷ [])
+          ∙ append_all now one (chosen rest pl d (next + COMPARE_LENGTH + length c + 1)) ∙ sym (ap (λ us. now ++ chosen us pl d next) opened_ws) ∙ h.list;
       next = ap (behind_choices rest pl d) address ∙ sym (ap (λ us. behind_choices us pl d next) opened_ws) ∙ h.next;
     }
   where
@@ -143,22 +144,22 @@ if_kind k p d a yes_at no_at test_len yes_len c ss rs pl test first other old ne
 reaches : (ws : List Source) (ss : List Stmt) (pl : Places) (d a : ℕ) → a + length (choices_code ws (map stmt_code ss) pl d a) ≡ behind_choices ws pl d a + length (codes (map stmt_code ss) pl d (behind_choices ws pl d a))
 reaches [] ss pl d a = refl
 reaches (w ∷ ws) ss pl d a =
-    let body = codes w.body pl d (a + 3) in
-    let next = a + 3 + length body + 1 in
+    let body = codes w.body pl d (a + COMPARE_LENGTH) in
+    let next = a + COMPARE_LENGTH + length body + 1 in
     let rest = choices_code ws (map stmt_code ss) pl d next in
     omega (arith, length-append body (op.Jmp (next + length rest) ∷ rest), reaches ws ss pl d next)
 
 choices_are : (ws : List Source) (ss : List Stmt) (pl : Places) (d a : ℕ) → choices_code ws (map stmt_code ss) pl d a ≡ choice_codes (chosen ws pl d a) (behind_choices ws pl d a + length (codes (map stmt_code ss) pl d (behind_choices ws pl d a))) ++ codes (map stmt_code ss) pl d (behind_choices ws pl d a)
 choices_are [] ss pl d a = refl
 choices_are (w ∷ ws) ss pl d a =
-    let body = codes w.body pl d (a + 3) in
-    let next = a + 3 + length body + 1 in
+    let body = codes w.body pl d (a + COMPARE_LENGTH) in
+    let next = a + COMPARE_LENGTH + length body + 1 in
     let rest = choices_code ws (map stmt_code ss) pl d next in
     let behind = behind_choices ws pl d next in
     let other = codes (map stmt_code ss) pl d behind in
     let made = choice_codes (chosen ws pl d next) (behind + length other) in
-    (λ i. op.Ldi 1 w.number ∷ op.Eq 1 0 ∷ op.Jz 1 next ∷ (body ++ (op.Jmp (reaches ws ss pl d next i) ∷ choices_are ws ss pl d next i)))
-    ∙ ap (λ l. op.Ldi 1 w.number ∷ op.Eq 1 0 ∷ op.Jz 1 next ∷ l) (sym (append_assoc body (op.Jmp (behind + length other) ∷ made) other))
+    (λ i. compare_code w.number next ++ (body ++ (op.Jmp (reaches ws ss pl d next i) ∷ choices_are ws ss pl d next i)))
+    ∙ ap (λ l. compare_code w.number next ++ l) (sym (append_assoc body (op.Jmp (behind + length other) ∷ made) other))
 
 pub case_kind : (k : StmtKind) (p d a first_at value_len next : ℕ) (v : Expr) (ws : List When) (ss : List Stmt) (pl : Places) (list : List Choice) (value other old new : List Op) → out-StmtKind k ≡ layer.Case v ws ss → value ≡ expr_code v pl.site 0 → value_len ≡ length value → first_at ≡ a + value_len + 1 → list ≡ chosen (map when_code ws) pl d first_at → next ≡ behind_choices (map when_code ws) pl d first_at → other ≡ codes (map stmt_code ss) pl d next
     → new ≡ old ++ op.Stmt p ∷ (value ++ (choice_codes list (next + length other) ++ other)) → new ≡ old ++ kind_code k pl p d a
@@ -173,21 +174,21 @@ case_kind k p d a first_at value_len next v ws ss pl list value other old new is
     (e ∙ (λ i. old ++ op.Stmt p ∷ (ev i ++ (choice_codes (list_is i) (behind i + length (other_is i)) ++ other_is i)))
     ∙ sym (ap (λ l. old ++ op.Stmt p ∷ (code ++ l)) (choices_are us ss pl d (a + 1 + length code))))
 
-turns_length : (p t d head : ℕ) (body : List Op) → length (turns_code p t d head body) ≡ length body + 11
-turns_length p t d head body = omega (arith, length-append body (op.Ldt 0 (turn d) ∷ op.Ldt 1 (last d) ∷ op.Gt 1 0 ∷ op.Jz 1 (head + 3 + length body + 8) ∷ op.Ldi 1 1 ∷ op.Add 0 1 ∷ op.Stt (turn d) 0 ∷ op.Jmp head ∷ []))
+turns_length : (p t d head : ℕ) (body : List Op) → length (turns_code p t d head body) ≡ length body + (TURN_LENGTH + NEXT_LENGTH)
+turns_length p t d head body = omega (arith, length-append body (next_code d head (head + TURN_LENGTH + length body + NEXT_LENGTH)))
 
-pub on_kind : (k : StmtKind) (p t d a from_len upto_len between head inner body_len exit : ℕ) (v w : Expr) (ss : List Stmt) (pl : Places) (from upto body old n1 new : List Op) → out-StmtKind k ≡ layer.On t v w ss → from ≡ expr_code v pl.site 0 → upto ≡ expr_code w pl.site 1 → from_len ≡ length from → between ≡ a + from_len + 1 → upto_len ≡ length upto → head ≡ between + upto_len + 5 → inner ≡ head + 3 → body ≡ codes (map stmt_code ss) pl (d + 1) inner → body_len ≡ length body → exit ≡ head + body_len + 11
-    → n1 ≡ old ++ op.Stmt p ∷ (from ++ (upto ++ (op.Stt (24 + 2 * d) 0 ∷ op.Stt (25 + 2 * d) 1 ∷ op.Gt 0 1 ∷ op.Jz 0 head ∷ op.Jmp exit ∷ []))) → new ≡ n1 ++ turns_code p t d head body → new ≡ old ++ kind_code k pl p d a
+pub on_kind : (k : StmtKind) (p t d a from_len upto_len between head inner body_len exit : ℕ) (v w : Expr) (ss : List Stmt) (pl : Places) (from upto body old n1 new : List Op) → out-StmtKind k ≡ layer.On t v w ss → from ≡ expr_code v pl.site 0 → upto ≡ expr_code w pl.site 1 → from_len ≡ length from → between ≡ a + from_len + 1 → upto_len ≡ length upto → head ≡ between + upto_len + BOUNDS_LENGTH → inner ≡ head + TURN_LENGTH → body ≡ codes (map stmt_code ss) pl (d + 1) inner → body_len ≡ length body → exit ≡ head + body_len + (TURN_LENGTH + NEXT_LENGTH)
+    → n1 ≡ old ++ op.Stmt p ∷ (from ++ (upto ++ bounds_code d head exit)) → new ≡ n1 ++ turns_code p t d head body → new ≡ old ++ kind_code k pl p d a
 on_kind k p t d a from_len upto_len between head inner body_len exit v w ss pl from upto body old n1 new is ef eu lf eb lu eh ei ebody lb ex e1 e2 =
     let f = expr_code v pl.site 0 in
     let u = expr_code w pl.site 1 in
-    let h = a + 1 + length f + length u + 5 in
+    let h = a + 1 + length f + length u + BOUNDS_LENGTH in
     let head_is : head ≡ h = omega (arith, eh, eb, lf, lu, ap length ef, ap length eu) in
-    let inner_is : inner ≡ h + 3 = omega (arith, ei, head_is) in
-    let body_is : body ≡ codes (map stmt_code ss) pl (suc d) (h + 3) = ebody ∙ λ i. codes (map stmt_code ss) pl (add-one d i) (inner_is i) in
-    let b = codes (map stmt_code ss) pl (suc d) (h + 3) in
+    let inner_is : inner ≡ h + TURN_LENGTH = omega (arith, ei, head_is) in
+    let body_is : body ≡ codes (map stmt_code ss) pl (suc d) (h + TURN_LENGTH) = ebody ∙ λ i. codes (map stmt_code ss) pl (add-one d i) (inner_is i) in
+    let b = codes (map stmt_code ss) pl (suc d) (h + TURN_LENGTH) in
     let exit_is : exit ≡ h + length (turns_code p t d h b) = omega (arith, ex, head_is, lb, ap length body_is, turns_length p t d h b) in
-    let bounds : ℕ → ℕ → List Op = λ x y. op.Stt (24 + 2 * d) 0 ∷ op.Stt (25 + 2 * d) 1 ∷ op.Gt 0 1 ∷ op.Jz 0 x ∷ op.Jmp y ∷ [] in
+    let bounds : ℕ → ℕ → List Op = bounds_code d in
     let y = h + length (turns_code p t d h b) in
     let turns = turns_code p t d h b in
     let front : List Op = op.Stmt p ∷ (f ++ (u ++ bounds h y)) in

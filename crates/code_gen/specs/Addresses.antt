@@ -6,14 +6,15 @@ use Rattle.std.specs.Prelude.{ℕ, zero, suc, ◌+◌, ◌-◌, min, Bool, false
 use Rattle.exchange_model.specs.declared.exchange.Exchange.{Exchange}
 use Rattle.exchange_model.specs.declared.stmt.Stmt.{Stmt}
 use Rattle.exchange_model.specs.declared.stmt.StmtKind.{out-StmtKind}
-use Rattle.source_meaning.specs.Config.{found, body_of, label_of, enter_place, is_enter}
+use Rattle.source_meaning.specs.Config.{body_of, label_of, enter_place, is_enter}
+use Rattle.std.specs.Option.{option_map_or}
 use Rattle.stmt_code.specs.StmtCode.{Places, StmtCode, stmt_code}
 use Rattle.stmt_code.specs.Whole.{Table, places_of, code_upto, behind_enter}
 use Rattle.code_gen.specs.declared.addresses.Addresses.{Addresses}
 
 -- the address of a place of a block's text
 abbrev pub address_in : Addresses → ℕ → ℕ → ℕ
-address_in a b place = found (slice_get a.blocks b) a.end (λ places. slice_index places (min place (length places - 1)))
+address_in a b place = option_map_or (λ places. slice_index places (min place (length places - 1))) (slice_get a.blocks b) a.end
 
 -- whether the first of these statements is an ENTER
 abbrev pub opens_with_enter : List Stmt → Bool

@@ -1,4 +1,4 @@
 pub mod Addresses
 pub mod Settings
 pub mod Choices
-pub mod Records
+pub mod Receivers

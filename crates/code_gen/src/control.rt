@@ -1,9 +1,9 @@
 // Jumps, choices, loops and ends.
 ghost use Rattle.std.specs.Prelude.{◌≡◌, ◌+◌, ◌*◌, ◌≤◌, ◌∷◌, [], ◌++◌, length, OnOk};
-ghost use Rattle.exchange_model.specs.declared.limits.TheConstants.{MOST_VALUES};
+ghost use Rattle.plex_limits.specs.declared.limits.TheConstants.{MOST_NESTED, MOST_VALUES};
 ghost use Rattle.exchange_model.specs.declared.stmt.StmtKind.TheOpen as layer;
 ghost use Rattle.machine_code.specs.declared.op.Op.TheVariants as op;
-ghost use Rattle.stmt_code.specs.StmtCode.{takes_code, turns_code};
+ghost use Rattle.stmt_code.specs.StmtCode.{bounds_code, takes_code, turns_code};
 ghost use Rattle.code_gen.specs.Choices.{choice_codes};
 ghost use Rattle.code_gen.specs.Settings.{IsIn, code_in};
 
@@ -15,6 +15,7 @@ use expr_code::push_all;
 use machine_code::Op;
 use plex_num::{Memory, Seq};
 use std::alloc::Global;
+use stmt_code::{FIRST_LOOP_LOCAL, NEXT_LENGTH, TURN_LENGTH};
 
 /// An ENTER: it is jumped over from above, and a signal enters behind the jump.
 #[tactic(auto, using(crate::proofs::Inside::enter_temps_few, crate::proofs::ControlSteps::enter_is))]
@@ -27,7 +28,8 @@ pub fn enter(
     ops: &mut Seq<Op>,
 ) -> Result<(), Memory>
     requires { IsIn at.now spot.loops (layer.Enter signal temps.now) }
-    ensures { OnOk result (ops.new ≡ ops.old ++ code_in (layer.Enter signal temps.now) at.now spot) }
+    ensures { OnOk result (ops.new ≡ ops.old ++ code_in
+        (layer.Enter signal temps.now) at.now spot) }
 {
     let mut takes = Seq::new(alloc);
     push_takes(temps.as_slice(), &mut takes)?;
@@ -99,7 +101,8 @@ pub fn push_branches(
     no: &Seq<Op>,
     ops: &mut Seq<Op>,
 ) -> Result<(), Memory>
-    ensures { OnOk result (ops.new ≡ ops.old ++ (op.Stmt point ∷ (test.now ++ (op.Jz 0 no_at ∷ (yes.now ++ (op.Jmp (no_at + length no.now) ∷ no.now)))))) }
+    ensures { OnOk result (ops.new ≡ ops.old ++ (op.Stmt point ∷ (test.now ++ (op.Jz 0 no_at ∷
+        (yes.now ++ (op.Jmp (no_at + length no.now) ∷ no.now)))))) }
 {
     let end = address_after(no_at, no.len(), 0)?;
     push_all(ops, &[Op::Stmt { p: point }])?;
@@ -134,7 +137,8 @@ pub fn push_case(
     other: &Seq<Op>,
     ops: &mut Seq<Op>,
 ) -> Result<(), Memory>
-    ensures { OnOk result (ops.new ≡ ops.old ++ (op.Stmt point ∷ (value.now ++ (choice_codes choices.now.list (choices.now.next + length other.now) ++ other.now)))) }
+    ensures { OnOk result (ops.new ≡ ops.old ++ (op.Stmt point ∷ (value.now ++
+        (choice_codes choices.now.list (choices.now.next + length other.now) ++ other.now)))) }
 {
     let end = address_after(choices.next, other.len(), 0)?;
     push_all(ops, &[Op::Stmt { p: point }])?;
@@ -188,12 +192,12 @@ pub fn push_turns(
     body: &Seq<Op>,
     ops: &mut Seq<Op>,
 ) -> Result<(), Memory>
-    requires { loops ≤ 12 }
+    requires { loops ≤ MOST_NESTED }
     ensures { OnOk result (ops.new ≡ ops.old ++ turns_code point temp loops head body.now) }
 {
-    let turn = 24 + 2 * loops;
-    let last = 25 + 2 * loops;
-    let exit = address_after(head, body.len(), 11)?;
+    let turn = FIRST_LOOP_LOCAL + 2 * loops;
+    let last = turn + 1;
+    let exit = address_after(head, body.len(), TURN_LENGTH + NEXT_LENGTH)?;
     push_all(
         ops,
         &[
@@ -229,23 +233,19 @@ pub fn push_bounds(
     exit: u32,
     ops: &mut Seq<Op>,
 ) -> Result<(), Memory>
-    requires { loops ≤ 12 }
-    ensures { OnOk result (ops.new ≡ ops.old ++ (op.Stmt point ∷ (from.now ++ (upto.now ++ (op.Stt (24 + 2 * loops) 0 ∷ op.Stt (25 + 2 * loops) 1 ∷ op.Gt 0 1 ∷ op.Jz 0 head ∷ op.Jmp exit ∷ []))))) }
+    requires { loops ≤ MOST_NESTED }
+    ensures { OnOk result (ops.new ≡ ops.old ++ (op.Stmt point ∷ (from.now ++
+        (upto.now ++ bounds_code loops head exit)))) }
 {
+    let turn = FIRST_LOOP_LOCAL + 2 * loops;
     push_all(ops, &[Op::Stmt { p: point }])?;
     push_code(from, ops)?;
     push_code(upto, ops)?;
     push_all(
         ops,
         &[
-            Op::Stt {
-                i: 24 + 2 * loops,
-                r: 0,
-            },
-            Op::Stt {
-                i: 25 + 2 * loops,
-                r: 1,
-            },
+            Op::Stt { i: turn, r: 0 },
+            Op::Stt { i: turn + 1, r: 1 },
             Op::Gt { r: 0, s: 1 },
             Op::Jz { r: 0, a: head },
             Op::Jmp { a: exit },

@@ -23,7 +23,8 @@ pub fn set_temp(
     ops: &mut Seq<Op>,
 ) -> Result<(), Memory>
     requires { IsIn at.now spot.loops (layer.SetTemp temp value.now) }
-    ensures { OnOk result (ops.new ≡ ops.old ++ code_in (layer.SetTemp temp value.now) at.now spot) }
+    ensures { OnOk result (ops.new ≡ ops.old ++ code_in
+        (layer.SetTemp temp value.now) at.now spot) }
 {
     push_all(ops, &[Op::Stmt { p: spot.point }])?;
     push_value(value, at, 0, ops)?;
@@ -40,7 +41,8 @@ pub fn set_variable(
     ops: &mut Seq<Op>,
 ) -> Result<(), Memory>
     requires { IsIn at.now spot.loops (layer.SetVariable variable value.now) }
-    ensures { OnOk result (ops.new ≡ ops.old ++ code_in (layer.SetVariable variable value.now) at.now spot) }
+    ensures { OnOk result (ops.new ≡ ops.old ++ code_in
+        (layer.SetVariable variable value.now) at.now spot) }
 {
     let fits = Op::Ckw {
         r: 0,
@@ -67,7 +69,8 @@ pub fn set_field(
     ops: &mut Seq<Op>,
 ) -> Result<(), Memory>
     requires { IsIn at.now spot.loops (layer.SetField file field pointer value.now) }
-    ensures { OnOk result (ops.new ≡ ops.old ++ code_in (layer.SetField file field pointer value.now) at.now spot) }
+    ensures { OnOk result (ops.new ≡ ops.old ++ code_in
+        (layer.SetField file field pointer value.now) at.now spot) }
 {
     push_all(ops, &[Op::Stmt { p: spot.point }])?;
     push_value(value, at, 0, ops)?;
@@ -75,7 +78,7 @@ pub fn set_field(
 }
 
 /// Appends the code by which the value in register 0 goes into a field.
-#[tactic(auto, using(crate::proofs::DataSteps::no_store, crate::proofs::DataSteps::store_is, crate::proofs::Inside::field_in_place, crate::proofs::Inside::cells_fit, crate::proofs::Inside::field_setting))]
+#[tactic(auto, using(crate::proofs::DataSteps::stores, crate::proofs::Inside::in_file))]
 fn store_field(
     file: u32,
     field: u32,
@@ -84,7 +87,8 @@ fn store_field(
     ops: &mut Seq<Op>,
 ) -> Result<(), Memory>
     requires { IsFieldIn at.now file field }
-    ensures { OnOk result (ops.new ≡ ops.old ++ field_store (slice_get (places_in at.now).site.files file) file field pointer) }
+    ensures { OnOk result (ops.new ≡ ops.old ++ field_store (slice_get
+        (places_in at.now).site.files file) file field pointer) }
 {
     let Some(place) = at.file(file) else {
         return Ok(());

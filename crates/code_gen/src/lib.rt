@@ -12,11 +12,10 @@ mod control;
 mod data;
 mod lookup;
 mod passes;
+mod receivers;
 mod records;
 mod setting;
 mod signals;
-#[cfg(test)]
-mod tests;
 mod text;
 mod value;
 

@@ -1,12 +1,13 @@
-// Where labels and ENTERs stand in the texts, which entry a signal has, and how wide a variable is.
-ghost use Rattle.std.specs.Prelude.{◌≡◌, drop, position, slice_get, Some, None, MatchOption};
+// Where labels and ENTERs stand in the texts, which blocks receive a signal, and how wide a variable is.
+ghost use Rattle.std.specs.Prelude.{◌≡◌, drop, slice_get, Some, None, MatchOption, false};
+ghost use Rattle.std.specs.Option.{option_map_or};
 ghost use Rattle.exchange_model.specs.declared.stmt.StmtKind.{out-StmtKind};
-ghost use Rattle.source_meaning.specs.Config.{label_of, row_place as place_of_row, body_of, enter_place, entry_number, is_entry, is_enter as is_enter_layer};
-ghost use Rattle.source_meaning.specs.Step.{field_width, variable_width};
+ghost use Rattle.source_meaning.specs.Config.{label_of, body_of, enter_place, is_receiver, is_enter as is_enter_layer};
+ghost use Rattle.source_meaning.specs.Changes.{field_width, variable_width};
 ghost use Rattle.code_gen.specs.Addresses.{opens_with_enter};
 ghost use Rattle.code_gen.specs.Settings.{placed_of};
 
-use exchange_model::{Enter, Entry, Exchange, FilePlace, SignalKind, StmtKind};
+use exchange_model::{Exchange, FilePlace, SignalKind, StmtKind};
 
 /// The place of a label of a block; 0 where there is none.
 #[tactic(auto, using(crate::proofs::Lookups::found_none, crate::proofs::Lookups::label_none, crate::proofs::Lookups::label_some))]
@@ -37,55 +38,29 @@ pub fn width_of(exchange: &Exchange, block: u32, variable: u32) -> u8
 }
 
 /// The place of the ENTER of a signal in a block; 0 where there is none.
-#[tactic(auto, using(crate::proofs::Lookups::enter_no_block, crate::proofs::Lookups::enter_some))]
+#[tactic(auto, using(crate::proofs::Lookups::enter_found))]
 pub fn place_of_enter(exchange: &Exchange, block: u32, signal: u32) -> u32
     ensures { result ≡ enter_place exchange.now block signal }
 {
-    match exchange.blocks.get(block as usize) {
-        Some(found) => row_place(found.enters.as_slice(), signal),
-        None => 0,
-    }
+    exchange.enter_of(block, signal).unwrap_or(0)
+}
+
+/// Whether a block receives a signal.
+#[tactic(auto, using(crate::proofs::Lookups::receives_is))]
+pub fn receives(exchange: &Exchange, block: u32, signal: u32) -> bool
+    ensures { result ≡ option_map_or (is_receiver signal)
+        (slice_get exchange.now.blocks block) false }
+{
+    exchange.enter_of(block, signal).is_some()
 }
 
 /// The signal of this number; `None` exactly where there is none.
 #[tactic(auto, using(crate::proofs::Files::signal_past))]
 pub fn signal_of(exchange: &Exchange, number: u32) -> Option<&SignalKind>
-    ensures { MatchOption result (slice_get exchange.now.signals number ≡ None) (λ s. slice_get exchange.now.signals number ≡ Some s.now) }
+    ensures { MatchOption result (slice_get exchange.now.signals number ≡ None)
+        (λ s. slice_get exchange.now.signals number ≡ Some s.now) }
 {
     exchange.signals.get(number as usize)
-}
-
-/// The place that the first row of this signal has; 0 where there is none.
-#[tactic(auto, using(crate::proofs::Lookups::rows_found, crate::proofs::Lookups::rows_more, crate::proofs::Lookups::rows_end))]
-fn row_place(rows: &[Enter], signal: u32) -> u32
-    ensures { result ≡ place_of_row rows.now signal }
-{
-    for row in rows {
-        if row.signal == signal {
-            return row.place;
-        }
-    }
-    0
-}
-
-/// Which of the entries a signal has at a block; 0 where there is none.
-#[tactic(auto, using(crate::proofs::Lookups::number_small, crate::proofs::Lookups::number_some, crate::proofs::Lookups::number_none))]
-pub fn number_of_entry(exchange: &Exchange, block: u32, signal: u32) -> u32
-    ensures { result ≡ entry_number exchange.now block signal }
-{
-    match position_of_entry(exchange.entries(), block, signal) {
-        Some(number) => number as u32,
-        None => 0,
-    }
-}
-
-/// The first of these entries that is of this block and signal.
-fn position_of_entry(entries: &[Entry], block: u32, signal: u32) -> Option<usize>
-    ensures { result ≡ position (is_entry block signal) entries.now }
-{
-    entries
-        .iter()
-        .position(|entry| entry.block == block && entry.signal == signal)
 }
 
 /// Whether an ENTER stands at a place of a block's text.

@@ -1,41 +1,42 @@
 // The code of a whole exchange, in two passes.
-ghost use Rattle.std.specs.Prelude.{◌≡◌, ◌<◌, ◌^◌, ◌++◌, ◌∷◌, [], length, map, IfOk, OnOk};
+ghost use Rattle.std.specs.Prelude.{◌≡◌, ◌<◌, ◌^◌, ◌++◌, ◌∷◌, [], length, map, All, IfOk, OnOk};
 ghost use Rattle.machine_code.specs.declared.op.Op.TheVariants as op;
+ghost use Rattle.machine_code.specs.Operands.{OpFits};
 ghost use Rattle.exchange_model.specs.declared.entry.Entry.{Entry as Point};
-ghost use Rattle.record_files.specs.Laid.{IsLayout};
+ghost use Rattle.store_layout.specs.Laid.{IsLayout};
 ghost use Rattle.register_machine.specs.Faithful.{Faithful};
 ghost use Rattle.stmt_code.specs.StmtCode.{codes, stmt_code};
 ghost use Rattle.stmt_code.specs.Whole.{code_upto, entry_addresses, whole_code};
 ghost use Rattle.code_gen.specs.Addresses.{addresses_by, addresses_from, enter_in, table_in};
-ghost use Rattle.code_gen.specs.Settings.{AreFilesOf, AreIn, places_in};
+ghost use Rattle.code_gen.specs.Settings.{AreIn, places_in};
 
 use crate::addresses::{Addresses, address_after};
 use crate::setting::{Setting, Spot};
 use crate::text::emit_kind;
-use exchange_model::{Block, Exchange, File, Stmt};
+use exchange_model::{Exchange, Stmt};
 use machine_code::{Code, Op};
 use plex_num::{Memory, Seq};
-use record_files::Layout;
 use std::alloc::Global;
 use stmt_code::whole_code_is_faithful;
+use store_layout::Layout;
 
-/// The code of an exchange, which is faithful: the machine's run of a job leaves what the job means. `Memory` comes where memory
-/// is refused, and where the code would have 2^32 instructions or more.
+/// The code of an exchange, which is faithful: the machine's run of a job leaves what the job means. Each of its operands is in
+/// its range. `Memory` comes where memory is refused, and where the code would have 2^32 instructions or more.
 pub fn compile(alloc: Global, exchange: &Exchange, layout: &Layout) -> Result<Code, Memory>
     requires { IsLayout exchange.now.blocks layout.now }
     ensures ops { IfOk result (λ code. code.ops ≡ whole_code exchange.now) }
     ensures entries { IfOk result (λ code. code.entries ≡ entry_addresses exchange.now) }
     ensures short { IfOk result (λ code. length code.ops < 2 ^ 32) }
+    ensures operands { IfOk result (λ code. All OpFits code.ops) }
     ensures faithful { IfOk result (λ code. Faithful exchange.now code) }
 {
-    let files = files_of(alloc, exchange)?;
     let none = Addresses {
         blocks: Seq::new(alloc),
         end: 0,
     };
-    let first = emit_blocks(alloc, exchange, layout, &files, &none)?;
-    let second = emit_blocks(alloc, exchange, layout, &files, &first.addresses)?;
-    let entries = entries_of(alloc, exchange, layout, &files, &first.addresses)?;
+    let first = emit_blocks(alloc, exchange, layout, &none)?;
+    let second = emit_blocks(alloc, exchange, layout, &first.addresses)?;
+    let entries = entries_of(alloc, exchange, layout, &first.addresses)?;
     let mut ops = second.ops;
     ops.push(Op::End)?;
     check_length(&ops)?;
@@ -67,13 +68,14 @@ fn emit_blocks(
     alloc: Global,
     exchange: &Exchange,
     layout: &Layout,
-    files: &Seq<&File>,
     addresses: &Addresses,
 ) -> Result<Pass, Memory>
-    requires layout { IsLayout exchange.now.blocks layout.now }
-    requires files { AreFilesOf exchange.now files.now }
-    ensures ops { IfOk result (λ p. p.ops ≡ code_upto exchange.now (table_in exchange.now addresses.now) (length exchange.now.blocks)) }
-    ensures addresses { IfOk result (λ p. p.addresses ≡ addresses_by exchange.now (table_in exchange.now addresses.now)) }
+    requires { IsLayout exchange.now.blocks layout.now }
+    ensures ops { IfOk result
+        (λ p. p.ops ≡ code_upto exchange.now (table_in exchange.now addresses.now)
+        (length exchange.now.blocks)) }
+    ensures addresses { IfOk result
+        (λ p. p.addresses ≡ addresses_by exchange.now (table_in exchange.now addresses.now)) }
 {
     exchange.kept();
     let mut ops = Seq::new(alloc);
@@ -82,7 +84,6 @@ fn emit_blocks(
         let at = Setting {
             exchange,
             layout,
-            files: files.as_slice(),
             addresses,
             block: number as u32,
         };
@@ -105,8 +106,12 @@ fn emit_text(
     ops: &mut Seq<Op>,
 ) -> Result<Seq<u32>, Memory>
     requires { AreIn at.now 0 text.now }
-    ensures code { IfOk result (λ _. ops.new ≡ ops.old ++ (codes (map stmt_code text.now) (places_in at.now) 0 (length ops.old) ++ op.End ∷ [])) }
-    ensures places { IfOk result (λ places. places ≡ addresses_from (map stmt_code text.now) (places_in at.now) (length ops.old)) }
+    ensures code { IfOk result
+        (λ _. ops.new ≡ ops.old
+        ++ (codes (map stmt_code text.now) (places_in at.now) 0 (length ops.old) ++ op.End ∷ [])) }
+    ensures places { IfOk result
+        (λ places. places
+        ≡ addresses_from (map stmt_code text.now) (places_in at.now) (length ops.old)) }
 {
     let mut places = Seq::new(alloc);
     for statement in text.as_slice() {
@@ -138,15 +143,15 @@ fn entries_of(
     alloc: Global,
     exchange: &Exchange,
     layout: &Layout,
-    files: &Seq<&File>,
     addresses: &Addresses,
 ) -> Result<Seq<u32>, Memory>
-    ensures { IfOk result (λ list. list ≡ map (λ (e : Point). enter_in exchange.now addresses.now e.block e.signal) exchange.now.entries) }
+    ensures { IfOk result (λ list. list ≡ map
+        (λ (e : Point). enter_in exchange.now addresses.now e.block e.signal)
+        exchange.now.entries) }
 {
     let at = Setting {
         exchange,
         layout,
-        files: files.as_slice(),
         addresses,
         block: 0,
     };
@@ -155,27 +160,4 @@ fn entries_of(
         list.push(at.enter(entry.block, entry.signal)?)?;
     }
     Ok(list)
-}
-
-/// The files of an exchange, by number.
-#[tactic(auto, using(crate::proofs::PassSteps::files_begin, crate::proofs::PassSteps::files_more, crate::proofs::PassSteps::files_end))]
-fn files_of(alloc: Global, exchange: &Exchange) -> Result<Seq<&File>, Memory>
-    ensures { IfOk result (λ files. AreFilesOf exchange.now files) }
-{
-    let mut files = Seq::new(alloc);
-    for block in exchange.blocks.as_slice() {
-        push_files(block, &mut files)?;
-    }
-    Ok(files)
-}
-
-/// Appends the files of a block.
-#[tactic(auto, using(crate::proofs::PassSteps::file_begin, crate::proofs::PassSteps::file_more, crate::proofs::PassSteps::file_end))]
-fn push_files<'a>(block: &'a Block, files: &mut Seq<&'a File>) -> Result<(), Memory>
-    ensures { OnOk result (map (λ f. f.now) files.new ≡ map (λ f. f.now) files.old ++ block.now.files) }
-{
-    for file in block.files.as_slice() {
-        files.push(file)?;
-    }
-    Ok(())
 }

@@ -2,8 +2,7 @@
 ghost use Rattle.std.specs.Prelude.{◌≡◌, ◌+◌, ◌<◌, ◌^◌, ◌++◌, length, slice_get, OnOk};
 ghost use Rattle.exchange_model.specs.Cells.{record_cells};
 ghost use Rattle.exchange_model.specs.declared.stmt.StmtKind.TheOpen as layer;
-ghost use Rattle.stmt_code.specs.StmtCode.{for_first_code, free_code, inits_code, seize_code};
-ghost use Rattle.code_gen.specs.Records.{search_at, seize_at};
+ghost use Rattle.stmt_code.specs.StmtCode.{for_first_code, free_code, free_search_code, inits_code, search_code, seize_code};
 ghost use Rattle.code_gen.specs.Settings.{IsFieldIn, IsIn, IsSetting, code_in, placed_of, places_in};
 
 use crate::addresses::{address_after, address_plus};
@@ -15,6 +14,7 @@ use expr_code::{push_all, rel_op};
 use machine_code::Op;
 use plex_num::{Memory, Seq};
 use std::alloc::Global;
+use stmt_code::{AGAIN_LENGTH, FOUND_LENGTH, LOOK_LENGTH};
 
 /// A temporary gets the least record whose field stands so to a value, and the text goes on at a label.
 #[tactic(auto, using(crate::proofs::Inside::for_first_value, crate::proofs::Inside::for_first_field, crate::proofs::RecordSteps::for_first_is))]
@@ -31,7 +31,8 @@ pub fn for_first(
     ops: &mut Seq<Op>,
 ) -> Result<(), Memory>
     requires { IsIn at.now spot.loops (layer.ForFirst temp file field rel value.now label) }
-    ensures { OnOk result (ops.new ≡ ops.old ++ code_in (layer.ForFirst temp file field rel value.now label) at.now spot) }
+    ensures { OnOk result (ops.new ≡ ops.old ++ code_in
+        (layer.ForFirst temp file field rel value.now label) at.now spot) }
 {
     let value = value_code(alloc, value, at, 0)?;
     let start = address_after(spot.start, value.len(), 1)?;
@@ -41,7 +42,7 @@ pub fn for_first(
 }
 
 /// Appends the search, the code of which begins at `start`: register 0 has the value, and register 1 counts the records.
-#[tactic(auto, using(crate::proofs::RecordSteps::no_search, crate::proofs::RecordSteps::search_is, crate::proofs::Inside::field_setting, crate::proofs::Inside::field_in_place, crate::proofs::RecordSteps::cells_in_place))]
+#[tactic(auto, using(crate::proofs::RecordSteps::searching, crate::proofs::Inside::in_file))]
 fn push_search(
     temp: u8,
     file: u32,
@@ -53,7 +54,8 @@ fn push_search(
     ops: &mut Seq<Op>,
 ) -> Result<(), Memory>
     requires { IsFieldIn at.now file field }
-    ensures { OnOk result (ops.new ≡ ops.old ++ for_first_code (slice_get (places_in at.now).site.files file) temp field rel label start) }
+    ensures { OnOk result (ops.new ≡ ops.old ++ for_first_code (slice_get
+        (places_in at.now).site.files file) temp field rel label start) }
 {
     let Some(place) = at.file(file) else {
         return Ok(());
@@ -74,11 +76,12 @@ fn push_search_in(
     ops: &mut Seq<Op>,
 ) -> Result<(), Memory>
     requires { record_cells place.now.file.now < 2 ^ 32 }
-    ensures { OnOk result (ops.new ≡ ops.old ++ search_at place.now.file.now word temp rel label start) }
+    ensures { OnOk result
+        (ops.new ≡ ops.old ++ search_code place.now.file.now word temp rel label start) }
 {
-    let step = address_plus(start, 1)?;
-    let other = address_plus(start, 9)?;
-    let end = address_plus(start, 12)?;
+    let head = address_plus(start, 1)?;
+    let other = address_plus(head, LOOK_LENGTH + FOUND_LENGTH)?;
+    let end = address_plus(other, AGAIN_LENGTH)?;
     let load = Op::Ldx {
         r: 2,
         w: word,
@@ -102,7 +105,7 @@ fn push_search_in(
             Op::Jmp { a: label },
             Op::Ldi { r: 2, n: 1 },
             Op::Add { r: 1, s: 2 },
-            Op::Jmp { a: step },
+            Op::Jmp { a: head },
         ],
     )
 }
@@ -126,7 +129,7 @@ pub fn seize(
 }
 
 /// Appends the search for a free record, the code of which begins at `start`, and how the record is seized.
-#[tactic(auto, using(crate::proofs::RecordSteps::no_seize, crate::proofs::RecordSteps::seizes, crate::proofs::RecordSteps::record_fits, crate::proofs::RecordSteps::cells_in_place))]
+#[tactic(auto, using(crate::proofs::RecordSteps::seizing))]
 fn push_seize(
     temp: u8,
     file: u32,
@@ -136,7 +139,8 @@ fn push_seize(
     ops: &mut Seq<Op>,
 ) -> Result<(), Memory>
     requires { IsSetting at.now }
-    ensures { OnOk result (ops.new ≡ ops.old ++ seize_code (slice_get (places_in at.now).site.files file) file temp label start) }
+    ensures { OnOk result (ops.new ≡ ops.old ++ seize_code (slice_get
+        (places_in at.now).site.files file) file temp label start) }
 {
     let Some(place) = at.file(file) else {
         return Ok(());
@@ -154,7 +158,6 @@ fn mark_of(place: &FilePlace<'_>) -> u32
 }
 
 /// Appends the search through the marks of a file, the first of which stands at `mark`, and how a record is seized.
-#[tactic(auto, using(crate::proofs::RecordSteps::seize_steps))]
 fn push_seize_in(
     temp: u8,
     file: u32,
@@ -165,10 +168,11 @@ fn push_seize_in(
     ops: &mut Seq<Op>,
 ) -> Result<(), Memory>
     requires { record_cells place.now.file.now < 2 ^ 32 }
-    ensures { OnOk result (ops.new ≡ ops.old ++ seize_at place.now.file.now mark file temp label start) }
+    ensures { OnOk result
+        (ops.new ≡ ops.old ++ free_search_code place.now.file.now mark file temp label start) }
 {
-    let step = address_plus(start, 2)?;
-    let found = address_plus(start, 10)?;
+    let head = address_plus(start, 2)?;
+    let free = address_plus(head, LOOK_LENGTH + 1 + AGAIN_LENGTH)?;
     let cells = place.file.record_cells();
     push_all(
         ops,
@@ -187,10 +191,10 @@ fn push_seize_in(
                 n: cells,
                 s: 1,
             },
-            Op::Jz { r: 2, a: found },
+            Op::Jz { r: 2, a: free },
             Op::Ldi { r: 2, n: 1 },
             Op::Add { r: 1, s: 2 },
-            Op::Jmp { a: step },
+            Op::Jmp { a: head },
             Op::Chn { r: 1, f: file },
             Op::Ldi { r: 2, n: 1 },
             Op::Stx {
@@ -221,10 +225,11 @@ pub fn free(
 }
 
 /// Appends how a record becomes free.
-#[tactic(auto, using(crate::proofs::RecordSteps::no_free, crate::proofs::RecordSteps::frees, crate::proofs::RecordSteps::record_fits, crate::proofs::RecordSteps::cells_in_place))]
+#[tactic(auto, using(crate::proofs::RecordSteps::freeing))]
 fn push_free(temp: u8, file: u32, at: &Setting<'_>, ops: &mut Seq<Op>) -> Result<(), Memory>
     requires { IsSetting at.now }
-    ensures { OnOk result (ops.new ≡ ops.old ++ free_code (slice_get (places_in at.now).site.files file) file temp) }
+    ensures { OnOk result (ops.new ≡ ops.old ++ free_code (slice_get
+        (places_in at.now).site.files file) file temp) }
 {
     let Some(place) = at.file(file) else {
         return Ok(());
@@ -248,7 +253,8 @@ fn push_free(temp: u8, file: u32, at: &Setting<'_>, ops: &mut Seq<Op>) -> Result
 #[tactic(auto, using(crate::proofs::RecordSteps::inits_more, crate::proofs::RecordSteps::inits_end))]
 fn push_inits(place: &FilePlace<'_>, ops: &mut Seq<Op>) -> Result<(), Memory>
     requires { place.now.first + record_cells place.now.file.now < 2 ^ 32 }
-    ensures { OnOk result (ops.new ≡ ops.old ++ inits_code (placed_of place.now) 0 place.now.file.now.fields) }
+    ensures { OnOk result (ops.new ≡ ops.old ++ inits_code
+        (placed_of place.now) 0 place.now.file.now.fields) }
 {
     let cells = place.file.record_cells();
     let mut word = place.first;

@@ -3,17 +3,18 @@ ghost use Rattle.std.specs.Prelude.{◌≡◌, ◌+◌, slice_get, Some, None, I
 ghost use Rattle.code_gen.specs.Settings.{IsFileIn, IsSetting, IsVariableIn, placed_of, places_in};
 
 use crate::addresses::Addresses;
-use crate::lookup::{enters_at, label_place, number_of_entry, place_of_enter, signal_of, width_of};
-use exchange_model::{Cell, Exchange, File, FilePlace, SignalKind};
-use plex_num::Memory;
-use record_files::{Layout, file_of, word_of};
+use crate::lookup::{enters_at, label_place, place_of_enter, signal_of, width_of};
+use crate::receivers::receivers_of;
+use exchange_model::{Cell, Exchange, FilePlace, SignalKind};
+use plex_num::{Memory, Seq};
+use std::alloc::Global;
+use store_layout::{Layout, word_of};
 
-/// A block of an exchange, with the layout, the files by number, and the addresses of the places of all texts.
+/// A block of an exchange, with the layout and the addresses of the places of all texts.
 #[derive(Clone, Copy)]
 pub struct Setting<'a> {
     pub exchange: &'a Exchange,
     pub layout: &'a Layout,
-    pub files: &'a [&'a File],
     pub addresses: &'a Addresses,
     pub block: u32,
 }
@@ -54,7 +55,15 @@ impl<'a> Setting<'a> {
     pub fn entry(&self, block: u32, signal: u32) -> u32
         ensures { result ≡ (places_in self.now).entry block signal }
     {
-        number_of_entry(self.exchange, block, signal)
+        self.exchange.entry_of(block, signal).unwrap_or(0)
+    }
+
+    /// The blocks that receive a signal, in their order.
+    #[tactic(auto, unfolding(crate::specs::Settings::places_in))]
+    pub fn receivers(&self, alloc: Global, signal: u32) -> Result<Seq<u32>, Memory>
+        ensures { IfOk result (λ list. list ≡ (places_in self.now).receivers signal) }
+    {
+        receivers_of(alloc, self.exchange, signal)
     }
 
     /// The width of a variable of the block.
@@ -81,34 +90,18 @@ impl<'a> Setting<'a> {
     /// The signal of this number; `None` exactly where there is none.
     #[tactic(auto, unfolding(crate::specs::Settings::places_in))]
     pub fn signal(&self, number: u32) -> Option<&'a SignalKind>
-        ensures { MatchOption result (slice_get (places_in self.now).signals number ≡ None) (λ s. slice_get (places_in self.now).signals number ≡ Some s.now) }
+        ensures { MatchOption result (slice_get (places_in self.now).signals number ≡ None)
+            (λ s. slice_get (places_in self.now).signals number ≡ Some s.now) }
     {
         signal_of(self.exchange, number)
     }
 
     /// The file of this number; `None` exactly where there is none.
-    #[tactic(auto, using(crate::proofs::Files::no_row, crate::proofs::Files::no_file, crate::proofs::Files::file_at))]
     pub fn file(&self, number: u32) -> Option<FilePlace<'a>>
         requires { IsSetting self.now }
-        ensures { MatchOption result (slice_get (places_in self.now).site.files number ≡ None) (λ p. IsFileIn self.now number (placed_of p)) }
+        ensures { MatchOption result (slice_get (places_in self.now).site.files number ≡ None)
+            (λ p. IsFileIn self.now number (placed_of p)) }
     {
-        let Some(row) = file_of(self.layout, number) else {
-            return None;
-        };
-        let Some(file) = file_at(self.files, number) else {
-            return None;
-        };
-        Some(FilePlace {
-            block: self.block,
-            file,
-            first: row.first,
-        })
+        self.exchange.file(number)
     }
-}
-
-/// The file at a place of a list.
-fn file_at<'a>(files: &[&'a File], number: u32) -> Option<&'a File>
-    ensures { result ≡ slice_get files.now number }
-{
-    files.get(number as usize).copied()
 }

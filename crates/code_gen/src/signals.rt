@@ -1,58 +1,58 @@
 // Sends, answers and transfers.
-ghost use Rattle.std.specs.Prelude.{◌≡◌, ◌≤◌, ◌++◌, length, slice_get, OnOk};
-ghost use Rattle.exchange_model.specs.declared.limits.TheConstants.{MOST_VALUES};
+ghost use Rattle.std.specs.Prelude.{◌≡◌, ◌≤◌, ◌∷◌, [], ◌++◌, length, slice_get, OnOk};
+ghost use Rattle.plex_limits.specs.declared.limits.TheConstants.{MOST_VALUES};
 ghost use Rattle.exchange_model.specs.declared.stmt.StmtKind.TheOpen as layer;
-ghost use Rattle.exchange_model.specs.Kept.{signal_count};
-ghost use Rattle.source_meaning.specs.Step.{block_or};
-ghost use Rattle.stmt_code.specs.StmtCode.{count_of, level_number as number_of_level, queue_number as number_of_queue, retrieve_code, send_code};
+ghost use Rattle.machine_code.specs.declared.op.Op.TheVariants as op;
+ghost use Rattle.stmt_code.specs.StmtCode.{count_in, level_number as number_of_level, queue_number as number_of_queue, retrieve_code, send_code};
 ghost use Rattle.code_gen.specs.Settings.{IsIn, code_in, places_in};
 
+use crate::addresses::address_plus;
+use crate::receivers::{Arm, Delivery, push_to};
 use crate::setting::{Setting, Spot};
 use crate::value::push_values;
-use exchange_model::{Expr, SignalKind};
+use exchange_model::{Expr, Receiver, SignalKind};
 use expr_code::push_all;
 use machine_code::Op;
 use plex_num::{Level, Memory, Seq};
+use std::alloc::Global;
 
 /// A signal is sent with values: to an entry, to a block in which the job goes on, or out of the exchange.
-#[tactic(auto, using(crate::proofs::Inside::send_values, crate::proofs::SignalSteps::send_is))]
+#[tactic(auto, using(crate::proofs::Inside::send_values, crate::proofs::Inside::send_reached, crate::proofs::SignalSteps::send_is))]
 pub fn send(
+    alloc: Global,
     signal: u32,
-    block: Option<u32>,
+    to: Option<Receiver>,
     values: &Seq<Expr>,
     fresh: bool,
     at: &Setting<'_>,
     spot: Spot,
     ops: &mut Seq<Op>,
 ) -> Result<(), Memory>
-    requires { IsIn at.now spot.loops (layer.Send signal block values.now fresh) }
-    ensures { OnOk result (ops.new ≡ ops.old ++ code_in (layer.Send signal block values.now fresh) at.now spot) }
+    requires { IsIn at.now spot.loops (layer.Send signal to values.now fresh) }
+    ensures { OnOk result (ops.new ≡ ops.old ++ code_in
+        (layer.Send signal to values.now fresh) at.now spot) }
 {
+    let start = address_plus(spot.start, 1)?;
     push_all(ops, &[Op::Stmt { p: spot.point }])?;
-    push_values(values, at, ops)?;
-    push_send(signal, block_number(block), fresh, at, ops)
-}
-
-/// The number of a block; 0 of none.
-fn block_number(block: Option<u32>) -> u32
-    ensures { result ≡ block_or block }
-{
-    match block {
-        Some(number) => number,
-        None => 0,
-    }
+    let delivery = Delivery {
+        signal,
+        values,
+        arm: Arm::Send { signal, fresh },
+    };
+    push_to(alloc, to, &delivery, start, at, ops)
 }
 
 /// Appends the instruction by which the outgoing values go.
-#[tactic(auto, using(crate::proofs::SignalSteps::no_send, crate::proofs::SignalSteps::buffered_is, crate::proofs::SignalSteps::direct_is, crate::proofs::SignalSteps::combined_is, crate::proofs::SignalSteps::outside_is, crate::proofs::SignalSteps::answer_is))]
-fn push_send(
+#[tactic(auto, using(crate::proofs::SignalSteps::sending))]
+pub fn push_send(
     signal: u32,
     block: u32,
     fresh: bool,
     at: &Setting<'_>,
     ops: &mut Seq<Op>,
 ) -> Result<(), Memory>
-    ensures { OnOk result (ops.new ≡ ops.old ++ send_code (slice_get (places_in at.now).signals signal) signal block fresh (places_in at.now)) }
+    ensures { OnOk result (ops.new ≡ ops.old ++ send_code (slice_get
+        (places_in at.now).signals signal) signal block fresh (places_in at.now)) }
 {
     let Some(kind) = at.signal(signal) else {
         return Ok(());
@@ -121,7 +121,8 @@ pub fn retrieve(
     ops: &mut Seq<Op>,
 ) -> Result<(), Memory>
     requires { IsIn at.now spot.loops (layer.Retrieve answer temps.now) }
-    ensures { OnOk result (ops.new ≡ ops.old ++ code_in (layer.Retrieve answer temps.now) at.now spot) }
+    ensures { OnOk result (ops.new ≡ ops.old ++ code_in
+        (layer.Retrieve answer temps.now) at.now spot) }
 {
     push_all(ops, &[Op::Stmt { p: spot.point }])?;
     push_retrieves(temps.as_slice(), ops)
@@ -152,52 +153,62 @@ pub fn answer(
     ops: &mut Seq<Op>,
 ) -> Result<(), Memory>
     requires { IsIn at.now spot.loops (layer.Return answer values.now) }
-    ensures { OnOk result (ops.new ≡ ops.old ++ code_in (layer.Return answer values.now) at.now spot) }
+    ensures { OnOk result (ops.new ≡ ops.old ++ code_in
+        (layer.Return answer values.now) at.now spot) }
 {
     push_all(ops, &[Op::Stmt { p: spot.point }])?;
-    push_values(values, at, ops)?;
+    push_values(values, at, 0, ops)?;
     push_all(ops, &[Op::Ret { m: answer }])
 }
 
 /// The entry values go on to another block.
-#[tactic(auto, using(crate::proofs::SignalSteps::transfer_is))]
+#[tactic(auto, using(crate::proofs::Inside::transfer_reached, crate::proofs::Inside::no_values, crate::proofs::SignalSteps::transfer_is))]
 pub fn transfer(
+    alloc: Global,
     signal: u32,
-    block: Option<u32>,
+    to: Option<Receiver>,
     at: &Setting<'_>,
     spot: Spot,
     ops: &mut Seq<Op>,
 ) -> Result<(), Memory>
-    ensures { OnOk result (ops.new ≡ ops.old ++ code_in (layer.Transfer signal block) at.now spot) }
+    requires { IsIn at.now spot.loops (layer.Transfer signal to) }
+    ensures { OnOk result (ops.new ≡ ops.old ++ code_in (layer.Transfer signal to) at.now spot) }
 {
-    let there = at.enter(block_number(block), signal)?;
+    let none = Seq::new(alloc);
+    let start = address_plus(spot.start, 1)?;
+    push_all(ops, &[Op::Stmt { p: spot.point }])?;
+    let delivery = Delivery {
+        signal,
+        values: &none,
+        arm: Arm::Transfer { signal },
+    };
+    push_to(alloc, to, &delivery, start, at, ops)
+}
+
+/// Appends the instruction by which the entry values go on to a block.
+#[tactic(auto, using(crate::proofs::SignalSteps::transfers))]
+pub fn push_transfer(
+    signal: u32,
+    block: u32,
+    at: &Setting<'_>,
+    ops: &mut Seq<Op>,
+) -> Result<(), Memory>
+    ensures { OnOk result (ops.new ≡ ops.old
+        ++ op.Trf ((places_in at.now).enter block signal)
+        (count_in (places_in at.now) signal) ∷ []) }
+{
+    let there = at.enter(block, signal)?;
     let count = value_count(signal, at);
-    push_all(
-        ops,
-        &[Op::Stmt { p: spot.point }, Op::Trf { a: there, n: count }],
-    )
+    push_all(ops, &[Op::Trf { a: there, n: count }])
 }
 
 /// How many values a signal carries; 0 where there is no such signal.
 #[tactic(auto, using(crate::proofs::SignalSteps::count_none, crate::proofs::SignalSteps::count_some))]
 fn value_count(signal: u32, at: &Setting<'_>) -> u32
-    ensures { result ≡ count_of (slice_get (places_in at.now).signals signal) }
+    ensures { result ≡ count_in (places_in at.now) signal }
 {
     match at.signal(signal) {
-        Some(kind) => values_of(kind),
+        Some(kind) => u32::from(kind.count()),
         None => 0,
-    }
-}
-
-/// How many values a signal of this kind carries.
-fn values_of(kind: &SignalKind) -> u32
-    ensures { result ≡ signal_count kind.now }
-{
-    match kind {
-        SignalKind::Buffered { count, .. }
-        | SignalKind::Direct { count, .. }
-        | SignalKind::Combined { count, .. }
-        | SignalKind::Answer { count, .. }
-        | SignalKind::Outside { count, .. } => u32::from(*count),
     }
 }

@@ -18,6 +18,7 @@ use exchange_model::{Stmt, StmtKind, When};
 use machine_code::Op;
 use plex_num::{Memory, Seq};
 use std::alloc::Global;
+use stmt_code::{BOUNDS_LENGTH, COMPARE_LENGTH, NEXT_LENGTH, TURN_LENGTH};
 
 /// The code of statements, with so many loops around them, which begins at an address.
 #[cycle(emit)]
@@ -30,7 +31,8 @@ pub fn list_code(
     start: u32,
 ) -> Result<Seq<Op>, Memory>
     requires { AreIn at.now loops list.now }
-    ensures { IfOk result (λ ops. ops ≡ codes (map stmt_code list.now) (places_in at.now) loops start) }
+    ensures { IfOk result
+        (λ ops. ops ≡ codes (map stmt_code list.now) (places_in at.now) loops start) }
 {
     let mut ops = Seq::new(alloc);
     let mut next = start;
@@ -57,7 +59,8 @@ pub fn emit_kind(
     ops: &mut Seq<Op>,
 ) -> Result<(), Memory>
     requires { IsIn at.now spot.loops (out-StmtKind kind.now) }
-    ensures { OnOk result (ops.new ≡ ops.old ++ kind_code kind.now (places_in at.now) spot.point spot.loops spot.start) }
+    ensures { OnOk result (ops.new ≡ ops.old ++ kind_code kind.now
+        (places_in at.now) spot.point spot.loops spot.start) }
 {
     match kind {
         StmtKind::Enter { signal, temps } => enter(alloc, *signal, temps, at, spot, ops),
@@ -99,10 +102,10 @@ pub fn emit_kind(
             let low = value_code(alloc, from, at, 0)?;
             let high = value_code(alloc, upto, at, 1)?;
             let between = address_after(spot.start, low.len(), 1)?;
-            let head = address_after(between, high.len(), 5)?;
-            let inner = address_plus(head, 3)?;
+            let head = address_after(between, high.len(), BOUNDS_LENGTH)?;
+            let inner = address_plus(head, TURN_LENGTH)?;
             let turn = list_code(alloc, body, at, spot.loops + 1, inner)?;
-            let exit = address_after(head, turn.len(), 11)?;
+            let exit = address_after(head, turn.len(), TURN_LENGTH + NEXT_LENGTH)?;
             push_bounds(spot.point, spot.loops, &low, &high, head, exit, ops)?;
             push_turns(spot.point, *temp, spot.loops, head, &turn, ops)
         }
@@ -118,10 +121,10 @@ pub fn emit_kind(
         ),
         StmtKind::Send {
             signal,
-            block,
+            to,
             values,
             fresh,
-        } => send(*signal, *block, values, *fresh, at, spot, ops),
+        } => send(alloc, *signal, *to, values, *fresh, at, spot, ops),
         StmtKind::Retrieve {
             answer: signal,
             temps,
@@ -130,7 +133,7 @@ pub fn emit_kind(
             answer: signal,
             values,
         } => answer(*signal, values, at, spot, ops),
-        StmtKind::Transfer { signal, block } => transfer(*signal, *block, at, spot, ops),
+        StmtKind::Transfer { signal, to } => transfer(alloc, *signal, *to, at, spot, ops),
         StmtKind::Seize { temp, file, label } => seize(*temp, *file, *label, at, spot, ops),
         StmtKind::Free { temp, file } => free(*temp, *file, at, spot, ops),
         StmtKind::Exit => exit(spot, ops),
@@ -149,13 +152,15 @@ fn choices_of(
     start: u32,
 ) -> Result<Choices, Memory>
     requires { AreChoicesIn at.now loops whens.now }
-    ensures list { IfOk result (λ c. c.list ≡ chosen (map when_code whens.now) (places_in at.now) loops start) }
-    ensures next { IfOk result (λ c. c.next ≡ behind_choices (map when_code whens.now) (places_in at.now) loops start) }
+    ensures list { IfOk result
+        (λ c. c.list ≡ chosen (map when_code whens.now) (places_in at.now) loops start) }
+    ensures next { IfOk result
+        (λ c. c.next ≡ behind_choices (map when_code whens.now) (places_in at.now) loops start) }
 {
     let mut list = Seq::new(alloc);
     let mut next = start;
     for when in whens.as_slice() {
-        let body_at = address_plus(next, 3)?;
+        let body_at = address_plus(next, COMPARE_LENGTH)?;
         let body = list_code(alloc, &when.body, at, loops, body_at)?;
         next = address_after(body_at, body.len(), 1)?;
         list.push(Choice {

@@ -22,7 +22,8 @@ pub fn push_value(
 ) -> Result<(), Memory>
     requires inside { IsValueIn at.now value.now }
     requires register { first ≤ 1 }
-    ensures { OnOk result (ops.new ≡ ops.old ++ code_of_expr value.now (places_in at.now).site first) }
+    ensures { OnOk result (ops.new ≡ ops.old ++ code_of_expr value.now
+        (places_in at.now).site first) }
 {
     expr_code(value, at.layout, at.block, first, ops)
 }
@@ -61,15 +62,22 @@ pub fn test_code(alloc: Global, test: &Cond, at: &Setting<'_>) -> Result<Seq<Op>
     Ok(ops)
 }
 
-/// Appends the code by which values join the outgoing ones.
+/// Appends the code by which values join the outgoing ones, by way of register 0 or 1.
 #[tactic(auto, using(crate::proofs::Parts::values_begin, crate::proofs::Parts::values_more, crate::proofs::Parts::values_end, crate::proofs::Inside::value_in))]
-pub fn push_values(values: &Seq<Expr>, at: &Setting<'_>, ops: &mut Seq<Op>) -> Result<(), Memory>
-    requires { AllByRecursion (IsValueIn at.now) values.now }
-    ensures { OnOk result (ops.new ≡ ops.old ++ values_code values.now (places_in at.now).site) }
+pub fn push_values(
+    values: &Seq<Expr>,
+    at: &Setting<'_>,
+    first: u8,
+    ops: &mut Seq<Op>,
+) -> Result<(), Memory>
+    requires inside { AllByRecursion (IsValueIn at.now) values.now }
+    requires register { first ≤ 1 }
+    ensures { OnOk result (ops.new ≡ ops.old ++ values_code values.now
+        (places_in at.now).site first) }
 {
     for value in values.as_slice() {
-        push_value(value, at, 0, ops)?;
-        push_all(ops, &[Op::Arg { r: 0 }])?;
+        push_value(value, at, first, ops)?;
+        push_all(ops, &[Op::Arg { r: first }])?;
     }
     Ok(())
 }

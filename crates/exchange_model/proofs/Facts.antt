@@ -6,26 +6,26 @@ use Rattle.std.proofs.lemmas.List.FromFn.{length-range_with_len, get_or-range_wi
 use Rattle.std.proofs.lemmas.Option.{none-some, same_Some, slice_get-map, slice_get-get_or, slice_get_within}
 use Rattle.exchange_model.specs.declared.block.Block.{Block}
 use Rattle.exchange_model.specs.declared.block.Variable.{Variable}
-use Rattle.exchange_model.specs.declared.limits.TheConstants.{MOST_CELLS}
+use Rattle.plex_limits.specs.declared.limits.TheConstants.{MOST_CELLS}
 use Rattle.exchange_model.specs.Cells.{cell_count, Placed, placed_files}
 use Rattle.exchange_model.specs.Parts.{Parts}
-use Rattle.exchange_model.specs.Kept.{IsExchange, VariableFits, FileFits, points_from, entries_from}
-use Rattle.exchange_model.proofs.Lists.{AllByRecursion-at}
+use Rattle.exchange_model.specs.Kept.{IsExchange, VariableFits, FieldFits, FileFits, points_from, entries_from}
+use Rattle.plex_num.proofs.Lists.{all_at}
 use Rattle.exchange_model.proofs.Places.{stands}
 
 pub cells_few : (x : Parts) → IsExchange x → cell_count x.blocks ≤ MOST_CELLS
 cells_few x h = omega (arith, h.numbered.cells, h.limited.cells)
 
 pub variable_kept : (x : Parts) → IsExchange x → (b v : ℕ) (k : Block) (w : Variable) → slice_get x.blocks b ≡ Some k → slice_get k.variables v ≡ Some w → VariableFits w
-variable_kept x h b v k w there own = AllByRecursion-at VariableFits k.variables v w (h.blocks.each b k there).variables own
+variable_kept x h b v k w there own = all_at VariableFits k.variables v w (h.blocks.each b k there).variables own
 
 pub file_kept : (x : Parts) → IsExchange x → (n : ℕ) (p : Placed) → slice_get (placed_files x.blocks) n ≡ Some p → FileFits p.file
 file_kept x h n p there =
     let s = stands x.blocks n p there in
-    AllByRecursion-at FileFits s.owner.files s.place p.file (h.blocks.each p.block s.owner s.there).files s.own
+    all_at FileFits s.owner.files s.place p.file (h.blocks.each p.block s.owner s.there).files s.own
 
 pub field_kept : (x : Parts) → IsExchange x → (n f : ℕ) (p : Placed) (w : Variable) → slice_get (placed_files x.blocks) n ≡ Some p → slice_get p.file.fields f ≡ Some w → VariableFits w
-field_kept x h n f p w there own = AllByRecursion-at VariableFits p.file.fields f w (file_kept x h n p there).fields own
+field_kept x h n f p w there own = (all_at FieldFits p.file.fields f w (file_kept x h n p there).fields own).variable
 
 slice_get-range_with_len : (n i : ℕ) → i < n → slice_get (range_with_len 0 n) i ≡ Some i
 slice_get-range_with_len n i lt =

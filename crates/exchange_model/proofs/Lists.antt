@@ -1,27 +1,9 @@
--- What stands at a place of joined lists.
-use Rattle.std.proofs.Common.{◌≡◌, ℕ, zero, suc, ◌+◌, ◌-◌, ◌*◌, ◌<◌, ◌≤◌, List, [], ◌∷◌, ◌++◌, length, take, map, sum_by, replicate, Some, slice_get, refl, subst, ap, ◌∙◌, arith, length-append}
+-- How long joined lists are, and what stands at a place of them.
+use Rattle.std.proofs.Common.{◌≡◌, ℕ, zero, suc, ◌+◌, ◌-◌, ◌*◌, ◌<◌, ◌≤◌, List, [], ◌∷◌, ◌++◌, length, take, map, sum_by, replicate, Some, slice_get, refl, ap, ◌∙◌, arith, length-append}
 use Rattle.std.proofs.lemmas.List.Sums.{sum_by-cons}
 use Rattle.std.proofs.lemmas.Option.{none-some, same_Some}
-use Rattle.std.specs.List.{AllByRecursion}
+use Rattle.plex_num.proofs.Lists.{slice_get-append_left, slice_get-append_right}
 use Rattle.exchange_model.specs.Inside.{joined}
-
-pub slice_get-append_left : {X : Type 0} (xs ys : List X) (i : ℕ) → i < length xs → slice_get (xs ++ ys) i ≡ slice_get xs i
-slice_get-append_left [] ys i h = absurd (omega arith)
-slice_get-append_left (x ∷ xs) ys zero h = refl
-slice_get-append_left (x ∷ xs) ys (suc i) h = slice_get-append_left xs ys i (omega arith)
-
-pub slice_get-append_right : {X : Type 0} (xs ys : List X) (i : ℕ) → length xs ≤ i → slice_get (xs ++ ys) i ≡ slice_get ys (i - length xs)
-slice_get-append_right [] ys i h = ap (slice_get ys) (omega arith)
-slice_get-append_right (x ∷ xs) ys zero h = absurd (omega arith)
-slice_get-append_right (x ∷ xs) ys (suc i) h = slice_get-append_right xs ys i (omega arith) ∙ ap (slice_get ys) (omega arith)
-
--- what holds of all holds at each place
-pub AllByRecursion-at : {X : Type 0} (P : X → Type 0) (xs : List X) (i : ℕ) (x : X) → AllByRecursion P xs → slice_get xs i ≡ Some x → P x
-AllByRecursion-at P [] i x all h = absurd (none-some x h)
-AllByRecursion-at P (y ∷ ys) zero x all h = subst P (same_Some y x h) all.0
-AllByRecursion-at P (y ∷ ys) (suc i) x all h = AllByRecursion-at P ys i x all.1 h
-
--- a list of lists, one after the other
 
 pub length-joined-map : {X T : Type 0} (f : X → List T) (xs : List X) → length (joined (map f xs)) ≡ sum_by (λ x. length (f x)) xs
 length-joined-map f [] = refl

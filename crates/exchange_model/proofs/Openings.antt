@@ -10,7 +10,8 @@ use Rattle.exchange_model.specs.declared.block.File.{File}
 use Rattle.exchange_model.specs.Cells.{marks, record_cells, file_cells, block_cells, cell_count, first_cell, variable_cell, Placed, placed_files, field_cell, mark_cell}
 use Rattle.exchange_model.specs.Inside.{joined}
 use Rattle.exchange_model.specs.Opening.{inits, free_mark, record_opening, file_opening, block_opening, opening_store}
-use Rattle.exchange_model.proofs.Lists.{slice_get-append_left, slice_get-append_right, length-joined-map, slice_get-joined-map, length-joined-replicate, slice_get-joined-replicate}
+use Rattle.exchange_model.proofs.Lists.{length-joined-map, slice_get-joined-map, length-joined-replicate, slice_get-joined-replicate}
+use Rattle.plex_num.proofs.Lists.{slice_get-append_left, slice_get-append_right}
 use Rattle.exchange_model.proofs.Places.{stands, sum_by_within}
 
 -- lengths

@@ -7,7 +7,7 @@ use Rattle.std.proofs.lemmas.Option.{none-some, same_Some, slice_get-get_or, sli
 use Rattle.exchange_model.specs.declared.block.Block.{Block}
 use Rattle.exchange_model.specs.declared.block.File.{File}
 use Rattle.exchange_model.specs.Cells.{file_cells, block_cells, cell_count, first_cell, variable_cell, Placed, placed_in, placed_from, placed_files}
-use Rattle.exchange_model.proofs.Lists.{slice_get-append_left, slice_get-append_right}
+use Rattle.plex_num.proofs.Lists.{slice_get-append_left, slice_get-append_right}
 
 pub length-placed_in : (block cell : ℕ) (fs : List File) → length (placed_in block cell fs) ≡ length fs
 length-placed_in block cell [] = refl

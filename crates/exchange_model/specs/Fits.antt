@@ -5,7 +5,7 @@
 use Rattle.std.specs.Prelude.{◌≡◌, ℕ, ◌<◌, ◌≤◌, ◌^◌, Bool, true, false, List, [], ◌∷◌, length, map, Option, Some, None, slice_get}
 use Rattle.std.specs.List.{AllByRecursion, Contains, IsDistinct}
 use Rattle.std.specs.Prelude.{nat_eq}
-use Rattle.exchange_model.specs.declared.limits.TheConstants.{MOST_BRACKETS, MOST_OPERANDS}
+use Rattle.plex_limits.specs.declared.limits.TheConstants.{MOST_BRACKETS, MOST_OPERANDS}
 use Rattle.exchange_model.specs.declared.signal.SignalKind.{SignalKind}
 use Rattle.exchange_model.specs.declared.signal.SignalKind.TheVariants.{Buffered, Direct, Combined, Answer, Outside}
 use Rattle.exchange_model.specs.declared.block.Block.{Block}
@@ -13,9 +13,13 @@ use Rattle.exchange_model.specs.declared.block.Enter.{Enter as Row}
 use Rattle.exchange_model.specs.declared.expr.Expr.{Expr, every-Expr}
 use Rattle.exchange_model.specs.declared.expr.Term.{Term, out-Term}
 use Rattle.exchange_model.specs.declared.expr.Joined.{Joined}
-use Rattle.exchange_model.specs.declared.expr.Factor.TheOpen.{Factor-F, Number, Variable, Temporary, Field, Bracket}
+use Rattle.exchange_model.specs.declared.expr.Factor.TheOpen.{Factor-F, Number, Variable, Temporary, Field, Bracket, Reference}
 use Rattle.exchange_model.specs.declared.expr.FactorOp.TheVariants.{Times}
 use Rattle.exchange_model.specs.declared.expr.Cond.{Cond}
+use Rattle.exchange_model.specs.declared.stmt.Holder.{Holder}
+use Rattle.exchange_model.specs.declared.stmt.Holder.TheVariants as holder
+use Rattle.exchange_model.specs.declared.stmt.Receiver.{Receiver}
+use Rattle.exchange_model.specs.declared.stmt.Receiver.TheVariants as receiver
 use Rattle.exchange_model.specs.declared.stmt.Stmt.{Stmt}
 use Rattle.exchange_model.specs.declared.stmt.When.{When, out-When}
 use Rattle.exchange_model.specs.declared.stmt.StmtKind.{StmtKind, StmtKind-F, out-StmtKind, every-StmtKind}
@@ -61,6 +65,7 @@ FactorFits s (Variable v) = IsVariable s v
 FactorFits s (Temporary t) = IsTemporary s t
 FactorFits s (Field file field pointer) = IsField s file field × IsTemporary s pointer
 FactorFits s (Bracket e) = Unit {0}
+FactorFits s (Reference b) = b < length s.blocks
 
 -- there is a first term, and nothing stands before it that it could be taken from
 abbrev pub TermsStand : List Term → Type 0
@@ -90,19 +95,30 @@ pub record Receives (s : Scope) (block signal : ℕ) : Type 0 where
   pub there : slice_get s.blocks block ≡ Some receiver
   pub enters : Contains (map (λ (r : Row). r.signal) receiver.enters) signal
 
--- the receiver is named, and receives the signal, which stands in the block's sending table
-abbrev pub Reaches : Scope → Option ℕ → ℕ → Type 0
+-- a holder of the block
+abbrev pub IsHolder : Scope → Holder → Type 0
+IsHolder s (holder.Temporary t) = IsTemporary s t
+IsHolder s (holder.Variable v) = IsVariable s v
+
+-- the block that is named receives the signal; where a reference is held, its holder is of the block, and some block
+-- receives the signal
+abbrev pub ReceiverFits : Scope → Receiver → ℕ → Type 0
+ReceiverFits s (receiver.Block block) signal = Receives s block signal
+ReceiverFits s (receiver.Held holder) signal = IsHolder s holder × (block : ℕ) × Receives s block signal
+
+-- there is a receiver, and the signal stands in the block's sending table
+abbrev pub Reaches : Scope → Option Receiver → ℕ → Type 0
 Reaches s None signal = ⊥
-Reaches s (Some block) signal = Receives s block signal × Contains s.block.sends signal
+Reaches s (Some to) signal = ReceiverFits s to signal × Contains s.block.sends signal
 
 -- so many values may be sent by this signal
-abbrev pub SendFits : Scope → Option SignalKind → ℕ → Option ℕ → ℕ → Bool → Type 0
-SendFits s None signal block values fresh = ⊥
-SendFits s (Some (Buffered name level count)) signal block values fresh = (values ≡ count) × Reaches s block signal
-SendFits s (Some (Direct name count)) signal block values fresh = (values ≡ count) × Reaches s block signal × (fresh ≡ false)
-SendFits s (Some (Combined name count answer)) signal block values fresh = (values ≡ count) × Reaches s block signal × (fresh ≡ false)
-SendFits s (Some (Answer name count combined)) signal block values fresh = ⊥
-SendFits s (Some (Outside name count)) signal block values fresh = (values ≡ count) × (block ≡ None) × (fresh ≡ false) × Contains s.block.sends signal
+abbrev pub SendFits : Scope → Option SignalKind → ℕ → Option Receiver → ℕ → Bool → Type 0
+SendFits s None signal to values fresh = ⊥
+SendFits s (Some (Buffered name level count)) signal to values fresh = (values ≡ count) × Reaches s to signal
+SendFits s (Some (Direct name count)) signal to values fresh = (values ≡ count) × Reaches s to signal × (fresh ≡ false)
+SendFits s (Some (Combined name count answer)) signal to values fresh = (values ≡ count) × Reaches s to signal × (fresh ≡ false)
+SendFits s (Some (Answer name count combined)) signal to values fresh = ⊥
+SendFits s (Some (Outside name count)) signal to values fresh = (values ≡ count) × (to ≡ None) × (fresh ≡ false) × Contains s.block.sends signal
 
 -- the signal is an answer with so many values
 abbrev pub AnswerFits : Option SignalKind → ℕ → Type 0
@@ -110,9 +126,9 @@ AnswerFits (Some (Answer name count combined)) values = values ≡ count
 AnswerFits _ values = ⊥
 
 -- the signal is direct and single
-abbrev pub TransferFits : Scope → Option SignalKind → ℕ → Option ℕ → Type 0
-TransferFits s (Some (Direct name count)) signal block = Reaches s block signal
-TransferFits s _ signal block = ⊥
+abbrev pub TransferFits : Scope → Option SignalKind → ℕ → Option Receiver → Type 0
+TransferFits s (Some (Direct name count)) signal to = Reaches s to signal
+TransferFits s _ signal to = ⊥
 
 -- a signal that begins an activation has so many values
 abbrev pub EnterFits : Option SignalKind → ℕ → Type 0
@@ -137,10 +153,10 @@ KindNames s (layer.If cond yes_part no_part) = CondStands cond
 KindNames s (layer.Case value whens otherwise) = IsDistinct nat_eq (map (λ w. (out-When w).number) whens)
 KindNames s (layer.On temp from upto body) = IsTemporary s temp
 KindNames s (layer.ForFirst temp file field rel value label) = IsTemporary s temp × IsFile s file false × IsField s file field × IsLabel s label
-KindNames s (layer.Send signal block values fresh) = SendFits s (slice_get s.signals signal) signal block (length values) fresh
+KindNames s (layer.Send signal to values fresh) = SendFits s (slice_get s.signals signal) signal to (length values) fresh
 KindNames s (layer.Retrieve answer temps) = AnswerFits (slice_get s.signals answer) (length temps) × NamesFit s temps
 KindNames s (layer.Return answer values) = AnswerFits (slice_get s.signals answer) (length values)
-KindNames s (layer.Transfer signal block) = TransferFits s (slice_get s.signals signal) signal block
+KindNames s (layer.Transfer signal to) = TransferFits s (slice_get s.signals signal) signal to
 KindNames s (layer.Seize temp file label) = IsTemporary s temp × IsFile s file true × IsLabel s label
 KindNames s (layer.Free temp file) = IsTemporary s temp × IsFile s file true
 KindNames s layer.Exit = Unit {0}
@@ -152,7 +168,7 @@ answer_of (Some (Combined name count answer)) = Some answer
 answer_of _ = None
 
 abbrev pub awaited : {K S W : Type 0} → List SignalKind → StmtKind-F K S W → Option ℕ
-awaited signals (layer.Send signal block values fresh) = answer_of (slice_get signals signal)
+awaited signals (layer.Send signal to values fresh) = answer_of (slice_get signals signal)
 awaited signals _ = None
 
 abbrev pub retrieved : {K S W : Type 0} → StmtKind-F K S W → Option ℕ

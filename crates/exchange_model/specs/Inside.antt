@@ -33,7 +33,7 @@ factor_depth _ = 0
 unfoldable pub bracket_depth : Expr → ℕ
 bracket_depth = fold-Expr ℕ ℕ ℕ ℕ factor_depth (λ e. most e.terms) (λ j. j.factor) (λ t. most t.factors)
 
--- how many numbers, names and fields an expression has; the pointer of a field counts nothing
+-- how many numbers, names, fields and references an expression has; the pointer of a field counts nothing
 abbrev pub factor_operands : Factor-F ℕ ℕ ℕ ℕ → ℕ
 factor_operands (Bracket n) = n
 factor_operands _ = 1
@@ -59,7 +59,7 @@ own_exprs (If cond yes_part no_part) = cond_exprs cond
 own_exprs (Case value whens otherwise) = value ∷ []
 own_exprs (On temp from upto body) = from ∷ upto ∷ []
 own_exprs (ForFirst temp file field rel value label) = value ∷ []
-own_exprs (Send signal block values fresh) = values
+own_exprs (Send signal to values fresh) = values
 own_exprs (Return answer values) = values
 own_exprs _ = []
 

@@ -2,10 +2,11 @@
 --
 -- Every later layer takes the facts that it needs from here. The numberings are equations, so that an entry, a point or
 -- a row of a table is where its definition puts it, and nowhere else.
-use Rattle.std.specs.Prelude.{◌≡◌, ℕ, ◌+◌, ◌<◌, ◌≤◌, ◌^◌, nat_eq, List, [], ◌∷◌, ◌++◌, length, map, Option, Some, None, slice_get}
+use Rattle.std.specs.Prelude.{◌≡◌, ℕ, ◌+◌, ◌<◌, ◌≤◌, ◌^◌, nat_eq, Bool, true, false, List, [], ◌∷◌, ◌++◌, length, map, Option, Some, None, slice_get}
 use Rattle.std.specs.Str.{bytes_eq}
 use Rattle.std.specs.List.{AllByRecursion, IsDistinct, cons_option, range_with_len}
-use Rattle.exchange_model.specs.declared.limits.TheConstants.{MOST_SIGNALS, MOST_BLOCKS, MOST_ENTRIES, MOST_STATEMENTS, MOST_TEMPORARIES, MOST_VALUES, MOST_NESTED, MOST_RECORDS, MOST_CELLS, MOST_WHENS}
+use Rattle.std.specs.Option.{IsSomeAnd}
+use Rattle.plex_limits.specs.declared.limits.TheConstants.{MOST_SIGNALS, MOST_BLOCKS, MOST_ENTRIES, MOST_STATEMENTS, MOST_TEMPORARIES, MOST_VALUES, MOST_NESTED, MOST_RECORDS, MOST_CELLS, MOST_WHENS}
 use Rattle.exchange_model.specs.declared.signal.SignalKind.{SignalKind}
 use Rattle.exchange_model.specs.declared.signal.SignalKind.TheVariants.{Buffered, Direct, Combined, Answer, Outside}
 use Rattle.exchange_model.specs.declared.block.Block.{Block}
@@ -20,7 +21,7 @@ use Rattle.exchange_model.specs.declared.stmt.StmtKind.{StmtKind-F, out-StmtKind
 use Rattle.exchange_model.specs.declared.stmt.StmtKind.TheOpen.{Enter, Finish}
 use Rattle.exchange_model.specs.Cells.{Placed, placed_files, cell_count}
 use Rattle.exchange_model.specs.Inside.{Spot, spots, joined, text_depth, when_count, total}
-use Rattle.exchange_model.specs.Fits.{Scope, StmtFits, ArePaired}
+use Rattle.exchange_model.specs.Fits.{Scope, StmtFits, ArePaired, retrieved}
 use Rattle.exchange_model.specs.Parts.{Parts}
 
 -- signals
@@ -39,10 +40,25 @@ signal_count (Combined name count answer) = count
 signal_count (Answer name count combined) = count
 signal_count (Outside name count) = count
 
+-- it leaves the exchange
+abbrev pub is_outside : SignalKind → Bool
+is_outside (Outside name count) = true
+is_outside _ = false
+
+-- the signal of this number is an answer to the combined one of that number
+abbrev pub IsAnswerOf : ℕ → Option SignalKind → Type 0
+IsAnswerOf combined (Some (Answer name count of)) = of ≡ combined
+IsAnswerOf combined _ = ⊥
+
+-- the signal of this number is combined, and that one is its answer
+abbrev pub IsAnsweredBy : ℕ → Option SignalKind → Type 0
+IsAnsweredBy answer (Some (Combined name count by)) = by ≡ answer
+IsAnsweredBy answer _ = ⊥
+
 -- a combined signal's answer has the next number, and an answer's combined signal the one before
 abbrev pub IsAnswered : List SignalKind → ℕ → SignalKind → Type 0
-IsAnswered signals i (Combined name count answer) = (answer ≡ i + 1) × (other : List ℕ) × (n : ℕ) × (slice_get signals answer ≡ Some (Answer other n i))
-IsAnswered signals i (Answer name count combined) = (i ≡ combined + 1) × (other : List ℕ) × (n : ℕ) × (slice_get signals combined ≡ Some (Combined other n i))
+IsAnswered signals i (Combined name count answer) = (answer ≡ i + 1) × IsAnswerOf i (slice_get signals answer)
+IsAnswered signals i (Answer name count combined) = (i ≡ combined + 1) × IsAnsweredBy i (slice_get signals combined)
 IsAnswered signals i _ = Unit {0}
 
 pub record SignalsKept (signals : List SignalKind) : Type 0 where
@@ -59,10 +75,15 @@ pub record VariableFits (v : Variable) : Type 0 where
   pub few : v.width ≤ 32
   pub init : v.init < 2 ^ v.width
 
+-- a field is no CLEAR variable
+pub record FieldFits (v : Variable) : Type 0 where
+  pub variable : VariableFits v
+  pub stays : v.clear ≡ false
+
 pub record FileFits (f : File) : Type 0 where
   pub some : 1 ≤ f.size
   pub few : f.size ≤ MOST_RECORDS
-  pub fields : AllByRecursion VariableFits f.fields
+  pub fields : AllByRecursion FieldFits f.fields
 
 abbrev pub variable_names : List Variable → List (List ℕ)
 variable_names variables = map (λ v. v.name) variables
@@ -105,6 +126,10 @@ pub data IsText : List Stmt → Type 0 where
   ends : {s : Stmt} → IsFinish (out-StmtKind s.kind) → IsText (s ∷ [])
   goes : {s : Stmt} {rest : List Stmt} → IsNotFinish (out-StmtKind s.kind) → IsText rest → IsText (s ∷ rest)
 
+-- a label stands at a statement of the body, and not between a SEND and its RETRIEVE
+abbrev pub IsLabelAt : List Stmt → Label → Type 0
+IsLabelAt body l = IsSomeAnd (slice_get body l.place) (λ (s : Stmt). retrieved (out-StmtKind s.kind) ≡ None)
+
 abbrev pub scope_of : Parts → ℕ → Block → Scope
 scope_of x b k = record { signals = x.signals; blocks = x.blocks; files = placed_files x.blocks; number = b; block = k }
 
@@ -118,7 +143,7 @@ pub record BlockKept (x : Parts) (b : ℕ) (k : Block) : Type 0 where
   pub sends_once : IsDistinct nat_eq k.sends
   pub enters : k.enters ≡ enters_from 0 k.body
   pub enters_once : IsDistinct nat_eq (map (λ (r : Row). r.signal) k.enters)
-  pub labels : AllByRecursion (λ (l : Label). l.place < length k.body) k.labels
+  pub labels : AllByRecursion (IsLabelAt k.body) k.labels
   pub text : IsText k.body
   pub statements : AllByRecursion (λ (s : Stmt). StmtFits (scope_of x b k) s.kind) k.body
   pub paired : ArePaired x.signals None k.body

@@ -1,9 +1,9 @@
-pub mod Built
 pub mod Cells
-pub mod Counted
 pub mod Fits
+pub mod Index
 pub mod Inside
 pub mod Kept
-pub mod Layers
 pub mod Opening
+pub mod PartCounts
+pub mod PartFits
 pub mod Parts

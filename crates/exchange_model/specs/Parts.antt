@@ -11,3 +11,7 @@ pub record Parts : Type 0 where
   pub entries : List Entry
   pub points : List PointInfo
   pub cells : ℕ
+
+-- an exchange of these parts
+abbrev pub parts : List SignalKind → List Block → List Entry → List PointInfo → ℕ → Parts
+parts signals blocks entries points cells = record { signals = signals; blocks = blocks; entries = entries; points = points; cells = cells }

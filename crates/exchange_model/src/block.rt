@@ -1,5 +1,5 @@
-ghost use Rattle.std.specs.Prelude.{◌≡◌, ◌+◌, ◌<◌, ◌^◌, length, sum_by, slice_get, Some};
-ghost use Rattle.exchange_model.specs.Cells.{record_cells, file_cells, block_cells, placed_in};
+ghost use Rattle.std.specs.Prelude.{◌≡◌, ◌<◌, ◌^◌};
+ghost use Rattle.exchange_model.specs.Cells.{record_cells, file_cells, block_cells};
 
 use crate::stmt::Stmt;
 use plex_num::{Name, Seq};
@@ -18,12 +18,14 @@ pub struct Block {
     pub body: Seq<Stmt>,
 }
 
-/// A stored variable, or a field: its width in bits, and its value before the first job.
+/// A stored variable, or a field: its width in bits, its value before the first job, and whether a restart gives it that
+/// value again, which is so of no field.
 #[derive(Drop)]
 pub struct Variable {
     pub name: Name,
     pub width: u8,
     pub init: u32,
+    pub clear: bool,
 }
 
 /// A file: its number through the exchange, and its records, which are numbered from 0. Those of a forlopp file are
@@ -94,23 +96,5 @@ impl Block {
             cells += file.cells();
         }
         cells
-    }
-}
-
-/// The file at a place of this list, which is that of the block numbered `block`, and whose first file begins at the cell
-/// `first`. All its cells must be below 2^32.
-pub fn file_at(files: &[File], block: u32, first: u32, place: usize) -> FilePlace<'_>
-    requires within { place < length files.now }
-    requires few { first + sum_by file_cells files.now < 2 ^ 32 }
-    ensures { slice_get (placed_in block first files.now) place ≡ Some (record { block = result.block; file = result.file.now; first = result.first }) }
-{
-    let mut cell = first;
-    for file in &files[..place] {
-        cell += file.cells();
-    }
-    FilePlace {
-        block,
-        file: &files[place],
-        first: cell,
     }
 }

@@ -1,12 +1,16 @@
-ghost use Rattle.std.specs.Prelude.{◌≡◌, ◌≤◌, length, MatchOption, slice_get, Some, None};
-ghost use Rattle.exchange_model.specs.Cells.{first_cell, placed_files};
+ghost use Rattle.std.specs.Prelude.{◌≡◌, ◌≤◌, [], length, IfOk, position};
+ghost use Rattle.exchange_model.specs.Parts.{parts};
+ghost use Rattle.exchange_model.specs.Cells.{first_cell};
+ghost use Rattle.exchange_model.specs.Index.{IsFileAt, enter_of, is_entry};
 ghost use Rattle.exchange_model.specs.Kept.{IsExchange};
 
-use crate::block::{Block, FilePlace, file_at};
+use crate::block::{Block, FilePlace};
 use crate::entry::{Entry, PointInfo};
-use crate::limits::MOST_ENTRIES;
+use crate::index::Index;
 use crate::signal::SignalKind;
-use plex_num::Seq;
+use plex_limits::MOST_ENTRIES;
+use plex_num::{Memory, Seq};
+use std::alloc::Global;
 use std::marker::Model;
 
 /// An exchange: signals, blocks, the entries at which jobs start, and the points, which are the statements
@@ -18,42 +22,63 @@ pub struct Exchange {
     pub entries: Seq<Entry>,
     pub points: Seq<PointInfo>,
     pub cells: u32,
+    index: Index,
 }
 
 impl Model for Exchange {
     ghost use Rattle.std.specs.Coded.{codes};
-    ghost use Rattle.exchange_model.specs.Parts.{Parts};
+    ghost use Rattle.exchange_model.specs.Parts.{Parts, parts};
     ghost use Rattle.exchange_model.specs.Kept.{IsExchange};
+    ghost use Rattle.exchange_model.specs.Index.{IsIndex};
     ghost use Rattle.exchange_model.specs.contracts.stmt.StmtKind as kind;
 
     ghost Value = { Parts };
 
     ghost coded = { Prim.hlevel (codes, kind.the_row.coded) };
 
-    ghost view = { λ x. record { signals = x.signals; blocks = x.blocks; entries = x.entries; points = x.points; cells = x.cells } };
+    ghost view = { λ x. parts x.signals x.blocks x.entries x.points x.cells };
 
-    ghost invariant = { λ x. IsExchange (record { signals = x.signals; blocks = x.blocks; entries = x.entries; points = x.points; cells = x.cells }) };
+    ghost invariant = { λ x. IsExchange (parts x.signals x.blocks x.entries x.points x.cells) × IsIndex (parts x.signals x.blocks x.entries x.points x.cells) x.index };
 }
 
 impl Exchange {
-    /// The exchange of these parts, which must keep all that an exchange keeps.
+    /// The exchange of these parts, which must keep all that an exchange keeps. Files, entries and ENTERs are looked up in it
+    /// without a walk, by what is noted of them here.
     pub fn new(
+        alloc: Global,
         signals: Seq<SignalKind>,
         blocks: Seq<Block>,
         entries: Seq<Entry>,
         points: Seq<PointInfo>,
         cells: u32,
-    ) -> Exchange
-        requires kept { IsExchange (record { signals = signals; blocks = blocks; entries = entries; points = points; cells = cells }) }
-        ensures { result ≡ record { signals = signals; blocks = blocks; entries = entries; points = points; cells = cells } }
+    ) -> Result<Exchange, Memory>
+        requires kept { IsExchange (parts signals blocks entries points cells) }
+        ensures { IfOk result (λ x. x ≡ parts signals blocks entries points cells) }
     {
-        Exchange {
+        let index = Index::new(alloc, blocks.as_slice(), entries.as_slice())?;
+        Ok(Exchange {
             signals,
             blocks,
             entries,
             points,
             cells,
-        }
+            index,
+        })
+    }
+
+    /// The exchange without signals and blocks.
+    #[tactic(auto, using(crate::proofs::Facts::empty_kept))]
+    pub fn empty(alloc: Global) -> Result<Exchange, Memory>
+        ensures { IfOk result (λ x. x ≡ parts [] [] [] [] 0) }
+    {
+        Exchange::new(
+            alloc,
+            Seq::new(alloc),
+            Seq::new(alloc),
+            Seq::new(alloc),
+            Seq::new(alloc),
+            0,
+        )
     }
 
     /// What an exchange keeps, for those who prove.
@@ -72,39 +97,43 @@ impl Exchange {
     }
 
     /// The cell of a block's first variable; past the last block, the number of cells.
+    #[tactic(auto, using(crate::proofs::Indexed::first_found, crate::proofs::Indexed::first_past))]
     pub fn first_cell(&self, block: u32) -> u32
         ensures { result ≡ first_cell self.now.blocks block }
     {
-        let mut first = 0;
-        for (place, found) in self.blocks.as_slice().iter().enumerate() {
-            if place == block as usize {
-                return first;
-            }
-            first += found.cells();
+        match self.index.first(block) {
+            Some(first) => first,
+            None => self.cells,
         }
-        first
     }
 
     /// The file of this number; `None` exactly where there is none.
-    #[tactic(auto, using(crate::proofs::Sought::sought_begin, crate::proofs::Sought::sought_found, crate::proofs::Sought::sought_end))]
+    #[tactic(auto, using(crate::proofs::Indexed::file_found))]
     pub fn file(&self, number: u32) -> Option<FilePlace<'_>>
-        ensures { MatchOption result (slice_get (placed_files self.now.blocks) number ≡ None) (λ p. slice_get (placed_files self.now.blocks) number ≡ Some (record { block = p.block; file = p.file.now; first = p.first })) }
+        ensures { IsFileAt self.now.blocks number result }
     {
-        let mut left = number as usize;
-        let mut cell = 0;
-        for (block, found) in self.blocks.as_slice().iter().enumerate() {
-            let files = found.files.as_slice();
-            if left < files.len() {
-                return Some(file_at(
-                    files,
-                    block as u32,
-                    cell + found.variables.len() as u32,
-                    left,
-                ));
-            }
-            left -= files.len();
-            cell += found.cells();
-        }
-        None
+        let Some(position) = self.index.position(number) else {
+            return None;
+        };
+        let block = &self.blocks.as_slice()[position.block as usize];
+        Some(FilePlace {
+            block: position.block,
+            file: &block.files.as_slice()[position.place],
+            first: position.first,
+        })
+    }
+
+    /// The number of the entry of a signal at a block, if there is one.
+    pub fn entry_of(&self, block: u32, signal: u32) -> Option<u32>
+        ensures { result ≡ position (is_entry block signal) self.now.entries }
+    {
+        self.index.entries.number(block, signal)
+    }
+
+    /// The place of the ENTER of a signal in a block, if there is one.
+    pub fn enter_of(&self, block: u32, signal: u32) -> Option<u32>
+        ensures { result ≡ enter_of self.now.blocks block signal }
+    {
+        self.index.enters.number(block, signal)
     }
 }

@@ -44,6 +44,8 @@ pub enum Factor {
     /// `pointer` has. The field is a place in the list of its file.
     Field { file: u32, field: u32, pointer: u8 },
     Bracket(Expr),
+    /// 1 plus the number of a block, which is counted from 0 through the exchange.
+    Reference(u32),
 }
 
 /// A condition: it holds where all relations of one of the lists hold. In an exchange no list in it is empty.

@@ -1,3 +1,7 @@
+ghost use Rattle.std.specs.Prelude.{◌≡◌};
+ghost use Rattle.exchange_model.specs.Kept.{entered};
+ghost use Rattle.exchange_model.specs.declared.stmt.StmtKind.{out-StmtKind};
+
 use crate::expr::{Cond, Expr, Rel};
 use plex_num::Seq;
 
@@ -67,11 +71,11 @@ pub enum StmtKind {
         value: Expr,
         label: u32,
     },
-    /// `block` is the receiver; in an exchange it is None exactly for an outside signal. `fresh` says that the job
+    /// `to` is the receiver; in an exchange it is None exactly for an outside signal. `fresh` says that the job
     /// begins a forlopp of its own.
     Send {
         signal: u32,
-        block: Option<u32>,
+        to: Option<Receiver>,
         values: Seq<Expr>,
         fresh: bool,
     },
@@ -87,7 +91,7 @@ pub enum StmtKind {
     /// The entry values go on to the receiver.
     Transfer {
         signal: u32,
-        block: Option<u32>,
+        to: Option<Receiver>,
     },
     /// The temporary gets the least free record, or the text goes on at the label.
     Seize {
@@ -105,10 +109,37 @@ pub enum StmtKind {
     Finish,
 }
 
+impl StmtKind {
+    /// The signal that an ENTER takes; `None` exactly for every other statement.
+    pub fn entered(&self) -> Option<u32>
+        ensures { result ≡ entered (out-StmtKind self.now) }
+    {
+        match self {
+            StmtKind::Enter { signal, .. } => Some(*signal),
+            _ => None,
+        }
+    }
+}
+
 /// One choice of a CASE: the number, and the statements that are done where the value is that number.
 #[derive(Drop)]
 #[cycle(stmt)]
 pub struct When {
     pub number: u32,
     pub body: Seq<Stmt>,
+}
+
+/// To which block a signal goes: to that of a number, from 0, or to that whose reference a holder has when the signal is
+/// sent.
+#[derive(Clone, Copy, PartialEq, Eq)]
+pub enum Receiver {
+    Block(u32),
+    Held(Holder),
+}
+
+/// What has a reference: a temporary or a variable, by its place in the list of its block.
+#[derive(Clone, Copy, PartialEq, Eq)]
+pub enum Holder {
+    Temporary(u8),
+    Variable(u32),
 }

@@ -1,6 +1,6 @@
 ghost use Rattle.std.specs.Prelude.{◌≡◌, ◌≤◌, length, IfOk};
 
-use super::{Block, Exchange, File, Variable, file_at};
+use super::{Block, Exchange, File, Variable};
 use plex_num::{Memory, Name, Seq};
 use std::alloc::Global;
 use std::test::Fail;
@@ -14,13 +14,20 @@ fn variables_of(alloc: Global, count: usize) -> Result<Seq<Variable>, Memory>
             name: Name::new(),
             width: 32,
             init: 0,
+            clear: false,
         })?;
     }
     Ok(made)
 }
 
 fn file_of(fields: Seq<Variable>, forlopp: bool, size: u32) -> File
-    ensures { result ≡ record { name = result.name; number = 0; forlopp = forlopp; size = size; fields = fields } }
+    ensures { result ≡ record {
+      name = result.name;
+      number = 0;
+      forlopp = forlopp;
+      size = size;
+      fields = fields;
+    } }
 {
     File {
         name: Name::new(),
@@ -87,26 +94,19 @@ fn counts_the_cells_of_a_block(rt: HostRuntime) -> Result<(), Fail> {
     let block = block_of(alloc, variables_of(alloc, 5)?, files);
     assert_eq!(rt; block.cells(), 19);
 
-    let found = file_at(block.files.as_slice(), 7, 105, 1);
-    assert_eq!(rt; (found.block, found.first, found.file.size), (7, 111, 4));
     Ok(())
 }
 
 #[test]
-#[tactic(auto, using(crate::proofs::Facts::empty_kept))]
 fn has_nothing_where_it_is_empty(rt: HostRuntime) -> Result<(), Fail> {
     let alloc = rt.alloc();
-    let exchange = Exchange::new(
-        Seq::new(alloc),
-        Seq::new(alloc),
-        Seq::new(alloc),
-        Seq::new(alloc),
-        0,
-    );
+    let exchange = Exchange::empty(alloc)?;
     exchange.kept();
     assert_eq!(rt; exchange.first_cell(0), 0);
     assert_eq!(rt; exchange.first_cell(4_294_967_295), 0);
     assert!(rt; exchange.file(0).is_none());
+    assert!(rt; exchange.entry_of(0, 0).is_none());
+    assert!(rt; exchange.enter_of(0, 0).is_none());
     assert_eq!(rt; exchange.entries().len(), 0);
     Ok(())
 }

@@ -7,10 +7,10 @@ use Rattle.exchange_model.specs.declared.expr.Expr.{Expr, out-Expr}
 use Rattle.exchange_model.specs.declared.expr.Term.{Term, out-Term}
 use Rattle.exchange_model.specs.declared.expr.Joined.{Joined}
 use Rattle.exchange_model.specs.declared.expr.Factor.{Factor}
-use Rattle.exchange_model.specs.declared.expr.Factor.TheVariants.{Variable, Field, Bracket}
+use Rattle.exchange_model.specs.declared.expr.Factor.TheVariants.{Variable, Field, Bracket, Reference}
 use Rattle.exchange_model.specs.declared.expr.Cond.{Cond}
 use Rattle.exchange_model.specs.declared.expr.Relation.{Relation}
-use Rattle.exchange_model.specs.declared.limits.TheConstants.{MOST_BRACKETS}
+use Rattle.plex_limits.specs.declared.limits.TheConstants.{MOST_BRACKETS}
 use Rattle.exchange_model.specs.declared.block.Block.{Block}
 use Rattle.exchange_model.specs.declared.entry.Cell.TheVariants as cell
 use Rattle.exchange_model.specs.Cells.{file_cells, placed_files, record_cells, IsCell, cell_number}
@@ -18,16 +18,18 @@ use Rattle.exchange_model.proofs.Numbers.{variable_is_cell}
 use Rattle.exchange_model.proofs.Places.{file_below}
 use Rattle.exchange_model.specs.Inside.{most, bracket_depth, relation_exprs, joined, cond_exprs}
 use Rattle.exchange_model.specs.Fits.{Scope, ExprFits}
-use Rattle.exchange_model.specs.Layers.{TermFits, FactorOwnFits, expr_fits-out}
-use Rattle.exchange_model.specs.Counted.{term_depth, factor_own_depth, bracket_depth-out}
-use Rattle.record_files.specs.declared.row.FileRow.{FileRow}
-use Rattle.record_files.specs.Laid.{HasCell, IsLayout, file_row}
-use Rattle.record_files.specs.Rows.{Rows}
+use Rattle.exchange_model.specs.PartFits.{TermFits, FactorOwnFits}
+use Rattle.exchange_model.proofs.Layers.{expr_fits-out}
+use Rattle.exchange_model.specs.PartCounts.{term_depth, factor_own_depth}
+use Rattle.exchange_model.proofs.Counted.{bracket_depth-out}
+use Rattle.store_layout.specs.declared.row.FileRow.{FileRow}
+use Rattle.store_layout.specs.Laid.{HasCell, IsLayout, file_row}
+use Rattle.store_layout.specs.Rows.{Rows}
 use Rattle.expr_code.specs.Code.{Site}
 use Rattle.expr_code.proofs.Rows.{first_of, file_row_at}
 use Rattle.expr_code.specs.Sites.{IsSiteOf, IsExprOf, IsTermOf, IsFactorOf, IsCondOf, IsSide, IsRelationOf, AreRelationsOf}
-use Rattle.expr_code.proofs.Each.{all_left, all_right}
-use Rattle.expr_code.proofs.Fitted.{variable_fits, field_fits, bracket_fits, factors_fit, term_is_deep, bracket_is_deep}
+use Rattle.plex_num.proofs.Lists.{all_left, all_right}
+use Rattle.expr_code.proofs.Fitted.{variable_fits, field_fits, bracket_fits, reference_fits, factors_fit, term_is_deep, bracket_is_deep}
 
 -- what holds of each holds at a place
 each_at : {A : Type 0} (P : A → Type 0) (xs : List A) (i : ℕ) (x : A) → AllByRecursion P xs → i < length xs → x ≡ get_or xs i x → P x
@@ -83,6 +85,12 @@ pub bracket_at : (f : Factor) (e : Expr) (l : Rows) (b : ℕ) (r : ℕ) → IsFa
 bracket_at f e l b r h room is =
     let deep : factor_own_depth f ≡ bracket_depth e + 1 = ap factor_own_depth is ∙ bracket_is_deep e in
     (record { scope = h.scope; is_scope = h.is_scope; fits = bracket_fits h.scope e (subst (FactorOwnFits h.scope) is h.fits) }, omega arith)
+
+-- the reference of a block is a number of 32 bits
+pub reference_at : (f : Factor) (block : ℕ) (l : Rows) (b : ℕ) → IsFactorOf l b f → f ≡ Reference block → block + 1 < 2 ^ 32
+reference_at f block l b h is =
+    let fits = reference_fits h.scope block (subst (FactorOwnFits h.scope) is h.fits) in
+    omega (arith, fits, h.is_scope.layout.short)
 
 sides_at : (scope : Scope) (rs : List Relation) (i : ℕ) (r : Relation) → AllByRecursion (IsSide scope) (relation_exprs rs) → i < length rs → r ≡ get_or rs i r → IsSide scope r.left × IsSide scope r.right
 sides_at scope [] i r all lt is = absurd (omega arith)

@@ -13,11 +13,13 @@ use Rattle.exchange_model.specs.declared.expr.Rel.{Rel}
 use Rattle.exchange_model.specs.declared.expr.Rel.TheVariants.{Equal, Unequal, Below, AtMost, Above, AtLeast}
 use Rattle.exchange_model.specs.Inside.{bracket_depth, relation_exprs, joined, cond_exprs}
 use Rattle.exchange_model.specs.Fits.{Scope, ExprFits, ExprsFit}
-use Rattle.source_meaning.specs.Value.{Got, Gives, Sight, with_value, stands, one_if, is_set, expr_value, relation_value, all_value, any_value, cond_value}
-use Rattle.register_machine.specs.Machine.{Machine, Allowed, machine_step, reg, sets, made_one, next}
+use Rattle.source_meaning.specs.Value.{Got, Gives, Sight, with_value, stands, expr_value, relation_value, all_value, any_value, cond_value}
+use Rattle.job_types.specs.Truth.{one_if, is_set}
+use Rattle.register_machine.specs.Machine.{Machine, HasRoom, machine_step, reg, sets, made_one, next}
 use Rattle.expr_code.specs.Code.{rel_op, and_local, or_local, expr_code, relation_code, all_code, any_code, cond_code}
+use Rattle.expr_code.specs.Sites.{IsLimited}
 use Rattle.expr_code.specs.Runs.{HasAt, site_of, Agrees, Calc, Computes}
-use Rattle.expr_code.proofs.Each.{all_left, all_right, all_both}
+use Rattle.plex_num.proofs.Lists.{all_left, all_right, all_both}
 use Rattle.expr_code.proofs.Places.{has_front, has_back}
 use Rattle.expr_code.proofs.Runs.{agrees_on, after_none, extend, computes_fewer, bind_runs, then_runs, StandsAt, one_step, op_sets_plain, seen_none}
 use Rattle.expr_code.proofs.ExprRuns.{stands as runs_at, expr_runs}
@@ -46,13 +48,13 @@ rel_act AtMost m = refl
 rel_act Above m = refl
 rel_act AtLeast m = refl
 
-rel_allowed : (rel : Rel) (m : Machine) → Allowed (rel_op rel 0 1) m.run
-rel_allowed Equal m = tt
-rel_allowed Unequal m = tt
-rel_allowed Below m = tt
-rel_allowed AtMost m = tt
-rel_allowed Above m = tt
-rel_allowed AtLeast m = tt
+rel_room : (rel : Rel) (m : Machine) → HasRoom (rel_op rel 0 1) m.run
+rel_room Equal m = tt
+rel_room Unequal m = tt
+rel_room Below m = tt
+rel_room AtMost m = tt
+rel_room Above m = tt
+rel_room AtLeast m = tt
 
 module _ (code : List Op) where
   -- a register goes into a local, and the rest goes on
@@ -76,7 +78,7 @@ module _ (code : List Op) where
       let same : r2 ≤ r2 = omega arith in
       subst (Computes code m pc2 r2 l2) (after_none got) (extend code same le q (go n q is (get_or-set_same m.run.locals i (reg m.run r) 0 within ∙ is)))
 
-module _ (code : List Op) (s : Sight) (scope : Scope) (few : length scope.block.temporaries ≤ 24) where
+module _ (code : List Op) (s : Sight) (scope : Scope) (few : IsLimited scope) where
   -- an expression that code may keep in register 0 or 1
   abbrev Fits : Expr → Type 0
   Fits e = ExprFits scope e × (bracket_depth e ≤ 6)
@@ -101,7 +103,7 @@ module _ (code : List Op) (s : Sight) (scope : Scope) (few : length scope.block.
       ∙ ap (λ k. record { run = sets 0 (one_if (stands r.rel x k)) (made_one n2.run); world = n2.world }) is2 in
       let e : pc + length cl + length cr + 1 ≡ end = omega (arith, length-append cl (cr ++ op ∷ []), length-append cr (op ∷ [])) in
       subst (λ k. Computes code n2 k 0 50 (Gives [] (one_if (stands r.rel x y)))) e
-      (op_sets_plain code n2 op (pc + length cl + length cr) 0 _ (runs_at b2 q2.at at2.0 (rel_allowed r.rel n2)) (one_if_small (stands r.rel x y)) (omega arith) act)))
+      (op_sets_plain code n2 op (pc + length cl + length cr) 0 _ (runs_at b2 q2.at at2.0 (rel_room r.rel n2)) (one_if_small (stands r.rel x y)) (omega arith) act)))
 
   -- the relations of one list, from the result so far on
   all_runs : (rs : List Relation) (before : ℕ) (m : Machine) (pc end : ℕ) → AllByRecursion Fits (relation_exprs rs) → Agrees m s → m.run.pc ≡ pc → slice_index m.run.locals and_local ≡ before → before < 2 ^ 32 → HasAt code pc (all_code rs (site_of s)) → end ≡ pc + length (all_code rs (site_of s)) → Computes code m end 0 and_local (all_value rs before s)
@@ -170,7 +172,7 @@ module _ (code : List Op) (s : Sight) (scope : Scope) (few : length scope.block.
       any_runs rss new n6 (pc + 1 + 1 + length c + 1 + 1 + 1) end later (agrees_on (omega arith) q6 b5) q6.at is9 (one_if_small (is_set before || is_set v)) h.1.1.1 (omega (arith, length-append c tail))))))))
 
 -- from a machine that has what the condition sees, its code computes its value
-pub cond_runs : (code : List Op) (s : Sight) (scope : Scope) (c : Cond) (m : Machine) (pc : ℕ) → length scope.block.temporaries ≤ 24 → ExprsFit scope (cond_exprs c) → Agrees m s → m.run.pc ≡ pc → HasAt code pc (cond_code c (site_of s)) → Computes code m (pc + length (cond_code c (site_of s))) 0 48 (cond_value c s)
+pub cond_runs : (code : List Op) (s : Sight) (scope : Scope) (c : Cond) (m : Machine) (pc : ℕ) → IsLimited scope → ExprsFit scope (cond_exprs c) → Agrees m s → m.run.pc ≡ pc → HasAt code pc (cond_code c (site_of s)) → Computes code m (pc + length (cond_code c (site_of s))) 0 48 (cond_value c s)
 cond_runs code s scope c m pc few fits a at has =
     let end = pc + length (cond_code c (site_of s)) in
     let each = all_both (ExprFits scope) (λ e. bracket_depth e ≤ 6) (cond_exprs c) fits.each fits.shallow in

@@ -5,7 +5,7 @@ use Rattle.machine_code.specs.declared.op.Op.{Op}
 use Rattle.machine_code.specs.declared.op.Op.TheVariants.{Ldi, Ldt, Stt, And, Or}
 use Rattle.exchange_model.specs.declared.expr.Cond.{Cond}
 use Rattle.exchange_model.specs.declared.expr.Relation.{Relation}
-use Rattle.record_files.specs.Rows.{Rows}
+use Rattle.store_layout.specs.Rows.{Rows}
 use Rattle.expr_code.specs.Code.{Site, rel_op, and_local, or_local, expr_code, relation_code, all_code, any_code, cond_code}
 use Rattle.expr_code.specs.Sites.{Begins, Grows}
 use Rattle.expr_code.proofs.Emits.{Emitted, Emitting, emitting_begin, emitting_on, emitting_with, emitting_end, grows_plain, begins_is, begins_on, opens}
@@ -96,3 +96,8 @@ lists_begins l b old now new rss c h more = begins_on old now new h.begins more
 -- the last part of a list of relations was not appended whole
 pub lists_stop : (l : Rows) (b : ℕ) (old now n1 n2 new : List Op) (rss : List (List Relation)) (rs : List Relation) (c : Cond) → ListsLeft l b old now rss c → n1 ≡ now ++ (Ldi 0 1 ∷ Stt and_local 0 ∷ []) → Grows l b n1 n2 (λ site. all_code rs site) → Begins n2 new → Begins old new
 lists_stop l b old now n1 n2 new rss rs c h e1 g more = lists_begins l b old now new rss c h (begins_on now n1 new (begins_is now n1 and_first e1) (begins_on n1 n2 new g.begins more))
+
+-- a loop over relations, and one over lists of them
+pub ruleset each_relation = (relations_begin, relations_more, relations_end, relations_begins)
+
+pub ruleset each_list = (lists_begin, lists_more, lists_end, lists_begins)

@@ -6,7 +6,7 @@ use Rattle.machine_code.specs.declared.op.Op.TheVariants.{Ldi}
 use Rattle.exchange_model.specs.declared.expr.Expr.{Expr, out-Expr}
 use Rattle.exchange_model.specs.declared.expr.Term.{Term, out-Term}
 use Rattle.exchange_model.specs.declared.expr.Joined.{Joined}
-use Rattle.record_files.specs.Rows.{Rows}
+use Rattle.store_layout.specs.Rows.{Rows}
 use Rattle.expr_code.specs.Code.{Site, term_op, factor_op, sum_code, product_code, expr_code, term_code, factor_code, joined_code, summand_code}
 use Rattle.expr_code.specs.Sites.{Begins, Grows}
 use Rattle.expr_code.proofs.Emits.{Emitting, emitting_begin, emitting_on, emitting_with, emitting_end, begins_on, opens}
@@ -75,3 +75,8 @@ factors_end js i l b r old now t past h = emitting_end l b old now (λ site. pro
 pub factors_begins : (l : Rows) (b r : ℕ) (old now new : List Op) (js : List Joined) (t : Term) → FactorsLeft l b r old now js t → Begins now new → Begins old new
 unfolding FactorsLeft
 factors_begins l b r old now new js t h more = begins_on old now new h.begins more
+
+-- a loop over terms, and one over factors
+pub ruleset each_term = (terms_begin, terms_more, terms_end, terms_begins)
+
+pub ruleset each_factor = (factors_begin, factors_more, factors_end, factors_begins)

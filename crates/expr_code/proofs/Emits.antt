@@ -1,7 +1,7 @@
 -- Lists of instructions that grow at the end.
 use Rattle.std.proofs.Common.{◌≡◌, ℕ, suc, ◌+◌, ◌<◌, List, [], ◌∷◌, ◌++◌, length, drop, get_or, refl, sym, ap, ◌∙◌, append_assoc, append-nil, add-one, drop-cons, subst}
 use Rattle.machine_code.specs.declared.op.Op.{Op}
-use Rattle.record_files.specs.Rows.{Rows}
+use Rattle.store_layout.specs.Rows.{Rows}
 use Rattle.expr_code.specs.Code.{Site}
 use Rattle.expr_code.specs.Sites.{Begins, IsSiteOf, Grows}
 
@@ -34,21 +34,6 @@ emitted_on old now new part left all e h = record {
 pub emitted_end : (old now all : List Op) → Emitted old now [] all → now ≡ old ++ all
 emitted_end old now all h = h.is ∙ ap (λ l. old ++ l) (sym (append-nil h.made) ∙ h.whole)
 
--- whatever comes behind it, the list begins as before
-pub emitted_begins : (old now new left all : List Op) → Emitted old now left all → Begins now new → Begins old new
-emitted_begins old now new left all h b = begins_on old now new (begins_is old now h.made h.is) b
-
--- two, and three, parts one after the other
-pub two_parts : (old now mid new a b left all : List Op) → mid ≡ now ++ a → new ≡ mid ++ b → Emitted old now (a ++ (b ++ left)) all → Emitted old new left all
-two_parts old now mid new a b left all e1 e2 h = emitted_on old mid new b left all e2 (emitted_on old now mid a (b ++ left) all e1 h)
-
-pub three_parts : (old now n1 n2 new a b c left all : List Op) → n1 ≡ now ++ a → n2 ≡ n1 ++ b → new ≡ n2 ++ c → Emitted old now (a ++ (b ++ (c ++ left))) all → Emitted old new left all
-three_parts old now n1 n2 new a b c left all e1 e2 e3 h = emitted_on old n2 new c left all e3 (two_parts old now n1 n2 a b (c ++ left) all e1 e2 h)
-
--- the last part
-pub emitted_last : (old now new left all : List Op) → Emitted old now left all → new ≡ now ++ left → new ≡ old ++ all
-emitted_last old now new left all h e = e ∙ ap (λ l. l ++ left) h.is ∙ append_assoc old h.made left ∙ ap (λ l. old ++ l) h.whole
-
 -- what is left of a list begins with the item at this place
 pub opens : {X : Type 0} (xs : List X) (i : ℕ) (x : X) → i < length xs → x ≡ get_or xs i x → drop i xs ≡ x ∷ drop (i + 1) xs
 opens xs i x lt is = drop-cons xs i x lt ∙ ap (λ y. y ∷ drop (suc i) xs) (sym is) ∙ ap (λ n. x ∷ drop n xs) (sym (add-one i))
@@ -57,9 +42,6 @@ opens xs i x lt is = drop-cons xs i x lt ∙ ap (λ y. y ∷ drop (suc i) xs) (s
 pub record Emitting (l : Rows) (b : ℕ) (old now : List Op) (left all : Site → List Op) : Type 0 where
   pub begins : Begins old now
   pub is : (site : Site) → IsSiteOf l b site → Emitted old now (left site) (all site)
-
-pub emitting_begins : (l : Rows) (b : ℕ) (old now new : List Op) (left all : Site → List Op) → Emitting l b old now left all → Begins now new → Begins old new
-emitting_begins l b old now new left all h more = begins_on old now new h.begins more
 
 pub emitting_begin : (l : Rows) (b : ℕ) (old : List Op) (left all : Site → List Op) → ((site : Site) → left site ≡ all site) → Emitting l b old old left all
 emitting_begin l b old left all e = record { begins = begins_same old old refl; is = λ site h. emitted_begin old (left site) (all site) (e site) }
@@ -86,3 +68,6 @@ emitting_end l b old now left all none h = record {
 
 pub grows_begins : (l : Rows) (b : ℕ) (old new : List Op) (code : Site → List Op) → Grows l b old new code → Begins old new
 grows_begins l b old new code h = h.begins
+
+-- a list that was begun stays begun
+pub ruleset growing = (begins_is, begins_on, grows_begins)

@@ -1,5 +1,5 @@
 -- The code of an expression leaves its value, or comes to its fault.
-use Rattle.std.proofs.Common.{◌≡◌, ℕ, zero, suc, ◌+◌, ◌*◌, ◌^◌, ◌<◌, ◌≤◌, Bool, true, false, List, [], ◌∷◌, ◌++◌, length, map, Option, Some, None, refl, sym, ap, ◌∙◌, subst, arith, length-append, slice_get, if◌then◌else◌}
+use Rattle.std.proofs.Common.{◌≡◌, ℕ, zero, suc, ◌+◌, ◌*◌, ◌^◌, ◌<◌, Bool, true, false, List, [], ◌∷◌, ◌++◌, length, map, Option, Some, None, refl, sym, ap, ◌∙◌, subst, arith, length-append, slice_get, if◌then◌else◌}
 use Rattle.std.proofs.Math.Nat.{mul_comm}
 use Rattle.std.specs.Prelude.{slice_index, nat_lt, not, ◌||◌, ◌/◌, ◌%◌}
 use Rattle.std.specs.List.{AllByRecursion}
@@ -12,24 +12,28 @@ use Rattle.exchange_model.specs.declared.expr.Joined.{Joined}
 use Rattle.exchange_model.specs.declared.expr.FactorOp.{FactorOp}
 use Rattle.exchange_model.specs.declared.expr.FactorOp.TheVariants.{Times, Divide, Modulo}
 use Rattle.exchange_model.specs.declared.expr.Factor.{Factor}
-use Rattle.exchange_model.specs.declared.expr.Factor.TheVariants.{Number, Variable, Temporary, Field}
+use Rattle.exchange_model.specs.declared.expr.Factor.TheVariants.{Number, Variable, Temporary, Field, Reference}
 use Rattle.exchange_model.specs.Cells.{Placed, field_cell, record_cells}
 use Rattle.exchange_model.specs.Inside.{most, bracket_depth}
 use Rattle.exchange_model.specs.Fits.{Scope, ExprFits}
-use Rattle.exchange_model.specs.Layers.{TermFits, FactorOwnFits, expr_fits-out}
-use Rattle.exchange_model.specs.Counted.{term_depth, factor_own_depth, bracket_depth-out}
-use Rattle.source_meaning.specs.Own.{seen}
-use Rattle.source_meaning.specs.Value.{Got, Gives, Fails, Eval, Sight, with_value, load_of, cell_value, field_value, load_or_fault, may_use, holds, joined, summed, sum_value, product_value, summand_of, multiplier_of, expr_value, term_value, factor_value}
-use Rattle.source_meaning.proofs.Layers.{expr_value-out, term_value-out, factor_value-Number, factor_value-Variable, factor_value-Temporary, factor_value-Field, factor_value-Bracket}
-use Rattle.register_machine.specs.Machine.{Machine, Allowed, machine_step, reg, sets, checks, fails, divides, made_one}
+use Rattle.exchange_model.specs.PartFits.{TermFits, FactorOwnFits}
+use Rattle.exchange_model.proofs.Layers.{expr_fits-out}
+use Rattle.exchange_model.specs.PartCounts.{term_depth, factor_own_depth}
+use Rattle.exchange_model.proofs.Counted.{bracket_depth-out}
+use Rattle.job_types.specs.Own.{seen}
+use Rattle.source_meaning.specs.Value.{Got, Gives, Fails, Eval, Sight, with_value, load_of, cell_value, field_value, load_or_fault, may_use, joined, summed, sum_value, product_value, summand_of, multiplier_of, expr_value, term_value, factor_value}
+use Rattle.job_types.specs.Chain.{holds}
+use Rattle.source_meaning.proofs.Layers.{expr_value-out, term_value-out, factor_value-Number, factor_value-Variable, factor_value-Temporary, factor_value-Field, factor_value-Bracket, factor_value-Reference}
+use Rattle.register_machine.specs.Machine.{Machine, HasRoom, machine_step, reg, sets, checks, fails, divides, made_one}
 use Rattle.expr_code.specs.Code.{Code, term_op, factor_op, own_code, field_code, sum_code, product_code, expr_code, term_code, factor_code, joined_code, summand_code}
-use Rattle.expr_code.specs.Runs.{HasAt, site_of, Agrees, Computes}
+use Rattle.expr_code.specs.Runs.{HasOp, HasAt, site_of, Agrees, Computes}
+use Rattle.expr_code.specs.Sites.{IsLimited}
 use Rattle.expr_code.proofs.Each.{all_fit}
 use Rattle.expr_code.proofs.Places.{has_front, has_back}
 use Rattle.expr_code.proofs.Runs.{agrees_on, bind_runs, then_runs, check_runs, nothing, StandsAt, op_sets, op_sets_plain, op_fails, op_checks}
-use Rattle.expr_code.proofs.Layers.{Steps, every_expr}
-use Rattle.expr_code.proofs.Opened.{expr_code-out, term_code-out, factor_code-Number, factor_code-Variable, factor_code-Temporary, factor_code-Field, factor_code-Bracket}
-use Rattle.expr_code.proofs.Fitted.{number_fits, temporary_fits, field_fits, bracket_fits, factors_fit, term_is_deep, bracket_is_deep}
+use Rattle.source_meaning.proofs.Parts.{Parts, every_expr}
+use Rattle.expr_code.proofs.Opened.{expr_code-out, term_code-out, factor_code-Number, factor_code-Variable, factor_code-Temporary, factor_code-Field, factor_code-Bracket, factor_code-Reference}
+use Rattle.expr_code.proofs.Fitted.{number_fits, temporary_fits, field_fits, bracket_fits, reference_fits, factors_fit, term_is_deep, bracket_is_deep}
 
 -- ## What the instructions do
 
@@ -41,9 +45,9 @@ term_act : (minus : Bool) (r s : ℕ) (m : Machine) → machine_step (term_op mi
 term_act false r s m = refl
 term_act true r s m = refl
 
-term_allowed : (minus : Bool) (r q : ℕ) (m : Machine) → Allowed (term_op minus r q) m.run
-term_allowed false r q m = tt
-term_allowed true r q m = tt
+term_room : (minus : Bool) (r q : ℕ) (m : Machine) → HasRoom (term_op minus r q) m.run
+term_room false r q m = tt
+term_room true r q m = tt
 
 -- the value goes into the register, or the fault ends the job
 abbrev sets_or_fails : ℕ → Got → Machine → Machine
@@ -63,10 +67,10 @@ factor_act Times r s m = refl
 factor_act Divide r s m = divide_act (reg m.run r) (reg m.run s) r m
 factor_act Modulo r s m = modulo_act (reg m.run r) (reg m.run s) r m
 
-factor_allowed : (by : FactorOp) (r q : ℕ) (m : Machine) → Allowed (factor_op by r q) m.run
-factor_allowed Times r q m = tt
-factor_allowed Divide r q m = tt
-factor_allowed Modulo r q m = tt
+factor_room : (by : FactorOp) (r q : ℕ) (m : Machine) → HasRoom (factor_op by r q) m.run
+factor_room Times r q m = tt
+factor_room Divide r q m = tt
+factor_room Modulo r q m = tt
 
 -- a product joined with a factor
 joined_runs : (code : List Op) (by : FactorOp) (x y : ℕ) (m : Machine) (op : Op) (pc r : ℕ) → StandsAt code m pc op → x < 2 ^ 32 → r < 16 → machine_step op m ≡ sets_or_fails r (joined by x y) m → Computes code m (pc + 1) r 50 (joined by x y)
@@ -77,12 +81,12 @@ joined_runs code Modulo x zero m op pc r at small lt e = op_fails code m op pc (
 joined_runs code Modulo x (suc y) m op pc r at small lt e = op_sets_plain code m op pc r _ at (omega arith) lt e
 
 -- an agreeing machine that stands at an instruction
-pub stands : {code : List Op} {s : Sight} {m : Machine} {pc : ℕ} {op : Op} → Agrees m s → m.run.pc ≡ pc → slice_get code pc ≡ Some op → Allowed op m.run → StandsAt code m pc op
-stands a at has allowed = record { at = at; over = a.runs; registers = a.registers; has = has; allowed = allowed }
+pub stands : {code : List Op} {s : Sight} {m : Machine} {pc : ℕ} {op : Op} → Agrees m s → m.run.pc ≡ pc → HasOp code pc op → HasRoom op m.run → StandsAt code m pc op
+stands a at has room = record { at = at; over = a.runs; registers = a.registers; has = has; room = room }
 
 module _ (code : List Op) (s : Sight) where
   -- wherever it stands, code computes a value by its register and so many above it
-  abbrev RunsWithin : ℕ → Code → Got → Type 0
+  abbrev pub RunsWithin : ℕ → Code → Got → Type 0
   RunsWithin k c got = (m : Machine) (pc r : ℕ) → Agrees m s → m.run.pc ≡ pc → r + k < 16 → HasAt code pc (c (site_of s) r) → Computes code m (pc + length (c (site_of s) r)) r 50 got
 
   abbrev TermRuns : Term → Type 0
@@ -111,7 +115,7 @@ module _ (code : List Op) (s : Sight) where
       ∙ ap (λ y. record { run = sets r (summed minus y (reg n.run (r + 1))) (made_one n.run); world = n.world }) (q.low r (omega arith) ∙ is)
       ∙ ap (λ y. record { run = sets r (summed minus sum y) (made_one n.run); world = n.world }) is' in
       let b = agrees_on (omega arith) q a in
-      then_runs code (omega arith) (omega arith) (op_sets_plain code n op (pc + length c) r _ (stands b q.at h.0 (term_allowed minus r (r + 1) n)) (summed_small minus sum v) (omega arith) same) (λ n2 q2 is2.
+      then_runs code (omega arith) (omega arith) (op_sets_plain code n op (pc + length c) r _ (stands b q.at h.0 (term_room minus r (r + 1) n)) (summed_small minus sum v) (omega arith) same) (λ n2 q2 is2.
       sum_runs ts _ n2 (pc + length c + 1) end r all.1 (agrees_on (omega arith) q2 b) q2.at is2 (summed_small minus sum v) (omega arith) h.1 (omega (arith, length-append c (op ∷ sum_code (map summand_code ts) (site_of s) r)))))
 
   -- the factors, from a product on
@@ -127,7 +131,7 @@ module _ (code : List Op) (s : Sight) where
       ∙ ap (λ y. sets_or_fails r (joined j.by y (reg n.run (r + 1))) n) (q.low r (omega arith) ∙ is)
       ∙ ap (λ y. sets_or_fails r (joined j.by product y) n) is' in
       let b = agrees_on (omega arith) q a in
-      bind_runs code (λ p. product_value (map multiplier_of js) p s) (omega arith) (omega arith) (joined_runs code j.by product v n op (pc + length c) r (stands b q.at h.0 (factor_allowed j.by r (r + 1) n)) small (omega arith) same) (λ n2 x2 p q2 is2 small2.
+      bind_runs code (λ p. product_value (map multiplier_of js) p s) (omega arith) (omega arith) (joined_runs code j.by product v n op (pc + length c) r (stands b q.at h.0 (factor_room j.by r (r + 1) n)) small (omega arith) same) (λ n2 x2 p q2 is2 small2.
       product_runs js p n2 (pc + length c + 1) end r all.1 (agrees_on (omega arith) q2 b) q2.at is2 small2 (omega arith) h.1 (omega (arith, length-append c (op ∷ product_code (map joined_code js) (site_of s) r)))))
 
   term_layer_runs : (t : Term) → AllByRecursion (λ (j : Joined). FactorRuns j.factor) (out-Term t).factors → TermRuns t
@@ -149,13 +153,13 @@ module _ (code : List Op) (s : Sight) where
   number_runs : (n : ℕ) → n < 2 ^ 32 → RunsWithin 0 (λ site r. Ldi r n ∷ []) (Gives [] n)
   number_runs n small m pc r a at lt has = op_sets_plain code m (Ldi r n) pc r n (stands a at has.0 tt) small (omega arith) refl
 
-  variable_runs : (v : ℕ) → RunsWithin 0 (λ site r. Ldw r (site.first + v) ∷ []) (cell_value (s.first + v) s)
+  pub variable_runs : (v : ℕ) → RunsWithin 0 (λ site r. Ldw r (site.first + v) ∷ []) (cell_value (s.first + v) s)
   variable_runs v m pc r a at lt has =
       let cell = s.first + v in
       op_sets code m (Ldw r cell) pc r (slice_index s.store cell) (load_of s.store cell ∷ []) (seen (load_of s.store cell ∷ []) m.world) (stands a at has.0 tt) (a.small_store cell) (omega arith)
       (ap (λ l. record { run = sets r (slice_index l cell) (made_one m.run); world = seen (load_of l cell ∷ []) m.world }) a.store) refl
 
-  temporary_runs : (t : ℕ) → t < 24 → RunsWithin 0 (λ site r. Ldt r t ∷ []) (Gives [] (slice_index s.temps t))
+  pub temporary_runs : (t : ℕ) → t < 24 → RunsWithin 0 (λ site r. Ldt r t ∷ []) (Gives [] (slice_index s.temps t))
   temporary_runs t small m pc r a at lt has =
       op_sets_plain code m (Ldt r t) pc r (slice_index s.temps t) (stands a at has.0 tt) (a.small_temps t) (omega arith)
       (ap (λ v. record { run = sets r v (made_one m.run); world = m.world }) (a.temps t small))
@@ -212,9 +216,9 @@ module _ (code : List Op) (s : Sight) where
 
   -- ## Expressions
 
-  -- those of a block whose temporaries are so many
-  module _ (scope : Scope) (few : length scope.block.temporaries ≤ 24) where
-    expr_steps : Steps (λ e. ExprFits scope e → RunsWithin (2 * bracket_depth e + 2) (expr_code e) (expr_value e s)) (λ t. TermFits scope t → TermRuns t) (λ f. FactorOwnFits scope f → FactorRuns f)
+  -- those of a block within its limits
+  module _ (scope : Scope) (few : IsLimited scope) where
+    expr_steps : Parts (λ e. ExprFits scope e → RunsWithin (2 * bracket_depth e + 2) (expr_code e) (expr_value e s)) (λ t. TermFits scope t → TermRuns t) (λ f. FactorOwnFits scope f → FactorRuns f)
     expr_steps = record {
       expr = λ e all fits. expr_layer_runs e (all_fit (TermFits scope) TermRuns (out-Expr e).terms all (expr_fits-out scope e fits).1);
       term = λ t all fits. term_layer_runs t (all_fit (λ (j : Joined). FactorOwnFits scope j.factor) (λ (j : Joined). FactorRuns j.factor) (out-Term t).factors all (factors_fit scope t fits));
@@ -222,15 +226,18 @@ module _ (code : List Op) (s : Sight) where
       variable = λ v fits. leaf (Variable v) (factor_code-Variable v) (factor_value-Variable v s) (variable_runs v);
       temporary = λ t fits.
           let h = temporary_fits scope t fits in
-          leaf (Temporary t) (factor_code-Temporary t) (factor_value-Temporary t s) (temporary_runs t (omega arith));
+          leaf (Temporary t) (factor_code-Temporary t) (factor_value-Temporary t s) (temporary_runs t (omega (arith, h, few.temporaries)));
       field = λ file field pointer fits.
           let h = field_fits scope file field pointer fits in
-          leaf (Field file field pointer) (factor_code-Field file field pointer) (factor_value-Field file field pointer s) (field_runs (slice_get s.files file) file field pointer (omega (arith, h.1)));
+          leaf (Field file field pointer) (factor_code-Field file field pointer) (factor_value-Field file field pointer s) (field_runs (slice_get s.files file) file field pointer (omega (arith, h.1, few.temporaries)));
       bracket = λ e runs fits.
           let h = bracket_fits scope e fits in
           runs_as (ap (λ d. 2 * d) (bracket_is_deep e)) (factor_code-Bracket e) (factor_value-Bracket e s) (λ m pc r a at lt has. runs h m pc r a at (omega arith) has);
+      reference = λ b fits.
+          let h = reference_fits scope b fits in
+          leaf (Reference b) (factor_code-Reference b) (factor_value-Reference b s) (number_runs (b + 1) (omega (arith, h, few.blocks)));
     }
 
 -- from a machine that has what the expression sees, its code computes its value
-pub expr_runs : (code : List Op) (s : Sight) (scope : Scope) (e : Expr) (m : Machine) (pc r : ℕ) → length scope.block.temporaries ≤ 24 → ExprFits scope e → r + (2 * bracket_depth e + 2) < 16 → Agrees m s → m.run.pc ≡ pc → HasAt code pc (expr_code e (site_of s) r) → Computes code m (pc + length (expr_code e (site_of s) r)) r 50 (expr_value e s)
+pub expr_runs : (code : List Op) (s : Sight) (scope : Scope) (e : Expr) (m : Machine) (pc r : ℕ) → IsLimited scope → ExprFits scope e → r + (2 * bracket_depth e + 2) < 16 → Agrees m s → m.run.pc ≡ pc → HasAt code pc (expr_code e (site_of s) r) → Computes code m (pc + length (expr_code e (site_of s) r)) r 50 (expr_value e s)
 expr_runs code s scope e m pc r few fits room a at has = every_expr (expr_steps code s scope few) e fits m pc r a at room has

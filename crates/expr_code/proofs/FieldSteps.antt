@@ -7,9 +7,9 @@ use Rattle.exchange_model.specs.declared.entry.Cell.TheVariants as cell
 use Rattle.exchange_model.specs.declared.expr.Factor.{Factor}
 use Rattle.exchange_model.specs.declared.expr.Factor.TheVariants.{Variable}
 use Rattle.exchange_model.specs.Cells.{Placed, marks, record_cells, IsCell, cell_number}
-use Rattle.record_files.specs.declared.row.FileRow.{FileRow}
-use Rattle.record_files.specs.Laid.{IsLayout}
-use Rattle.record_files.specs.Rows.{Rows}
+use Rattle.store_layout.specs.declared.row.FileRow.{FileRow}
+use Rattle.store_layout.specs.Laid.{IsLayout}
+use Rattle.store_layout.specs.Rows.{Rows}
 use Rattle.expr_code.specs.Code.{factor_code, own_code, pointer_code, field_code}
 use Rattle.expr_code.specs.Sites.{Begins, IsFactorOf, Grows, GrowsByRow}
 use Rattle.expr_code.proofs.At.{variable_word}
@@ -78,3 +78,6 @@ variable_grows f v r l b word old new h is tells e = record {
   begins = begins_is old new (Ldw r word ∷ []) e;
   is = λ site is_site. e ∙ ap (λ n. old ++ Ldw r n ∷ []) (variable_word f v l b word h is tells site is_site) ∙ ap (λ c. old ++ c site r) (sym (ap factor_code is ∙ factor_code-Variable v));
 }
+
+-- a field is appended
+pub ruleset fields = (field_grows, no_field_grows, row_begins)

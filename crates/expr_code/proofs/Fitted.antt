@@ -5,11 +5,13 @@ use Rattle.std.specs.List.{AllByRecursion}
 use Rattle.exchange_model.specs.declared.expr.Expr.{Expr}
 use Rattle.exchange_model.specs.declared.expr.Term.{Term, out-Term}
 use Rattle.exchange_model.specs.declared.expr.Joined.{Joined}
-use Rattle.exchange_model.specs.declared.expr.Factor.TheVariants.{Number, Variable, Temporary, Field, Bracket, outs-Number, outs-Variable, outs-Temporary, outs-Field, outs-Bracket}
+use Rattle.exchange_model.specs.declared.expr.Factor.TheVariants.{Number, Variable, Temporary, Field, Bracket, Reference, outs-Number, outs-Variable, outs-Temporary, outs-Field, outs-Bracket, outs-Reference}
 use Rattle.exchange_model.specs.Inside.{most, bracket_depth}
 use Rattle.exchange_model.specs.Fits.{Scope, IsField, FactorFits, ExprFits}
-use Rattle.exchange_model.specs.Layers.{TermFits, JoinedFits, FactorOwnFits, InsideFits, term_fits-out, joined_fits-out, factor_fits-out}
-use Rattle.exchange_model.specs.Counted.{term_depth, factor_own_depth, inside_depth, term_depth-out, joined_depth-out, factor_own_depth-out}
+use Rattle.exchange_model.specs.PartFits.{TermFits, JoinedFits, FactorOwnFits, InsideFits}
+use Rattle.exchange_model.proofs.Layers.{term_fits-out, joined_fits-out, factor_fits-out}
+use Rattle.exchange_model.specs.PartCounts.{term_depth, factor_own_depth, inside_depth}
+use Rattle.exchange_model.proofs.Counted.{term_depth-out, joined_depth-out, factor_own_depth-out}
 
 pub number_fits : (s : Scope) (n : ℕ) → FactorOwnFits s (Number n) → n < 2 ^ 32
 number_fits s n h = subst (FactorFits s) (outs-Number n) (factor_fits-out s (Number n) h).0
@@ -25,6 +27,9 @@ field_fits s file field pointer h = subst (FactorFits s) (outs-Field file field 
 
 pub bracket_fits : (s : Scope) (e : Expr) → FactorOwnFits s (Bracket e) → ExprFits s e
 bracket_fits s e h = subst (InsideFits s) (outs-Bracket e) (factor_fits-out s (Bracket e) h).1
+
+pub reference_fits : (s : Scope) (b : ℕ) → FactorOwnFits s (Reference b) → b < length s.blocks
+reference_fits s b h = subst (FactorFits s) (outs-Reference b) (factor_fits-out s (Reference b) h).0
 
 all_joined : (s : Scope) (js : List Joined) → AllByRecursion (JoinedFits s) js → AllByRecursion (λ (j : Joined). FactorOwnFits s j.factor) js
 all_joined s [] h = tt

@@ -6,7 +6,7 @@ use Rattle.exchange_model.specs.declared.expr.Expr.{Expr, out-Expr, fold_out-Exp
 use Rattle.exchange_model.specs.declared.expr.Term.{Term, out-Term, fold-Term, fold_out-Term}
 use Rattle.exchange_model.specs.declared.expr.Joined.{Joined, fold-Joined, fold_out-Joined}
 use Rattle.exchange_model.specs.declared.expr.Factor.{Factor, Factor-F, map-Factor, out-Factor, fold_out-Factor}
-use Rattle.exchange_model.specs.declared.expr.Factor.TheVariants.{Number, Variable, Temporary, Field, Bracket, outs-Number, outs-Variable, outs-Temporary, outs-Field, outs-Bracket}
+use Rattle.exchange_model.specs.declared.expr.Factor.TheVariants.{Number, Variable, Temporary, Field, Bracket, Reference, outs-Number, outs-Variable, outs-Temporary, outs-Field, outs-Bracket, outs-Reference}
 use Rattle.expr_code.specs.Code.{Code, FactorCode, TermCode, factor_layer, joined_layer, term_layer, expr_layer, product_from_1, sum_from_0, field_code, expr_code, term_code, factor_code, joined_code, summand_code}
 
 -- what the fold makes of a factor in a term and of a term
@@ -61,3 +61,6 @@ factor_code-Field file field pointer = factor_code-out (Field file field pointer
 
 pub factor_code-Bracket : (e : Expr) → factor_code (Bracket e) ≡ expr_code e
 factor_code-Bracket e = factor_code-out (Bracket e) ∙ ap opened (outs-Bracket e)
+
+pub factor_code-Reference : (b : ℕ) → factor_code (Reference b) ≡ (λ site r. Ldi r (b + 1) ∷ [])
+factor_code-Reference b = factor_code-out (Reference b) ∙ ap opened (outs-Reference b)

@@ -10,7 +10,7 @@ use Rattle.exchange_model.specs.declared.expr.Joined.{Joined}
 use Rattle.exchange_model.specs.declared.expr.FactorOp.{FactorOp}
 use Rattle.exchange_model.specs.declared.expr.FactorOp.TheVariants.{Times, Divide, Modulo}
 use Rattle.exchange_model.specs.declared.expr.Factor.{Factor}
-use Rattle.exchange_model.specs.declared.expr.Factor.TheVariants.{Number, Variable, Temporary, Field}
+use Rattle.exchange_model.specs.declared.expr.Factor.TheVariants.{Number, Variable, Temporary, Field, Reference}
 use Rattle.exchange_model.specs.declared.expr.Cond.{Cond}
 use Rattle.exchange_model.specs.declared.expr.Relation.{Relation}
 use Rattle.exchange_model.specs.declared.expr.Rel.{Rel}
@@ -18,14 +18,17 @@ use Rattle.exchange_model.specs.declared.expr.Rel.TheVariants.{Equal, Unequal, B
 use Rattle.exchange_model.specs.Cells.{Placed, record_cells}
 use Rattle.exchange_model.specs.Inside.{most, bracket_depth, relation_exprs, joined, cond_exprs}
 use Rattle.exchange_model.specs.Fits.{Scope, ExprFits, ExprsFit}
-use Rattle.exchange_model.specs.Layers.{TermFits, FactorOwnFits, expr_fits-out}
-use Rattle.exchange_model.specs.Counted.{term_depth, factor_own_depth, bracket_depth-out}
+use Rattle.exchange_model.specs.PartFits.{TermFits, FactorOwnFits}
+use Rattle.exchange_model.proofs.Layers.{expr_fits-out}
+use Rattle.exchange_model.specs.PartCounts.{term_depth, factor_own_depth}
+use Rattle.exchange_model.proofs.Counted.{bracket_depth-out}
 use Rattle.expr_code.specs.Code.{Site, Code, term_op, factor_op, rel_op, own_code, field_code, sum_code, product_code, expr_code, term_code, factor_code, joined_code, summand_code, relation_code, all_code, any_code, cond_code}
 use Rattle.expr_code.specs.Sites.{IsPlace, IsSite}
-use Rattle.expr_code.proofs.Layers.{Steps, every_expr}
-use Rattle.expr_code.proofs.Opened.{expr_code-out, term_code-out, factor_code-Number, factor_code-Variable, factor_code-Temporary, factor_code-Field, factor_code-Bracket}
-use Rattle.expr_code.proofs.Fitted.{number_fits, variable_fits, temporary_fits, field_fits, bracket_fits, factors_fit, term_is_deep, bracket_is_deep}
-use Rattle.expr_code.proofs.Each.{all_fit, all_left, all_right, all_both, all_append}
+use Rattle.source_meaning.proofs.Parts.{Parts, every_expr}
+use Rattle.expr_code.proofs.Opened.{expr_code-out, term_code-out, factor_code-Number, factor_code-Variable, factor_code-Temporary, factor_code-Field, factor_code-Bracket, factor_code-Reference}
+use Rattle.expr_code.proofs.Fitted.{number_fits, variable_fits, temporary_fits, field_fits, bracket_fits, reference_fits, factors_fit, term_is_deep, bracket_is_deep}
+use Rattle.expr_code.proofs.Each.{all_fit}
+use Rattle.plex_num.proofs.Lists.{all_left, all_right, all_both, all_append}
 
 term_op_fits : (minus : Bool) (r s : ℕ) → r < 16 → s < 16 → OpFits (term_op minus r s)
 term_op_fits false r s p q = (p, q)
@@ -90,7 +93,7 @@ module _ (scope : Scope) (site : Site) (is_site : IsSite scope site) where
       let load : AllByRecursion OpFits (Ldx r (p.first + field) (record_cells p.file) r ∷ []) = ((omega arith, omega (arith, h.1, fits.cells), omega (arith, fits.cells), omega arith), tt) in
       ((omega arith, omega arith), ((omega arith, fits.size), all_append OpFits (own_code p.file.forlopp file r) _ (own_fits p.file.forlopp file r h.2 (omega arith)) load))
 
-  expr_ops : Steps (λ e. ExprFits scope e → FitsWithin (2 * bracket_depth e + 2) (expr_code e)) (λ t. TermFits scope t → TermOps t) (λ f. FactorOwnFits scope f → FactorOps f)
+  expr_ops : Parts (λ e. ExprFits scope e → FitsWithin (2 * bracket_depth e + 2) (expr_code e)) (λ t. TermFits scope t → TermOps t) (λ f. FactorOwnFits scope f → FactorOps f)
   expr_ops = record {
     expr = λ e all fits. expr_layer_fits e (all_fit (TermFits scope) TermOps (out-Expr e).terms all (expr_fits-out scope e fits).1);
     term = λ t all fits. term_layer_fits t (all_fit (λ (j : Joined). FactorOwnFits scope j.factor) (λ (j : Joined). FactorOps j.factor) (out-Term t).factors all (factors_fit scope t fits));
@@ -100,16 +103,19 @@ module _ (scope : Scope) (site : Site) (is_site : IsSite scope site) where
         leaf_fits (Variable v) (factor_code-Variable v) (λ r lt. ((omega arith, omega (arith, is_site.variables)), tt));
     temporary = λ t fits.
         let h = temporary_fits scope t fits in
-        leaf_fits (Temporary t) (factor_code-Temporary t) (λ r lt. ((omega arith, omega (arith, is_site.temporaries)), tt));
+        leaf_fits (Temporary t) (factor_code-Temporary t) (λ r lt. ((omega arith, omega (arith, is_site.limited.temporaries)), tt));
     field = λ file field pointer fits.
         let h = field_fits scope file field pointer fits in
         leaf_fits (Field file field pointer) (factor_code-Field file field pointer) (field_ops (slice_get site.files file) file field pointer (λ p there.
         let same : p ≡ h.0.placed = same_Some p h.0.placed (sym there ∙ ap (λ l. slice_get l file) is_site.files ∙ h.0.there) in
         let inside : field < length p.file.fields = subst (λ (q : Placed). field < length q.file.fields) (sym same) h.0.within in
-        (is_site.each file p there, inside, omega (arith, slice_get_within site.files file p there, is_site.few))) (omega (arith, h.1, is_site.temporaries)));
+        (is_site.each file p there, inside, omega (arith, slice_get_within site.files file p there, is_site.few))) (omega (arith, h.1, is_site.limited.temporaries)));
     bracket = λ e ops fits.
         let h = bracket_fits scope e fits in
         fits_as (ap (λ d. 2 * d) (bracket_is_deep e)) (factor_code-Bracket e) (λ r lt. ops h r (omega arith));
+    reference = λ b fits.
+        let h = reference_fits scope b fits in
+        leaf_fits (Reference b) (factor_code-Reference b) (λ r lt. ((omega arith, omega (arith, h, is_site.limited.blocks)), tt));
   }
 
   pub expr_ops_fit : (e : Expr) (r : ℕ) → ExprFits scope e → r + (2 * bracket_depth e + 2) < 16 → AllByRecursion OpFits (expr_code e site r)

@@ -5,10 +5,10 @@ use Rattle.std.proofs.lemmas.List.Sums.{sum_by-cons}
 use Rattle.std.proofs.lemmas.Option.{none-some, same_Some, slice_get-map}
 use Rattle.exchange_model.specs.declared.block.Block.{Block}
 use Rattle.exchange_model.specs.Cells.{Placed, block_cells, cell_count, first_cell, placed_files}
-use Rattle.record_files.specs.declared.row.BlockRow.{BlockRow}
-use Rattle.record_files.specs.declared.row.FileRow.{FileRow}
-use Rattle.record_files.specs.Laid.{IsLayout, block_rows, file_row}
-use Rattle.record_files.specs.Rows.{Rows}
+use Rattle.store_layout.specs.declared.row.BlockRow.{BlockRow}
+use Rattle.store_layout.specs.declared.row.FileRow.{FileRow}
+use Rattle.store_layout.specs.Laid.{IsLayout, block_rows, file_row}
+use Rattle.store_layout.specs.Rows.{Rows}
 use Rattle.expr_code.specs.Code.{Site}
 use Rattle.expr_code.specs.Sites.{IsSiteOf}
 

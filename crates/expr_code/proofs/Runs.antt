@@ -1,16 +1,16 @@
 -- Computations one after the other, and those of one instruction.
-use Rattle.std.proofs.Common.{◌≡◌, ◌≢◌, ℕ, ◌+◌, ◌^◌, ◌<◌, ◌≤◌, Bool, true, false, List, [], ◌++◌, length, Some, None, refl, sym, ap, ◌∙◌, subst, arith, append_assoc, if◌then◌else◌}
+use Rattle.std.proofs.Common.{◌≡◌, ◌≢◌, ℕ, ◌+◌, ◌%◌, ◌^◌, ◌<◌, ◌≤◌, Bool, true, false, List, [], ◌++◌, length, Some, None, refl, sym, ap, ◌∙◌, subst, arith, append_assoc, if◌then◌else◌}
 use Rattle.std.proofs.Math.ListN.{length-set}
 use Rattle.std.proofs.lemmas.List.{get_or-set_other, get_or-set_same, append-nil}
 use Rattle.std.specs.Prelude.{slice_get}
 use Rattle.job_types.specs.declared.fault.Fault.{Fault}
 use Rattle.job_types.specs.declared.outcome.Outcome.TheVariants.{Faulted}
 use Rattle.machine_code.specs.declared.op.Op.{Op}
-use Rattle.machine_code.specs.declared.permit.Touch.{Touch}
-use Rattle.source_meaning.specs.Own.{World, seen}
+use Rattle.job_types.specs.declared.touch.Touch.{Touch}
+use Rattle.job_types.specs.Own.{World, seen}
 use Rattle.source_meaning.specs.Value.{Got, Gives, Fails, Sight, after_loads, with_value}
-use Rattle.register_machine.specs.Machine.{Machine, Goes, here, by_op, Allowed, machine_step, reg, sets, fails, checks, made_one}
-use Rattle.expr_code.specs.Runs.{Agrees, Calc, Computes, gives, stops}
+use Rattle.register_machine.specs.Machine.{Machine, Goes, here, by_op, HasRoom, machine_step, reg, sets, fails, checks, made_one}
+use Rattle.expr_code.specs.Runs.{HasOp, Agrees, Calc, Computes, gives, stops}
 
 pub goes_on : {code : List Op} {a b c : Machine} → Goes code a b → Goes code b c → Goes code a c
 goes_on here h = h
@@ -99,13 +99,13 @@ module _ (code : List Op) where
   check_runs true f v got le le' c k = then_runs le le' c k
   check_runs false f v got le le' (stops q) k = stops q
 
-  -- no instruction
-  pub nothing : (m : Machine) (pc r v : ℕ) → m.run.pc ≡ pc → m.run.over ≡ None → reg m.run r ≡ v → v < 2 ^ 32 → Computes code m pc r 50 (Gives [] v)
-  nothing m pc r v at over is small =
+  -- only the address and the number of instructions made are other ones, and the value stands in its register
+  moved : (m : Machine) (pc made r v : ℕ) → Goes code m (record { run = record m.run { pc = pc; made = made }; world = m.world }) → m.run.over ≡ None → reg m.run r ≡ v → v < 2 ^ 32 → Computes code m pc r 50 (Gives [] v)
+  moved m pc made r v goes over is small =
       gives
       record {
-        goes = here;
-        at = at;
+        goes = goes;
+        at = refl;
         registers = refl;
         low = λ k lt. refl;
         length_locals = refl;
@@ -118,17 +118,21 @@ module _ (code : List Op) where
       }
       is small
 
+  -- no instruction
+  pub nothing : (m : Machine) (pc r v : ℕ) → m.run.pc ≡ pc → m.run.over ≡ None → reg m.run r ≡ v → v < 2 ^ 32 → Computes code m pc r 50 (Gives [] v)
+  nothing m pc r v at over is small = subst (λ a. Computes code m a r 50 (Gives [] v)) at (moved m m.run.pc m.run.made r v here over is small)
+
   -- where the machine stands at an instruction
   pub record StandsAt (m : Machine) (pc : ℕ) (op : Op) : Type 0 where
     pub at : m.run.pc ≡ pc
     pub over : m.run.over ≡ None
     pub registers : length m.run.regs ≡ 16
-    pub has : slice_get code pc ≡ Some op
-    pub allowed : Allowed op m.run
+    pub has : HasOp code pc op
+    pub room : HasRoom op m.run
 
   -- one step
   pub one_step : {m n : Machine} {pc : ℕ} {op : Op} → StandsAt m pc op → machine_step op m ≡ n → Goes code m n
-  one_step {op = op} s e = by_op op s.over (ap (slice_get code) s.at ∙ s.has) s.allowed (subst (Goes code _) e here)
+  one_step {op = op} s e = by_op op s.over (ap (slice_get code) s.at ∙ s.has.is) (s.has.fits, s.room) (subst (Goes code _) e here)
 
   -- one instruction that sets a register
   pub op_sets : (m : Machine) (op : Op) (pc r v : ℕ) (loads : List Touch) (w : World) → StandsAt m pc op → v < 2 ^ 32 → r < 16 → machine_step op m ≡ record { run = sets r v (made_one m.run); world = w } → w ≡ seen loads m.world → Computes code m (pc + 1) r 50 (Gives loads v)
@@ -161,19 +165,5 @@ module _ (code : List Op) where
   -- one instruction that faults unless a test holds, and changes no register
   pub op_checks : (test : Bool) (m : Machine) (op : Op) (pc r v : ℕ) (f : Fault) → StandsAt m pc op → reg m.run r ≡ v → v < 2 ^ 32 → machine_step op m ≡ record { run = checks test f (made_one m.run); world = m.world } → Computes code m (pc + 1) r 50 (if test then Gives [] v else Fails [] f)
   op_checks true m op pc r v f s is small e =
-      gives
-      record {
-        goes = one_step s e;
-        at = ap (λ a. a + 1) s.at;
-        registers = refl;
-        low = λ k lt. refl;
-        length_locals = refl;
-        locals = λ k lt. refl;
-        out = refl;
-        frames = refl;
-        own = refl;
-        world = seen_none m.world;
-        over = s.over;
-      }
-      is small
+      subst (λ a. Computes code m a r 50 (Gives [] v)) (ap (λ a. a + 1) s.at) (moved m (m.run.pc + 1) ((m.run.made + 1) % 2 ^ 64) r v (one_step s e) s.over is small)
   op_checks false m op pc r v f s is small e = op_fails m op pc (pc + 1) r 50 f s e

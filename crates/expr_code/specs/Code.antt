@@ -10,7 +10,7 @@ use Rattle.exchange_model.specs.declared.expr.Expr.{Expr, fold-Expr}
 use Rattle.exchange_model.specs.declared.expr.Term.{Term, out-Term}
 use Rattle.exchange_model.specs.declared.expr.Joined.{Joined}
 use Rattle.exchange_model.specs.declared.expr.Factor.{Factor, fold-Factor}
-use Rattle.exchange_model.specs.declared.expr.Factor.TheOpen.{Factor-F, Expr-F, Joined-F, Term-F, Number, Variable, Temporary, Field, Bracket}
+use Rattle.exchange_model.specs.declared.expr.Factor.TheOpen.{Factor-F, Expr-F, Joined-F, Term-F, Number, Variable, Temporary, Field, Bracket, Reference}
 use Rattle.exchange_model.specs.declared.expr.FactorOp.{FactorOp}
 use Rattle.exchange_model.specs.declared.expr.FactorOp.TheVariants.{Times, Divide, Modulo}
 use Rattle.exchange_model.specs.declared.expr.Cond.{Cond}
@@ -75,6 +75,7 @@ factor_layer (Variable v) site r = Ldw r (site.first + v) ∷ []
 factor_layer (Temporary t) site r = Ldt r t ∷ []
 factor_layer (Field file field pointer) site r = field_code (slice_get site.files file) file field pointer r
 factor_layer (Bracket e) site r = e site r
+factor_layer (Reference b) site r = Ldi r (b + 1) ∷ []
 
 -- these factors, joined to the product in the register
 abbrev pub product_code : List FactorCode → Code

@@ -6,17 +6,24 @@
 use Rattle.std.specs.Prelude.{◌≡◌, ℕ, ◌+◌, ◌^◌, ◌<◌, List, [], ◌∷◌, length, slice_get, slice_index, Some, None}
 use Rattle.job_types.specs.declared.fault.Fault.{Fault}
 use Rattle.job_types.specs.declared.outcome.Outcome.TheVariants.{Faulted}
+use Rattle.plex_limits.specs.declared.limits.TheConstants.{MOST_TEMPORARIES}
 use Rattle.machine_code.specs.declared.op.Op.{Op}
-use Rattle.machine_code.specs.declared.permit.Touch.{Touch}
-use Rattle.source_meaning.specs.Own.{seen}
+use Rattle.machine_code.specs.Operands.{OpFits}
+use Rattle.job_types.specs.declared.touch.Touch.{Touch}
+use Rattle.job_types.specs.Own.{seen}
 use Rattle.source_meaning.specs.Value.{Got, Gives, Fails, Sight}
 use Rattle.register_machine.specs.Machine.{Machine, Goes, reg}
 use Rattle.expr_code.specs.Code.{Site}
 
--- these instructions stand at an address
+-- an instruction stands at an address, and its operands are in their ranges
+pub record HasOp (code : List Op) (pc : ℕ) (op : Op) : Type 0 where
+  pub is : slice_get code pc ≡ Some op
+  pub fits : OpFits op
+
+-- these instructions stand from an address on
 abbrev pub HasAt : List Op → ℕ → List Op → Type 0
 HasAt code pc [] = Unit {0}
-HasAt code pc (op ∷ rest) = (slice_get code pc ≡ Some op) × HasAt code (pc + 1) rest
+HasAt code pc (op ∷ rest) = HasOp code pc op × HasAt code (pc + 1) rest
 
 -- where the words are that an expression sees
 abbrev pub site_of : Sight → Site
@@ -25,7 +32,7 @@ site_of s = record { first = s.first; files = s.files }
 -- the machine has what an expression sees, with numbers of 32 bits, and has not ended
 pub record Agrees (m : Machine) (s : Sight) : Type 0 where
   pub store : m.world.store ≡ s.store
-  pub temps : (t : ℕ) → t < 24 → slice_index m.run.locals t ≡ slice_index s.temps t
+  pub temps : (t : ℕ) → t < MOST_TEMPORARIES → slice_index m.run.locals t ≡ slice_index s.temps t
   pub chain : m.run.own.chain ≡ s.chain
   pub small_store : (cell : ℕ) → slice_index s.store cell < 2 ^ 32
   pub small_temps : (t : ℕ) → slice_index s.temps t < 2 ^ 32

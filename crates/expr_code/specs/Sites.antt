@@ -9,16 +9,16 @@ use Rattle.exchange_model.specs.declared.expr.Term.{Term}
 use Rattle.exchange_model.specs.declared.expr.Factor.{Factor}
 use Rattle.exchange_model.specs.declared.expr.Cond.{Cond}
 use Rattle.exchange_model.specs.declared.expr.Relation.{Relation}
-use Rattle.exchange_model.specs.declared.limits.TheConstants.{MOST_BRACKETS}
+use Rattle.plex_limits.specs.declared.limits.TheConstants.{MOST_BLOCKS, MOST_BRACKETS, MOST_TEMPORARIES}
 use Rattle.std.specs.List.{AllByRecursion}
 use Rattle.exchange_model.specs.Cells.{Placed, placed_files, record_cells}
 use Rattle.exchange_model.specs.Inside.{bracket_depth, relation_exprs, cond_exprs}
 use Rattle.exchange_model.specs.Fits.{Scope, ExprFits, ExprsFit}
-use Rattle.exchange_model.specs.Layers.{TermFits, FactorOwnFits}
-use Rattle.record_files.specs.declared.row.BlockRow.{BlockRow}
-use Rattle.record_files.specs.declared.row.FileRow.{FileRow}
-use Rattle.record_files.specs.Laid.{IsLayout, file_row}
-use Rattle.record_files.specs.Rows.{Rows}
+use Rattle.exchange_model.specs.PartFits.{TermFits, FactorOwnFits}
+use Rattle.store_layout.specs.declared.row.BlockRow.{BlockRow}
+use Rattle.store_layout.specs.declared.row.FileRow.{FileRow}
+use Rattle.store_layout.specs.Laid.{IsLayout, file_row}
+use Rattle.store_layout.specs.Rows.{Rows}
 use Rattle.expr_code.specs.Code.{Site}
 
 -- the cells of a file's first record, and how many records it has, are numbers of 32 bits
@@ -26,11 +26,16 @@ pub record IsPlace (p : Placed) : Type 0 where
   pub cells : p.first + record_cells p.file < 2 ^ 32
   pub size : p.file.size < 2 ^ 32
 
+-- the block keeps the limit of temporaries, and its exchange that of blocks
+pub record IsLimited (scope : Scope) : Type 0 where
+  pub temporaries : length scope.block.temporaries ≤ MOST_TEMPORARIES
+  pub blocks : length scope.blocks ≤ MOST_BLOCKS
+
 -- the site is that of the block: its words are numbers of 32 bits, and so are the numbers of files
 pub record IsSite (scope : Scope) (site : Site) : Type 0 where
   pub files : site.files ≡ scope.files
   pub variables : site.first + length scope.block.variables < 2 ^ 32
-  pub temporaries : length scope.block.temporaries ≤ 24
+  pub limited : IsLimited scope
   pub few : length site.files ≤ 2 ^ 32
   pub each : (i : ℕ) (p : Placed) → slice_get site.files i ≡ Some p → IsPlace p
 

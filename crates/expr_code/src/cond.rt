@@ -8,7 +8,7 @@ use crate::push::push_all;
 use exchange_model::{Cond, Rel, Relation};
 use machine_code::Op;
 use plex_num::{Memory, Seq};
-use record_files::Layout;
+use store_layout::Layout;
 
 /// The local of the result of OR so far.
 const OR_LOCAL: u8 = 48;
@@ -17,10 +17,11 @@ const AND_LOCAL: u8 = 49;
 
 /// Appends the code that leaves 1 in register 0 where a condition of the block holds, else 0. It may use all registers, and
 /// keeps the results of OR and AND so far in the locals 48 and 49. After `Memory` the list begins as before.
-#[tactic(auto, using(crate::proofs::CondSteps::lists_begin, crate::proofs::CondSteps::lists_more, crate::proofs::CondSteps::lists_end, crate::proofs::CondSteps::lists_begins, crate::proofs::Emits::begins_is, crate::proofs::Emits::begins_on, crate::proofs::Emits::grows_begins))]
+#[tactic(auto, using(crate::proofs::CondSteps::each_list, crate::proofs::Emits::growing))]
 pub fn cond_code(cond: &Cond, layout: &Layout, block: u32, ops: &mut Seq<Op>) -> Result<(), Memory>
     requires of_block { IsCondOf layout.now block cond.now }
-    ensures code { OnOk result (Grows layout.now block ops.old ops.new (λ site. cond_code cond.now site)) }
+    ensures code { OnOk result (Grows layout.now block ops.old ops.new
+        (λ site. cond_code cond.now site)) }
     ensures begins { OnErr result (Begins ops.old ops.new) }
 {
     push_all(
@@ -46,7 +47,7 @@ pub fn cond_code(cond: &Cond, layout: &Layout, block: u32, ops: &mut Seq<Op>) ->
 }
 
 /// Appends the code that joins relations to the result of AND so far.
-#[tactic(auto, using(crate::proofs::CondSteps::relations_begin, crate::proofs::CondSteps::relations_more, crate::proofs::CondSteps::relations_end, crate::proofs::CondSteps::relations_begins, crate::proofs::Emits::begins_is, crate::proofs::Emits::begins_on, crate::proofs::Emits::grows_begins))]
+#[tactic(auto, using(crate::proofs::CondSteps::each_relation, crate::proofs::Emits::growing))]
 fn push_relations(
     relations: &[Relation],
     layout: &Layout,
@@ -54,7 +55,8 @@ fn push_relations(
     ops: &mut Seq<Op>,
 ) -> Result<(), Memory>
     requires of_block { AreRelationsOf layout.now block relations.now }
-    ensures code { OnOk result (Grows layout.now block ops.old ops.new (λ site. all_code relations.now site)) }
+    ensures code { OnOk result (Grows layout.now block ops.old ops.new
+        (λ site. all_code relations.now site)) }
     ensures begins { OnErr result (Begins ops.old ops.new) }
 {
     for relation in relations {
@@ -72,7 +74,7 @@ fn push_relations(
 }
 
 /// Appends the code that leaves 1 in register 0 where the relation holds, else 0.
-#[tactic(auto, using(crate::proofs::CondSteps::relation_is, crate::proofs::Emits::begins_is, crate::proofs::Emits::begins_on))]
+#[tactic(auto, using(crate::proofs::CondSteps::relation_is, crate::proofs::Emits::growing))]
 fn push_relation(
     relation: &Relation,
     layout: &Layout,
@@ -80,7 +82,8 @@ fn push_relation(
     ops: &mut Seq<Op>,
 ) -> Result<(), Memory>
     requires of_block { IsRelationOf layout.now block relation.now }
-    ensures code { OnOk result (Grows layout.now block ops.old ops.new (λ site. relation_code relation.now site)) }
+    ensures code { OnOk result (Grows layout.now block ops.old ops.new
+        (λ site. relation_code relation.now site)) }
     ensures begins { OnErr result (Begins ops.old ops.new) }
 {
     expr_code(&relation.left, layout, block, 0, ops)?;

@@ -1,7 +1,7 @@
 // The code of an expression.
 ghost use Rattle.std.specs.Prelude.{◌≡◌, ◌+◌, ◌*◌, ◌<◌, ◌++◌, OnOk, OnErr};
 ghost use Rattle.exchange_model.specs.Inside.{bracket_depth};
-ghost use Rattle.exchange_model.specs.Counted.{term_depth, factor_own_depth};
+ghost use Rattle.exchange_model.specs.PartCounts.{term_depth, factor_own_depth};
 ghost use Rattle.expr_code.specs.Code.{expr_code, term_code, factor_code, term_op as op_of_term, factor_op as op_of_factor};
 ghost use Rattle.expr_code.specs.Sites.{IsExprOf, IsTermOf, IsFactorOf, Begins, Grows};
 
@@ -10,12 +10,12 @@ use crate::push::push_all;
 use exchange_model::{Cell, Expr, Factor, FactorOp, Term};
 use machine_code::Op;
 use plex_num::{Memory, Seq};
-use record_files::{Layout, word_of};
+use store_layout::{Layout, word_of};
 
 /// Appends the code that leaves the value of an expression of the block in the register `first`, and uses none below it. After
 /// `Memory` the list begins as before.
 #[cycle(code)]
-#[tactic(auto, using(crate::proofs::EmitSteps::terms_begin, crate::proofs::EmitSteps::terms_more, crate::proofs::EmitSteps::terms_end, crate::proofs::EmitSteps::terms_begins, crate::proofs::Emits::begins_is, crate::proofs::Emits::begins_on, crate::proofs::Emits::grows_begins))]
+#[tactic(auto, using(crate::proofs::EmitSteps::each_term, crate::proofs::Emits::growing))]
 pub fn expr_code(
     e: &Expr,
     layout: &Layout,
@@ -25,7 +25,8 @@ pub fn expr_code(
 ) -> Result<(), Memory>
     requires of_block { IsExprOf layout.now block e.now }
     requires registers { first + (2 * bracket_depth e.now + 2) < 16 }
-    ensures code { OnOk result (Grows layout.now block ops.old ops.new (λ site. expr_code e.now site first)) }
+    ensures code { OnOk result (Grows layout.now block ops.old ops.new
+        (λ site. expr_code e.now site first)) }
     ensures begins { OnErr result (Begins ops.old ops.new) }
 {
     push_all(ops, &[Op::Ldi { r: first, n: 0 }])?;
@@ -38,7 +39,7 @@ pub fn expr_code(
 
 /// Appends the code of a term.
 #[cycle(code)]
-#[tactic(auto, using(crate::proofs::EmitSteps::factors_begin, crate::proofs::EmitSteps::factors_more, crate::proofs::EmitSteps::factors_end, crate::proofs::EmitSteps::factors_begins, crate::proofs::Emits::begins_is, crate::proofs::Emits::begins_on, crate::proofs::Emits::grows_begins))]
+#[tactic(auto, using(crate::proofs::EmitSteps::each_factor, crate::proofs::Emits::growing))]
 fn push_term(
     term: &Term,
     layout: &Layout,
@@ -48,7 +49,8 @@ fn push_term(
 ) -> Result<(), Memory>
     requires of_block { IsTermOf layout.now block term.now }
     requires registers { r + (2 * term_depth term.now + 1) < 16 }
-    ensures code { OnOk result (Grows layout.now block ops.old ops.new (λ site. term_code term.now site r)) }
+    ensures code { OnOk result (Grows layout.now block ops.old ops.new
+        (λ site. term_code term.now site r)) }
     ensures begins { OnErr result (Begins ops.old ops.new) }
 {
     push_all(ops, &[Op::Ldi { r, n: 1 }])?;
@@ -70,7 +72,8 @@ fn push_factor(
 ) -> Result<(), Memory>
     requires of_block { IsFactorOf layout.now block factor.now }
     requires registers { r + 2 * factor_own_depth factor.now < 16 }
-    ensures code { OnOk result (Grows layout.now block ops.old ops.new (λ site. factor_code factor.now site r)) }
+    ensures code { OnOk result (Grows layout.now block ops.old ops.new
+        (λ site. factor_code factor.now site r)) }
     ensures begins { OnErr result (Begins ops.old ops.new) }
 {
     match factor {
@@ -90,6 +93,7 @@ fn push_factor(
             pointer,
         } => push_field(*file, *field, *pointer, layout, block, r, ops),
         Factor::Bracket(e) => expr_code(e, layout, block, r, ops),
+        Factor::Reference(b) => push_all(ops, &[Op::Ldi { r, n: *b + 1 }]),
     }
 }
 

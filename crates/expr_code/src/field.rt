@@ -1,13 +1,13 @@
 // The code of a field.
 ghost use Rattle.std.specs.Prelude.{◌≡◌, ◌+◌, ◌<◌, ◌^◌, ◌++◌, slice_get, Some, OnOk, OnErr};
-ghost use Rattle.record_files.specs.declared.row.FileRow.{FileRow as Row};
+ghost use Rattle.store_layout.specs.declared.row.FileRow.{FileRow as Row};
 ghost use Rattle.expr_code.specs.Code.{field_code, pointer_code};
 ghost use Rattle.expr_code.specs.Sites.{Begins, Grows, GrowsByRow};
 
 use crate::push::push_all;
 use machine_code::Op;
 use plex_num::{Memory, Seq};
-use record_files::{FileRow, Layout, file_of};
+use store_layout::{FileRow, Layout, file_of};
 
 /// Appends the code that checks the pointer in the register `r` to a record of the file, which has this row.
 #[tactic(auto, using(crate::proofs::FieldSteps::pointer_own, crate::proofs::FieldSteps::pointer_plain, crate::proofs::Emits::begins_is))]
@@ -24,7 +24,7 @@ fn push_pointer(row: FileRow, file: u32, r: u8, ops: &mut Seq<Op>) -> Result<(),
 }
 
 /// Appends the code that leaves a field of the record that a temporary names in the register `r`.
-#[tactic(auto, using(crate::proofs::FieldSteps::field_grows, crate::proofs::FieldSteps::no_field_grows, crate::proofs::FieldSteps::row_begins, crate::proofs::Emits::begins_is, crate::proofs::Emits::begins_on))]
+#[tactic(auto, using(crate::proofs::FieldSteps::fields, crate::proofs::Emits::growing))]
 pub fn push_field(
     file: u32,
     field: u32,
@@ -34,8 +34,10 @@ pub fn push_field(
     r: u8,
     ops: &mut Seq<Op>,
 ) -> Result<(), Memory>
-    requires inside { (row : Row) → slice_get layout.now.files file ≡ Some row → row.first + field < 2 ^ 32 }
-    ensures code { OnOk result (Grows layout.now block ops.old ops.new (λ site. field_code (slice_get site.files file) file field pointer r)) }
+    requires inside { (row : Row) → slice_get layout.now.files file ≡ Some row
+        → row.first + field < 2 ^ 32 }
+    ensures code { OnOk result (Grows layout.now block ops.old ops.new
+        (λ site. field_code (slice_get site.files file) file field pointer r)) }
     ensures begins { OnErr result (Begins ops.old ops.new) }
 {
     let Some(row) = file_of(layout, file) else {

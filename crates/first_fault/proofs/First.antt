@@ -4,6 +4,7 @@ use Rattle.std.specs.Prelude.{if◌then◌else◌}
 use Rattle.std.proofs.lemmas.List.{take_more}
 use Rattle.std.proofs.lemmas.Option.{slice_get-get_or, slice_get_within, same_Some}
 use Rattle.std.proofs.lemmas.Bool.{cases_lt}
+use Rattle.first_fault.specs.Told.{Among, Above, Rising, HasAll}
 use Rattle.first_fault.specs.First.{any, count, total, or_else, last_of, IsFine, IsFirstFault, breaks_at, first_broken}
 
 -- the events before the next place
@@ -34,29 +35,10 @@ last_push says (y ∷ xs) x = rw (last_push says xs x) (regroup (says x) (last_o
     regroup (Some u) b c = refl
     regroup None b c = refl
 
--- a rule stands in a list of rules
-abbrev pub Among : {R : Type 0} → R → List R → Type 0
-Among q [] = ⊥
-Among q (r ∷ rs) = (q ≡ r) ⊎ Among q rs
-
--- the numbers rise
-abbrev pub Above : {R : Type 0} → (R → ℕ) → ℕ → List R → Type 0
-Above number n [] = Unit {0}
-Above number n (r ∷ rs) = (n < number r) × Above number n rs
-
-abbrev pub Rising : {R : Type 0} → (R → ℕ) → List R → Type 0
-Rising number [] = Unit {0}
-Rising number (r ∷ rs) = Above number (number r) rs × Rising number rs
-
 pub above_among : {R : Type 0} (number : R → ℕ) (n : ℕ) (rs : List R) (q : R) → Above number n rs → Among q rs → n < number q
 above_among number n [] q a m = absurd m
 above_among number n (r ∷ rs) q a (inl e) = rw e a.0
 above_among number n (r ∷ rs) q a (inr m) = above_among number n rs q a.1 m
-
--- all rules, in the order of their numbers
-pub record AllRules {R : Type 0} (number : R → ℕ) (rs : List R) : Type 0 where
-  pub all : (q : R) → Among q rs
-  pub rising : Rising number rs
 
 module _ {E K R : Type 0} (broken : R → K → E → Bool) (number : R → ℕ) where
   pub none_broken : (rs : List R) (k : K) (e : E) → first_broken broken rs k e ≡ None → (q : R) → Among q rs → broken q k e ≡ false
@@ -104,7 +86,7 @@ module _ {E K R : Type 0} (broken : R → K → E → Bool) (number : R → ℕ)
     pub fine_none : FineBelow 0
     fine_none = record { each = λ k e r low at. absurd (omega arith) }
 
-    pub fine_more : (rs : List R) (k : K) (i : ℕ) (e : E) → AllRules number rs → i < length whole → e ≡ get_or whole i e → k ≡ known (take i whole) → None ≡ first_broken broken rs k e → FineBelow i → FineBelow (i + 1)
+    pub fine_more : (rs : List R) (k : K) (i : ℕ) (e : E) → HasAll number rs → i < length whole → e ≡ get_or whole i e → k ≡ known (take i whole) → None ≡ first_broken broken rs k e → FineBelow i → FineBelow (i + 1)
     fine_more rs k i e a inside is t h f = record { each = λ j x r low at. ⊎_elim (λ below. f.each j x r below at) (λ here. last j x r here low at) (cases_lt j i) }
       where
         last : (j : ℕ) (x : E) (r : R) → i ≤ j → j < i + 1 → slice_get whole j ≡ Some x → breaks j x r ≡ false
@@ -116,7 +98,7 @@ module _ {E K R : Type 0} (broken : R → K → E → Bool) (number : R → ℕ)
     pub fine_all : (i : ℕ) → length whole ≤ i → FineBelow i → IsFine breaks whole
     fine_all i past f = record { each = λ k e r at. let inside = slice_get_within whole k e at in f.each k e r (omega arith) at }
 
-    pub first_fault : (rs : List R) (k : K) (i : ℕ) (e : E) (rule : R) → AllRules number rs → i < length whole → e ≡ get_or whole i e → k ≡ known (take i whole) → Some rule ≡ first_broken broken rs k e → FineBelow i → IsFirstFault breaks number line whole rule (line e)
+    pub first_fault : (rs : List R) (k : K) (i : ℕ) (e : E) (rule : R) → HasAll number rs → i < length whole → e ≡ get_or whole i e → k ≡ known (take i whole) → Some rule ≡ first_broken broken rs k e → FineBelow i → IsFirstFault breaks number line whole rule (line e)
     first_fault rs k i e rule a inside is t h f =
         let found : FirstOf rs k e rule = some_broken rs k e rule a.rising (sym h) in
         record {

@@ -1,3 +1,4 @@
 pub mod First
 pub mod Once
+pub mod Tells
 pub mod Told

@@ -1,34 +1,10 @@
 -- Where a record stands in a chain, and the chain without it.
-use Rattle.std.proofs.Common.{◌≡◌, ℕ, zero, suc, ◌+◌, ◌<◌, ◌≤◌, Bool, true, false, cond, not, eqb, ltb, List, [], ◌∷◌, length, get_or, Some, None, refl, sym, ap, ◌∙◌, arith}
-use Rattle.std.specs.List.{Contains, position, position_or_len, remove}
-use Rattle.std.proofs.lemmas.Bool.{true≢false, eqb-true, eq-eqb, ltb-false, and_parts, and_from}
+use Rattle.std.proofs.Common.{◌≡◌, ℕ, zero, suc, ◌+◌, ◌<◌, ◌≤◌, Bool, true, false, cond, not, ltb, List, [], ◌∷◌, length, get_or, Some, None, refl, sym, ap, arith}
+use Rattle.std.specs.List.{position, position_or_len, remove}
+use Rattle.std.proofs.lemmas.Bool.{ltb-false, or_left, or_right, or_from}
 use Rattle.std.proofs.lemmas.List.Quantifiers.{position-Some}
 use Rattle.job_types.specs.declared.chain.Held.{Held}
-use Rattle.forlopp_chain.specs.Chain.{same_record, without}
-
--- the test of two records decides whether they are one
-pub same_record-true : (a b : Held) → same_record a b ≡ true → a ≡ b
-same_record-true a b e =
-    let parts = and_parts (eqb a.file b.file) (eqb a.number b.number) e in
-    let files = eqb-true a.file b.file parts.0 in
-    let numbers = eqb-true a.number b.number parts.1 in
-    λ i. record { file = files i; number = numbers i }
-
-pub same_record-refl : (a : Held) → same_record a a ≡ true
-same_record-refl a = and_from (eqb a.file a.file) (eqb a.number a.number) (eq-eqb a.file a.file refl) (eq-eqb a.number a.number refl)
-
--- the chain without the record that stands first at i
-without_at : (held : Held) (chain : List Held) (i : ℕ) → i < length chain → ((d : Held) → same_record (get_or chain i d) held ≡ true) → ((k : ℕ) (d : Held) → k < i → same_record (get_or chain k d) held ≡ false) → without held chain ≡ remove chain i
-without_at held [] i lt here before = absurd (omega arith)
-without_at held (h ∷ chain) zero lt here before = rw (here h) refl
-without_at held (h ∷ chain) (suc i) lt here before =
-    rw (before 0 h (omega arith)) (ap (λ c. h ∷ c) (without_at held chain i (omega arith) here (λ k d below. before (suc k) d (omega arith))))
-
--- a record that stands nowhere
-without_none : (held : Held) (chain : List Held) → ((k : ℕ) (d : Held) → k < length chain → same_record (get_or chain k d) held ≡ false) → without held chain ≡ chain
-without_none held [] none = refl
-without_none held (h ∷ chain) none =
-    rw (none 0 h (omega arith)) (ap (λ c. h ∷ c) (without_none held chain (λ k d lt. none (suc k) d (omega arith))))
+use Rattle.job_types.specs.Chain.{holds, is_record, without}
 
 -- a search that finds nothing has met nothing
 nowhere : {X : Type 0} (p : X → Bool) (xs : List X) → length xs ≤ position_or_len p xs → (k : ℕ) (d : X) → k < length xs → p (get_or xs k d) ≡ false
@@ -47,17 +23,37 @@ position_none p xs none = at (ltb (position_or_len p xs) (length xs)) refl none
     at true e some = absurd (cc)
     at false e some = ltb-false _ _ e
 
--- what a search for the record says of the chain
-pub freed-Some : (held : Held) (chain : List Held) (i : ℕ) → Some i ≡ position (λ h. same_record h held) chain → (remove chain i ≡ without held chain) × Contains chain held
-freed-Some held chain i found =
-    let at = λ (d : Held). position-Some (λ h. same_record h held) chain i d (sym found) in (
-      sym (without_at held chain i (at held).0 (λ d. (at d).1) (λ k d below. (at d).2 k below)),
-      (i, (at held).0, same_record-true (get_or chain i held) held (at held).1),
-    )
+module _ (file number : ℕ) where
+  -- the chain without the record that stands first at i
+  without_at : (chain : List Held) (i : ℕ) → i < length chain → ((d : Held) → is_record file number (get_or chain i d) ≡ true) → ((k : ℕ) (d : Held) → k < i → is_record file number (get_or chain k d) ≡ false) → without chain file number ≡ remove chain i
+  without_at [] i lt here before = absurd (omega arith)
+  without_at (h ∷ chain) zero lt here before = rw (here h) refl
+  without_at (h ∷ chain) (suc i) lt here before =
+      rw (before 0 h (omega arith)) (ap (λ c. h ∷ c) (without_at chain i (omega arith) here (λ k d below. before (suc k) d (omega arith))))
 
-pub freed-None : (held : Held) (chain : List Held) → None ≡ position (λ h. same_record h held) chain → (chain ≡ without held chain) × (Contains chain held → ⊥)
-freed-None held chain absent =
-    let none = nowhere (λ h. same_record h held) chain (position_none (λ h. same_record h held) chain (sym absent)) in (
-      sym (without_none held chain none),
-      λ (k, lt, is). true≢false (sym (same_record-refl held) ∙ ap (λ h. same_record h held) (sym is) ∙ none k held lt),
-    )
+  holds_at : (chain : List Held) (i : ℕ) → i < length chain → ((d : Held) → is_record file number (get_or chain i d) ≡ true) → holds chain file number ≡ true
+  holds_at [] i lt here = absurd (omega arith)
+  holds_at (h ∷ chain) zero lt here = or_left (is_record file number h) _ (here h)
+  holds_at (h ∷ chain) (suc i) lt here = or_right (is_record file number h) _ (holds_at chain i (omega arith) here)
+
+  -- a record that stands nowhere
+  without_none : (chain : List Held) → ((k : ℕ) (d : Held) → k < length chain → is_record file number (get_or chain k d) ≡ false) → without chain file number ≡ chain
+  without_none [] none = refl
+  without_none (h ∷ chain) none =
+      rw (none 0 h (omega arith)) (ap (λ c. h ∷ c) (without_none chain (λ k d lt. none (suc k) d (omega arith))))
+
+  holds_none : (chain : List Held) → ((k : ℕ) (d : Held) → k < length chain → is_record file number (get_or chain k d) ≡ false) → holds chain file number ≡ false
+  holds_none [] none = refl
+  holds_none (h ∷ chain) none = or_from (is_record file number h) _ (none 0 h (omega arith)) (holds_none chain (λ k d lt. none (suc k) d (omega arith)))
+
+  -- what a search for the record says of the chain
+  pub freed-Some : (chain : List Held) (i : ℕ) → Some i ≡ position (is_record file number) chain → (remove chain i ≡ without chain file number) × (true ≡ holds chain file number)
+  freed-Some chain i found =
+      let at = λ (d : Held). position-Some (is_record file number) chain i d (sym found) in
+      let lt = (at (record { file = file; number = number })).0 in
+      (sym (without_at chain i lt (λ d. (at d).1) (λ k d below. (at d).2 k below)), sym (holds_at chain i lt (λ d. (at d).1)))
+
+  pub freed-None : (chain : List Held) → None ≡ position (is_record file number) chain → (chain ≡ without chain file number) × (false ≡ holds chain file number)
+  freed-None chain absent =
+      let none = nowhere (is_record file number) chain (position_none (is_record file number) chain (sym absent)) in
+      (sym (without_none chain none), sym (holds_none chain none))

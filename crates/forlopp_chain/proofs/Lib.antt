@@ -1,10 +1,4 @@
-pub mod Deaths
 pub mod Freed
-pub mod Grouped
 pub mod Maps
-pub mod Members
-pub mod Orders
-pub mod Ranks
-pub mod Runs
+pub mod Ordered
 pub mod Sound
-pub mod Steps

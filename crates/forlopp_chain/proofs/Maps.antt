@@ -1,68 +1,71 @@
--- Maps of chains: what a chain that is put leaves at each number.
-use Rattle.std.proofs.Common.{◌≡◌, ◌≢◌, ℕ, Bool, true, false, cond, eqb, List, [], ◌∷◌, Option, Some, None, unwrap_or, refl, sym, ap, ◌∙◌}
-use Rattle.std.specs.Ordering.{nat_cmp}
-use Rattle.std.specs.Cmp.{nat_cmp_total, unsigned_tied}
+-- The map and the dead numbers that tables stand for, after each change of a table.
+use Rattle.std.proofs.Common.{◌≡◌, ◌≢◌, ℕ, Bool, true, false, cond, ◌||◌, eqb, List, [], ◌∷◌, None, Some, unwrap_or, refl, sym, ap, ◌∙◌}
+use Rattle.std.specs.Ordering.{nat_cmp, eq_by_cmp}
+use Rattle.std.specs.Cmp.{nat_cmp_total, unsigned_tied, nat_eq_equiv}
 use Rattle.std.specs.FinMap as map
-use Rattle.std.proofs.lemmas.Bool.{eqb-true}
+use Rattle.std.specs.FinMap.{nat_cmp-IsAntisymmetric}
+use Rattle.std.specs.FinSet as set
+use Rattle.std.specs.List.{list_any}
+use Rattle.std.specs.Map.{lookup}
 use Rattle.job_types.specs.declared.chain.Held.{Held}
-use Rattle.forlopp_chain.specs.Chains.{ChainMap, NoneEmpty, chain_at, put}
+use Rattle.job_types.specs.Forlopps.{chain_at, with_chain, with_dead}
+use Rattle.forlopp_chain.specs.Kept.{chains_of, dead_of}
 
--- a chain as a map keeps it
-abbrev pub kept : List Held → Option (List Held)
-kept [] = None
-kept (h ∷ chain) = Some (h ∷ chain)
+-- the order of numbers tells the same of two as the test for equality
+tied : (k q : ℕ) → eq_by_cmp nat_cmp q k ≡ eqb k q
+tied k q = unsigned_tied q k ∙ nat_eq_equiv.symm q k
 
-pub kept_or : (chain : List Held) → unwrap_or (kept chain) [] ≡ chain
-kept_or [] = refl
-kept_or (h ∷ chain) = refl
+found_in : (es : List (ℕ × List Held)) (q : ℕ) → map.find nat_cmp q es ≡ lookup (eqb q) es
+found_in [] q = refl
+found_in (e ∷ es) q = λ i. cond (unsigned_tied q e.0 i) (Some e.1) (found_in es q i)
 
-pub kept_some : (chain : List Held) → kept chain ≢ Some []
-kept_some [] e = cc
-kept_some (h ∷ chain) e = cc
+-- the map has at a number what a look into the table finds
+pub get-chains_of : (es : List (ℕ × List Held)) (q : ℕ) → map.get (chains_of es) q ≡ lookup (eqb q) es
+get-chains_of es q = map.get-from_entries nat_cmp_total es q ∙ found_in es q
 
-kept-unwrap_or : (o : Option (List Held)) → o ≢ Some [] → kept (unwrap_or o []) ≡ o
-kept-unwrap_or None some = refl
-kept-unwrap_or (Some []) some = absurd (some refl)
-kept-unwrap_or (Some (h ∷ chain)) some = refl
+pub chain_at-chains_of : (es : List (ℕ × List Held)) (q : ℕ) → chain_at (chains_of es) q ≡ unwrap_or (lookup (eqb q) es) []
+chain_at-chains_of es q = ap (λ o. unwrap_or o []) (get-chains_of es q)
 
-pub get-put : (m : ChainMap) (n : ℕ) (chain : List Held) (q : ℕ) → map.get (put m n chain) q ≡ cond (eqb q n) (kept chain) (map.get m q)
-get-put m n [] q = map.get-remove nat_cmp_total m n q ∙ ap (λ b. cond b None (map.get m q)) (unsigned_tied q n)
-get-put m n (h ∷ chain) q = map.get-insert nat_cmp_total m n (h ∷ chain) q ∙ ap (λ b. cond b (Some (h ∷ chain)) (map.get m q)) (unsigned_tied q n)
+-- two tables in which a look finds the same stand for one map
+pub same_chains : (es fs : List (ℕ × List Held)) → ((q : ℕ) → lookup (eqb q) fs ≡ lookup (eqb q) es) → chains_of fs ≡ chains_of es
+same_chains es fs same = map.same_map nat_cmp_total nat_cmp-IsAntisymmetric _ _ (λ q. get-chains_of fs q ∙ same q ∙ sym (get-chains_of es q))
 
-chosen : (b : Bool) (chain : List Held) (o : Option (List Held)) → unwrap_or (cond b (kept chain) o) [] ≡ cond b chain (unwrap_or o [])
-chosen true chain o = kept_or chain
-chosen false chain o = refl
+-- a number got a chain that has records
+pub chains_put : (es fs : List (ℕ × List Held)) (n : ℕ) (chain : List Held) → chain ≢ [] → ((q : ℕ) → lookup (eqb q) fs ≡ cond (eqb n q) (Some chain) (lookup (eqb q) es))
+    → chains_of fs ≡ with_chain (chains_of es) n chain
+chains_put es fs n [] some put = absurd (some refl)
+chains_put es fs n (h ∷ chain) some put = map.same_map nat_cmp_total nat_cmp-IsAntisymmetric _ _ (λ q.
+    get-chains_of fs q ∙ put q
+    ∙ sym (map.get-insert nat_cmp_total (chains_of es) n (h ∷ chain) q ∙ (λ i. cond (tied n q i) (Some (h ∷ chain)) (get-chains_of es q i))))
 
-pub chain_at-put : (m : ChainMap) (n : ℕ) (chain : List Held) (q : ℕ) → chain_at (put m n chain) q ≡ cond (eqb q n) chain (chain_at m q)
-chain_at-put m n chain q = ap (λ o. unwrap_or o []) (get-put m n chain q) ∙ chosen (eqb q n) chain (map.get m q)
+-- the chain of a number went
+pub chains_without : (es fs : List (ℕ × List Held)) (n : ℕ) (chain : List Held) → chain ≡ [] → ((q : ℕ) → lookup (eqb q) fs ≡ cond (eqb n q) None (lookup (eqb q) es))
+    → chains_of fs ≡ with_chain (chains_of es) n chain
+chains_without es fs n (h ∷ chain) none went = absurd (cc)
+chains_without es fs n [] none went = map.same_map nat_cmp_total nat_cmp-IsAntisymmetric _ _ (λ q.
+    get-chains_of fs q ∙ went q
+    ∙ sym (map.get-remove nat_cmp_total (chains_of es) n q ∙ (λ i. cond (tied n q i) None (get-chains_of es q i))))
 
--- two maps that keep the same chains are one
-pub same_chains : (m k : ChainMap) → ((q : ℕ) → map.get m q ≡ map.get k q) → m ≡ k
-same_chains m k same = map.same_map nat_cmp_total map.nat_cmp-IsAntisymmetric m k same
+any_in : (ns : List ℕ) (q : ℕ) → list_any (eq_by_cmp nat_cmp q) ns ≡ list_any (eqb q) ns
+any_in [] q = refl
+any_in (n ∷ ns) q = λ i. unsigned_tied q n i || any_in ns q i
 
-again : (b : Bool) (x y z : Option (List Held)) → cond b x (cond b y z) ≡ cond b x z
-again true x y z = refl
-again false x y z = refl
+-- the set has the numbers that a look into the table finds
+pub contains-from_table : (ns : List ℕ) (q : ℕ) → set.contains (set.from_list {R = nat_cmp} ns) q ≡ list_any (eqb q) ns
+contains-from_table ns q = set.contains-from_list nat_cmp_total ns q ∙ any_in ns q
 
--- the chain that is put last counts
-pub put-put : (m : ChainMap) (n : ℕ) (first last : List Held) → put (put m n first) n last ≡ put m n last
-put-put m n first last =
-    same_chains _ _ (λ q. get-put (put m n first) n last q ∙ ap (cond (eqb q n) (kept last)) (get-put m n first q) ∙ again (eqb q n) _ _ _ ∙ sym (get-put m n last q))
+chosen : (b x : Bool) → cond b true x ≡ (b || x)
+chosen true x = refl
+chosen false x = refl
 
--- the chain that is there already changes nothing
-pub put-same : (m : ChainMap) (n : ℕ) (chain : List Held) → NoneEmpty m → chain ≡ chain_at m n → put m n chain ≡ m
-put-same m n chain some is = same_chains _ _ (λ q. get-put m n chain q ∙ at q (eqb q n) refl)
-  where
-    at : (q : ℕ) (b : Bool) → eqb q n ≡ b → cond b (kept chain) (map.get m q) ≡ map.get m q
-    at q true e = ap kept is ∙ kept-unwrap_or (map.get m n) (some n) ∙ ap (map.get m) (sym (eqb-true q n e))
-    at q false e = refl
+-- a table in which a look finds the same
+pub same_dead : (below : ℕ) (ns ms : List ℕ) → ((q : ℕ) → list_any (eqb q) ms ≡ list_any (eqb q) ns) → dead_of below ms ≡ dead_of below ns
+same_dead below ns ms same = ap (λ (s : set.FinSet nat_cmp). record { below = below; others = s })
+    (set.same_set nat_cmp_total nat_cmp-IsAntisymmetric _ _ (λ q. contains-from_table ms q ∙ same q ∙ sym (contains-from_table ns q)))
 
-pub NoneEmpty-empty : NoneEmpty map.empty
-NoneEmpty-empty n e = let none : None ≡ Some [] = sym (map.get-empty nat_cmp n) ∙ e in cc
-
-pub NoneEmpty-put : (m : ChainMap) (n : ℕ) (chain : List Held) → NoneEmpty m → NoneEmpty (put m n chain)
-NoneEmpty-put m n chain some q e = at (eqb q n) (sym (get-put m n chain q) ∙ e)
-  where
-    at : (b : Bool) → cond b (kept chain) (map.get m q) ≢ Some []
-    at true e = kept_some chain e
-    at false e = some q e
+-- a table got a number
+pub dead_added : (below : ℕ) (ns ms : List ℕ) (n : ℕ) → ((q : ℕ) → list_any (eqb q) ms ≡ cond (eqb n q) true (list_any (eqb q) ns)) → dead_of below ms ≡ with_dead (dead_of below ns) n
+dead_added below ns ms n added = ap (λ (s : set.FinSet nat_cmp). record { below = below; others = s })
+    (set.same_set nat_cmp_total nat_cmp-IsAntisymmetric _ _ (λ q.
+    contains-from_table ms q ∙ added q ∙ chosen (eqb n q) (list_any (eqb q) ns)
+    ∙ sym (set.contains-insert nat_cmp_total (set.from_list ns) n q ∙ (λ i. tied n q i || contains-from_table ns q i))))

@@ -1,5 +1,3 @@
-pub mod Chain
 pub mod Chains
 pub mod Codes
-pub mod Deaths
-pub mod Holdings
+pub mod Kept

@@ -1,82 +1,91 @@
 // The numbers that are dead.
-ghost use Rattle.std.specs.Prelude.{◌≡◌, ◌≢◌, ◌+◌, ◌-◌, ◌<◌, ◌≤◌, false, is_ok, IfErr, OnOk};
-ghost use Rattle.std.specs.FinSet as set;
-ghost use Rattle.std.specs.List.Sorted.{IsNonDecreasing};
-ghost use Rattle.forlopp_chain.specs.Deaths.{IsGap, numbers_of};
+ghost use Rattle.std.specs.Prelude.{◌≡◌, ◌+◌, ◌<◌, ◌≤◌, ◌&&◌, nat_lt, OnOk};
+ghost use Rattle.job_types.specs.Forlopps.{dead_below, is_dead, none_dead, with_dead};
 
 use plex_num::Memory;
 use std::alloc::Global;
+use std::collections::HashSet;
 use std::marker::Model;
 
-/// A set of numbers, which rise in the list.
-#[derive(Drop)]
-pub struct Dead {
-    numbers: Vec<u64>,
+/// All numbers from 1 up to a bound, and some others.
+pub struct DeadNumbers {
+    below: u64,
+    others: HashSet<u64>,
 }
 
-impl Model for Dead {
-    ghost use Rattle.std.specs.Prelude.{◌-◌};
+impl Drop for DeadNumbers {
+    fn drop(self) {
+        let DeadNumbers {
+            below: _,
+            others: _,
+        } = self;
+    }
+}
+
+impl Model for DeadNumbers {
     ghost use Rattle.std.specs.Coded.{codes};
-    ghost use Rattle.std.specs.List.Sorted.{IsNonDecreasing};
-    ghost use Rattle.std.specs.Vec.{vec_len, vec_capacity};
+    ghost use Rattle.std.specs.HashSet.{keys, spare};
     ghost use Rattle.forlopp_chain.specs.Codes.{dead_code};
-    ghost use Rattle.forlopp_chain.specs.Deaths.{Dying, numbers_of};
+    ghost use Rattle.forlopp_chain.specs.Kept.{Dying, dead_of};
 
     ghost Value = { Dying };
 
     ghost coded = { Prim.hlevel (codes, dead_code) };
 
-    ghost view = { λ d. record { numbers = numbers_of d.numbers.items; room = vec_capacity d.numbers - vec_len d.numbers } };
-
-    ghost invariant = { λ d. IsNonDecreasing d.numbers.items };
+    ghost view = { λ d. record { dead = dead_of d.below (keys d.others); room = spare d.others } };
 }
 
-impl Dead {
+impl DeadNumbers {
     /// No number; it takes no memory.
-    pub fn new(alloc: Global) -> Dead
-        ensures { result.numbers ≡ set.empty }
+    pub fn new(alloc: Global) -> DeadNumbers
+        ensures { result.dead ≡ none_dead }
     {
-        Dead {
-            numbers: Vec::new(alloc),
+        DeadNumbers {
+            below: 1,
+            others: HashSet::new(alloc),
         }
     }
 
-    /// Makes room for that many more numbers.
-    pub fn reserve(&mut self, more: usize) -> Result<(), Memory>
-        ensures numbers { self.new.numbers ≡ self.old.numbers }
-        ensures room { OnOk result (more ≤ self.new.room) }
+    /// Makes room for one number more.
+    pub fn reserve(&mut self) -> Result<(), Memory>
+        ensures dead { self.new.dead ≡ self.old.dead }
+        ensures room { OnOk result (0 < self.new.room) }
+        ensures no_less { self.old.room ≤ self.new.room }
     {
-        match self.numbers.reserve(more) {
+        match self.others.reserve(1) {
             Ok(()) => Ok(()),
             Err(_) => Err(Memory),
         }
     }
 
-    /// Whether a number is among them.
+    /// Whether a number is dead.
     pub fn contains(&self, number: u64) -> bool
-        ensures { result ≡ set.contains self.now.numbers number }
+        ensures { result ≡ is_dead self.now.dead number }
     {
-        place_of(&self.numbers, number).is_ok()
+        is_below(self.below, number) || self.others.contains(&number)
     }
 
-    /// Puts a number among them that is new; there must be room for it.
+    /// One number more is dead; there must be room for it.
     pub fn add(&mut self, number: u64)
-        requires room { 0 < self.old.room }
-        requires fresh { set.contains self.old.numbers number ≡ false }
-        ensures numbers { self.new.numbers ≡ set.insert self.old.numbers number }
-        ensures room { self.new.room ≡ self.old.room - 1 }
+        requires { 0 < self.old.room }
+        ensures dead { self.new.dead ≡ with_dead self.old.dead number }
+        ensures room { self.old.room ≤ self.new.room + 1 }
     {
-        if let Err(place) = place_of(&self.numbers, number) {
-            self.numbers.insert(place, number).unwrap();
-        }
+        let _ = self.others.insert(number).unwrap();
+    }
+
+    /// All numbers from 1 up to this one are dead besides.
+    pub fn add_below(&mut self, next: u64)
+        ensures dead { self.new.dead ≡ dead_below self.old.dead next }
+        ensures room { self.new.room ≡ self.old.room }
+    {
+        self.below = self.below.max(next);
     }
 }
 
-/// Where the number stands in a list that rises, or else where it would.
-fn place_of(numbers: &[u64], number: u64) -> Result<usize, usize>
-    requires { IsNonDecreasing numbers.now }
-    ensures found { is_ok result ≡ set.contains (numbers_of numbers.now) number }
-    ensures gap { IfErr result (IsGap numbers.now number) }
+/// Whether a number lies below the bound and is not 0.
+fn is_below(bound: u64, number: u64) -> bool
+    ensures { result ≡ (nat_lt 0 number && nat_lt number bound) }
 {
-    numbers.binary_search(&number)
+    0 < number && number < bound
 }

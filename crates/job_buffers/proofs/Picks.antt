@@ -4,7 +4,7 @@ use mathlib.Core.Bool.{true≢false}
 use Rattle.std.specs.Option.{option_copied}
 use denote.Ref.{Bor}
 use Rattle.job_types.specs.declared.job.Job.{Job}
-use Rattle.job_buffers.specs.Waiting.{Waiting, first_of, nobody, pick}
+use Rattle.job_types.specs.Waiting.{Waiting, first_of, nobody, pick}
 
 all_empty : (a b c d : List Job) → first_of a b c d ≡ None → record { a = a; b = b; c = c; d = d } ≡ nobody
 all_empty (j ∷ a) b c d none = absurd (cc)

@@ -1,8 +1,8 @@
 // The four lists.
-ghost use Rattle.std.specs.Prelude.{◌≡◌, ◌-◌, ◌<◌, ◌≤◌, ◌↔◌, IsNone, OnOk, MatchResult};
+ghost use Rattle.std.specs.Prelude.{◌≡◌, ◌+◌, ◌<◌, ◌≤◌, ◌↔◌, IsNone, OnOk, MatchResult};
 ghost use Rattle.std.specs.Option.{option_copied};
-ghost use Rattle.job_buffers.specs.Room.{NoLess, room_at, with_room};
-ghost use Rattle.job_buffers.specs.Waiting.{after_pick, count_of, joins, nobody, pick, without};
+ghost use Rattle.job_buffers.specs.Room.{HasOthersOf, NoLess, room_at, without_one};
+ghost use Rattle.job_types.specs.Waiting.{after_pick, count_of, joins, nobody, others, pick, waiting_count};
 
 use crate::queue::Queue;
 use job_types::Job;
@@ -32,13 +32,13 @@ impl Drop for Buffers {
 
 impl Model for Buffers {
     ghost use Rattle.std.specs.Coded.{codes};
-    ghost use Rattle.job_buffers.specs.Room.{Buffered};
+    ghost use Rattle.job_buffers.specs.Room.{Buffered, buffered};
 
     ghost Value = { Buffered };
 
     ghost coded = { Prim.hlevel codes };
 
-    ghost view = { λ w. record { waiting = record { a = w.a.jobs; b = w.b.jobs; c = w.c.jobs; d = w.d.jobs }; room = record { a = w.a.room; b = w.b.room; c = w.c.room; d = w.d.room } } };
+    ghost view = { λ w. buffered w.a w.b w.c w.d };
 }
 
 impl Buffers {
@@ -59,7 +59,7 @@ impl Buffers {
         ensures waiting { self.new.waiting ≡ self.old.waiting }
         ensures room { OnOk result (more ≤ room_at level self.new.room) }
         ensures no_less { room_at level self.old.room ≤ room_at level self.new.room }
-        ensures others { self.new.room ≡ with_room level (room_at level self.new.room) self.old.room }
+        ensures others { HasOthersOf level self.old.room self.new.room }
     {
         match level {
             Level::A => self.a.reserve(more),
@@ -71,8 +71,11 @@ impl Buffers {
 
     /// The job joins the list of its level; where memory is refused, it is dropped and all lists stay as they were.
     pub fn push(&mut self, job: Job) -> Result<(), Memory>
-        ensures waiting { MatchResult result (λ _. self.new.waiting ≡ joins job self.old.waiting) (λ _. self.new.waiting ≡ self.old.waiting) }
-        ensures others { self.new.room ≡ with_room job.level (room_at job.level self.new.room) self.old.room }
+        ensures waiting { MatchResult result
+            (λ _. self.new.waiting ≡ joins job self.old.waiting)
+            (λ _. self.new.waiting ≡ self.old.waiting) }
+        ensures room { room_at job.level self.old.room ≤ room_at job.level self.new.room + 1 }
+        ensures others { HasOthersOf job.level self.old.room self.new.room }
     {
         match job.level {
             Level::A => self.a.push(job),
@@ -86,7 +89,7 @@ impl Buffers {
     pub fn push_reserved(&mut self, job: Job)
         requires { 0 < room_at job.level self.old.room }
         ensures waiting { self.new.waiting ≡ joins job self.old.waiting }
-        ensures room { self.new.room ≡ with_room job.level (room_at job.level self.old.room - 1) self.old.room }
+        ensures room { self.new.room ≡ without_one job.level self.old.room }
     {
         match job.level {
             Level::A => self.a.push_reserved(job),
@@ -135,13 +138,26 @@ impl Buffers {
     /// Removes the jobs of a forlopp from all lists, and tells how many went. The others keep their order.
     pub fn remove_forlopp(&mut self, forlopp: u64) -> u64
         ensures count { result ≡ count_of forlopp self.old.waiting }
-        ensures left { self.new.waiting ≡ without forlopp self.old.waiting }
+        ensures left { self.new.waiting ≡ others forlopp self.old.waiting }
         ensures room { NoLess self.old.room self.new.room }
     {
         let of_a = self.a.remove_forlopp(forlopp);
         let of_b = self.b.remove_forlopp(forlopp);
         let of_c = self.c.remove_forlopp(forlopp);
         let of_d = self.d.remove_forlopp(forlopp);
+        of_a + of_b + of_c + of_d
+    }
+
+    /// Removes all jobs from all lists, and tells how many went.
+    pub fn remove_all(&mut self) -> u64
+        ensures count { result ≡ waiting_count self.old.waiting }
+        ensures left { self.new.waiting ≡ nobody }
+        ensures room { NoLess self.old.room self.new.room }
+    {
+        let of_a = self.a.remove_all();
+        let of_b = self.b.remove_all();
+        let of_c = self.c.remove_all();
+        let of_d = self.d.remove_all();
         of_a + of_b + of_c + of_d
     }
 }

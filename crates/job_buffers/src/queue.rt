@@ -1,7 +1,7 @@
 // The jobs of one level that wait.
 ghost use Rattle.std.specs.Prelude.{◌≡◌, ◌+◌, ◌-◌, ◌<◌, ◌≤◌, ◌^◌, ◌++◌, ◌∷◌, [], length, slice_get, drop, OnOk, count_by, MatchResult};
 ghost use Rattle.std.specs.Option.{option_copied};
-ghost use Rattle.job_buffers.specs.Waiting.{is_of, without_in};
+ghost use Rattle.job_types.specs.Waiting.{is_of, others_in};
 
 use job_types::Job;
 use plex_num::Memory;
@@ -24,16 +24,16 @@ impl Drop for Queue {
 }
 
 impl Model for Queue {
-    ghost use Rattle.std.specs.Prelude.{ℕ, ◌<◌, ◌-◌, ◌^◌, min, length};
+    ghost use Rattle.std.specs.Prelude.{◌<◌, ◌-◌, ◌^◌, min, length};
     ghost use Rattle.std.specs.VecDeque.{deque_capacity};
     ghost use Rattle.std.specs.Coded.{codes};
-    ghost use Rattle.job_buffers.specs.Room.{Queued};
+    ghost use Rattle.job_buffers.specs.Room.{Queued, queued};
 
     ghost Value = { Queued };
 
     ghost coded = { Prim.hlevel codes };
 
-    ghost view = { λ q. record { jobs = q.jobs.items; room = min (deque_capacity q.jobs) (2 ^ 62 - 1) - length q.jobs.items } };
+    ghost view = { λ q. queued q.jobs.items (min (deque_capacity q.jobs) (2 ^ 62 - 1)) };
 
     ghost invariant = { λ q. length q.jobs.items < 2 ^ 62 };
 }
@@ -65,7 +65,10 @@ impl Queue {
 
     /// The job stands last; where memory is refused, it is dropped and the list stays as it was.
     pub fn push(&mut self, job: Job) -> Result<(), Memory>
-        ensures { MatchResult result (λ _. self.new.jobs ≡ self.old.jobs ++ job ∷ []) (λ _. self.new.jobs ≡ self.old.jobs) }
+        ensures jobs { MatchResult result
+            (λ _. self.new.jobs ≡ self.old.jobs ++ job ∷ [])
+            (λ _. self.new.jobs ≡ self.old.jobs) }
+        ensures room { self.old.room ≤ self.new.room + 1 }
     {
         self.reserve(1)?;
         self.push_reserved(job);
@@ -101,11 +104,23 @@ impl Queue {
     pub fn remove_forlopp(&mut self, forlopp: u64) -> u64
         ensures count { result ≡ count_by (is_of forlopp) self.old.jobs }
         ensures small { result < 2 ^ 62 }
-        ensures left { self.new.jobs ≡ without_in forlopp self.old.jobs }
+        ensures left { self.new.jobs ≡ others_in forlopp self.old.jobs }
         ensures room { self.old.room ≤ self.new.room }
     {
         let before = self.jobs.len();
         self.jobs.retain(|job| job.forlopp != forlopp);
         (before - self.jobs.len()) as u64
+    }
+
+    /// Removes all jobs, and tells how many went.
+    pub fn remove_all(&mut self) -> u64
+        ensures count { result ≡ length self.old.jobs }
+        ensures small { result < 2 ^ 62 }
+        ensures left { self.new.jobs ≡ [] }
+        ensures room { self.old.room ≤ self.new.room }
+    {
+        let count = self.jobs.len();
+        self.jobs.clear();
+        count as u64
     }
 }

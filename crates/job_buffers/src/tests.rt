@@ -76,6 +76,11 @@ fn a_forlopp_leaves_all_lists(rt: HostRuntime) -> Result<(), Fail> {
     ] {
         assert_eq!(rt; buffers.take().map(|job| job.entry), entry, "{case}");
     }
+    for (entry, level) in [(7, Level::D), (8, Level::A)] {
+        buffers.push(job(entry, level, 1))?;
+    }
+    assert_eq!(rt; buffers.remove_all(), 2, "all that wait");
+    assert!(rt; buffers.pick().is_none(), "nobody is left");
     Ok(())
 }
 

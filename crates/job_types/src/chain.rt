@@ -1,6 +1,7 @@
 ghost use Rattle.std.specs.Prelude.{◌≡◌, ◌<◌, ◌≤◌, ◌++◌, ◌∷◌, [], List, length, remove, slice_get, Some};
 
 use arrayvec::ArrayVec;
+use plex_limits::MOST_HELD;
 use std::marker::Model;
 
 /// A record that a forlopp holds: the number of its file, and its own number in the file, from 0.
@@ -14,7 +15,7 @@ pub struct Held {
 /// None of its calls takes memory.
 #[derive(Drop)]
 pub struct Chain {
-    held: ArrayVec<Held, 64>,
+    held: ArrayVec<Held, MOST_HELD>,
 }
 
 impl Model for Chain {
@@ -38,7 +39,7 @@ impl Chain {
 
     /// Appends a record; there must be room for it.
     pub fn push(&mut self, item: Held)
-        requires { length self.old < 64 }
+        requires { length self.old < MOST_HELD }
         ensures { self.new ≡ self.old ++ item ∷ [] }
     {
         self.held.push(item);
@@ -53,10 +54,27 @@ impl Chain {
         self.held.remove(i)
     }
 
+    /// Forgets all records, in the time that it takes to drop them.
+    pub fn clear(&mut self)
+        ensures { self.new ≡ [] }
+    {
+        self.held.clear();
+    }
+
+    /// Forgets all records, and has those of another chain.
+    pub fn copy_from(&mut self, other: &Chain)
+        ensures { self.new ≡ other.now }
+    {
+        self.clear();
+        for held in other.held.as_slice() {
+            self.push(*held);
+        }
+    }
+
     /// The records.
     pub fn as_slice(&self) -> &[Held]
         ensures items { result.now ≡ self.now }
-        ensures room { length self.now ≤ 64 }
+        ensures room { length self.now ≤ MOST_HELD }
     {
         self.held.as_slice()
     }

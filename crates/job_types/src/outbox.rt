@@ -1,6 +1,7 @@
 ghost use Rattle.std.specs.Prelude.{◌≡◌, ◌<◌, ◌≤◌, ◌++◌, ◌∷◌, [], List, length, remove, slice_get, Some};
 
 use arrayvec::ArrayVec;
+use plex_limits::MOST_SENT;
 use plex_num::{Level, Values};
 use std::marker::Model;
 
@@ -49,7 +50,7 @@ impl Default for Sent {
 /// The signals that a job sent, in order: at most 255, which contracts see as a list. None of its calls takes memory.
 #[derive(Drop)]
 pub struct Outbox {
-    sent: ArrayVec<Sent, 255>,
+    sent: ArrayVec<Sent, MOST_SENT>,
 }
 
 impl Model for Outbox {
@@ -73,7 +74,7 @@ impl Outbox {
 
     /// Appends a signal; there must be room for it.
     pub fn push(&mut self, item: Sent)
-        requires { length self.old < 255 }
+        requires { length self.old < MOST_SENT }
         ensures { self.new ≡ self.old ++ item ∷ [] }
     {
         self.sent.push(item);
@@ -88,10 +89,17 @@ impl Outbox {
         self.sent.remove(i)
     }
 
+    /// Forgets all signals, in the time that it takes to drop them.
+    pub fn clear(&mut self)
+        ensures { self.new ≡ [] }
+    {
+        self.sent.clear();
+    }
+
     /// The signals.
     pub fn as_slice(&self) -> &[Sent]
         ensures items { result.now ≡ self.now }
-        ensures room { length self.now ≤ 255 }
+        ensures room { length self.now ≤ MOST_SENT }
     {
         self.sent.as_slice()
     }

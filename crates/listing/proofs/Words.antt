@@ -143,3 +143,6 @@ pub goes_bad : (bytes rest word after : List ℕ) (operands : List (Option ℕ))
 goes_bad bytes rest word after operands g next read words numerals few so =
     let left = left_over bytes rest word after operands words g next numerals so in
     true≢false (sym left.1 ∙ numeral_none (is_numeral word) (number_of word) read)
+
+-- what a loop over the words uses
+pub ruleset words_parted = (goes_begin, goes_more, goes_end, goes_full, goes_bad)

@@ -15,7 +15,8 @@ use Rattle.listing.specs.Listing.{CodeFits, IsListing, ended, first_line, inner_
 -- the lines of a text, each with its LF, and what follows the last LF
 unfoldable pub lines_in : List ℕ → List (List ℕ)
 lines_in [] = [] ∷ []
-lines_in (b ∷ rest) = (if nat_eq b 10 then (b ∷ []) ∷ lines_in rest else onto_first b (lines_in rest))
+lines_in (b ∷ rest) =
+    (if nat_eq b 10 then (b ∷ []) ∷ lines_in rest else onto_first b (lines_in rest))
 
 -- a first line, these lines and a last line, as they stand in a text with nothing after them
 abbrev pub whole : List (List ℕ) → List (List ℕ)

@@ -42,4 +42,5 @@ pub record AreParts (line name : List ℕ) (operands : List (Option ℕ)) : Type
 
 -- the bytes are not up to 4 numerals behind spaces
 abbrev pub AreNoOperands : List ℕ → Type 0
-AreNoOperands bytes = (words : List (List ℕ)) → list_all is_numeral words ≡ true → length words ≤ 4 → bytes ≡ flat_map spaced words → ⊥
+AreNoOperands bytes = (words : List (List ℕ)) → list_all is_numeral words ≡ true
+    → length words ≤ 4 → bytes ≡ flat_map spaced words → ⊥

@@ -141,6 +141,8 @@ Reads ks view os (Err Operand) = (length os ≡ length ks) × (AllFit ks os → 
 
 -- the operands of the instruction at a place are read
 abbrev pub ReadsRow : ℕ → List (Option ℕ) → Result Op LineFault → Type 0
-ReadsRow place os (Ok op) = (row op ≡ place) × (os ≡ map (λ n. Some n) (written op).operands) × OpFits op
+ReadsRow place os (Ok op) =
+    (row op ≡ place) × (os ≡ map (λ n. Some n) (written op).operands) × OpFits op
 ReadsRow place os (Err Form) = length os ≢ length (kinds_at place)
-ReadsRow place os (Err Operand) = (length os ≡ length (kinds_at place)) × (AllFit (kinds_at place) os → ⊥)
+ReadsRow place os (Err Operand) =
+    (length os ≡ length (kinds_at place)) × (AllFit (kinds_at place) os → ⊥)

@@ -27,7 +27,8 @@ pub record IsAlike (name : List ℕ) (os : List (Option ℕ)) (op : Op) : Type 0
 abbrev pub ReadsNamed : List ℕ → List (Option ℕ) → Result Op LineFault → Type 0
 ReadsNamed name os (Ok op) = IsNamed name os op
 ReadsNamed name os (Err Form) = (op : Op) → IsAlike name os op → ⊥
-ReadsNamed name os (Err Operand) = ((op : Op) × IsAlike name os op) × ((op : Op) → IsNamed name os op → ⊥)
+ReadsNamed name os (Err Operand) =
+    ((op : Op) × IsAlike name os op) × ((op : Op) → IsNamed name os op → ⊥)
 
 -- the operands of the entry i are read
 abbrev pub ReadsAddress : ℕ → List (Option ℕ) → Result ℕ LineFault → Type 0
@@ -44,12 +45,14 @@ pub record IsEntry (i : ℕ) (at_entries : Bool) (name : List ℕ) (os : List (O
 
 -- they are neither those of the entry i, whatever its address is, nor as many as those of an instruction of the name
 pub record AreStrange (i : ℕ) (at_entries : Bool) (name : List ℕ) (os : List (Option ℕ)) : Type 0 where
-  pub entry : (address : Option ℕ) → at_entries ≡ true → name ≡ codes "ENTRY" → os ≢ Some i ∷ address ∷ []
+  pub entry : (address : Option ℕ) → at_entries ≡ true → name ≡ codes "ENTRY"
+      → os ≢ Some i ∷ address ∷ []
   pub op : (op : Op) → IsAlike name os op → ⊥
 
 -- they are, but one is out of its range
 pub record AreOutside (i : ℕ) (at_entries : Bool) (name : List ℕ) (os : List (Option ℕ)) : Type 0 where
-  pub form : ((at_entries ≡ true) × (name ≡ codes "ENTRY") × (os ≡ Some i ∷ None ∷ [])) ⊎ ((op : Op) × IsAlike name os op)
+  pub form : ((at_entries ≡ true) × (name ≡ codes "ENTRY") × (os ≡ Some i ∷ None ∷ []))
+      ⊎ ((op : Op) × IsAlike name os op)
   pub entry : (address : ℕ) → name ≡ codes "ENTRY" → os ≢ Some i ∷ Some address ∷ []
   pub op : (op : Op) → IsNamed name os op → ⊥
 
@@ -80,12 +83,15 @@ fault_at Operand l = BadOperand l
 
 -- a line that is not the last is read behind i entries, where entries may stand only if all lines so far are entries
 abbrev pub ReadsStatement : ℕ → Bool → List ℕ → Result Statement LineFault → Type 0
-ReadsStatement i at_entries line (Ok (Entry address)) = (at_entries ≡ true) × IsNumber address × (line ≡ entry_line i address)
+ReadsStatement i at_entries line (Ok (Entry address)) =
+    (at_entries ≡ true) × IsNumber address × (line ≡ entry_line i address)
 ReadsStatement i at_entries line (Ok (Instruction op)) = OpFits op × (line ≡ op_line op)
 ReadsStatement i at_entries line (Err Form) = HasNoForm i at_entries line
 ReadsStatement i at_entries line (Err Operand) = HasBadNumber i at_entries line
 
 -- instructions and entries with one more
 abbrev pub Adds : Statement → List Op → List ℕ → List Op → List ℕ → Type 0
-Adds (Entry address) ops entries new_ops new_entries = (new_ops ≡ ops) × (new_entries ≡ entries ++ address ∷ [])
-Adds (Instruction op) ops entries new_ops new_entries = (new_ops ≡ ops ++ op ∷ []) × (new_entries ≡ entries)
+Adds (Entry address) ops entries new_ops new_entries =
+    (new_ops ≡ ops) × (new_entries ≡ entries ++ address ∷ [])
+Adds (Instruction op) ops entries new_ops new_entries =
+    (new_ops ≡ ops ++ op ∷ []) × (new_entries ≡ entries)

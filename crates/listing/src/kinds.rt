@@ -3,6 +3,7 @@ ghost use Rattle.std.specs.Prelude.{◌≡◌, ◌<◌, ◌≤◌, ℕ, Some, []
 ghost use Rattle.listing.specs.Rows.{Fits, Kind, Register, Local, Place, Number, Level, Sending, Width, Reads, InRange};
 
 use crate::fault::LineFault;
+use plex_limits::MOST_VALUES;
 
 /// A number below 2^32.
 pub fn number(operand: Option<u32>) -> Result<u32, LineFault>
@@ -39,7 +40,7 @@ pub fn place(operand: Option<u32>) -> Result<u8, LineFault>
     ensures { Reads (Place ∷ []) (λ k. k ∷ []) (operand ∷ []) result }
 {
     match operand {
-        Some(k) if k < 8 => Ok(k as u8),
+        Some(k) if k < MOST_VALUES as u32 => Ok(k as u8),
         _ => Err(LineFault::Operand),
     }
 }

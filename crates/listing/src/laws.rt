@@ -27,6 +27,8 @@ pub fn lines_are_the_text()
 
 /// A fault is at one of the lines of the text, or behind its last LF.
 pub fn faults_are_at_lines()
-    ensures bad_line { (text : List ℕ) (l : ℕ) → HasBadLine text l → (1 ≤ l) × (l ≤ length (lines_in text)) }
-    ensures bad_operand { (text : List ℕ) (l : ℕ) → HasBadOperand text l → (1 ≤ l) × (l ≤ length (lines_in text)) }
+    ensures bad_line { (text : List ℕ) (l : ℕ) → HasBadLine text l →
+        (1 ≤ l) × (l ≤ length (lines_in text)) }
+    ensures bad_operand { (text : List ℕ) (l : ℕ) → HasBadOperand text l →
+        (1 ≤ l) × (l ≤ length (lines_in text)) }
 {}

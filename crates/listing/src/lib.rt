@@ -17,8 +17,6 @@ mod read;
 mod read_line;
 mod rows;
 mod statement;
-#[cfg(test)]
-mod tests;
 
 pub use fault::ListFault;
 pub use laws::{

@@ -76,19 +76,22 @@ pub fn register_width(operands: &[Option<u32>]) -> Result<(u8, u8), LineFault>
 }
 
 pub fn load_indexed(operands: &[Option<u32>]) -> Result<(u8, u32, u32, u8), LineFault>
-    ensures { Reads (Register ∷ Number ∷ Number ∷ Register ∷ []) (λ v. v.0 ∷ v.1 ∷ v.2 ∷ v.3 ∷ []) operands.now result }
+    ensures { Reads (Register ∷ Number ∷ Number ∷ Register ∷ [])
+        (λ v. v.0 ∷ v.1 ∷ v.2 ∷ v.3 ∷ []) operands.now result }
 {
     read!(operands, a: register, b: number, c: number, d: register)
 }
 
 pub fn store_indexed(operands: &[Option<u32>]) -> Result<(u32, u32, u8, u8), LineFault>
-    ensures { Reads (Number ∷ Number ∷ Register ∷ Register ∷ []) (λ v. v.0 ∷ v.1 ∷ v.2 ∷ v.3 ∷ []) operands.now result }
+    ensures { Reads (Number ∷ Number ∷ Register ∷ Register ∷ [])
+        (λ v. v.0 ∷ v.1 ∷ v.2 ∷ v.3 ∷ []) operands.now result }
 {
     read!(operands, a: number, b: number, c: register, d: register)
 }
 
 pub fn send(operands: &[Option<u32>]) -> Result<(u8, u32, u8), LineFault>
-    ensures { Reads (Sending ∷ Number ∷ Level ∷ []) (λ v. v.0 ∷ v.1 ∷ v.2 ∷ []) operands.now result }
+    ensures { Reads (Sending ∷ Number ∷ Level ∷ [])
+        (λ v. v.0 ∷ v.1 ∷ v.2 ∷ []) operands.now result }
 {
     read!(operands, a: sending, b: number, c: level)
 }

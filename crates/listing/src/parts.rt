@@ -33,10 +33,12 @@ pub fn name_and_words(line: &[u8]) -> (&[u8], &[u8])
 }
 
 /// The values of the numerals behind spaces; `None` where there are more than 4, or another word.
-#[tactic(auto, using(crate::proofs::Words::goes_begin, crate::proofs::Words::goes_more, crate::proofs::Words::goes_end, crate::proofs::Words::goes_full, crate::proofs::Words::goes_bad))]
+#[tactic(auto, using(crate::proofs::Words::words_parted))]
 pub fn operands(bytes: &[u8]) -> Option<Operands>
     requires { StartsWith 32 bytes.now }
-    ensures { MatchOption result (AreNoOperands bytes.now) (λ operands. AreOperands bytes.now operands.items) }
+    ensures { MatchOption result
+        (AreNoOperands bytes.now)
+        (λ operands. AreOperands bytes.now operands.items) }
 {
     let mut operands = Operands::new();
     let mut rest = bytes;

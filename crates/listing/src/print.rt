@@ -23,7 +23,8 @@ pub fn print_code(alloc: Global, code: &Code) -> Result<Seq<u8>, Memory>
 
 /// The listing of these entries and instructions.
 fn listing(alloc: Global, entries: &[u32], ops: &[Op]) -> Result<Seq<u8>, Memory>
-    ensures told { IfOk result (λ text. text ≡ code_text (record { entries = entries.now; ops = ops.now })) }
+    ensures told { IfOk result (λ text.
+        text ≡ code_text (record { entries = entries.now; ops = ops.now })) }
     ensures numbers { OnOk result (All IsNumber entries.now) }
     ensures few { OnOk result (length entries.now < 2 ^ 64) }
 {

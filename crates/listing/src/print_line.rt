@@ -38,7 +38,8 @@ fn name_at(table: &[Row; 38], place: usize) -> &[u8]
 
 /// Appends a line of a name and numbers after it.
 pub fn add_line(text: &mut Seq<u8>, name: &[u8], numbers: &[u64]) -> Result<(), Memory>
-    ensures { OnOk result (text.new ≡ text.old ++ ended (spoken name.now (map decimal numbers.now))) }
+    ensures { OnOk result
+        (text.new ≡ text.old ++ ended (spoken name.now (map decimal numbers.now))) }
 {
     text.append(name)?;
     add_numbers(text, numbers)?;

@@ -21,8 +21,10 @@ pub fn read_code(alloc: Global, text: &[u8]) -> Result<Code, ListFault>
     requires { length text.now ≤ 2 ^ 24 }
     ensures told { Tells text.now result }
     ensures listing { (code : Code) → IsListing text.now code → IsUnlessMemory result (Ok code) }
-    ensures bad_line { (l : ℕ) → HasBadLine text.now l → IsUnlessMemory result (Err (ListFault.BadLine l)) }
-    ensures bad_operand { (l : ℕ) → HasBadOperand text.now l → IsUnlessMemory result (Err (ListFault.BadOperand l)) }
+    ensures bad_line { (l : ℕ) → HasBadLine text.now l →
+        IsUnlessMemory result (Err (ListFault.BadLine l)) }
+    ensures bad_operand { (l : ℕ) → HasBadOperand text.now l →
+        IsUnlessMemory result (Err (ListFault.BadOperand l)) }
 {
     read_text(alloc, text)
 }

@@ -115,4 +115,7 @@ block_text n i = filled n i (block i)
 
 -- the whole text
 unfoldable pub exchange_text : ℕ → List ℕ
-exchange_text n = flat_map (signal_text n) (range_with_len 1 8) ++ other_signals ++ flat_map (block_text n) (range_with_len 1 8)
+exchange_text n =
+    flat_map (signal_text n) (range_with_len 1 8)
+    ++ other_signals
+    ++ flat_map (block_text n) (range_with_len 1 8)

@@ -1,2 +1,2 @@
 pub mod Spanned
-pub mod Touched
+pub mod Told

@@ -1,4 +1,4 @@
 pub mod Operands
 pub mod Permits
-pub mod Touches
+pub mod Told
 pub mod Listed

@@ -7,7 +7,8 @@ use plex_num::Seq;
 fn copy_word<W: Words>(words: &mut W, from: u32, to: u32)
     requires from { W.may_read words.old from ≡ true }
     requires to { W.may_write words.old to ≡ true }
-    ensures { W.values words.new ≡ slice_set (W.values words.old) to (slice_index (W.values words.old) from) }
+    ensures { W.values words.new
+        ≡ slice_set (W.values words.old) to (slice_index (W.values words.old) from) }
 {
     let value = words.read(from);
     words.write(to, value);

@@ -1,6 +1,6 @@
 ghost use Rattle.std.specs.Prelude.{◌≡◌, ℕ, ◌<◌, ◌^◌, Bool, true, List, Option, slice_index, slice_set};
-ghost use Rattle.machine_code.specs.declared.permit.Touch.{Touch};
-ghost use Rattle.machine_code.specs.Touches.{told_more};
+ghost use Rattle.job_types.specs.declared.touch.Touch.{Touch};
+ghost use Rattle.machine_code.specs.Told.{told_more};
 
 use plex_num::Seq;
 
@@ -26,7 +26,8 @@ pub trait Words {
         requires { may_read self.old word ≡ true }
         ensures value { result ≡ slice_index (values self.old) word }
         ensures values { values self.new ≡ values self.old }
-        ensures allowed { (may_read self.new ≡ may_read self.old) × (may_write self.new ≡ may_write self.old) }
+        ensures allowed { (may_read self.new ≡ may_read self.old)
+            × (may_write self.new ≡ may_write self.old) }
         ensures told { told self.new ≡ told_more (told self.old) (Touch.Load word result) }
         ensures like { like self.old self.new };
 
@@ -34,7 +35,8 @@ pub trait Words {
     fn write(&mut self, word: u32, value: u32)
         requires { may_write self.old word ≡ true }
         ensures values { values self.new ≡ slice_set (values self.old) word value }
-        ensures allowed { (may_read self.new ≡ may_read self.old) × (may_write self.new ≡ may_write self.old) }
+        ensures allowed { (may_read self.new ≡ may_read self.old)
+            × (may_write self.new ≡ may_write self.old) }
         ensures told { told self.new ≡ told_more (told self.old) (Touch.Store word value) }
         ensures like { like self.old self.new };
 

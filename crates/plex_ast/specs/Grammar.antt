@@ -2,7 +2,8 @@
 -- Where `s` is true lines count: each node is on the line of its first token. Where it is false they do not.
 -- The two limits are parameters: `b`, how deep brackets may nest, and `n`, how deep statements that hold statements may.
 -- At 0 none may stand. No definition goes down a tree: each looks at one layer and goes on with a smaller limit.
-use Rattle.std.specs.Prelude.{ℕ, zero, suc, Bool, List}
+use Rattle.std.specs.Prelude.{ℕ, zero, suc, Bool, true, List}
+use Rattle.plex_limits.specs.declared.limits.TheConstants.{MOST_BRACKETS, MOST_NESTED}
 use Rattle.token_grammar.specs.declared.named.Numbered.{Numbered}
 use Rattle.token_grammar.specs.Language.{Lang, word, ◌·◌, on, each, maybe, flag, never, named, numbered, leveled}
 use Rattle.plex_ast.specs.declared.expr.Expr.{Expr}
@@ -21,6 +22,8 @@ use Rattle.plex_ast.specs.declared.expr.Cond.{Cond}
 use Rattle.plex_ast.specs.declared.expr.Exprs.{Exprs}
 use Rattle.plex_ast.specs.declared.stmt.Names.{Names}
 use Rattle.plex_ast.specs.declared.stmt.Reference.{Reference}
+use Rattle.plex_ast.specs.declared.stmt.ReferenceKind.{ReferenceKind}
+use Rattle.plex_ast.specs.declared.stmt.ReferenceKind.TheVariants as references
 use Rattle.plex_ast.specs.declared.stmt.Stmt.{Stmt}
 use Rattle.plex_ast.specs.declared.stmt.StmtKind.{StmtKind, out-StmtKind}
 use Rattle.plex_ast.specs.declared.stmt.StmtKind.TheOpen as open_stmt
@@ -41,7 +44,7 @@ use Rattle.plex_ast.specs.declared.tree.Shape.{Shape}
 use Rattle.plex_ast.specs.declared.tree.ShapeKind.{ShapeKind}
 use Rattle.plex_ast.specs.declared.tree.ShapeKind.TheVariants as shapes
 use Rattle.plex_ast.specs.declared.tree.Tree.{Tree}
-use Rattle.plex_ast.specs.Words.{SIGNAL, SINGLE, COMBINED, BUFFERED, DIRECT, OUTSIDE, DATA, ANSWER, BLOCK, DECLARE, VARIABLE, TEMPORARY, FILE, FORLOPP, FIELD, WIDTH, SIZE, INIT, SURVEY, RECEIVE, SEND, PROGRAM, END, GOTO, IF, THEN, ELSE, FI, CASE, IS, WHEN, DO, OTHERWISE, ESAC, ON, FROM, UPTO, NO, FOR, FIRST, IN, WHERE, ENTER, WITH, REFERENCE, NEW, RETRIEVE, RETURN, TRANSFER, EXIT, SEIZE, FREE, AND, OR, MOD, SEMI, COMMA, OPEN, CLOSE, EQUAL, PLUS, MINUS, TIMES, OVER, BELOW, ABOVE, AT_MOST, AT_LEAST, UNEQUAL}
+use Rattle.plex_ast.specs.Words.{SIGNAL, SINGLE, COMBINED, BUFFERED, DIRECT, OUTSIDE, DATA, ANSWER, BLOCK, DECLARE, VARIABLE, TEMPORARY, FILE, FORLOPP, FIELD, WIDTH, SIZE, INIT, SURVEY, RECEIVE, SEND, PROGRAM, END, GOTO, IF, THEN, ELSE, FI, CASE, IS, WHEN, DO, OTHERWISE, ESAC, ON, FROM, UPTO, NO, FOR, FIRST, IN, WHERE, ENTER, WITH, REFERENCE, NEW, RETRIEVE, RETURN, TRANSFER, EXIT, SEIZE, FREE, AND, OR, MOD, CLEAR, SEMI, COMMA, OPEN, CLOSE, EQUAL, PLUS, MINUS, TIMES, OVER, BELOW, ABOVE, AT_MOST, AT_LEAST, UNEQUAL}
 
 -- expressions: `inner` is what a bracket may hold, `F` a factor, `T` a term
 
@@ -50,6 +53,7 @@ factor_at s inner (open_expr.Number n) = numbered s n
 factor_at s inner (open_expr.Name n) = named s n
 factor_at s inner (open_expr.Field n p) = named s n · (word OPEN · (named s p · word CLOSE))
 factor_at s inner (open_expr.Bracket e) = word OPEN · (inner e · word CLOSE)
+factor_at s inner (open_expr.Reference m) = word REFERENCE · named s m
 
 abbrev pub factor_with : Bool → (Expr → Lang) → Factor → Lang
 factor_with s inner f = on s f.line (factor_at s inner (out-FactorKind f.kind))
@@ -113,8 +117,12 @@ names s x = on s x.line (word WITH · (named s x.first · each (λ n. word COMMA
 abbrev pub exprs : Bool → ℕ → Exprs → Lang
 exprs s b x = on s x.line (word WITH · (expr s b x.first · each (λ e. word COMMA · expr s b e) x.rest))
 
+abbrev pub reference_at : Bool → ReferenceKind → Lang
+reference_at s (references.Block m) = word REFERENCE · named s m
+reference_at s (references.Held v) = word REFERENCE · (word OPEN · (named s v · word CLOSE))
+
 abbrev pub reference : Bool → Reference → Lang
-reference s x = on s x.line (word REFERENCE · named s x.block)
+reference s x = on s x.line (reference_at s x.kind)
 
 -- statements: `body` is what one that holds statements may hold
 
@@ -176,7 +184,7 @@ abbrev pub field : Bool → Field → Lang
 field s x = on s x.line (word FIELD · (named s x.name · (word WIDTH · (numbered s x.width · (maybe (init s) x.init · word SEMI)))))
 
 abbrev pub decl_at : Bool → DeclKind → Lang
-decl_at s (decls.Variable n w i) = word VARIABLE · (named s n · (word WIDTH · (numbered s w · (maybe (init s) i · word SEMI))))
+decl_at s (decls.Variable n w i clear) = word VARIABLE · (named s n · (word WIDTH · (numbered s w · (maybe (init s) i · (flag (word CLEAR) clear · word SEMI)))))
 decl_at s (decls.Temporary n) = word TEMPORARY · (named s n · word SEMI)
 decl_at s (decls.File forlopp n size fields) = flag (word FORLOPP) forlopp · (word FILE · (named s n · (word SIZE · (numbered s size · (word SEMI · each (field s) fields)))))
 
@@ -208,3 +216,7 @@ signal s x = on s x.line (word SIGNAL · (named s x.name · (shape s x.shape · 
 -- an exchange: brackets at most b deep, statements that hold statements at most n deep
 abbrev pub tree : Bool → ℕ → ℕ → Tree → Lang
 tree s b n x = on s x.line (each (signal s) x.signals · each (block s b n) x.blocks)
+
+-- the tokens are a sentence that spells the tree, within the limits of nesting
+abbrev pub Sentence : Tree → Lang
+Sentence = tree true MOST_BRACKETS MOST_NESTED

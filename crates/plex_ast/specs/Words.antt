@@ -168,6 +168,9 @@ OR = keyword 53
 abbrev pub MOD : List ℕ
 MOD = keyword 54
 
+abbrev pub CLEAR : List ℕ
+CLEAR = keyword 55
+
 -- marks
 abbrev pub SEMI : List ℕ
 SEMI = mark 0

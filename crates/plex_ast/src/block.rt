@@ -1,4 +1,5 @@
 // Blocks.
+use crate::boxed::Boxed;
 use crate::stmt::{Names, Stmt};
 use plex_num::Seq;
 use token_grammar::{Named, Numbered};
@@ -25,11 +26,12 @@ pub struct Decl {
 /// The alternatives of `decl`.
 #[derive(Drop)]
 pub enum DeclKind {
-    /// `VARIABLE name WIDTH number [ INIT number ] ;`
+    /// `VARIABLE name WIDTH number [ INIT number ] [ CLEAR ] ;` where `clear` says whether CLEAR stands there
     Variable {
         name: Named,
         width: Numbered,
         init: Option<Numbered>,
+        clear: bool,
     },
     /// `TEMPORARY name ;`
     Temporary {
@@ -80,9 +82,14 @@ pub struct Item {
 #[derive(Drop)]
 pub enum ItemKind {
     /// `name )`
-    Label { name: Named },
+    Label {
+        name: Named,
+    },
     /// `ENTER name [ names ] ;`
-    Enter { signal: Named, names: Option<Names> },
+    Enter {
+        signal: Named,
+        names: Option<Boxed<Names>>,
+    },
     /// `stmt`
     Stmt(Stmt),
 }

@@ -44,7 +44,7 @@ pub enum Multiplied {
     Mod(Factor),
 }
 
-/// `factor = number | name | name ( name ) | ( expr )`
+/// `factor = number | name | name ( name ) | ( expr ) | REFERENCE name`
 #[derive(Drop)]
 #[cycle(expr)]
 pub struct Factor {
@@ -61,9 +61,16 @@ pub enum FactorKind {
     /// `name`: a variable or a temporary
     Name(Named),
     /// `name ( name )`: a field, and the pointer to its record
-    Field { name: Named, pointer: Named },
+    Field {
+        name: Boxed<Named>,
+        pointer: Boxed<Named>,
+    },
     /// `( expr )`
     Bracket(Boxed<Expr>),
+    /// `REFERENCE name`: the number by which the block is held
+    Reference {
+        block: Named,
+    },
 }
 
 /// `cond = conj { OR conj }`

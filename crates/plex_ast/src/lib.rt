@@ -9,6 +9,7 @@
 mod block;
 mod boxed;
 mod expr;
+mod few;
 mod stmt;
 mod tree;
 pub mod words;
@@ -18,6 +19,7 @@ pub use boxed::Boxed;
 pub use expr::{
     Added, Cond, Conj, Expr, Exprs, Factor, FactorKind, Multiplied, Rel, RelKind, Relation, Term,
 };
-pub use stmt::{Names, Reference, Stmt, StmtKind, When};
+pub use few::push_few;
+pub use stmt::{Names, Reference, ReferenceKind, Stmt, StmtKind, When};
 pub use token_grammar::{Leveled, Named, Numbered};
 pub use tree::{Shape, ShapeKind, Signal, Tree};

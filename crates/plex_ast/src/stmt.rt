@@ -1,4 +1,5 @@
 // Statements.
+use crate::boxed::Boxed;
 use crate::expr::{Cond, Expr, Exprs, Rel};
 use plex_num::Seq;
 use token_grammar::{Named, Numbered};
@@ -11,11 +12,20 @@ pub struct Names {
     pub rest: Seq<Named>,
 }
 
-/// `ref = REFERENCE name`
+/// `ref = REFERENCE name | REFERENCE ( name )`: which of several receivers a signal goes to
 #[derive(Drop)]
 pub struct Reference {
     pub line: u32,
-    pub block: Named,
+    pub kind: ReferenceKind,
+}
+
+/// The alternatives of `ref`.
+#[derive(Drop)]
+pub enum ReferenceKind {
+    /// `REFERENCE name`: this block
+    Block { name: Named },
+    /// `REFERENCE ( name )`: the block that this variable or temporary holds
+    Held { name: Named },
 }
 
 /// `stmt`: a statement, which its alternatives tell apart.
@@ -26,20 +36,20 @@ pub struct Stmt {
     pub kind: StmtKind,
 }
 
-/// The alternatives of `stmt`.
+/// The alternatives of `stmt`. What a short statement lacks stands behind boxes, so that a list of many is small.
 #[derive(Drop)]
 #[cycle(stmt)]
 pub enum StmtKind {
     /// `name = expr ;`
     Assign {
         name: Named,
-        value: Expr,
+        value: Boxed<Expr>,
     },
     /// `name ( name ) = expr ;`
     SetField {
         name: Named,
-        pointer: Named,
-        value: Expr,
+        pointer: Boxed<Named>,
+        value: Boxed<Expr>,
     },
     /// `GOTO name ;`
     Goto {
@@ -47,69 +57,69 @@ pub enum StmtKind {
     },
     /// `IF cond GOTO name ;`
     IfGoto {
-        cond: Cond,
+        cond: Boxed<Cond>,
         label: Named,
     },
     /// `IF cond THEN { stmt } [ ELSE { stmt } ] FI ;`
     If {
-        cond: Cond,
+        cond: Boxed<Cond>,
         first: Seq<Stmt>,
         other: Option<Seq<Stmt>>,
     },
     /// `CASE expr IS { WHEN number DO { stmt } } OTHERWISE DO { stmt } ESAC ;`
     Case {
-        value: Expr,
+        value: Boxed<Expr>,
         whens: Seq<When>,
         otherwise: Seq<Stmt>,
     },
     /// `ON name FROM expr UPTO expr DO { stmt } NO ;`
     On {
-        name: Named,
-        from: Expr,
-        upto: Expr,
+        name: Boxed<Named>,
+        from: Boxed<Expr>,
+        upto: Boxed<Expr>,
         body: Seq<Stmt>,
     },
     /// `FOR FIRST name IN name WHERE name rel expr GOTO name ;`
     ForFirst {
-        name: Named,
-        file: Named,
-        field: Named,
+        name: Boxed<Named>,
+        file: Boxed<Named>,
+        field: Boxed<Named>,
         rel: Rel,
-        value: Expr,
-        label: Named,
+        value: Boxed<Expr>,
+        label: Boxed<Named>,
     },
     /// `SEND name [ ref ] [ exprs ] [ NEW FORLOPP ] ;` where `fresh` says whether NEW FORLOPP stands there
     Send {
-        signal: Named,
-        reference: Option<Reference>,
-        values: Option<Exprs>,
+        signal: Boxed<Named>,
+        reference: Option<Boxed<Reference>>,
+        values: Option<Boxed<Exprs>>,
         fresh: bool,
     },
     /// `RETRIEVE name [ names ] ;`
     Retrieve {
         signal: Named,
-        names: Option<Names>,
+        names: Option<Boxed<Names>>,
     },
     /// `RETURN name [ exprs ] ;`
     Return {
         signal: Named,
-        values: Option<Exprs>,
+        values: Option<Boxed<Exprs>>,
     },
     /// `TRANSFER name [ ref ] ;`
     Transfer {
         signal: Named,
-        reference: Option<Reference>,
+        reference: Option<Boxed<Reference>>,
     },
     /// `SEIZE name IN name ELSE GOTO name ;`
     Seize {
-        name: Named,
-        file: Named,
-        label: Named,
+        name: Boxed<Named>,
+        file: Boxed<Named>,
+        label: Boxed<Named>,
     },
     /// `FREE name IN name ;`
     Free {
-        name: Named,
-        file: Named,
+        name: Boxed<Named>,
+        file: Boxed<Named>,
     },
     /// `EXIT ;`
     Exit,

@@ -125,6 +125,8 @@ pub const OR: u64 = 112;
 
 pub const MOD: u64 = 114;
 
+pub const CLEAR: u64 = 116;
+
 /// `;`
 pub const SEMI: u64 = 7;
 /// `,`

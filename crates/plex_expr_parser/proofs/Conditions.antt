@@ -4,7 +4,7 @@ use Rattle.plex_lexer.specs.declared.token.Token.{Token}
 use Rattle.token_grammar.specs.declared.named.Named.{Named}
 use Rattle.token_grammar.specs.Language.{Lang, word, ◌·◌, each, named, class, mem}
 use Rattle.token_grammar.specs.Reading.{word_of, lined}
-use Rattle.token_grammar.proofs.Exact.{Exact, Exact-word, Exact-pair, Exact-same, Exact-lined, Exact-branch, Exact-many, Exact-after, Exact-weak, Either, Lined, one}
+use Rattle.token_grammar.proofs.Exact.{Exact, Exact-word, Exact-pair, Exact-same, Exact-lined, Exact-branch, Exact-many, Exact-after, Exact-ended, Exact-weak, Either, Lined, one}
 use Rattle.token_grammar.proofs.Words.{a_keyword, a_mark, Exact-name}
 use Rattle.plex_ast.specs.declared.expr.Expr.{Expr}
 use Rattle.plex_ast.specs.declared.expr.Rel.{Rel}
@@ -16,9 +16,11 @@ use Rattle.plex_ast.specs.declared.expr.Cond.{Cond}
 use Rattle.plex_ast.specs.declared.expr.Exprs.{Exprs}
 use Rattle.plex_ast.specs.declared.stmt.Names.{Names}
 use Rattle.plex_ast.specs.declared.stmt.Reference.{Reference}
-use Rattle.plex_ast.specs.Words.{WITH, REFERENCE, AND, OR, COMMA, EQUAL, BELOW, ABOVE, AT_MOST, AT_LEAST, UNEQUAL}
-use Rattle.plex_ast.specs.Grammar.{expr, rel_at, rel, relation, conj, cond_of, names, exprs, reference}
-use Rattle.plex_expr_parser.specs.Readers.{rel_kind_read, rel_made, rel_read, relation_made, relation_read, conj_made, and_read, conj_read, cond_made, or_read, cond_read, comma_name_read, names_made, names_read, comma_expr_read, exprs_made, exprs_read, reference_made, reference_read}
+use Rattle.plex_ast.specs.declared.stmt.ReferenceKind.{ReferenceKind}
+use Rattle.plex_ast.specs.declared.stmt.ReferenceKind.TheVariants as references
+use Rattle.plex_ast.specs.Words.{WITH, REFERENCE, AND, OR, COMMA, OPEN, CLOSE, EQUAL, BELOW, ABOVE, AT_MOST, AT_LEAST, UNEQUAL}
+use Rattle.plex_ast.specs.Grammar.{expr, rel_at, rel, relation, conj, cond_of, names, exprs, reference_at, reference}
+use Rattle.plex_expr_parser.specs.Readers.{rel_kind_read, rel_made, rel_read, relation_made, relation_read, conj_made, and_read, conj_read, cond_made, or_read, cond_read, comma_name_read, names_made, names_read, comma_expr_read, exprs_made, exprs_read, held_read, receiver_kind_read, reference_made, reference_read}
 use Rattle.plex_expr_parser.proofs.Expressions.{FACTOR, PAST_EXPR, Exact-expr}
 
 abbrev pub REL : List ℕ
@@ -154,12 +156,27 @@ Exact-exprs b c h = Exact-same (exprs true b) (exprs true c) (to b) from (to c)
     from : (x : Exprs) (u : List Token) → exprs true b x u → Lined exprs_made (λ (p : Expr × List Expr). word WITH · (expr true b p.0 · each (λ e. word COMMA · expr true b e) p.1)) x u
     from x u h = ((x.first, x.rest), λ i. record { line = h.1 refl i; first = x.first; rest = x.rest }, h.0)
 
-pub Exact-reference : Exact (reference true) (reference true) REFERENCE false [] reference_read reference_read
-unfolding reference_read
-Exact-reference = Exact-same (reference true) (reference true) to from to (Exact-lined reference_made (Exact-after REFERENCE (a_keyword 44) refl Exact-name))
-  where
-    to : (x : Reference) (u : List Token) → Lined reference_made (λ n. word REFERENCE · named true n) x u → reference true x u
-    to x u h = subst (λ y. reference true y u) (sym h.1) (h.2, λ _. refl)
+-- what names the receiver, and the word before it
+abbrev Receivers : ReferenceKind → Lang
+Receivers = Either (Lined (λ _ (v : Named). references.Held v) (λ v. word OPEN · (named true v · word CLOSE))) (Lined (λ _ (m : Named). references.Block m) (named true))
 
-    from : (x : Reference) (u : List Token) → reference true x u → Lined reference_made (λ n. word REFERENCE · named true n) x u
-    from x u h = (x.block, λ i. record { line = h.1 refl i; block = x.block }, h.0)
+pub Exact-reference : Exact (reference true) (reference true) REFERENCE false [] reference_read reference_read
+unfolding reference_read receiver_kind_read held_read
+Exact-reference = Exact-same (reference true) (reference true) to from to
+    (Exact-lined reference_made (Exact-after REFERENCE (a_keyword 44) refl
+    (Exact-branch OPEN (Exact-lined (λ _ (v : Named). references.Held v) (Exact-after OPEN (a_mark 2) refl (Exact-ended CLOSE (a_mark 3) refl Exact-name refl)))
+    (Exact-lined (λ _ (m : Named). references.Block m) Exact-name) refl refl)))
+  where
+    kind_to : (k : ReferenceKind) (u : List Token) → (word REFERENCE · Receivers k) u → reference_at true k u
+    kind_to k u (a, b, e, w, inl h) = subst (λ y. reference_at true y u) (sym h.1) (a, b, e, w, h.2)
+    kind_to k u (a, b, e, w, inr h) = subst (λ y. reference_at true y u) (sym h.1) (a, b, e, w, h.2)
+
+    kind_from : (k : ReferenceKind) (u : List Token) → reference_at true k u → (word REFERENCE · Receivers k) u
+    kind_from (references.Block m) u h = (h.0, h.1, h.2, h.3, inr (m, refl, h.4))
+    kind_from (references.Held v) u h = (h.0, h.1, h.2, h.3, inl (v, refl, h.4))
+
+    to : (x : Reference) (u : List Token) → Lined reference_made (λ k. word REFERENCE · Receivers k) x u → reference true x u
+    to x u h = subst (λ y. reference true y u) (sym h.1) (kind_to h.0 u h.2, λ _. refl)
+
+    from : (x : Reference) (u : List Token) → reference true x u → Lined reference_made (λ k. word REFERENCE · Receivers k) x u
+    from x u h = (x.kind, λ i. record { line = h.1 refl i; kind = x.kind }, kind_from x.kind u h.0)

@@ -4,7 +4,7 @@ use Rattle.std.proofs.lemmas.List.{append-nil}
 use Rattle.plex_lexer.specs.declared.token.Token.{Token}
 use Rattle.token_grammar.specs.declared.named.Named.{Named}
 use Rattle.token_grammar.specs.declared.named.Numbered.{Numbered}
-use Rattle.token_grammar.specs.Language.{Lang, word, ◌·◌, each, maybe, never, named, numbered, class, mem, NAME, NUMBER}
+use Rattle.token_grammar.specs.Language.{Lang, word, ◌·◌, each, maybe, never, named, numbered, class, mem, NUMBER}
 use Rattle.token_grammar.specs.Reading.{Reader, after, ended, at}
 use Rattle.token_grammar.proofs.Exact.{Exact, Exact-both, Exact-pair, Exact-same, Exact-lined, Exact-branch, Exact-halt, Exact-many, Exact-after, Exact-ended, Exact-weak, Exact-optional, Either, Lined, Both, after_stops, lined_stops, reopened}
 use Rattle.token_grammar.proofs.Words.{a_keyword, a_mark, a_number, Exact-name, Exact-number}
@@ -17,14 +17,15 @@ use Rattle.plex_ast.specs.declared.expr.Multiplied.{Multiplied, Times, Over, Mod
 use Rattle.plex_ast.specs.declared.expr.Multiplied.TheVariants.{outs-Times, outs-Over, outs-Mod, rolls-Times, rolls-Over, rolls-Mod}
 use Rattle.plex_ast.specs.declared.expr.Factor.{Factor}
 use Rattle.plex_ast.specs.declared.expr.FactorKind.{FactorKind, Number, Bracket, out-FactorKind, roll-FactorKind, roll-out-FactorKind, FactorKind-F}
-use Rattle.plex_ast.specs.declared.expr.FactorKind.TheVariants.{outs-Number, outs-Name, outs-Field, outs-Bracket, rolls-Number, rolls-Name, rolls-Field, rolls-Bracket}
-use Rattle.plex_ast.specs.Words.{MOD, OPEN, CLOSE, PLUS, MINUS, TIMES, OVER}
+use Rattle.plex_ast.specs.declared.expr.FactorKind as factors
+use Rattle.plex_ast.specs.declared.expr.FactorKind.TheVariants.{outs-Number, outs-Name, outs-Field, outs-Bracket, outs-Reference, rolls-Number, rolls-Name, rolls-Field, rolls-Bracket, rolls-Reference}
+use Rattle.plex_ast.specs.Words.{REFERENCE, MOD, OPEN, CLOSE, PLUS, MINUS, TIMES, OVER}
 use Rattle.plex_ast.specs.Grammar.{factor_at, factor_with, multiplied_at, term_with, added_at, expr_with, inside, factor, term, expr}
-use Rattle.plex_expr_parser.specs.Readers.{with_pointer, pointer_read, plain_read, bracket_read, kind_with, factor_made, factor_by, MULTIPLY, multiplied_by, term_made, term_by, ADD, added_by, expr_made, expr_by, inside_read, factor_read, term_read, expr_read}
+use Rattle.plex_expr_parser.specs.Readers.{with_pointer, pointer_read, block_read, plain_read, PLAIN, bracket_read, kind_with, factor_made, factor_by, MULTIPLY, multiplied_by, term_made, term_by, ADD, added_by, expr_made, expr_by, inside_read, factor_read, term_read, expr_read}
 
 -- what may begin an expression, and what may go on with a factor, a term, an expression
 abbrev pub FACTOR : List ℕ
-FACTOR = NUMBER ++ (NAME ++ OPEN)
+FACTOR = PLAIN ++ OPEN
 
 abbrev pub PAST_TERM : List ℕ
 PAST_TERM = OPEN ++ MULTIPLY
@@ -34,7 +35,9 @@ PAST_EXPR = OPEN ++ (MULTIPLY ++ ADD)
 
 -- a factor but for the bracket, and the bracket
 abbrev Plain : FactorKind → Lang
-Plain = Either (Lined (λ _ (n : Numbered). Number n) (numbered true)) (Both with_pointer (named true) (maybe (λ p. word OPEN · (named true p · word CLOSE))))
+Plain = Either (Lined (λ _ (n : Numbered). Number n) (numbered true))
+    (Either (Lined (λ _ (m : Named). factors.Reference m) (λ m. word REFERENCE · named true m))
+    (Both with_pointer (named true) (maybe (λ p. word OPEN · (named true p · word CLOSE)))))
 
 abbrev Bracketed : (Expr → Lang) → FactorKind → Lang
 Bracketed inner = Lined (λ _ (e : Expr). Bracket e) (λ e. word OPEN · (inner e · word CLOSE))
@@ -42,16 +45,18 @@ Bracketed inner = Lined (λ _ (e : Expr). Bracket e) (λ e. word OPEN · (inner 
 abbrev Kind : (Expr → Lang) → FactorKind → Lang
 Kind inner k = factor_at true inner (out-FactorKind k)
 
-Exact-plain : Exact Plain Plain (NUMBER ++ NAME) false OPEN plain_read plain_read
-unfolding plain_read pointer_read
+Exact-plain : Exact Plain Plain PLAIN false OPEN plain_read plain_read
+unfolding plain_read block_read pointer_read
 Exact-plain =
     Exact-branch NUMBER (Exact-lined (λ _ (n : Numbered). Number n) Exact-number)
+    (Exact-branch REFERENCE (Exact-lined (λ _ (m : Named). factors.Reference m) (Exact-after REFERENCE (a_keyword 44) refl Exact-name))
     (Exact-both with_pointer Exact-name (Exact-optional OPEN (Exact-after OPEN (a_mark 2) refl (Exact-ended CLOSE (a_mark 3) refl Exact-name refl)) refl) refl)
-    refl refl
+    refl refl) refl refl
 
 plain_to : (inner : Expr → Lang) (x : FactorKind) (u : List Token) → Plain x u → Kind inner x u
 plain_to inner x u (inl h) = subst (λ y. factor_at true inner y u) (sym (ap out-FactorKind h.1 ∙ outs-Number h.0)) h.2
-plain_to inner x u (inr h) = subst (λ y. factor_at true inner (out-FactorKind y) u) (sym h.2) (ends h.0 h.1 h.3)
+plain_to inner x u (inr (inl h)) = subst (λ y. factor_at true inner y u) (sym (ap out-FactorKind h.1 ∙ outs-Reference h.0)) h.2
+plain_to inner x u (inr (inr h)) = subst (λ y. factor_at true inner (out-FactorKind y) u) (sym h.2) (ends h.0 h.1 h.3)
   where
     ends : (n : Named) (p : Option Named) → (named true n · maybe (λ p. word OPEN · (named true p · word CLOSE)) p) u → Kind inner (with_pointer n p) u
     ends n None k = subst (λ y. factor_at true inner y u) (sym (outs-Name n)) (subst (named true n) (sym (k.2 ∙ ap (λ z. k.0 ++ z) k.4 ∙ append-nil k.0)) k.3)
@@ -66,9 +71,10 @@ either_to inner x u (inr h) = bracket_to inner x u h
 
 layer_from : (inner : Expr → Lang) (y : FactorKind-F Added FactorKind Multiplied Expr Factor Term) (u : List Token) → factor_at true inner y u → Either Plain (Bracketed inner) (roll-FactorKind y) u
 layer_from inner (layer.Number n) u h = inl (inl (n, rolls-Number n, h))
-layer_from inner (layer.Name n) u h = inl (inr (n, None, rolls-Name n, (u, [], sym (append-nil u), h, refl)))
-layer_from inner (layer.Field n p) u h = inl (inr (n, Some p, rolls-Field n p, h))
+layer_from inner (layer.Name n) u h = inl (inr (inr (n, None, rolls-Name n, (u, [], sym (append-nil u), h, refl))))
+layer_from inner (layer.Field n p) u h = inl (inr (inr (n, Some p, rolls-Field n p, h)))
 layer_from inner (layer.Bracket e) u h = inr (e, rolls-Bracket e, h)
+layer_from inner (layer.Reference m) u h = inl (inr (inl (m, rolls-Reference m, h)))
 
 either_from : (inner : Expr → Lang) (x : FactorKind) (u : List Token) → Kind inner x u → Either Plain (Bracketed inner) x u
 either_from inner x u h = subst (λ y. Either Plain (Bracketed inner) y u) (roll-out-FactorKind x) (layer_from inner (out-FactorKind x) u h)
@@ -189,10 +195,10 @@ unfolding inside inside_read factor_read
 Exact-factor b zero h = absurd (omega arith)
 Exact-factor zero (suc c) h =
     Exact-factor-by never (expr true c) (Exact-same (Kind never) (Kind (expr true c)) (plain_to never) plain_from (either_to (expr true c))
-    (Exact-weak FACTOR OPEN (Exact-halt (NUMBER ++ NAME) OPEN (Bracketed (expr true c)) (bracket_read (inside_read (suc c))) Exact-plain refl (bracket_stops (inside_read (suc c))) (bracket_opens c)) refl refl))
+    (Exact-weak FACTOR OPEN (Exact-halt PLAIN OPEN (Bracketed (expr true c)) (bracket_read (inside_read (suc c))) Exact-plain refl (bracket_stops (inside_read (suc c))) (bracket_opens c)) refl refl))
 Exact-factor (suc b) (suc c) h =
     Exact-factor-by (expr true b) (expr true c) (Exact-same (Kind (expr true b)) (Kind (expr true c)) (either_to (expr true b)) (either_from (expr true b)) (either_to (expr true c))
-    (Exact-weak FACTOR OPEN (Exact-branch (NUMBER ++ NAME) Exact-plain (Exact-bracket (Exact-expr-by (Exact-term-by (Exact-factor b c (omega arith))))) refl refl) refl refl))
+    (Exact-weak FACTOR OPEN (Exact-branch PLAIN Exact-plain (Exact-bracket (Exact-expr-by (Exact-term-by (Exact-factor b c (omega arith))))) refl refl) refl refl))
 
 pub Exact-term : (b c : ℕ) → b < c → Exact (term true b) (term true c) FACTOR false PAST_TERM (term_read b) (term_read c)
 unfolding term_read

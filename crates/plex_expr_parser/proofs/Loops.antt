@@ -2,7 +2,6 @@
 use Rattle.std.proofs.Common.{◌≡◌, ℕ, zero, suc, ◌-◌, ◌<◌, true, false, List, [], ◌∷◌, ◌++◌, length, Ok, Err, Result, refl, ap, ◌∙◌, arith}
 use Rattle.plex_lexer.specs.declared.token.Token.{Token}
 use Rattle.token_grammar.specs.declared.named.Named.{Named}
-use Rattle.token_grammar.specs.Language.{NAME, NUMBER}
 use Rattle.token_grammar.specs.Reading.{Stuck, at, many, with_front, halt}
 use Rattle.token_grammar.proofs.Exact.{Exact-shorter, loop_more, loop_stop, loop_fail, branch_then, branch_else}
 use Rattle.plex_ast.specs.declared.expr.Added.{Added}
@@ -11,23 +10,23 @@ use Rattle.plex_ast.specs.declared.expr.Expr.{Expr}
 use Rattle.plex_ast.specs.declared.expr.Relation.{Relation}
 use Rattle.plex_ast.specs.declared.expr.Conj.{Conj}
 use Rattle.plex_ast.specs.Words.{AND, OR, COMMA, OPEN}
-use Rattle.plex_expr_parser.specs.Readers.{plain_read, bracket_read, bracket_at, kind_with, inside_read, MULTIPLY, multiplied_by, ADD, added_by, factor_read, term_read, expr_read, and_read, or_read, comma_name_read, comma_expr_read}
+use Rattle.plex_expr_parser.specs.Readers.{plain_read, PLAIN, bracket_read, bracket_at, kind_with, inside_read, MULTIPLY, multiplied_by, ADD, added_by, factor_read, term_read, expr_read, and_read, or_read, comma_name_read, comma_expr_read}
 use Rattle.plex_expr_parser.proofs.Expressions.{Exact-added, Exact-multiplied, Exact-term, Exact-factor}
 use Rattle.plex_expr_parser.proofs.Conditions.{Exact-and, Exact-or, Exact-comma-name, Exact-comma-expr}
 
 -- the three beginnings of a factor
 
-pub factor_plain : (b : ℕ) (w : List Token) → at (NUMBER ++ NAME) w ≡ true → kind_with (bracket_at b (inside_read b)) w ≡ plain_read w
-factor_plain b w h = branch_then (NUMBER ++ NAME) plain_read (bracket_at b (inside_read b)) w h
+pub factor_plain : (b : ℕ) (w : List Token) → at PLAIN w ≡ true → kind_with (bracket_at b (inside_read b)) w ≡ plain_read w
+factor_plain b w h = branch_then PLAIN plain_read (bracket_at b (inside_read b)) w h
 
-pub factor_halts : (b : ℕ) (w : List Token) → at (NUMBER ++ NAME) w ≡ false → b ≡ 0 → kind_with (bracket_at b (inside_read b)) w ≡ halt OPEN w
-factor_halts zero w h e = branch_else (NUMBER ++ NAME) plain_read (halt OPEN) w h
+pub factor_halts : (b : ℕ) (w : List Token) → at PLAIN w ≡ false → b ≡ 0 → kind_with (bracket_at b (inside_read b)) w ≡ halt OPEN w
+factor_halts zero w h e = branch_else PLAIN plain_read (halt OPEN) w h
 factor_halts (suc b) w h e = absurd (omega arith)
 
-pub factor_opens : (b : ℕ) (w : List Token) → at (NUMBER ++ NAME) w ≡ false → (b ≡ 0 → ⊥) → kind_with (bracket_at b (inside_read b)) w ≡ bracket_read (expr_read (b - 1)) w
+pub factor_opens : (b : ℕ) (w : List Token) → at PLAIN w ≡ false → (b ≡ 0 → ⊥) → kind_with (bracket_at b (inside_read b)) w ≡ bracket_read (expr_read (b - 1)) w
 unfolding expr_read term_read factor_read inside_read
 factor_opens zero w h n = absurd (n refl)
-factor_opens (suc b) w h n = let e : b ≡ suc b - 1 = omega arith in branch_else (NUMBER ++ NAME) plain_read (bracket_read (inside_read (suc b))) w h ∙ ap (λ k. bracket_read (expr_read k) w) e
+factor_opens (suc b) w h n = let e : b ≡ suc b - 1 = omega arith in branch_else PLAIN plain_read (bracket_read (inside_read (suc b))) w h ∙ ap (λ k. bracket_read (expr_read k) w) e
 
 -- the loops
 

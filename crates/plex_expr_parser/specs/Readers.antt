@@ -12,6 +12,7 @@ use Rattle.plex_ast.specs.declared.expr.Term.{Term}
 use Rattle.plex_ast.specs.declared.expr.Multiplied.{Multiplied, Times, Over, Mod}
 use Rattle.plex_ast.specs.declared.expr.Factor.{Factor}
 use Rattle.plex_ast.specs.declared.expr.FactorKind.{FactorKind, Number, Name, Field, Bracket}
+use Rattle.plex_ast.specs.declared.expr.FactorKind as factors
 use Rattle.plex_ast.specs.declared.expr.Rel.{Rel}
 use Rattle.plex_ast.specs.declared.expr.RelKind.{RelKind}
 use Rattle.plex_ast.specs.declared.expr.RelKind.TheVariants as rels
@@ -21,6 +22,8 @@ use Rattle.plex_ast.specs.declared.expr.Cond.{Cond}
 use Rattle.plex_ast.specs.declared.expr.Exprs.{Exprs}
 use Rattle.plex_ast.specs.declared.stmt.Names.{Names}
 use Rattle.plex_ast.specs.declared.stmt.Reference.{Reference}
+use Rattle.plex_ast.specs.declared.stmt.ReferenceKind.{ReferenceKind}
+use Rattle.plex_ast.specs.declared.stmt.ReferenceKind.TheVariants as references
 use Rattle.plex_ast.specs.Words.{WITH, REFERENCE, AND, OR, MOD, COMMA, OPEN, CLOSE, EQUAL, PLUS, MINUS, TIMES, OVER, BELOW, ABOVE, AT_MOST, AT_LEAST, UNEQUAL}
 
 -- expressions
@@ -32,8 +35,14 @@ with_pointer n (Some p) = Field n p
 unfoldable pub pointer_read : Reader (Option Named)
 pointer_read = optional OPEN (after OPEN (ended name_read CLOSE))
 
+unfoldable pub block_read : Reader FactorKind
+block_read = lined (λ _ (m : Named). factors.Reference m) (after REFERENCE name_read)
+
 unfoldable pub plain_read : Reader FactorKind
-plain_read = branch NUMBER (lined (λ _ (n : Numbered). Number n) number_read) (both with_pointer name_read pointer_read)
+plain_read = branch NUMBER (lined (λ _ (n : Numbered). Number n) number_read) (branch REFERENCE block_read (both with_pointer name_read pointer_read))
+
+abbrev pub PLAIN : List ℕ
+PLAIN = NUMBER ++ (REFERENCE ++ NAME)
 
 unfoldable pub bracket_read : Reader Expr → Reader FactorKind
 bracket_read inner = lined (λ _ (e : Expr). Bracket e) (after OPEN (ended inner CLOSE))
@@ -44,7 +53,7 @@ bracket_at zero inner = halt OPEN
 bracket_at (suc b) inner = bracket_read inner
 
 abbrev pub kind_with : Reader FactorKind → Reader FactorKind
-kind_with bracket = branch (NUMBER ++ NAME) plain_read bracket
+kind_with bracket = branch PLAIN plain_read bracket
 
 abbrev pub factor_made : ℕ → FactorKind → Factor
 factor_made line k = record { line = line; kind = k }
@@ -151,8 +160,14 @@ exprs_made line p = record { line = line; first = p.0; rest = p.1 }
 unfoldable pub exprs_read : ℕ → Reader Exprs
 exprs_read b = lined exprs_made (after WITH (pair (expr_read b) (many COMMA (comma_expr_read b))))
 
-abbrev pub reference_made : ℕ → Named → Reference
-reference_made line n = record { line = line; block = n }
+unfoldable pub held_read : Reader ReferenceKind
+held_read = lined (λ _ (v : Named). references.Held v) (after OPEN (ended name_read CLOSE))
+
+unfoldable pub receiver_kind_read : Reader ReferenceKind
+receiver_kind_read = branch OPEN held_read (lined (λ _ (m : Named). references.Block m) name_read)
+
+abbrev pub reference_made : ℕ → ReferenceKind → Reference
+reference_made line k = record { line = line; kind = k }
 
 unfoldable pub reference_read : Reader Reference
-reference_read = lined reference_made (after REFERENCE name_read)
+reference_read = lined reference_made (after REFERENCE receiver_kind_read)

@@ -1,21 +1,21 @@
 // Conditions. The brackets of their expressions nest at most `room` deep.
 ghost use Rattle.std.specs.Prelude.{◌≡◌};
-ghost use Rattle.token_grammar.specs.Gives.{Gives};
+ghost use Rattle.token_grammar.specs.Gives.{Reads};
 ghost use Rattle.token_grammar.specs.Reading.{many};
 ghost use Rattle.plex_expr_parser.specs.Readers.{and_read, cond_read, conj_read, or_read, rel_kind_read, rel_read, relation_read};
 ghost use Rattle.plex_ast.specs.Words as classes;
 
 use crate::expression::expr;
 use plex_ast::{Cond, Conj, Rel, RelKind, Relation, words};
-use plex_lexer::Token;
+use plex_lexer::Cursor;
 use plex_num::Seq;
 use std::alloc::Global;
 use token_grammar::{Fault, line_of, starts, word};
 
 /// A condition and the tokens after it, or where the reading stopped.
 #[tactic(auto, unfolding(crate::specs::Readers::cond_read))]
-pub fn cond(alloc: Global, tokens: &[Token], room: u32) -> Result<(Cond, &[Token]), Fault>
-    ensures { Gives (λ x. (x.0, x.1.now)) result (cond_read room tokens.now) }
+pub fn cond(alloc: Global, tokens: Cursor<'_>, room: usize) -> Result<(Cond, Cursor<'_>), Fault>
+    ensures { Reads result (cond_read room) tokens.entry }
 {
     let line = line_of(tokens);
     let (first, left) = conj(alloc, tokens, room)?;
@@ -24,8 +24,8 @@ pub fn cond(alloc: Global, tokens: &[Token], room: u32) -> Result<(Cond, &[Token
 }
 
 #[tactic(auto, using(crate::proofs::Loops::or_less, crate::proofs::Loops::or_on, crate::proofs::Loops::or_end, crate::proofs::Loops::or_bad))]
-fn or_list(alloc: Global, tokens: &[Token], room: u32) -> Result<(Seq<Conj>, &[Token]), Fault>
-    ensures { Gives (λ x. (x.0, x.1.now)) result (many classes.OR (or_read room) tokens.now) }
+fn or_list(alloc: Global, tokens: Cursor<'_>, room: usize) -> Result<(Seq<Conj>, Cursor<'_>), Fault>
+    ensures { Reads result (many classes.OR (or_read room)) tokens.entry }
 {
     let mut left = tokens;
     let mut list = Seq::new(alloc);
@@ -40,16 +40,16 @@ fn or_list(alloc: Global, tokens: &[Token], room: u32) -> Result<(Seq<Conj>, &[T
 }
 
 #[tactic(auto, unfolding(crate::specs::Readers::or_read))]
-fn or_conj(alloc: Global, tokens: &[Token], room: u32) -> Result<(Conj, &[Token]), Fault>
-    ensures { Gives (λ x. (x.0, x.1.now)) result (or_read room tokens.now) }
+fn or_conj(alloc: Global, tokens: Cursor<'_>, room: usize) -> Result<(Conj, Cursor<'_>), Fault>
+    ensures { Reads result (or_read room) tokens.entry }
 {
     let (_, left) = word(tokens, words::OR)?;
     conj(alloc, left, room)
 }
 
 #[tactic(auto, unfolding(crate::specs::Readers::conj_read))]
-fn conj(alloc: Global, tokens: &[Token], room: u32) -> Result<(Conj, &[Token]), Fault>
-    ensures { Gives (λ x. (x.0, x.1.now)) result (conj_read room tokens.now) }
+fn conj(alloc: Global, tokens: Cursor<'_>, room: usize) -> Result<(Conj, Cursor<'_>), Fault>
+    ensures { Reads result (conj_read room) tokens.entry }
 {
     let line = line_of(tokens);
     let (first, left) = relation(alloc, tokens, room)?;
@@ -58,8 +58,12 @@ fn conj(alloc: Global, tokens: &[Token], room: u32) -> Result<(Conj, &[Token]), 
 }
 
 #[tactic(auto, using(crate::proofs::Loops::and_less, crate::proofs::Loops::and_on, crate::proofs::Loops::and_end, crate::proofs::Loops::and_bad))]
-fn and_list(alloc: Global, tokens: &[Token], room: u32) -> Result<(Seq<Relation>, &[Token]), Fault>
-    ensures { Gives (λ x. (x.0, x.1.now)) result (many classes.AND (and_read room) tokens.now) }
+fn and_list(
+    alloc: Global,
+    tokens: Cursor<'_>,
+    room: usize,
+) -> Result<(Seq<Relation>, Cursor<'_>), Fault>
+    ensures { Reads result (many classes.AND (and_read room)) tokens.entry }
 {
     let mut left = tokens;
     let mut list = Seq::new(alloc);
@@ -74,16 +78,20 @@ fn and_list(alloc: Global, tokens: &[Token], room: u32) -> Result<(Seq<Relation>
 }
 
 #[tactic(auto, unfolding(crate::specs::Readers::and_read))]
-fn and_relation(alloc: Global, tokens: &[Token], room: u32) -> Result<(Relation, &[Token]), Fault>
-    ensures { Gives (λ x. (x.0, x.1.now)) result (and_read room tokens.now) }
+fn and_relation(
+    alloc: Global,
+    tokens: Cursor<'_>,
+    room: usize,
+) -> Result<(Relation, Cursor<'_>), Fault>
+    ensures { Reads result (and_read room) tokens.entry }
 {
     let (_, left) = word(tokens, words::AND)?;
     relation(alloc, left, room)
 }
 
 #[tactic(auto, unfolding(crate::specs::Readers::relation_read))]
-fn relation(alloc: Global, tokens: &[Token], room: u32) -> Result<(Relation, &[Token]), Fault>
-    ensures { Gives (λ x. (x.0, x.1.now)) result (relation_read room tokens.now) }
+fn relation(alloc: Global, tokens: Cursor<'_>, room: usize) -> Result<(Relation, Cursor<'_>), Fault>
+    ensures { Reads result (relation_read room) tokens.entry }
 {
     let line = line_of(tokens);
     let (left, rest) = expr(alloc, tokens, room)?;
@@ -102,8 +110,8 @@ fn relation(alloc: Global, tokens: &[Token], room: u32) -> Result<(Relation, &[T
 
 /// A comparison and the tokens after it, or where the reading stopped.
 #[tactic(auto, unfolding(crate::specs::Readers::rel_read))]
-pub fn rel(tokens: &[Token]) -> Result<(Rel, &[Token]), Fault>
-    ensures { Gives (λ x. (x.0, x.1.now)) result (rel_read tokens.now) }
+pub fn rel(tokens: Cursor<'_>) -> Result<(Rel, Cursor<'_>), Fault>
+    ensures { Reads result rel_read tokens.entry }
 {
     let line = line_of(tokens);
     let (kind, left) = rel_kind(tokens)?;
@@ -111,8 +119,8 @@ pub fn rel(tokens: &[Token]) -> Result<(Rel, &[Token]), Fault>
 }
 
 #[tactic(auto, unfolding(crate::specs::Readers::rel_kind_read))]
-fn rel_kind(tokens: &[Token]) -> Result<(RelKind, &[Token]), Fault>
-    ensures { Gives (λ x. (x.0, x.1.now)) result (rel_kind_read tokens.now) }
+fn rel_kind(tokens: Cursor<'_>) -> Result<(RelKind, Cursor<'_>), Fault>
+    ensures { Reads result rel_kind_read tokens.entry }
 {
     if starts(tokens, words::EQUAL) {
         let (_, left) = word(tokens, words::EQUAL)?;

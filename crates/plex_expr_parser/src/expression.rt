@@ -1,19 +1,21 @@
 // Expressions, whose brackets nest at most `room` deep.
 ghost use Rattle.std.specs.Prelude.{◌≡◌, ◌++◌};
-ghost use Rattle.token_grammar.specs.Gives.{Gives, Holds};
+ghost use Rattle.token_grammar.specs.Gives.{Reads};
 ghost use Rattle.token_grammar.specs.Reading.{many};
 ghost use Rattle.plex_expr_parser.specs.Readers.{added_by, bracket_at, bracket_read, expr_read, factor_read, inside_read, kind_with, multiplied_by, term_read, ADD, MULTIPLY};
 
+use crate::boxes::boxed;
 use crate::factor::plain;
-use plex_ast::{Added, Boxed, Expr, Factor, FactorKind, Multiplied, Term, words};
-use plex_lexer::Token;
+use plex_ast::{Added, Expr, Factor, FactorKind, Multiplied, Term, push_few, words};
+use plex_lexer::Cursor;
 use plex_num::Seq;
 use std::alloc::Global;
 use token_grammar::{Fault, line_of, starts, starts_in, word};
 
-/// What begins a factor that is no bracket: a number or any name.
-const PLAIN: [u64; 6] = [
+/// What begins a factor that is no bracket: a number, REFERENCE or any name.
+const PLAIN: [u64; 7] = [
     words::NUMBER,
+    words::REFERENCE,
     words::NAME,
     words::NAME_A,
     words::NAME_B,
@@ -24,8 +26,8 @@ const PLAIN: [u64; 6] = [
 /// An expression and the tokens after it, or where the reading stopped; brackets nest at most `room` deep.
 #[cycle(reading)]
 #[tactic(auto, unfolding(crate::specs::Readers::expr_read, crate::specs::Readers::expr_by))]
-pub fn expr(alloc: Global, tokens: &[Token], room: u32) -> Result<(Expr, &[Token]), Fault>
-    ensures { Gives (λ x. (x.0, x.1.now)) result (expr_read room tokens.now) }
+pub fn expr(alloc: Global, tokens: Cursor<'_>, room: usize) -> Result<(Expr, Cursor<'_>), Fault>
+    ensures { Reads result (expr_read room) tokens.entry }
 {
     let line = line_of(tokens);
     let (first, left) = term(alloc, tokens, room)?;
@@ -35,14 +37,18 @@ pub fn expr(alloc: Global, tokens: &[Token], room: u32) -> Result<(Expr, &[Token
 
 #[cycle(reading)]
 #[tactic(auto, using(crate::proofs::Loops::added_less, crate::proofs::Loops::added_on, crate::proofs::Loops::added_end, crate::proofs::Loops::added_bad))]
-fn added_list(alloc: Global, tokens: &[Token], room: u32) -> Result<(Seq<Added>, &[Token]), Fault>
-    ensures { Gives (λ x. (x.0, x.1.now)) result (many ADD (added_by (term_read room)) tokens.now) }
+fn added_list(
+    alloc: Global,
+    tokens: Cursor<'_>,
+    room: usize,
+) -> Result<(Seq<Added>, Cursor<'_>), Fault>
+    ensures { Reads result (many ADD (added_by (term_read room))) tokens.entry }
 {
     let mut left = tokens;
     let mut list = Seq::new(alloc);
     'terms: while starts_in(left, &[words::PLUS, words::MINUS]) {
         let (added, after) = added(alloc, left, room)?;
-        if let Err(_) = list.push(added) {
+        if let Err(_) = push_few(alloc, &mut list, added) {
             return Err(Fault::Memory);
         }
         left = after;
@@ -52,8 +58,8 @@ fn added_list(alloc: Global, tokens: &[Token], room: u32) -> Result<(Seq<Added>,
 
 #[cycle(reading)]
 #[tactic(auto, unfolding(crate::specs::Readers::added_by))]
-fn added(alloc: Global, tokens: &[Token], room: u32) -> Result<(Added, &[Token]), Fault>
-    ensures { Gives (λ x. (x.0, x.1.now)) result (added_by (term_read room) tokens.now) }
+fn added(alloc: Global, tokens: Cursor<'_>, room: usize) -> Result<(Added, Cursor<'_>), Fault>
+    ensures { Reads result (added_by (term_read room)) tokens.entry }
 {
     if starts(tokens, words::PLUS) {
         let (_, left) = word(tokens, words::PLUS)?;
@@ -68,8 +74,8 @@ fn added(alloc: Global, tokens: &[Token], room: u32) -> Result<(Added, &[Token])
 
 #[cycle(reading)]
 #[tactic(auto, unfolding(crate::specs::Readers::term_read, crate::specs::Readers::term_by))]
-fn term(alloc: Global, tokens: &[Token], room: u32) -> Result<(Term, &[Token]), Fault>
-    ensures { Gives (λ x. (x.0, x.1.now)) result (term_read room tokens.now) }
+fn term(alloc: Global, tokens: Cursor<'_>, room: usize) -> Result<(Term, Cursor<'_>), Fault>
+    ensures { Reads result (term_read room) tokens.entry }
 {
     let line = line_of(tokens);
     let (first, left) = factor(alloc, tokens, room)?;
@@ -81,16 +87,16 @@ fn term(alloc: Global, tokens: &[Token], room: u32) -> Result<(Term, &[Token]), 
 #[tactic(auto, using(crate::proofs::Loops::multiplied_less, crate::proofs::Loops::multiplied_on, crate::proofs::Loops::multiplied_end, crate::proofs::Loops::multiplied_bad))]
 fn multiplied_list(
     alloc: Global,
-    tokens: &[Token],
-    room: u32,
-) -> Result<(Seq<Multiplied>, &[Token]), Fault>
-    ensures { Gives (λ x. (x.0, x.1.now)) result (many MULTIPLY (multiplied_by (factor_read room)) tokens.now) }
+    tokens: Cursor<'_>,
+    room: usize,
+) -> Result<(Seq<Multiplied>, Cursor<'_>), Fault>
+    ensures { Reads result (many MULTIPLY (multiplied_by (factor_read room))) tokens.entry }
 {
     let mut left = tokens;
     let mut list = Seq::new(alloc);
     'factors: while starts_in(left, &[words::TIMES, words::OVER, words::MOD]) {
         let (multiplied, after) = multiplied(alloc, left, room)?;
-        if let Err(_) = list.push(multiplied) {
+        if let Err(_) = push_few(alloc, &mut list, multiplied) {
             return Err(Fault::Memory);
         }
         left = after;
@@ -100,8 +106,12 @@ fn multiplied_list(
 
 #[cycle(reading)]
 #[tactic(auto, unfolding(crate::specs::Readers::multiplied_by))]
-fn multiplied(alloc: Global, tokens: &[Token], room: u32) -> Result<(Multiplied, &[Token]), Fault>
-    ensures { Gives (λ x. (x.0, x.1.now)) result (multiplied_by (factor_read room) tokens.now) }
+fn multiplied(
+    alloc: Global,
+    tokens: Cursor<'_>,
+    room: usize,
+) -> Result<(Multiplied, Cursor<'_>), Fault>
+    ensures { Reads result (multiplied_by (factor_read room)) tokens.entry }
 {
     if starts(tokens, words::TIMES) {
         let (_, left) = word(tokens, words::TIMES)?;
@@ -120,8 +130,8 @@ fn multiplied(alloc: Global, tokens: &[Token], room: u32) -> Result<(Multiplied,
 
 #[cycle(reading)]
 #[tactic(auto, unfolding(crate::specs::Readers::factor_read, crate::specs::Readers::factor_by))]
-fn factor(alloc: Global, tokens: &[Token], room: u32) -> Result<(Factor, &[Token]), Fault>
-    ensures { Gives (λ x. (x.0, x.1.now)) result (factor_read room tokens.now) }
+fn factor(alloc: Global, tokens: Cursor<'_>, room: usize) -> Result<(Factor, Cursor<'_>), Fault>
+    ensures { Reads result (factor_read room) tokens.entry }
 {
     let line = line_of(tokens);
     let (kind, left) = factor_kind(alloc, tokens, room)?;
@@ -129,11 +139,15 @@ fn factor(alloc: Global, tokens: &[Token], room: u32) -> Result<(Factor, &[Token
 }
 
 #[cycle(reading)]
-fn factor_kind(alloc: Global, tokens: &[Token], room: u32) -> Result<(FactorKind, &[Token]), Fault>
-    ensures { Gives (λ x. (x.0, x.1.now)) result (kind_with (bracket_at room (inside_read room)) tokens.now) }
+fn factor_kind(
+    alloc: Global,
+    tokens: Cursor<'_>,
+    room: usize,
+) -> Result<(FactorKind, Cursor<'_>), Fault>
+    ensures { Reads result (kind_with (bracket_at room (inside_read room))) tokens.entry }
 {
     if starts_in(tokens, &PLAIN) {
-        return plain(tokens);
+        return plain(alloc, tokens);
     }
     if room == 0 {
         return Err(Fault::Stuck {
@@ -147,20 +161,15 @@ fn factor_kind(alloc: Global, tokens: &[Token], room: u32) -> Result<(FactorKind
 /// `( expr )`, where the brackets in it nest at most `room` deep.
 #[cycle(reading)]
 #[tactic(auto, unfolding(crate::specs::Readers::bracket_read))]
-fn bracket(alloc: Global, tokens: &[Token], room: u32) -> Result<(FactorKind, &[Token]), Fault>
-    ensures { Gives (λ x. (x.0, x.1.now)) result (bracket_read (expr_read room) tokens.now) }
+fn bracket(
+    alloc: Global,
+    tokens: Cursor<'_>,
+    room: usize,
+) -> Result<(FactorKind, Cursor<'_>), Fault>
+    ensures { Reads result (bracket_read (expr_read room)) tokens.entry }
 {
     let (_, left) = word(tokens, words::OPEN)?;
     let (inner, left) = expr(alloc, left, room)?;
     let (_, left) = word(left, words::CLOSE)?;
     Ok((FactorKind::Bracket(boxed(alloc, inner)?), left))
-}
-
-fn boxed(alloc: Global, value: Expr) -> Result<Boxed<Expr>, Fault>
-    ensures { Holds value result }
-{
-    match Boxed::new(alloc, value) {
-        Ok(place) => Ok(place),
-        Err(_) => Err(Fault::Memory),
-    }
 }

@@ -1,43 +1,60 @@
 // Factors that hold no expression.
 ghost use Rattle.std.specs.Prelude.{◌≡◌, ◌++◌};
-ghost use Rattle.token_grammar.specs.Gives.{Gives};
-ghost use Rattle.plex_expr_parser.specs.Readers.{plain_read, pointer_read};
+ghost use Rattle.token_grammar.specs.Gives.{Reads};
+ghost use Rattle.plex_expr_parser.specs.Readers.{block_read, plain_read, pointer_read};
 
-use plex_ast::{FactorKind, Named, words};
-use plex_lexer::Token;
+use crate::boxes::boxed;
+use plex_ast::{Boxed, FactorKind, Named, words};
+use plex_lexer::Cursor;
+use std::alloc::Global;
 use token_grammar::{Fault, name, number, starts, word};
 
 /// `[ ( name ) ]`: the pointer to a record, if one stands there, and the tokens after it.
 #[tactic(auto, unfolding(crate::specs::Readers::pointer_read))]
-pub fn pointer(tokens: &[Token]) -> Result<(Option<Named>, &[Token]), Fault>
-    ensures { Gives (λ x. (x.0, x.1.now)) result (pointer_read tokens.now) }
+pub fn pointer(
+    alloc: Global,
+    tokens: Cursor<'_>,
+) -> Result<(Option<Boxed<Named>>, Cursor<'_>), Fault>
+    ensures { Reads result pointer_read tokens.entry }
 {
     if starts(tokens, words::OPEN) {
         let (_, rest) = word(tokens, words::OPEN)?;
         let (pointer, rest) = name(rest)?;
         let (_, rest) = word(rest, words::CLOSE)?;
-        Ok((Some(pointer), rest))
+        Ok((Some(boxed(alloc, pointer)?), rest))
     } else {
         Ok((None, tokens))
     }
 }
 
-/// `number | name | name ( name )` and the tokens after it.
+/// `REFERENCE name` and the tokens after it.
+#[tactic(auto, unfolding(crate::specs::Readers::block_read))]
+fn block(tokens: Cursor<'_>) -> Result<(FactorKind, Cursor<'_>), Fault>
+    ensures { Reads result block_read tokens.entry }
+{
+    let (_, rest) = word(tokens, words::REFERENCE)?;
+    let (block, rest) = name(rest)?;
+    Ok((FactorKind::Reference { block }, rest))
+}
+
+/// `number | name | name ( name ) | REFERENCE name` and the tokens after it.
 #[tactic(auto, unfolding(crate::specs::Readers::plain_read))]
-pub fn plain(tokens: &[Token]) -> Result<(FactorKind, &[Token]), Fault>
-    ensures { Gives (λ x. (x.0, x.1.now)) result (plain_read tokens.now) }
+pub fn plain(alloc: Global, tokens: Cursor<'_>) -> Result<(FactorKind, Cursor<'_>), Fault>
+    ensures { Reads result plain_read tokens.entry }
 {
     if starts(tokens, words::NUMBER) {
         let (value, rest) = number(tokens)?;
         Ok((FactorKind::Number(value), rest))
+    } else if starts(tokens, words::REFERENCE) {
+        block(tokens)
     } else {
         let (first, rest) = name(tokens)?;
-        let (second, rest) = pointer(rest)?;
+        let (second, rest) = pointer(alloc, rest)?;
         match second {
             None => Ok((FactorKind::Name(first), rest)),
             Some(pointer) => Ok((
                 FactorKind::Field {
-                    name: first,
+                    name: boxed(alloc, first)?,
                     pointer,
                 },
                 rest,

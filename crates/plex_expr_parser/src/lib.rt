@@ -6,11 +6,13 @@
 // It knows no statement.
 #![tactic(auto)]
 
+mod boxes;
 mod condition;
 mod expression;
 mod factor;
 mod lists;
 
+pub use boxes::boxed;
 pub use condition::{cond, rel};
 pub use expression::expr;
 pub use factor::pointer;

@@ -1,21 +1,21 @@
 // Lists of names and of values, and the receiver of a signal.
 ghost use Rattle.std.specs.Prelude.{◌≡◌};
-ghost use Rattle.token_grammar.specs.Gives.{Gives};
+ghost use Rattle.token_grammar.specs.Gives.{Reads};
 ghost use Rattle.token_grammar.specs.Reading.{many};
-ghost use Rattle.plex_expr_parser.specs.Readers.{comma_expr_read, comma_name_read, exprs_read, names_read, reference_read};
+ghost use Rattle.plex_expr_parser.specs.Readers.{comma_expr_read, comma_name_read, exprs_read, held_read, names_read, receiver_kind_read, reference_read};
 ghost use Rattle.plex_ast.specs.Words as classes;
 
 use crate::expression::expr;
-use plex_ast::{Expr, Exprs, Named, Names, Reference, words};
-use plex_lexer::Token;
+use plex_ast::{Expr, Exprs, Named, Names, Reference, ReferenceKind, words};
+use plex_lexer::Cursor;
 use plex_num::Seq;
 use std::alloc::Global;
 use token_grammar::{Fault, line_of, name, starts, word};
 
 /// `WITH name { , name }` and the tokens after it, or where the reading stopped.
 #[tactic(auto, unfolding(crate::specs::Readers::names_read))]
-pub fn names(alloc: Global, tokens: &[Token]) -> Result<(Names, &[Token]), Fault>
-    ensures { Gives (λ x. (x.0, x.1.now)) result (names_read tokens.now) }
+pub fn names(alloc: Global, tokens: Cursor<'_>) -> Result<(Names, Cursor<'_>), Fault>
+    ensures { Reads result names_read tokens.entry }
 {
     let line = line_of(tokens);
     let (_, left) = word(tokens, words::WITH)?;
@@ -25,8 +25,8 @@ pub fn names(alloc: Global, tokens: &[Token]) -> Result<(Names, &[Token]), Fault
 }
 
 #[tactic(auto, using(crate::proofs::Loops::name_less, crate::proofs::Loops::name_on, crate::proofs::Loops::name_end, crate::proofs::Loops::name_bad))]
-fn name_list(alloc: Global, tokens: &[Token]) -> Result<(Seq<Named>, &[Token]), Fault>
-    ensures { Gives (λ x. (x.0, x.1.now)) result (many classes.COMMA comma_name_read tokens.now) }
+fn name_list(alloc: Global, tokens: Cursor<'_>) -> Result<(Seq<Named>, Cursor<'_>), Fault>
+    ensures { Reads result (many classes.COMMA comma_name_read) tokens.entry }
 {
     let mut left = tokens;
     let mut list = Seq::new(alloc);
@@ -41,8 +41,8 @@ fn name_list(alloc: Global, tokens: &[Token]) -> Result<(Seq<Named>, &[Token]), 
 }
 
 #[tactic(auto, unfolding(crate::specs::Readers::comma_name_read))]
-fn comma_name(tokens: &[Token]) -> Result<(Named, &[Token]), Fault>
-    ensures { Gives (λ x. (x.0, x.1.now)) result (comma_name_read tokens.now) }
+fn comma_name(tokens: Cursor<'_>) -> Result<(Named, Cursor<'_>), Fault>
+    ensures { Reads result comma_name_read tokens.entry }
 {
     let (_, left) = word(tokens, words::COMMA)?;
     name(left)
@@ -50,8 +50,8 @@ fn comma_name(tokens: &[Token]) -> Result<(Named, &[Token]), Fault>
 
 /// `WITH expr { , expr }` and the tokens after it, or where the reading stopped.
 #[tactic(auto, unfolding(crate::specs::Readers::exprs_read))]
-pub fn exprs(alloc: Global, tokens: &[Token], room: u32) -> Result<(Exprs, &[Token]), Fault>
-    ensures { Gives (λ x. (x.0, x.1.now)) result (exprs_read room tokens.now) }
+pub fn exprs(alloc: Global, tokens: Cursor<'_>, room: usize) -> Result<(Exprs, Cursor<'_>), Fault>
+    ensures { Reads result (exprs_read room) tokens.entry }
 {
     let line = line_of(tokens);
     let (_, left) = word(tokens, words::WITH)?;
@@ -61,8 +61,12 @@ pub fn exprs(alloc: Global, tokens: &[Token], room: u32) -> Result<(Exprs, &[Tok
 }
 
 #[tactic(auto, using(crate::proofs::Loops::expr_less, crate::proofs::Loops::expr_on, crate::proofs::Loops::expr_end, crate::proofs::Loops::expr_bad))]
-fn expr_list(alloc: Global, tokens: &[Token], room: u32) -> Result<(Seq<Expr>, &[Token]), Fault>
-    ensures { Gives (λ x. (x.0, x.1.now)) result (many classes.COMMA (comma_expr_read room) tokens.now) }
+fn expr_list(
+    alloc: Global,
+    tokens: Cursor<'_>,
+    room: usize,
+) -> Result<(Seq<Expr>, Cursor<'_>), Fault>
+    ensures { Reads result (many classes.COMMA (comma_expr_read room)) tokens.entry }
 {
     let mut left = tokens;
     let mut list = Seq::new(alloc);
@@ -77,20 +81,44 @@ fn expr_list(alloc: Global, tokens: &[Token], room: u32) -> Result<(Seq<Expr>, &
 }
 
 #[tactic(auto, unfolding(crate::specs::Readers::comma_expr_read))]
-fn comma_expr(alloc: Global, tokens: &[Token], room: u32) -> Result<(Expr, &[Token]), Fault>
-    ensures { Gives (λ x. (x.0, x.1.now)) result (comma_expr_read room tokens.now) }
+fn comma_expr(alloc: Global, tokens: Cursor<'_>, room: usize) -> Result<(Expr, Cursor<'_>), Fault>
+    ensures { Reads result (comma_expr_read room) tokens.entry }
 {
     let (_, left) = word(tokens, words::COMMA)?;
     expr(alloc, left, room)
 }
 
-/// `REFERENCE name` and the tokens after it, or where the reading stopped.
+/// `REFERENCE name | REFERENCE ( name )` and the tokens after it, or where the reading stopped.
 #[tactic(auto, unfolding(crate::specs::Readers::reference_read))]
-pub fn reference(tokens: &[Token]) -> Result<(Reference, &[Token]), Fault>
-    ensures { Gives (λ x. (x.0, x.1.now)) result (reference_read tokens.now) }
+pub fn reference(tokens: Cursor<'_>) -> Result<(Reference, Cursor<'_>), Fault>
+    ensures { Reads result reference_read tokens.entry }
 {
     let line = line_of(tokens);
     let (_, left) = word(tokens, words::REFERENCE)?;
-    let (block, left) = name(left)?;
-    Ok((Reference { line, block }, left))
+    let (kind, left) = receiver_kind(left)?;
+    Ok((Reference { line, kind }, left))
+}
+
+/// `name | ( name )`
+#[tactic(auto, unfolding(crate::specs::Readers::receiver_kind_read))]
+fn receiver_kind(tokens: Cursor<'_>) -> Result<(ReferenceKind, Cursor<'_>), Fault>
+    ensures { Reads result receiver_kind_read tokens.entry }
+{
+    if starts(tokens, words::OPEN) {
+        held(tokens)
+    } else {
+        let (block, left) = name(tokens)?;
+        Ok((ReferenceKind::Block { name: block }, left))
+    }
+}
+
+/// `( name )`
+#[tactic(auto, unfolding(crate::specs::Readers::held_read))]
+fn held(tokens: Cursor<'_>) -> Result<(ReferenceKind, Cursor<'_>), Fault>
+    ensures { Reads result held_read tokens.entry }
+{
+    let (_, left) = word(tokens, words::OPEN)?;
+    let (holder, left) = name(left)?;
+    let (_, left) = word(left, words::CLOSE)?;
+    Ok((ReferenceKind::Held { name: holder }, left))
 }

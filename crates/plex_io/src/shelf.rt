@@ -31,7 +31,8 @@ pub trait Shelf {
     /// The bytes of the file of this name, or its first `limit + 1` bytes where it is longer. No call
     /// changes what is held.
     fn read_file(&mut self, alloc: Global, name: &Word, limit: u64) -> Result<Seq<u8>, ShelfFault>
-        ensures bytes { IfOk result (λ got. IfSome (held self.old) (λ files. Gives (files name.now) limit got)) }
+        ensures bytes { IfOk result (λ got.
+            IfSome (held self.old) (λ files. Gives (files name.now) limit got)) }
         ensures absent { result ≡ Err ShelfFault.Absent → Lacks (held self.old) name.now }
         ensures failed { result ≡ Err ShelfFault.Failed → Rose (faults self.old) (faults self.new) }
         ensures kept { held self.new ≡ held self.old }

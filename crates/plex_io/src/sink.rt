@@ -22,7 +22,8 @@ pub trait Sink {
     /// `SinkFailed` nothing of the piece was taken, and a sink that tells its size is full.
     fn write(&mut self, piece: &[u8]) -> Result<usize, SinkFailed>
         ensures count { IfOk result (λ n. TakesSome (length piece.now) n) }
-        ensures ok { IfOk result (λ n. written self.new ≡ appended (written self.old) (take n piece.now)) }
+        ensures ok { IfOk result (λ n.
+            written self.new ≡ appended (written self.old) (take n piece.now)) }
         ensures err { OnErr result (written self.new ≡ written self.old) }
         ensures failed { OnErr result (Rose (faults self.old) (faults self.new)) }
         ensures full { OnErr result (IsFull (size self.new) (written self.new)) }
@@ -48,46 +49,4 @@ pub fn write_all<K: Sink>(sink: &mut K, text: &[u8]) -> Result<(), SinkFailed>
         at += sink.write(&text[at..])?;
     }
     Ok(())
-}
-
-#[cfg(test)]
-mod tests {
-    use super::*;
-    use crate::memory_sink::MemorySink;
-    use plex_num::Seq;
-    use std::test::Fail;
-
-    #[test]
-    fn writes_all_or_a_prefix(rt: HostRuntime) -> Result<(), Fail> {
-        let alloc = rt.alloc();
-        let text = "a text of thirty-two bytes to go";
-        let cases = [
-            ("no fault", 8, 64, 9, text, true, text),
-            ("a byte at a time", 1, 32, 99, text, true, text),
-            ("the second write fails", 8, 64, 2, text, false, "a text o"),
-            ("the first write fails", 8, 64, 1, text, false, ""),
-            (
-                "no room for the last byte",
-                8,
-                31,
-                9,
-                text,
-                false,
-                "a text of thirty-two bytes to g",
-            ),
-            ("nothing to write", 8, 0, 1, "", true, ""),
-        ];
-        for (case, piece, room, fails_at, text, whole, bytes) in cases {
-            let mut fails = Seq::new(alloc);
-            fails.push(fails_at)?;
-            let mut sink = MemorySink::new(alloc, piece, room, fails)?;
-            assert_eq!(rt;
-                write_all(&mut sink, text.as_bytes()).is_ok(),
-                whole,
-                "{case}"
-            );
-            assert_eq!(rt; sink.bytes(), bytes.as_bytes(), "{case}");
-        }
-        Ok(())
-    }
 }

@@ -118,7 +118,9 @@ impl<'a, R: Print> Sink for OutSink<'a, R> {
     fn write(&mut self, piece: &[u8]) -> Result<usize, SinkFailed>
         ensures count { IfOk result (λ n. TakesSome (length piece.now) n) }
         ensures empty { piece.now ≡ [] → result ≡ Ok 0 }
-        ensures after { MatchResult result (λ _. self.new ≡ self.old) (λ _. self.new ≡ risen self.old) }
+        ensures after { MatchResult result
+            (λ _. self.new ≡ self.old)
+            (λ _. self.new ≡ risen self.old) }
         ensures later { self.old ≤ self.new }
     {
         if piece.is_empty() {
@@ -129,111 +131,6 @@ impl<'a, R: Print> Sink for OutSink<'a, R> {
             _ => {
                 self.faults = self.faults.saturating_add(1);
                 Err(SinkFailed)
-            }
-        }
-    }
-}
-
-#[cfg(test)]
-mod tests {
-    use super::*;
-    use crate::sink::write_all;
-    use std::fmt::Display;
-    use std::test::Fail;
-
-    #[test]
-    fn reads_files(rt: HostRuntime) -> Result<(), Fail> {
-        let alloc = rt.alloc();
-        let path = "plex_io_reads_files";
-        fs::write(&rt, path, "ten bytes.")?;
-        let mut shelf = FileShelf::new(&rt);
-        let cases = [
-            ("a larger limit", path.as_bytes(), 20, Some("ten bytes."), 0),
-            (
-                "a limit of the file's length",
-                path.as_bytes(),
-                10,
-                Some("ten bytes."),
-                0,
-            ),
-            (
-                "a limit one less",
-                path.as_bytes(),
-                9,
-                Some("ten bytes."),
-                0,
-            ),
-            ("a smaller limit", path.as_bytes(), 8, Some("ten bytes"), 0),
-            ("no limit but one byte", path.as_bytes(), 0, Some("t"), 0),
-            (
-                "the largest limit",
-                path.as_bytes(),
-                u64::MAX,
-                Some("ten bytes."),
-                0,
-            ),
-            ("a missing file", b"plex_io_missing", 20, None, 1),
-            ("a name that is no UTF-8", b"\xff", 20, None, 2),
-            ("a name with a zero byte", b"a\0b", 20, None, 3),
-            ("a folder", b".", 20, None, 4),
-        ];
-        for (case, name, limit, want, faults) in cases {
-            let name = Seq::copied(alloc, name)?;
-            match (shelf.read_file(alloc, &name, limit), want) {
-                (Ok(bytes), Some(text)) => {
-                    assert_eq!(rt; bytes.as_slice(), text.as_bytes(), "{case}");
-                }
-                (Err(ShelfFault::Failed), None) => {}
-                _ => assert!(rt; false, "{case}"),
-            }
-            assert_eq!(rt; shelf.faults, faults, "{case}");
-        }
-        fs::remove_file(&rt, path)?;
-        Ok(())
-    }
-
-    #[test]
-    fn writes_output(rt: HostRuntime) -> Result<(), Fail> {
-        let mut sink = OutSink::new(&rt);
-        assert_eq!(rt; sink.write(b"").ok(), Some(0));
-        assert!(rt; write_all(&mut sink, b"a line of output\n").is_ok());
-        assert_eq!(rt; sink.faults, 0);
-        let mut sink = OutSink::new(&Blocked);
-        assert_eq!(rt;
-            sink.write(b"").ok(),
-            Some(0),
-            "an empty piece is not passed on"
-        );
-        assert_eq!(rt; sink.write(b"signal").ok(), Some(3), "a part is taken");
-        assert_eq!(rt; sink.write(b"!").ok(), None, "an error");
-        assert_eq!(rt; sink.write(b"0").ok(), None, "nothing taken");
-        assert_eq!(rt; sink.faults, 2);
-        assert!(rt; write_all(&mut sink, b"abc!").is_err());
-        assert_eq!(rt; sink.faults, 3);
-        Ok(())
-    }
-
-    // An output that takes three bytes at a time, none that begin with `0`, and fails at `!` and at nothing.
-    struct Blocked;
-
-    impl Print for Blocked {
-        fn print<D: Display + Drop>(&self, _value: D) -> io::Result<()> {
-            Err(ErrorKind::Unsupported.into())
-        }
-
-        fn println<D: Display + Drop>(&self, _value: D) -> io::Result<()> {
-            Err(ErrorKind::Unsupported.into())
-        }
-
-        fn write_all(&self, _bytes: &[u8]) -> io::Result<()> {
-            Err(ErrorKind::Unsupported.into())
-        }
-
-        fn write_some(&self, bytes: &[u8]) -> io::Result<usize> {
-            match bytes.first() {
-                Some(b'0') => Ok(0),
-                None | Some(b'!') => Err(ErrorKind::BrokenPipe.into()),
-                Some(_) => Ok(bytes.len().min(3)),
             }
         }
     }

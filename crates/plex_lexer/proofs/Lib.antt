@@ -1,3 +1,5 @@
+pub mod Ends
 pub mod Keywords
 pub mod Lines
+pub mod SortedTokens
 pub mod Steps

@@ -1,5 +1,5 @@
 -- One token at a time: the token at a byte, and the bytes after it.
-use Rattle.std.specs.Prelude.{ℕ, Bool, true, false, List, ◌∷◌, ◌++◌, length, take_while, drop, Option, Some, None, Result, Ok, Err, if◌then◌else◌}
+use Rattle.std.specs.Prelude.{◌≡◌, ℕ, Bool, true, false, List, ◌∷◌, ◌++◌, length, take_while, drop, Option, Some, None, Result, Ok, Err, if◌then◌else◌}
 use Rattle.std.specs.Char.{is_ascii_digit, is_ascii_uppercase}
 use Rattle.plex_lexer.specs.declared.fault.LexFault.{LexFault}
 use Rattle.plex_lexer.specs.declared.fault.LexFault.TheVariants.{BadByte}
@@ -9,6 +9,8 @@ use Rattle.plex_lexer.specs.declared.token.TokenKind.TheVariants.{Mark}
 use Rattle.plex_lexer.specs.Bytes.{in_word}
 use Rattle.plex_lexer.specs.Lexed.{lexed, Between, put}
 use Rattle.plex_lexer.specs.Marks.{mark_of}
+use Rattle.plex_lexer.specs.declared.sort.Sort.{Sort}
+use Rattle.plex_lexer.specs.Spots.{kind_at}
 use Rattle.plex_lexer.specs.Words.{word_kind, number_kind}
 
 -- a token of this kind, and the bytes left
@@ -39,7 +41,11 @@ abbrev pub with_tokens : List Token → Result (List Token) LexFault → Result 
 with_tokens front (Ok tokens) = Ok (front ++ tokens)
 with_tokens front (Err fault) = Err fault
 
--- a token and the bytes after it, which a reference lends
-abbrev pub seen : {R : Type 0} → (R → List ℕ) → Result (Token × R) LexFault → Result (Token × List ℕ) LexFault
-seen view (Ok piece) = Ok (piece.0, view piece.1)
-seen view (Err fault) = Err fault
+-- a token told by its sort, which begins with these bytes, and the bytes after it, which a reference lends
+abbrev pub seen : {R : Type 0} → (R → List ℕ) → List ℕ → ℕ → ℕ → Result (Sort × R) LexFault → Result (Token × List ℕ) LexFault
+seen view bytes offset line (Ok piece) = Ok (record { kind = kind_at piece.0 bytes; line = line; offset = offset }, view piece.1)
+seen view bytes offset line (Err fault) = Err fault
+
+-- bytes are the last ones of a text
+unfoldable pub IsEnd : List ℕ → List ℕ → Type 0
+IsEnd text end = (front : List ℕ) × (text ≡ front ++ end)

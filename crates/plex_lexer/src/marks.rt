@@ -15,7 +15,8 @@ fn place(b: u8) -> Option<usize>
 
 /// The number of a mark of one byte.
 fn single(b: u8) -> Option<u8>
-    ensures { result ≡ single_mark b }
+    ensures is { result ≡ single_mark b }
+    ensures small { IfSome result (λ number. number < 128) }
 {
     match place(b) {
         Some(number) => Some(number as u8),
@@ -25,7 +26,8 @@ fn single(b: u8) -> Option<u8>
 
 /// The number of a mark of two bytes: `<=`, `>=` or `<>`.
 fn double(b: u8, rest: &[u8]) -> Option<u8>
-    ensures { result ≡ double_mark b rest.now }
+    ensures is { result ≡ double_mark b rest.now }
+    ensures small { IfSome result (λ number. number < 128) }
 {
     macro_rules! marks {
         ($($first:literal $second:literal $number:literal),*) => {
@@ -40,7 +42,8 @@ fn double(b: u8, rest: &[u8]) -> Option<u8>
 
 /// The number of the longest mark that begins with this byte, and whether it has two bytes.
 pub fn mark(b: u8, rest: &[u8]) -> Option<(u8, bool)>
-    ensures { result ≡ mark_of b rest.now }
+    ensures is { result ≡ mark_of b rest.now }
+    ensures small { IfSome result (λ mark. mark.0 < 128) }
 {
     if let Some(number) = double(b, rest) {
         return Some((number, true));

@@ -1,6 +1,6 @@
 use plex_num::Name;
 
-/// A word of a text: what it is, its line (1 plus the number of LF bytes before it) and its offset (the number of
+/// A word of a text, as contracts see it: what it is, its line (1 plus the number of LF bytes before it) and its offset (the number of
 /// bytes before it).
 #[derive(Drop)]
 pub struct Token {

@@ -48,3 +48,8 @@ number_of_empty text e = rw e refl
 pub number_of_long : (text : List ℕ) → 10 < length text → number_of text ≡ None
 unfolding number_of
 number_of_long text e = let some : 0 < length text = omega arith in rw (lt-ltb 0 (length text) some, lt-leb (length text) 10 e) refl
+
+-- what a loop over the digits uses, and what a choice by the length does
+pub ruleset digits_read = (digits_step, digits_stop, digits_end, small_step)
+
+pub ruleset numbers_told = (number_of_digits, number_of_empty, number_of_long)

@@ -14,4 +14,7 @@ below_2_32 (Some n) = (if nat_lt n (2 ^ 32) then Some n else None)
 
 -- what a text of 1 to 10 digits with a value below 2^32 says
 unfoldable pub number_of : List ℕ → Option ℕ
-number_of text = (if nat_lt 0 (length text) && nat_le (length text) 10 then below_2_32 (digits_from 0 text) else None)
+number_of text =
+    (if nat_lt 0 (length text) && nat_le (length text) 10
+    then below_2_32 (digits_from 0 text)
+    else None)

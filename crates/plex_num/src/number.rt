@@ -7,7 +7,7 @@ use crate::seq::{Memory, Seq};
 use itoa::Buffer;
 
 /// The number that the text is: 1 to 10 digits with a value below 2^32; `None` for every other text.
-#[tactic(auto, using(crate::proofs::Digits::number_of_digits, crate::proofs::Digits::number_of_empty, crate::proofs::Digits::number_of_long))]
+#[tactic(auto, using(crate::proofs::Digits::numbers_told))]
 pub fn read_number(text: &[u8]) -> Option<u32>
     ensures { result ≡ number_of text.now }
 {
@@ -24,7 +24,7 @@ pub fn read_number(text: &[u8]) -> Option<u32>
 }
 
 /// The number that these digits make, of which there are at most 10.
-#[tactic(auto, using(crate::proofs::Digits::digits_step, crate::proofs::Digits::digits_stop, crate::proofs::Digits::digits_end, crate::proofs::Digits::small_step))]
+#[tactic(auto, using(crate::proofs::Digits::digits_read))]
 fn read_digits(text: &[u8]) -> Option<u64>
     requires { length text.now ≤ 10 }
     ensures { result ≡ digits_from 0 text.now }
@@ -42,7 +42,9 @@ fn read_digits(text: &[u8]) -> Option<u64>
 
 /// Appends the number in decimal digits, with no leading zero; where memory is refused, the list stays as it was.
 pub fn print_number(value: u64, text: &mut Seq<u8>) -> Result<(), Memory>
-    ensures { MatchResult result (λ _. text.new ≡ text.old ++ decimal value) (λ _. text.new ≡ text.old) }
+    ensures { MatchResult result
+        (λ _. text.new ≡ text.old ++ decimal value)
+        (λ _. text.new ≡ text.old) }
 {
     let mut buffer = Buffer::new();
     text.append(buffer.format(value).as_bytes())

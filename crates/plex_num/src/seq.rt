@@ -51,7 +51,9 @@ impl<T> Seq<T> {
 
     /// The item at a place, counted from 0; `None` exactly where the list ends before it.
     pub fn get(&self, i: usize) -> Option<&T>
-        ensures { MatchOption result (length self.now ≤ i) (λ x. slice_get self.now i ≡ Some x.now) }
+        ensures { MatchOption result
+            (length self.now ≤ i)
+            (λ x. slice_get self.now i ≡ Some x.now) }
     {
         self.items.get(i)
     }
@@ -74,7 +76,9 @@ impl<T> Seq<T> {
 impl<T: Drop> Seq<T> {
     /// Appends an item; where memory is refused, the list stays as it was and the item is dropped.
     pub fn push(&mut self, value: T) -> Result<(), Memory>
-        ensures { MatchResult result (λ _. self.new ≡ self.old ++ value ∷ []) (λ _. self.new ≡ self.old) }
+        ensures { MatchResult result
+            (λ _. self.new ≡ self.old ++ value ∷ [])
+            (λ _. self.new ≡ self.old) }
     {
         match self.items.push(value) {
             Ok(()) => Ok(()),
@@ -94,7 +98,9 @@ impl<T: Drop> Seq<T> {
 impl Seq<u8> {
     /// Appends these bytes; where memory is refused, the list stays as it was.
     pub fn append(&mut self, bytes: &[u8]) -> Result<(), Memory>
-        ensures { MatchResult result (λ _. self.new ≡ self.old ++ bytes.now) (λ _. self.new ≡ self.old) }
+        ensures { MatchResult result
+            (λ _. self.new ≡ self.old ++ bytes.now)
+            (λ _. self.new ≡ self.old) }
     {
         match self.items.extend_from_slice(bytes) {
             Ok(()) => Ok(()),

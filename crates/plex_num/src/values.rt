@@ -1,12 +1,13 @@
 ghost use Rattle.std.specs.Prelude.{◌≡◌, ◌<◌, ◌≤◌, ◌++◌, ◌∷◌, [], List, ℕ, length, remove, slice_get, Some};
 
 use arrayvec::ArrayVec;
+use plex_limits::MOST_VALUES;
 use std::marker::Model;
 
 /// The values of a signal: at most 8 numbers, which contracts see as a list. None of its calls takes memory.
 #[derive(Drop)]
 pub struct Values {
-    numbers: ArrayVec<u32, 8>,
+    numbers: ArrayVec<u32, MOST_VALUES>,
 }
 
 impl Model for Values {
@@ -32,7 +33,7 @@ impl Values {
 
     /// Appends a number; there must be room for it.
     pub fn push(&mut self, item: u32)
-        requires { length self.old < 8 }
+        requires { length self.old < MOST_VALUES }
         ensures { self.new ≡ self.old ++ item ∷ [] }
     {
         self.numbers.push(item);
@@ -50,7 +51,7 @@ impl Values {
     /// The numbers.
     pub fn as_slice(&self) -> &[u32]
         ensures items { result.now ≡ self.now }
-        ensures room { length self.now ≤ 8 }
+        ensures room { length self.now ≤ MOST_VALUES }
     {
         self.numbers.as_slice()
     }

@@ -19,10 +19,10 @@ use Rattle.plex_ast.specs.declared.block.DeclKind.{DeclKind}
 use Rattle.plex_ast.specs.declared.block.DeclKind.TheVariants as decls
 use Rattle.plex_ast.specs.declared.block.Field.{Field}
 use Rattle.plex_ast.specs.declared.block.Block.{Block}
-use Rattle.plex_ast.specs.Words.{BLOCK, DECLARE, VARIABLE, TEMPORARY, FILE, FORLOPP, FIELD, WIDTH, SIZE, INIT, SURVEY, RECEIVE, SEND, PROGRAM, END, ENTER, SEMI, OPEN, CLOSE, EQUAL}
+use Rattle.plex_ast.specs.Words.{BLOCK, DECLARE, VARIABLE, TEMPORARY, FILE, FORLOPP, FIELD, WIDTH, SIZE, INIT, CLEAR, SURVEY, RECEIVE, SEND, PROGRAM, END, ENTER, SEMI, OPEN, CLOSE, EQUAL}
 use Rattle.plex_ast.specs.Grammar.{names, body, item_at, item, survey_at, survey, init, field, decl_at, decl, block}
 use Rattle.plex_parser.specs.Statements.{assign_made}
-use Rattle.plex_parser.specs.Blocks.{name_tail_read, stmt_item, name_item, name_item_read, enter_read, stmt_item_read, item_kind_read, item_made, item_read, ITEM, survey_kind_read, survey_made, survey_read, init_read, Width, width_read, field_made, field_read, variable_read, temporary_read, forlopp_read, file_made, file_read, decl_kind_read, decl_made, decl_read, DECL, end_read, program_read, surveys_read, decls_read, Parts, block_made, block_read}
+use Rattle.plex_parser.specs.Blocks.{name_tail_read, stmt_item, name_item, name_item_read, enter_read, stmt_item_read, item_kind_read, item_made, item_read, ITEM, survey_kind_read, survey_made, survey_read, init_read, Width, width_read, field_made, field_read, clear_read, variable_made, variable_read, temporary_read, forlopp_read, file_made, file_read, decl_kind_read, decl_made, decl_read, DECL, end_read, program_read, surveys_read, decls_read, Parts, block_made, block_read}
 use Rattle.plex_parser.proofs.PlainStatements.{Assigned, Exact-assigned, Exact-taken}
 use Rattle.plex_parser.proofs.Statements.{ByOther, kind_to, kind_from, Exact-other}
 
@@ -143,6 +143,14 @@ Exact-field = Exact-same (field true) (field true) to from to (Exact-lined field
     from : (x : Field) (u : List Token) → field true x u → Lined field_made (λ p. word FIELD · HasWidth p) x u
     from x u h = ((x.name, (x.width, x.init)), λ i. record { line = h.1 refl i; name = x.name; width = x.width; init = x.init }, h.0)
 
+Exact-clear : Exact (flag (word CLEAR)) (flag (word CLEAR)) CLEAR true CLEAR clear_read clear_read
+unfolding clear_read
+Exact-clear = Exact-flag CLEAR (word CLEAR) (λ t u h. (t, h.0, h.1)) (λ t u h. (t, h.0, h.1)) (λ u h. (h.0, (h.1, h.2))) (Exact-word CLEAR (a_keyword 55) refl) refl
+
+-- a variable: its name and its width, and whether it is cleared
+abbrev Variable : Named × (Numbered × (Option Numbered × Bool)) → Lang
+Variable p = word VARIABLE · (named true p.0 · (word WIDTH · (numbered true p.1.0 · (maybe (init true) p.1.1.0 · (flag (word CLEAR) p.1.1.1 · word SEMI)))))
+
 Exact-forlopp : Exact (flag (word FORLOPP)) (flag (word FORLOPP)) FORLOPP true FORLOPP forlopp_read forlopp_read
 unfolding forlopp_read
 Exact-forlopp = Exact-flag FORLOPP (word FORLOPP) (λ t u h. (t, h.0, h.1)) (λ t u h. (t, h.0, h.1)) (λ u h. (h.0, (h.1, h.2))) (Exact-word FORLOPP (a_keyword 13) refl) refl
@@ -154,13 +162,15 @@ abbrev FileLang : File → Lang
 FileLang p = flag (word FORLOPP) p.0 · (word FILE · (named true p.1.0 · (word SIZE · (numbered true p.1.1.0 · (word SEMI · each (field true) p.1.1.1)))))
 
 abbrev Decls : DeclKind → Lang
-Decls = Either (Lined (λ _ (p : Width). decls.Variable p.0 p.1.0 p.1.1) (λ p. word VARIABLE · HasWidth p))
+Decls = Either (Lined variable_made Variable)
     (Either (Lined (λ _ (n : Named). decls.Temporary n) (λ n. word TEMPORARY · (named true n · word SEMI))) (Lined file_made FileLang))
 
 Exact-decl-kind : Exact (decl_at true) (decl_at true) DECL false FIELD decl_kind_read decl_kind_read
 unfolding decl_kind_read variable_read temporary_read file_read
 Exact-decl-kind = Exact-same (decl_at true) (decl_at true) to from to
-    (Exact-branch VARIABLE (Exact-lined (λ _ (p : Width). decls.Variable p.0 p.1.0 p.1.1) (Exact-after VARIABLE (a_keyword 10) refl Exact-width))
+    (Exact-branch VARIABLE
+    (Exact-lined variable_made (Exact-after VARIABLE (a_keyword 10) refl (Exact-pair Exact-name (Exact-after WIDTH (a_keyword 15) refl
+    (Exact-pair Exact-number (Exact-pair Exact-init (Exact-ended SEMI (a_mark 0) refl Exact-clear refl) refl) refl)) refl)))
     (Exact-branch TEMPORARY (Exact-lined (λ _ (n : Named). decls.Temporary n) (Exact-after TEMPORARY (a_keyword 11) refl (Exact-ended SEMI (a_mark 0) refl Exact-name refl)))
     (Exact-lined file_made (Exact-pair Exact-forlopp (Exact-after FILE (a_keyword 12) refl (Exact-pair Exact-name (Exact-after SIZE (a_keyword 16) refl (Exact-pair Exact-number (Exact-after SEMI (a_mark 0) refl (Exact-many Exact-field refl)) refl)) refl)) refl))
     refl refl) refl refl)
@@ -171,7 +181,7 @@ Exact-decl-kind = Exact-same (decl_at true) (decl_at true) to from to
     to x u (inr (inr h)) = subst (λ y. decl_at true y u) (sym h.1) h.2
 
     from : (x : DeclKind) (u : List Token) → decl_at true x u → Decls x u
-    from (decls.Variable n w i) u h = inl ((n, (w, i)), refl, h)
+    from (decls.Variable n w i clear) u h = inl ((n, (w, (i, clear))), refl, h)
     from (decls.Temporary n) u h = inr (inl (n, refl, h))
     from (decls.File forlopp n size fields) u h = inr (inr ((forlopp, (n, (size, fields))), refl, h))
 

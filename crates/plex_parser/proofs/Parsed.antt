@@ -1,5 +1,6 @@
 -- The function that the parser computes answers a tree exactly where the tokens spell it, and else their one fault.
 use Rattle.std.proofs.Common.{◌≡◌, ◌↔◌, ℕ, zero, suc, Bool, true, false, List, length, Ok, Err, Result, refl, ap, subst}
+use Rattle.plex_limits.specs.declared.limits.TheConstants.{MOST_BRACKETS, MOST_NESTED}
 use Rattle.plex_lexer.specs.declared.token.Token.{Token}
 use Rattle.token_grammar.specs.Reading.{Stuck}
 use Rattle.token_grammar.specs.Faults.{IsUnexpected, IsTooDeep, IsEnded}
@@ -12,27 +13,27 @@ use Rattle.plex_parser.specs.declared.parser.ParseFault.TheVariants.{Unexpected,
 use Rattle.plex_parser.specs.Parses.{tree_of, fault_of, told, parsed, Parses, Yields, Answers}
 use Rattle.plex_parser.proofs.Exchange.{tree_again, tree_sound, tree_told}
 
-pub tree_spelled : (w : List Token) (t : Tree) → tree_of w ≡ Ok t → tree true 6 12 t w
+pub tree_spelled : (w : List Token) (t : Tree) → tree_of w ≡ Ok t → tree true MOST_BRACKETS MOST_NESTED t w
 unfolding tree_of
-tree_spelled w t h = tree_sound 6 12 t w h
+tree_spelled w t h = tree_sound MOST_BRACKETS MOST_NESTED t w h
 
-pub spelled_tree : (w : List Token) (t : Tree) → tree true 6 12 t w → tree_of w ≡ Ok t
+pub spelled_tree : (w : List Token) (t : Tree) → tree true MOST_BRACKETS MOST_NESTED t w → tree_of w ≡ Ok t
 unfolding tree_of
-spelled_tree w t h = tree_again 6 12 t w h
+spelled_tree w t h = tree_again MOST_BRACKETS MOST_NESTED t w h
 
-pub tree_one : (w : List Token) (t s : Tree) → tree_of w ≡ Ok t → tree true 6 12 s w → t ≡ s
+pub tree_one : (w : List Token) (t s : Tree) → tree_of w ≡ Ok t → tree true MOST_BRACKETS MOST_NESTED s w → t ≡ s
 tree_one w t s h k = ok_same t s (tree_of w) h (spelled_tree w s k)
 
-tree_none : (w : List Token) (e : Stuck) (s : Tree) → tree_of w ≡ Err e → tree true 6 12 s w → ⊥
+tree_none : (w : List Token) (e : Stuck) (s : Tree) → tree_of w ≡ Err e → tree true MOST_BRACKETS MOST_NESTED s w → ⊥
 tree_none w e s h k = ok_err s e (tree_of w) (spelled_tree w s k) h
 
 pub fault_told : (w : List Token) (left : ℕ) (deep : Bool) → tree_of w ≡ Err (record { left = left; deep = deep }) → Parses (Err (fault_of (length w) left deep)) w
 unfolding tree_of
-fault_told w zero deep h = tree_told 6 12 w _ h
-fault_told w (suc n) true h = tree_told 6 12 w _ h
-fault_told w (suc n) false h = tree_told 6 12 w _ h
+fault_told w zero deep h = tree_told MOST_BRACKETS MOST_NESTED w _ h
+fault_told w (suc n) true h = tree_told MOST_BRACKETS MOST_NESTED w _ h
+fault_told w (suc n) false h = tree_told MOST_BRACKETS MOST_NESTED w _ h
 
-pub yields_none : (w : List Token) (f : ParseFault) (e : Stuck) (s : Tree) → tree_of w ≡ Err e → tree true 6 12 s w → Yields (Err f) s
+pub yields_none : (w : List Token) (f : ParseFault) (e : Stuck) (s : Tree) → tree_of w ≡ Err e → tree true MOST_BRACKETS MOST_NESTED s w → Yields (Err f) s
 yields_none w f e s h k = absurd (tree_none w e s h k)
 
 pub parsed_tree : (w : List Token) (t : Tree) → tree_of w ≡ Ok t → parsed w ≡ Ok t
@@ -70,45 +71,45 @@ never_memory n (Err e) h = no_memory n e.left e.deep h
 
 -- .. and nothing else does
 
-pub parsed_spelled : (w : List Token) (t : Tree) → tree true 6 12 t w → parsed w ≡ Ok t
+pub parsed_spelled : (w : List Token) (t : Tree) → tree true MOST_BRACKETS MOST_NESTED t w → parsed w ≡ Ok t
 parsed_spelled w t h = parsed_tree w t (spelled_tree w t h)
 
-pub one_tree_of : (w : List Token) (t s : Tree) → tree true 6 12 t w → tree true 6 12 s w → t ≡ s
+pub one_tree_of : (w : List Token) (t s : Tree) → tree true MOST_BRACKETS MOST_NESTED t w → tree true MOST_BRACKETS MOST_NESTED s w → t ≡ s
 one_tree_of w t s h k = tree_one w t s (spelled_tree w t h) k
 
 module _ (w : List Token) where
-  ended : (r : Result Tree ParseFault) → parsed w ≡ r → IsEnded (tree true) 6 12 w → r ≡ Err Ended
+  ended : (r : Result Tree ParseFault) → parsed w ≡ r → IsEnded (tree true) MOST_BRACKETS MOST_NESTED w → r ≡ Err Ended
   unfolding parsed
   ended (Ok t) h e = absurd (e.none t (parsed_holds w (Ok t) h))
-  ended (Err (Unexpected i)) h e = absurd (no_first (tree true 6 12) w i e.front (parsed_holds w (Err (Unexpected i)) h).first)
+  ended (Err (Unexpected i)) h e = absurd (no_first (tree true MOST_BRACKETS MOST_NESTED) w i e.front (parsed_holds w (Err (Unexpected i)) h).first)
   ended (Err Ended) h e = refl
-  ended (Err (TooDeep i)) h e = absurd (no_first (tree true 6 12) w i e.front (parsed_holds w (Err (TooDeep i)) h).first)
+  ended (Err (TooDeep i)) h e = absurd (no_first (tree true MOST_BRACKETS MOST_NESTED) w i e.front (parsed_holds w (Err (TooDeep i)) h).first)
   ended (Err Memory) h e = absurd (never_memory (length w) (tree_of w) h)
 
-  too_deep : (i : ℕ) (r : Result Tree ParseFault) → parsed w ≡ r → IsTooDeep (tree true) 6 12 w i → r ≡ Err (TooDeep i)
+  too_deep : (i : ℕ) (r : Result Tree ParseFault) → parsed w ≡ r → IsTooDeep (tree true) MOST_BRACKETS MOST_NESTED w i → r ≡ Err (TooDeep i)
   unfolding parsed
-  too_deep i (Ok t) h e = absurd (no_first (tree true 6 12) w i (sentence_begun (tree true 6 12) w t (parsed_holds w (Ok t) h)) e.first)
-  too_deep i (Err (Unexpected j)) h e = absurd (not_both (tree true) 6 12 w j i (parsed_holds w (Err (Unexpected j)) h) e)
-  too_deep i (Err Ended) h e = absurd (no_first (tree true 6 12) w i (parsed_holds w (Err Ended) h).front e.first)
-  too_deep i (Err (TooDeep j)) h e = ap (λ k. Err (TooDeep k)) (one_first (tree true 6 12) w j i (parsed_holds w (Err (TooDeep j)) h).first e.first)
+  too_deep i (Ok t) h e = absurd (no_first (tree true MOST_BRACKETS MOST_NESTED) w i (sentence_begun (tree true MOST_BRACKETS MOST_NESTED) w t (parsed_holds w (Ok t) h)) e.first)
+  too_deep i (Err (Unexpected j)) h e = absurd (not_both (tree true) MOST_BRACKETS MOST_NESTED w j i (parsed_holds w (Err (Unexpected j)) h) e)
+  too_deep i (Err Ended) h e = absurd (no_first (tree true MOST_BRACKETS MOST_NESTED) w i (parsed_holds w (Err Ended) h).front e.first)
+  too_deep i (Err (TooDeep j)) h e = ap (λ k. Err (TooDeep k)) (one_first (tree true MOST_BRACKETS MOST_NESTED) w j i (parsed_holds w (Err (TooDeep j)) h).first e.first)
   too_deep i (Err Memory) h e = absurd (never_memory (length w) (tree_of w) h)
 
-  unexpected : (i : ℕ) (r : Result Tree ParseFault) → parsed w ≡ r → IsUnexpected (tree true) 6 12 w i → r ≡ Err (Unexpected i)
+  unexpected : (i : ℕ) (r : Result Tree ParseFault) → parsed w ≡ r → IsUnexpected (tree true) MOST_BRACKETS MOST_NESTED w i → r ≡ Err (Unexpected i)
   unfolding parsed
-  unexpected i (Ok t) h e = absurd (no_first (tree true 6 12) w i (sentence_begun (tree true 6 12) w t (parsed_holds w (Ok t) h)) e.first)
-  unexpected i (Err (Unexpected j)) h e = ap (λ k. Err (Unexpected k)) (one_first (tree true 6 12) w j i (parsed_holds w (Err (Unexpected j)) h).first e.first)
-  unexpected i (Err Ended) h e = absurd (no_first (tree true 6 12) w i (parsed_holds w (Err Ended) h).front e.first)
-  unexpected i (Err (TooDeep j)) h e = absurd (not_both (tree true) 6 12 w i j e (parsed_holds w (Err (TooDeep j)) h))
+  unexpected i (Ok t) h e = absurd (no_first (tree true MOST_BRACKETS MOST_NESTED) w i (sentence_begun (tree true MOST_BRACKETS MOST_NESTED) w t (parsed_holds w (Ok t) h)) e.first)
+  unexpected i (Err (Unexpected j)) h e = ap (λ k. Err (Unexpected k)) (one_first (tree true MOST_BRACKETS MOST_NESTED) w j i (parsed_holds w (Err (Unexpected j)) h).first e.first)
+  unexpected i (Err Ended) h e = absurd (no_first (tree true MOST_BRACKETS MOST_NESTED) w i (parsed_holds w (Err Ended) h).front e.first)
+  unexpected i (Err (TooDeep j)) h e = absurd (not_both (tree true) MOST_BRACKETS MOST_NESTED w i j e (parsed_holds w (Err (TooDeep j)) h))
   unexpected i (Err Memory) h e = absurd (never_memory (length w) (tree_of w) h)
 
-  pub ok_exactly : (t : Tree) → (parsed w ≡ Ok t ↔ tree true 6 12 t w)
+  pub ok_exactly : (t : Tree) → (parsed w ≡ Ok t ↔ tree true MOST_BRACKETS MOST_NESTED t w)
   ok_exactly t = (parsed_holds w (Ok t), parsed_spelled w t)
 
-  pub ended_exactly : parsed w ≡ Err Ended ↔ IsEnded (tree true) 6 12 w
+  pub ended_exactly : parsed w ≡ Err Ended ↔ IsEnded (tree true) MOST_BRACKETS MOST_NESTED w
   ended_exactly = (parsed_holds w (Err Ended), ended (parsed w) refl)
 
-  pub too_deep_exactly : (i : ℕ) → (parsed w ≡ Err (TooDeep i) ↔ IsTooDeep (tree true) 6 12 w i)
+  pub too_deep_exactly : (i : ℕ) → (parsed w ≡ Err (TooDeep i) ↔ IsTooDeep (tree true) MOST_BRACKETS MOST_NESTED w i)
   too_deep_exactly i = (parsed_holds w (Err (TooDeep i)), too_deep i (parsed w) refl)
 
-  pub unexpected_exactly : (i : ℕ) → (parsed w ≡ Err (Unexpected i) ↔ IsUnexpected (tree true) 6 12 w i)
+  pub unexpected_exactly : (i : ℕ) → (parsed w ≡ Err (Unexpected i) ↔ IsUnexpected (tree true) MOST_BRACKETS MOST_NESTED w i)
   unexpected_exactly i = (parsed_holds w (Err (Unexpected i)), unexpected i (parsed w) refl)

@@ -25,7 +25,7 @@ use Rattle.plex_ast.specs.declared.tree.Shape.{Shape}
 use Rattle.plex_ast.specs.declared.tree.ShapeKind.{ShapeKind}
 use Rattle.plex_ast.specs.declared.tree.ShapeKind.TheVariants as shapes
 use Rattle.plex_ast.specs.declared.tree.Tree.{Tree}
-use Rattle.plex_ast.specs.Words.{SIGNAL, SINGLE, COMBINED, BUFFERED, DIRECT, OUTSIDE, DATA, ANSWER, BLOCK, DECLARE, VARIABLE, TEMPORARY, FILE, FORLOPP, FIELD, WIDTH, SIZE, INIT, SURVEY, RECEIVE, SEND, PROGRAM, END, ENTER, SEMI, CLOSE}
+use Rattle.plex_ast.specs.Words.{SIGNAL, SINGLE, COMBINED, BUFFERED, DIRECT, OUTSIDE, DATA, ANSWER, BLOCK, DECLARE, VARIABLE, TEMPORARY, FILE, FORLOPP, FIELD, WIDTH, SIZE, INIT, CLEAR, SURVEY, RECEIVE, SEND, PROGRAM, END, ENTER, SEMI, CLOSE}
 use Rattle.plex_parser.specs.Statements.{assigned_read, assign_made, taken_read, PLAIN, HELD, other_at, body_read}
 
 -- items: a name may begin a label or an assignment, and what follows the name tells
@@ -39,6 +39,10 @@ stmt_item line k = items.Stmt (record { line = line; kind = k })
 abbrev pub name_item : ℕ → Named × Option (Option Named × Expr) → ItemKind
 name_item line (n, None) = items.Label n
 name_item line (n, Some p) = stmt_item line (assign_made n p)
+
+-- .. with this name on this line
+abbrev pub named_item : ℕ → Named → Reader (Option (Option Named × Expr)) → Reader ItemKind
+named_item line n r = lined (λ _ tail. name_item line (n, tail)) r
 
 unfoldable pub name_item_read : ℕ → Reader ItemKind
 name_item_read b = lined name_item (pair name_read (name_tail_read b))
@@ -89,8 +93,14 @@ field_made line p = record { line = line; name = p.0; width = p.1.0; init = p.1.
 unfoldable pub field_read : Reader Field
 field_read = lined field_made (after FIELD width_read)
 
+unfoldable pub clear_read : Reader Bool
+clear_read = flag_read CLEAR (word_of CLEAR)
+
+abbrev pub variable_made : ℕ → Named × (Numbered × (Option Numbered × Bool)) → DeclKind
+variable_made _ p = decls.Variable p.0 p.1.0 p.1.1.0 p.1.1.1
+
 unfoldable pub variable_read : Reader DeclKind
-variable_read = lined (λ _ (p : Width). decls.Variable p.0 p.1.0 p.1.1) (after VARIABLE width_read)
+variable_read = lined variable_made (after VARIABLE (pair name_read (after WIDTH (pair number_read (pair init_read (ended clear_read SEMI))))))
 
 unfoldable pub temporary_read : Reader DeclKind
 temporary_read = lined (λ _ (n : Named). decls.Temporary n) (after TEMPORARY (ended name_read SEMI))

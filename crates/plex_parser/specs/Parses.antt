@@ -1,17 +1,18 @@
--- What the parser answers: brackets nest at most 6 deep, statements that hold statements at most 12 deep.
+-- What the parser answers, within the limits of nesting.
 use Rattle.std.specs.Prelude.{◌≡◌, ℕ, zero, suc, ◌-◌, Bool, true, false, List, length, Result, Ok, Err}
+use Rattle.plex_limits.specs.declared.limits.TheConstants.{MOST_BRACKETS, MOST_NESTED}
 use Rattle.plex_lexer.specs.declared.token.Token.{Token}
 use Rattle.token_grammar.specs.Reading.{Stuck, all_read}
 use Rattle.token_grammar.specs.Faults.{IsUnexpected, IsTooDeep, IsEnded}
 use Rattle.plex_ast.specs.declared.tree.Tree.{Tree}
-use Rattle.plex_ast.specs.Grammar.{tree}
+use Rattle.plex_ast.specs.Grammar.{tree, Sentence}
 use Rattle.plex_parser.specs.declared.parser.ParseFault.{ParseFault}
 use Rattle.plex_parser.specs.declared.parser.ParseFault.TheVariants.{Unexpected, Ended, TooDeep, Memory}
 use Rattle.plex_parser.specs.Blocks.{tree_read}
 
 -- the tree that the tokens spell, or where the reading of them stops
 unfoldable pub tree_of : List Token → Result Tree Stuck
-tree_of w = all_read (tree_read 6 12 w)
+tree_of w = all_read (tree_read MOST_BRACKETS MOST_NESTED w)
 
 -- a reading of n tokens that stopped, as a fault
 abbrev pub fault_of : ℕ → ℕ → Bool → ParseFault
@@ -27,12 +28,22 @@ told n (Err e) = Err (fault_of n e.left e.deep)
 unfoldable pub parsed : List Token → Result Tree ParseFault
 parsed w = told (length w) (tree_of w)
 
+-- the three faults of tokens that are no sentence
+abbrev pub UnexpectedAt : List Token → ℕ → Type 0
+UnexpectedAt w i = IsUnexpected (tree true) MOST_BRACKETS MOST_NESTED w i
+
+abbrev pub TooDeepAt : List Token → ℕ → Type 0
+TooDeepAt w i = IsTooDeep (tree true) MOST_BRACKETS MOST_NESTED w i
+
+abbrev pub EndsEarly : List Token → Type 0
+EndsEarly w = IsEnded (tree true) MOST_BRACKETS MOST_NESTED w
+
 -- a tree is spelled by the tokens, and a fault is theirs
 abbrev pub Parses : Result Tree ParseFault → List Token → Type 0
-Parses (Ok t) w = tree true 6 12 t w
-Parses (Err (Unexpected i)) w = IsUnexpected (tree true) 6 12 w i
-Parses (Err Ended) w = IsEnded (tree true) 6 12 w
-Parses (Err (TooDeep i)) w = IsTooDeep (tree true) 6 12 w i
+Parses (Ok t) w = Sentence t w
+Parses (Err (Unexpected i)) w = UnexpectedAt w i
+Parses (Err Ended) w = EndsEarly w
+Parses (Err (TooDeep i)) w = TooDeepAt w i
 Parses (Err Memory) w = Unit {0}
 
 -- this tree, or no memory

@@ -107,6 +107,10 @@ abbrev pub if_made : Cond → IfTail → StmtKind
 if_made c (Goes l) = IfGoto c l
 if_made c (Does first other) = If c first other
 
+-- the statement of this condition
+abbrev pub if_with : Cond → Reader IfTail → Reader StmtKind
+if_with c r = lined (λ _ tail. if_made c tail) r
+
 unfoldable pub gone_read : Reader IfTail
 gone_read = lined (λ _ (l : Named). Goes l) to_label_read
 
@@ -190,3 +194,7 @@ body_read b (suc n) = many STMT (stmt_at b n (body_read b n))
 
 unfoldable pub stmt_read : ℕ → ℕ → Reader Stmt
 stmt_read b n = stmt_at b n (body_read b n)
+
+-- as many statements as stand there
+abbrev pub stmts_read : ℕ → ℕ → Reader (List Stmt)
+stmts_read b n = many STMT (stmt_read b n)

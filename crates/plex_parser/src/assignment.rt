@@ -1,11 +1,11 @@
 // Assignments.
 ghost use Rattle.std.specs.Prelude.{◌≡◌};
-ghost use Rattle.token_grammar.specs.Gives.{Gives};
+ghost use Rattle.token_grammar.specs.Gives.{Reads};
 ghost use Rattle.plex_parser.specs.Statements.{assigned_read, assign_made};
 
-use plex_ast::{Expr, Named, StmtKind, words};
-use plex_expr_parser::{expr, pointer};
-use plex_lexer::Token;
+use plex_ast::{Boxed, Expr, Named, StmtKind, words};
+use plex_expr_parser::{boxed, expr, pointer};
+use plex_lexer::Cursor;
 use std::alloc::Global;
 use token_grammar::{Fault, word};
 
@@ -13,20 +13,20 @@ use token_grammar::{Fault, word};
 #[tactic(auto, unfolding(crate::specs::Statements::assigned_read))]
 pub fn assigned(
     alloc: Global,
-    tokens: &[Token],
-    room: u32,
-) -> Result<((Option<Named>, Expr), &[Token]), Fault>
-    ensures { Gives (λ x. (x.0, x.1.now)) result (assigned_read room tokens.now) }
+    tokens: Cursor<'_>,
+    room: usize,
+) -> Result<((Option<Boxed<Named>>, Boxed<Expr>), Cursor<'_>), Fault>
+    ensures { Reads result (assigned_read room) tokens.entry }
 {
-    let (pointer, left) = pointer(tokens)?;
+    let (pointer, left) = pointer(alloc, tokens)?;
     let (_, left) = word(left, words::EQUAL)?;
     let (value, left) = expr(alloc, left, room)?;
     let (_, left) = word(left, words::SEMI)?;
-    Ok(((pointer, value), left))
+    Ok(((pointer, boxed(alloc, value)?), left))
 }
 
 /// The assignment to this variable or, with a pointer, to this field.
-pub fn assign(name: Named, pointer: Option<Named>, value: Expr) -> StmtKind
+pub fn assign(name: Named, pointer: Option<Boxed<Named>>, value: Boxed<Expr>) -> StmtKind
     ensures { result ≡ assign_made name (pointer, value) }
 {
     match pointer {

@@ -1,6 +1,7 @@
 // Surveys and blocks.
 ghost use Rattle.std.specs.Prelude.{◌≡◌, ◌++◌};
-ghost use Rattle.token_grammar.specs.Gives.{Gives};
+ghost use Rattle.plex_lexer.specs.Cursors.{ahead};
+ghost use Rattle.token_grammar.specs.Gives.{Reads};
 ghost use Rattle.token_grammar.specs.Reading.{at, many};
 ghost use Rattle.plex_parser.specs.Blocks.{block_read, end_read, program_read, survey_kind_read, survey_read, surveys_read};
 ghost use Rattle.plex_ast.specs.Words as classes;
@@ -8,7 +9,7 @@ ghost use Rattle.plex_ast.specs.Words as classes;
 use crate::declaration::declarations;
 use crate::item::items;
 use plex_ast::{Block, Item, Survey, SurveyKind, words};
-use plex_lexer::Token;
+use plex_lexer::Cursor;
 use plex_num::Seq;
 use std::alloc::Global;
 use token_grammar::{Fault, line_of, name, starts, starts_in, word};
@@ -17,11 +18,11 @@ use token_grammar::{Fault, line_of, name, starts, starts_in, word};
 #[tactic(auto, using(crate::proofs::BlockLoops::block_less, crate::proofs::BlockLoops::block_on, crate::proofs::BlockLoops::block_end, crate::proofs::BlockLoops::block_bad))]
 pub fn blocks(
     alloc: Global,
-    tokens: &[Token],
-    room: u32,
-    deep: u32,
-) -> Result<(Seq<Block>, &[Token]), Fault>
-    ensures { Gives (λ x. (x.0, x.1.now)) result (many classes.BLOCK (block_read room deep) tokens.now) }
+    tokens: Cursor<'_>,
+    room: usize,
+    deep: usize,
+) -> Result<(Seq<Block>, Cursor<'_>), Fault>
+    ensures { Reads result (many classes.BLOCK (block_read room deep)) tokens.entry }
 {
     let mut left = tokens;
     let mut list = Seq::new(alloc);
@@ -38,11 +39,11 @@ pub fn blocks(
 #[tactic(auto, unfolding(crate::specs::Blocks::block_read))]
 fn one_block(
     alloc: Global,
-    tokens: &[Token],
-    room: u32,
-    deep: u32,
-) -> Result<(Block, &[Token]), Fault>
-    ensures { Gives (λ x. (x.0, x.1.now)) result (block_read room deep tokens.now) }
+    tokens: Cursor<'_>,
+    room: usize,
+    deep: usize,
+) -> Result<(Block, Cursor<'_>), Fault>
+    ensures { Reads result (block_read room deep) tokens.entry }
 {
     let line = line_of(tokens);
     let (_, left) = word(tokens, words::BLOCK)?;
@@ -67,8 +68,8 @@ fn one_block(
 
 /// `SURVEY ; { survey }`
 #[tactic(auto, unfolding(crate::specs::Blocks::surveys_read))]
-fn survey(alloc: Global, tokens: &[Token]) -> Result<(Seq<Survey>, &[Token]), Fault>
-    ensures { Gives (λ x. (x.0, x.1.now)) result (surveys_read tokens.now) }
+fn survey(alloc: Global, tokens: Cursor<'_>) -> Result<(Seq<Survey>, Cursor<'_>), Fault>
+    ensures { Reads result surveys_read tokens.entry }
 {
     let (_, left) = word(tokens, words::SURVEY)?;
     let (_, left) = word(left, words::SEMI)?;
@@ -76,8 +77,8 @@ fn survey(alloc: Global, tokens: &[Token]) -> Result<(Seq<Survey>, &[Token]), Fa
 }
 
 #[tactic(auto, using(crate::proofs::BlockLoops::survey_less, crate::proofs::BlockLoops::survey_on, crate::proofs::BlockLoops::survey_end, crate::proofs::BlockLoops::survey_bad))]
-fn survey_lines(alloc: Global, tokens: &[Token]) -> Result<(Seq<Survey>, &[Token]), Fault>
-    ensures { Gives (λ x. (x.0, x.1.now)) result (many (classes.RECEIVE ++ classes.SEND) survey_read tokens.now) }
+fn survey_lines(alloc: Global, tokens: Cursor<'_>) -> Result<(Seq<Survey>, Cursor<'_>), Fault>
+    ensures { Reads result (many (classes.RECEIVE ++ classes.SEND) survey_read) tokens.entry }
 {
     let mut left = tokens;
     let mut list = Seq::new(alloc);
@@ -91,15 +92,15 @@ fn survey_lines(alloc: Global, tokens: &[Token]) -> Result<(Seq<Survey>, &[Token
     Ok((list, left))
 }
 
-fn starts_survey(tokens: &[Token]) -> bool
-    ensures { result ≡ at (classes.RECEIVE ++ classes.SEND) tokens.now }
+fn starts_survey(tokens: Cursor<'_>) -> bool
+    ensures { result ≡ at (classes.RECEIVE ++ classes.SEND) (ahead tokens.entry) }
 {
     starts_in(tokens, &[words::RECEIVE, words::SEND])
 }
 
 #[tactic(auto, unfolding(crate::specs::Blocks::survey_read))]
-fn survey_line(tokens: &[Token]) -> Result<(Survey, &[Token]), Fault>
-    ensures { Gives (λ x. (x.0, x.1.now)) result (survey_read tokens.now) }
+fn survey_line(tokens: Cursor<'_>) -> Result<(Survey, Cursor<'_>), Fault>
+    ensures { Reads result survey_read tokens.entry }
 {
     let line = line_of(tokens);
     let (kind, left) = survey_kind(tokens)?;
@@ -108,8 +109,8 @@ fn survey_line(tokens: &[Token]) -> Result<(Survey, &[Token]), Fault>
 
 /// `RECEIVE name ; | SEND name ;`
 #[tactic(auto, unfolding(crate::specs::Blocks::survey_kind_read))]
-fn survey_kind(tokens: &[Token]) -> Result<(SurveyKind, &[Token]), Fault>
-    ensures { Gives (λ x. (x.0, x.1.now)) result (survey_kind_read tokens.now) }
+fn survey_kind(tokens: Cursor<'_>) -> Result<(SurveyKind, Cursor<'_>), Fault>
+    ensures { Reads result survey_kind_read tokens.entry }
 {
     if starts(tokens, words::RECEIVE) {
         let (_, left) = word(tokens, words::RECEIVE)?;
@@ -128,11 +129,11 @@ fn survey_kind(tokens: &[Token]) -> Result<(SurveyKind, &[Token]), Fault>
 #[tactic(auto, unfolding(crate::specs::Blocks::program_read))]
 fn program(
     alloc: Global,
-    tokens: &[Token],
-    room: u32,
-    deep: u32,
-) -> Result<((Seq<Item>, u32), &[Token]), Fault>
-    ensures { Gives (λ x. (x.0, x.1.now)) result (program_read room deep tokens.now) }
+    tokens: Cursor<'_>,
+    room: usize,
+    deep: usize,
+) -> Result<((Seq<Item>, u32), Cursor<'_>), Fault>
+    ensures { Reads result (program_read room deep) tokens.entry }
 {
     let (_, left) = word(tokens, words::PROGRAM)?;
     let (_, left) = word(left, words::SEMI)?;
@@ -143,8 +144,8 @@ fn program(
 
 /// `END BLOCK ;`: the line of END.
 #[tactic(auto, unfolding(crate::specs::Blocks::end_read))]
-fn end(tokens: &[Token]) -> Result<(u32, &[Token]), Fault>
-    ensures { Gives (λ x. (x.0, x.1.now)) result (end_read tokens.now) }
+fn end(tokens: Cursor<'_>) -> Result<(u32, Cursor<'_>), Fault>
+    ensures { Reads result end_read tokens.entry }
 {
     let line = line_of(tokens);
     let (_, left) = word(tokens, words::END)?;

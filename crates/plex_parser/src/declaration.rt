@@ -1,20 +1,21 @@
 // Declarations.
 ghost use Rattle.std.specs.Prelude.{◌≡◌, ◌++◌};
-ghost use Rattle.token_grammar.specs.Gives.{Gives};
+ghost use Rattle.plex_lexer.specs.Cursors.{ahead};
+ghost use Rattle.token_grammar.specs.Gives.{Reads};
 ghost use Rattle.token_grammar.specs.Reading.{at, many};
-ghost use Rattle.plex_parser.specs.Blocks.{decl_kind_read, decl_read, decls_read, field_read, file_read, forlopp_read, init_read, temporary_read, variable_read, width_read, DECL};
+ghost use Rattle.plex_parser.specs.Blocks.{clear_read, decl_kind_read, decl_read, decls_read, field_read, file_read, forlopp_read, init_read, temporary_read, variable_read, width_read, DECL};
 ghost use Rattle.plex_ast.specs.Words as classes;
 
 use plex_ast::{Decl, DeclKind, Field, Numbered, words};
-use plex_lexer::Token;
+use plex_lexer::Cursor;
 use plex_num::Seq;
 use std::alloc::Global;
 use token_grammar::{Fault, line_of, name, number, starts, starts_in, word};
 
 /// `DECLARE ; { decl }`: the declarations, and the tokens after them.
 #[tactic(auto, unfolding(crate::specs::Blocks::decls_read))]
-pub fn declarations(alloc: Global, tokens: &[Token]) -> Result<(Seq<Decl>, &[Token]), Fault>
-    ensures { Gives (λ x. (x.0, x.1.now)) result (decls_read tokens.now) }
+pub fn declarations(alloc: Global, tokens: Cursor<'_>) -> Result<(Seq<Decl>, Cursor<'_>), Fault>
+    ensures { Reads result decls_read tokens.entry }
 {
     let (_, left) = word(tokens, words::DECLARE)?;
     let (_, left) = word(left, words::SEMI)?;
@@ -22,8 +23,8 @@ pub fn declarations(alloc: Global, tokens: &[Token]) -> Result<(Seq<Decl>, &[Tok
 }
 
 #[tactic(auto, using(crate::proofs::BlockLoops::decl_less, crate::proofs::BlockLoops::decl_on, crate::proofs::BlockLoops::decl_end, crate::proofs::BlockLoops::decl_bad))]
-fn decls(alloc: Global, tokens: &[Token]) -> Result<(Seq<Decl>, &[Token]), Fault>
-    ensures { Gives (λ x. (x.0, x.1.now)) result (many DECL decl_read tokens.now) }
+fn decls(alloc: Global, tokens: Cursor<'_>) -> Result<(Seq<Decl>, Cursor<'_>), Fault>
+    ensures { Reads result (many DECL decl_read) tokens.entry }
 {
     let mut left = tokens;
     let mut list = Seq::new(alloc);
@@ -37,8 +38,8 @@ fn decls(alloc: Global, tokens: &[Token]) -> Result<(Seq<Decl>, &[Token]), Fault
     Ok((list, left))
 }
 
-fn starts_decl(tokens: &[Token]) -> bool
-    ensures { result ≡ at DECL tokens.now }
+fn starts_decl(tokens: Cursor<'_>) -> bool
+    ensures { result ≡ at DECL (ahead tokens.entry) }
 {
     starts_in(
         tokens,
@@ -52,8 +53,8 @@ fn starts_decl(tokens: &[Token]) -> bool
 }
 
 #[tactic(auto, unfolding(crate::specs::Blocks::decl_read))]
-fn decl(alloc: Global, tokens: &[Token]) -> Result<(Decl, &[Token]), Fault>
-    ensures { Gives (λ x. (x.0, x.1.now)) result (decl_read tokens.now) }
+fn decl(alloc: Global, tokens: Cursor<'_>) -> Result<(Decl, Cursor<'_>), Fault>
+    ensures { Reads result decl_read tokens.entry }
 {
     let line = line_of(tokens);
     let (kind, left) = decl_kind(alloc, tokens)?;
@@ -61,8 +62,8 @@ fn decl(alloc: Global, tokens: &[Token]) -> Result<(Decl, &[Token]), Fault>
 }
 
 #[tactic(auto, unfolding(crate::specs::Blocks::decl_kind_read))]
-fn decl_kind(alloc: Global, tokens: &[Token]) -> Result<(DeclKind, &[Token]), Fault>
-    ensures { Gives (λ x. (x.0, x.1.now)) result (decl_kind_read tokens.now) }
+fn decl_kind(alloc: Global, tokens: Cursor<'_>) -> Result<(DeclKind, Cursor<'_>), Fault>
+    ensures { Reads result decl_kind_read tokens.entry }
 {
     if starts(tokens, words::VARIABLE) {
         variable(tokens)
@@ -73,22 +74,24 @@ fn decl_kind(alloc: Global, tokens: &[Token]) -> Result<(DeclKind, &[Token]), Fa
     }
 }
 
-/// `VARIABLE name WIDTH number [ INIT number ] ;`
-#[tactic(auto, unfolding(crate::specs::Blocks::variable_read, crate::specs::Blocks::width_read))]
-fn variable(tokens: &[Token]) -> Result<(DeclKind, &[Token]), Fault>
-    ensures { Gives (λ x. (x.0, x.1.now)) result (variable_read tokens.now) }
+/// `VARIABLE name WIDTH number [ INIT number ] [ CLEAR ] ;`
+#[tactic(auto, unfolding(crate::specs::Blocks::variable_read))]
+fn variable(tokens: Cursor<'_>) -> Result<(DeclKind, Cursor<'_>), Fault>
+    ensures { Reads result variable_read tokens.entry }
 {
     let (_, left) = word(tokens, words::VARIABLE)?;
     let (variable, left) = name(left)?;
     let (_, left) = word(left, words::WIDTH)?;
     let (width, left) = number(left)?;
     let (init, left) = init(left)?;
+    let (clear, left) = clear(left)?;
     let (_, left) = word(left, words::SEMI)?;
     Ok((
         DeclKind::Variable {
             name: variable,
             width,
             init,
+            clear,
         },
         left,
     ))
@@ -96,8 +99,8 @@ fn variable(tokens: &[Token]) -> Result<(DeclKind, &[Token]), Fault>
 
 /// `[ INIT number ]`
 #[tactic(auto, unfolding(crate::specs::Blocks::init_read))]
-fn init(tokens: &[Token]) -> Result<(Option<Numbered>, &[Token]), Fault>
-    ensures { Gives (λ x. (x.0, x.1.now)) result (init_read tokens.now) }
+fn init(tokens: Cursor<'_>) -> Result<(Option<Numbered>, Cursor<'_>), Fault>
+    ensures { Reads result init_read tokens.entry }
 {
     if starts(tokens, words::INIT) {
         let (_, left) = word(tokens, words::INIT)?;
@@ -108,10 +111,23 @@ fn init(tokens: &[Token]) -> Result<(Option<Numbered>, &[Token]), Fault>
     }
 }
 
+/// Whether CLEAR stands there.
+#[tactic(auto, unfolding(crate::specs::Blocks::clear_read))]
+fn clear(tokens: Cursor<'_>) -> Result<(bool, Cursor<'_>), Fault>
+    ensures { Reads result clear_read tokens.entry }
+{
+    if starts(tokens, words::CLEAR) {
+        let (_, left) = word(tokens, words::CLEAR)?;
+        Ok((true, left))
+    } else {
+        Ok((false, tokens))
+    }
+}
+
 /// `TEMPORARY name ;`
 #[tactic(auto, unfolding(crate::specs::Blocks::temporary_read))]
-fn temporary(tokens: &[Token]) -> Result<(DeclKind, &[Token]), Fault>
-    ensures { Gives (λ x. (x.0, x.1.now)) result (temporary_read tokens.now) }
+fn temporary(tokens: Cursor<'_>) -> Result<(DeclKind, Cursor<'_>), Fault>
+    ensures { Reads result temporary_read tokens.entry }
 {
     let (_, left) = word(tokens, words::TEMPORARY)?;
     let (temporary, left) = name(left)?;
@@ -121,8 +137,8 @@ fn temporary(tokens: &[Token]) -> Result<(DeclKind, &[Token]), Fault>
 
 /// `[ FORLOPP ] FILE name SIZE number ;` and the fields of the file.
 #[tactic(auto, unfolding(crate::specs::Blocks::file_read))]
-fn file(alloc: Global, tokens: &[Token]) -> Result<(DeclKind, &[Token]), Fault>
-    ensures { Gives (λ x. (x.0, x.1.now)) result (file_read tokens.now) }
+fn file(alloc: Global, tokens: Cursor<'_>) -> Result<(DeclKind, Cursor<'_>), Fault>
+    ensures { Reads result file_read tokens.entry }
 {
     let (forlopp, left) = forlopp(tokens)?;
     let (_, left) = word(left, words::FILE)?;
@@ -144,8 +160,8 @@ fn file(alloc: Global, tokens: &[Token]) -> Result<(DeclKind, &[Token]), Fault>
 
 /// Whether FORLOPP stands there.
 #[tactic(auto, unfolding(crate::specs::Blocks::forlopp_read))]
-fn forlopp(tokens: &[Token]) -> Result<(bool, &[Token]), Fault>
-    ensures { Gives (λ x. (x.0, x.1.now)) result (forlopp_read tokens.now) }
+fn forlopp(tokens: Cursor<'_>) -> Result<(bool, Cursor<'_>), Fault>
+    ensures { Reads result forlopp_read tokens.entry }
 {
     if starts(tokens, words::FORLOPP) {
         let (_, left) = word(tokens, words::FORLOPP)?;
@@ -156,8 +172,8 @@ fn forlopp(tokens: &[Token]) -> Result<(bool, &[Token]), Fault>
 }
 
 #[tactic(auto, using(crate::proofs::BlockLoops::field_less, crate::proofs::BlockLoops::field_on, crate::proofs::BlockLoops::field_end, crate::proofs::BlockLoops::field_bad))]
-fn fields(alloc: Global, tokens: &[Token]) -> Result<(Seq<Field>, &[Token]), Fault>
-    ensures { Gives (λ x. (x.0, x.1.now)) result (many classes.FIELD field_read tokens.now) }
+fn fields(alloc: Global, tokens: Cursor<'_>) -> Result<(Seq<Field>, Cursor<'_>), Fault>
+    ensures { Reads result (many classes.FIELD field_read) tokens.entry }
 {
     let mut left = tokens;
     let mut list = Seq::new(alloc);
@@ -173,8 +189,8 @@ fn fields(alloc: Global, tokens: &[Token]) -> Result<(Seq<Field>, &[Token]), Fau
 
 /// `FIELD name WIDTH number [ INIT number ] ;`
 #[tactic(auto, unfolding(crate::specs::Blocks::field_read, crate::specs::Blocks::width_read))]
-fn field(tokens: &[Token]) -> Result<(Field, &[Token]), Fault>
-    ensures { Gives (λ x. (x.0, x.1.now)) result (field_read tokens.now) }
+fn field(tokens: Cursor<'_>) -> Result<(Field, Cursor<'_>), Fault>
+    ensures { Reads result field_read tokens.entry }
 {
     let line = line_of(tokens);
     let (_, left) = word(tokens, words::FIELD)?;

@@ -1,14 +1,15 @@
 // Items of a program.
 ghost use Rattle.std.specs.Prelude.{◌≡◌, ◌++◌};
-ghost use Rattle.token_grammar.specs.Gives.{Gives};
-ghost use Rattle.token_grammar.specs.Reading.{at, lined, many};
-ghost use Rattle.plex_parser.specs.Blocks.{enter_read, item_kind_read, item_read, name_item, name_item_read, name_tail_read, stmt_item_read, ITEM};
+ghost use Rattle.plex_lexer.specs.Cursors.{ahead};
+ghost use Rattle.token_grammar.specs.Gives.{Reads};
+ghost use Rattle.token_grammar.specs.Reading.{at, many};
+ghost use Rattle.plex_parser.specs.Blocks.{enter_read, item_kind_read, item_read, name_item_read, name_tail_read, named_item, stmt_item_read, ITEM};
 
 use crate::assignment::{assign, assigned};
 use crate::nested::other;
 use crate::signalling::taken;
 use plex_ast::{Item, ItemKind, Named, Stmt, words};
-use plex_lexer::Token;
+use plex_lexer::Cursor;
 use plex_num::Seq;
 use std::alloc::Global;
 use token_grammar::{Fault, line_of, name, starts, starts_in, starts_name, word};
@@ -39,11 +40,11 @@ const ITEMS: [u64; 18] = [
 #[tactic(auto, using(crate::proofs::ItemLoops::item_less, crate::proofs::ItemLoops::item_on, crate::proofs::ItemLoops::item_end, crate::proofs::ItemLoops::item_bad))]
 pub fn items(
     alloc: Global,
-    tokens: &[Token],
-    room: u32,
-    deep: u32,
-) -> Result<(Seq<Item>, &[Token]), Fault>
-    ensures { Gives (λ x. (x.0, x.1.now)) result (many ITEM (item_read room deep) tokens.now) }
+    tokens: Cursor<'_>,
+    room: usize,
+    deep: usize,
+) -> Result<(Seq<Item>, Cursor<'_>), Fault>
+    ensures { Reads result (many ITEM (item_read room deep)) tokens.entry }
 {
     let mut left = tokens;
     let mut list = Seq::new(alloc);
@@ -57,15 +58,20 @@ pub fn items(
     Ok((list, left))
 }
 
-fn starts_item(tokens: &[Token]) -> bool
-    ensures { result ≡ at ITEM tokens.now }
+fn starts_item(tokens: Cursor<'_>) -> bool
+    ensures { result ≡ at ITEM (ahead tokens.entry) }
 {
     starts_in(tokens, &ITEMS)
 }
 
 #[tactic(auto, unfolding(crate::specs::Blocks::item_read))]
-fn item(alloc: Global, tokens: &[Token], room: u32, deep: u32) -> Result<(Item, &[Token]), Fault>
-    ensures { Gives (λ x. (x.0, x.1.now)) result (item_read room deep tokens.now) }
+fn item(
+    alloc: Global,
+    tokens: Cursor<'_>,
+    room: usize,
+    deep: usize,
+) -> Result<(Item, Cursor<'_>), Fault>
+    ensures { Reads result (item_read room deep) tokens.entry }
 {
     let line = line_of(tokens);
     let (kind, left) = item_kind(alloc, tokens, room, deep)?;
@@ -75,11 +81,11 @@ fn item(alloc: Global, tokens: &[Token], room: u32, deep: u32) -> Result<(Item, 
 #[tactic(auto, unfolding(crate::specs::Blocks::item_kind_read))]
 fn item_kind(
     alloc: Global,
-    tokens: &[Token],
-    room: u32,
-    deep: u32,
-) -> Result<(ItemKind, &[Token]), Fault>
-    ensures { Gives (λ x. (x.0, x.1.now)) result (item_kind_read room deep tokens.now) }
+    tokens: Cursor<'_>,
+    room: usize,
+    deep: usize,
+) -> Result<(ItemKind, Cursor<'_>), Fault>
+    ensures { Reads result (item_kind_read room deep) tokens.entry }
 {
     if starts_name(tokens) {
         from_name(alloc, tokens, room)
@@ -92,8 +98,12 @@ fn item_kind(
 
 /// A label or an assignment.
 #[tactic(auto, unfolding(crate::specs::Blocks::name_item_read))]
-fn from_name(alloc: Global, tokens: &[Token], room: u32) -> Result<(ItemKind, &[Token]), Fault>
-    ensures { Gives (λ x. (x.0, x.1.now)) result (name_item_read room tokens.now) }
+fn from_name(
+    alloc: Global,
+    tokens: Cursor<'_>,
+    room: usize,
+) -> Result<(ItemKind, Cursor<'_>), Fault>
+    ensures { Reads result (name_item_read room) tokens.entry }
 {
     let line = line_of(tokens);
     let (first, left) = name(tokens)?;
@@ -104,12 +114,12 @@ fn from_name(alloc: Global, tokens: &[Token], room: u32) -> Result<(ItemKind, &[
 #[tactic(auto, unfolding(crate::specs::Blocks::name_tail_read))]
 fn after_name(
     alloc: Global,
-    tokens: &[Token],
+    tokens: Cursor<'_>,
     line: u32,
     first: Named,
-    room: u32,
-) -> Result<(ItemKind, &[Token]), Fault>
-    ensures { Gives (λ x. (x.0, x.1.now)) result (lined (λ _ tail. name_item line (first, tail)) (name_tail_read room) tokens.now) }
+    room: usize,
+) -> Result<(ItemKind, Cursor<'_>), Fault>
+    ensures { Reads result (named_item line first (name_tail_read room)) tokens.entry }
 {
     if starts(tokens, words::CLOSE) {
         let (_, left) = word(tokens, words::CLOSE)?;
@@ -124,8 +134,8 @@ fn after_name(
 
 /// `ENTER name [ names ] ;`
 #[tactic(auto, unfolding(crate::specs::Blocks::enter_read))]
-fn enter(alloc: Global, tokens: &[Token]) -> Result<(ItemKind, &[Token]), Fault>
-    ensures { Gives (λ x. (x.0, x.1.now)) result (enter_read tokens.now) }
+fn enter(alloc: Global, tokens: Cursor<'_>) -> Result<(ItemKind, Cursor<'_>), Fault>
+    ensures { Reads result enter_read tokens.entry }
 {
     let (_, left) = word(tokens, words::ENTER)?;
     let (signal, left) = name(left)?;
@@ -138,11 +148,11 @@ fn enter(alloc: Global, tokens: &[Token]) -> Result<(ItemKind, &[Token]), Fault>
 #[tactic(auto, unfolding(crate::specs::Blocks::stmt_item_read))]
 fn stmt(
     alloc: Global,
-    tokens: &[Token],
-    room: u32,
-    deep: u32,
-) -> Result<(ItemKind, &[Token]), Fault>
-    ensures { Gives (λ x. (x.0, x.1.now)) result (stmt_item_read room deep tokens.now) }
+    tokens: Cursor<'_>,
+    room: usize,
+    deep: usize,
+) -> Result<(ItemKind, Cursor<'_>), Fault>
+    ensures { Reads result (stmt_item_read room deep) tokens.entry }
 {
     let line = line_of(tokens);
     let (kind, left) = other(alloc, tokens, room, deep)?;

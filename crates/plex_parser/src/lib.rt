@@ -16,7 +16,5 @@ mod parser;
 mod plain;
 mod signal;
 mod signalling;
-#[cfg(test)]
-mod tests;
 
 pub use parser::{ParseFault, parse};

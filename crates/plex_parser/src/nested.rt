@@ -1,15 +1,16 @@
 // Statements, whose brackets nest at most `room` deep and which hold statements at most `deep` deep.
 ghost use Rattle.std.specs.Prelude.{◌≡◌, ◌++◌};
-ghost use Rattle.token_grammar.specs.Gives.{Gives};
-ghost use Rattle.token_grammar.specs.Reading.{at, lined, many};
-ghost use Rattle.plex_parser.specs.Statements.{body_read, case_by, else_by, gone_read, held_at, if_at, if_made, if_tail_at, kind_at, nest_by, on_by, other_at, stmt_read, then_by, when_by, STMT};
+ghost use Rattle.plex_lexer.specs.Cursors.{ahead};
+ghost use Rattle.token_grammar.specs.Gives.{Reads};
+ghost use Rattle.token_grammar.specs.Reading.{at, many};
+ghost use Rattle.plex_parser.specs.Statements.{body_read, case_by, else_by, gone_read, held_at, if_at, if_tail_at, if_with, kind_at, nest_by, on_by, other_at, stmt_read, stmts_read, then_by, when_by, STMT};
 ghost use Rattle.plex_ast.specs.Words as classes;
 
 use crate::assignment::{assign, assigned};
 use crate::plain::{plain, to_label};
-use plex_ast::{Cond, Stmt, StmtKind, When, words};
-use plex_expr_parser::{cond, expr};
-use plex_lexer::Token;
+use plex_ast::{Boxed, Cond, Stmt, StmtKind, When, push_few, words};
+use plex_expr_parser::{boxed, cond, expr};
+use plex_lexer::Cursor;
 use plex_num::Seq;
 use std::alloc::Global;
 use token_grammar::{Fault, line_of, name, number, starts, starts_in, starts_name, word};
@@ -53,17 +54,17 @@ const STATEMENT: [u64; 17] = [
 #[tactic(auto, using(crate::proofs::Loops::stmt_less, crate::proofs::Loops::stmt_on, crate::proofs::Loops::stmt_end, crate::proofs::Loops::stmt_bad))]
 fn stmts(
     alloc: Global,
-    tokens: &[Token],
-    room: u32,
-    deep: u32,
-) -> Result<(Seq<Stmt>, &[Token]), Fault>
-    ensures { Gives (λ x. (x.0, x.1.now)) result (many STMT (stmt_read room deep) tokens.now) }
+    tokens: Cursor<'_>,
+    room: usize,
+    deep: usize,
+) -> Result<(Seq<Stmt>, Cursor<'_>), Fault>
+    ensures { Reads result (stmts_read room deep) tokens.entry }
 {
     let mut left = tokens;
     let mut list = Seq::new(alloc);
     'stmts: while starts_stmt(left) {
         let (stmt, after) = stmt(alloc, left, room, deep)?;
-        if let Err(_) = list.push(stmt) {
+        if let Err(_) = push_few(alloc, &mut list, stmt) {
             return Err(Fault::Memory);
         }
         left = after;
@@ -71,16 +72,21 @@ fn stmts(
     Ok((list, left))
 }
 
-fn starts_stmt(tokens: &[Token]) -> bool
-    ensures { result ≡ at STMT tokens.now }
+fn starts_stmt(tokens: Cursor<'_>) -> bool
+    ensures { result ≡ at STMT (ahead tokens.entry) }
 {
     starts_in(tokens, &STATEMENT)
 }
 
 #[cycle(statements)]
 #[tactic(auto, unfolding(crate::specs::Statements::stmt_read, crate::specs::Statements::stmt_at))]
-fn stmt(alloc: Global, tokens: &[Token], room: u32, deep: u32) -> Result<(Stmt, &[Token]), Fault>
-    ensures { Gives (λ x. (x.0, x.1.now)) result (stmt_read room deep tokens.now) }
+fn stmt(
+    alloc: Global,
+    tokens: Cursor<'_>,
+    room: usize,
+    deep: usize,
+) -> Result<(Stmt, Cursor<'_>), Fault>
+    ensures { Reads result (stmt_read room deep) tokens.entry }
 {
     let line = line_of(tokens);
     let (kind, left) = kind(alloc, tokens, room, deep)?;
@@ -91,11 +97,11 @@ fn stmt(alloc: Global, tokens: &[Token], room: u32, deep: u32) -> Result<(Stmt, 
 #[tactic(auto, unfolding(crate::specs::Statements::kind_at))]
 fn kind(
     alloc: Global,
-    tokens: &[Token],
-    room: u32,
-    deep: u32,
-) -> Result<(StmtKind, &[Token]), Fault>
-    ensures { Gives (λ x. (x.0, x.1.now)) result (kind_at room deep (body_read room deep) tokens.now) }
+    tokens: Cursor<'_>,
+    room: usize,
+    deep: usize,
+) -> Result<(StmtKind, Cursor<'_>), Fault>
+    ensures { Reads result (kind_at room deep (body_read room deep)) tokens.entry }
 {
     if starts_name(tokens) {
         let (name, left) = name(tokens)?;
@@ -112,11 +118,11 @@ fn kind(
 #[tactic(auto, unfolding(crate::specs::Statements::other_at))]
 pub fn other(
     alloc: Global,
-    tokens: &[Token],
-    room: u32,
-    deep: u32,
-) -> Result<(StmtKind, &[Token]), Fault>
-    ensures { Gives (λ x. (x.0, x.1.now)) result (other_at room deep (body_read room deep) tokens.now) }
+    tokens: Cursor<'_>,
+    room: usize,
+    deep: usize,
+) -> Result<(StmtKind, Cursor<'_>), Fault>
+    ensures { Reads result (other_at room deep (body_read room deep)) tokens.entry }
 {
     if starts_in(tokens, &PLAIN) {
         plain(alloc, tokens, room)
@@ -129,11 +135,11 @@ pub fn other(
 #[cycle(statements)]
 fn held(
     alloc: Global,
-    tokens: &[Token],
-    room: u32,
-    deep: u32,
-) -> Result<(StmtKind, &[Token]), Fault>
-    ensures { Gives (λ x. (x.0, x.1.now)) result (held_at room deep (body_read room deep) tokens.now) }
+    tokens: Cursor<'_>,
+    room: usize,
+    deep: usize,
+) -> Result<(StmtKind, Cursor<'_>), Fault>
+    ensures { Reads result (held_at room deep (body_read room deep)) tokens.entry }
 {
     if starts(tokens, words::IF) {
         return if_of(alloc, tokens, room, deep);
@@ -151,27 +157,27 @@ fn held(
 #[tactic(auto, unfolding(crate::specs::Statements::if_at))]
 fn if_of(
     alloc: Global,
-    tokens: &[Token],
-    room: u32,
-    deep: u32,
-) -> Result<(StmtKind, &[Token]), Fault>
-    ensures { Gives (λ x. (x.0, x.1.now)) result (if_at room deep (body_read room deep) tokens.now) }
+    tokens: Cursor<'_>,
+    room: usize,
+    deep: usize,
+) -> Result<(StmtKind, Cursor<'_>), Fault>
+    ensures { Reads result (if_at room deep (body_read room deep)) tokens.entry }
 {
     let (_, left) = word(tokens, words::IF)?;
     let (cond, left) = cond(alloc, left, room)?;
-    if_tail(alloc, left, cond, room, deep)
+    if_tail(alloc, left, boxed(alloc, cond)?, room, deep)
 }
 
 /// What follows this condition: `GOTO name ;` or THEN and statements.
 #[cycle(statements)]
 fn if_tail(
     alloc: Global,
-    tokens: &[Token],
-    cond: Cond,
-    room: u32,
-    deep: u32,
-) -> Result<(StmtKind, &[Token]), Fault>
-    ensures { Gives (λ x. (x.0, x.1.now)) result (lined (λ _ tail. if_made cond tail) (if_tail_at deep (body_read room deep)) tokens.now) }
+    tokens: Cursor<'_>,
+    cond: Boxed<Cond>,
+    room: usize,
+    deep: usize,
+) -> Result<(StmtKind, Cursor<'_>), Fault>
+    ensures { Reads result (if_with cond (if_tail_at deep (body_read room deep))) tokens.entry }
 {
     if starts(tokens, words::GOTO) {
         return if_goto(tokens, cond);
@@ -186,8 +192,8 @@ fn if_tail(
 }
 
 #[tactic(auto, unfolding(crate::specs::Statements::gone_read))]
-fn if_goto(tokens: &[Token], cond: Cond) -> Result<(StmtKind, &[Token]), Fault>
-    ensures { Gives (λ x. (x.0, x.1.now)) result (lined (λ _ tail. if_made cond tail) gone_read tokens.now) }
+fn if_goto(tokens: Cursor<'_>, cond: Boxed<Cond>) -> Result<(StmtKind, Cursor<'_>), Fault>
+    ensures { Reads result (if_with cond gone_read) tokens.entry }
 {
     let (label, left) = to_label(tokens)?;
     Ok((StmtKind::IfGoto { cond, label }, left))
@@ -198,12 +204,12 @@ fn if_goto(tokens: &[Token], cond: Cond) -> Result<(StmtKind, &[Token]), Fault>
 #[tactic(auto, unfolding(crate::specs::Statements::then_by))]
 fn then_of(
     alloc: Global,
-    tokens: &[Token],
-    cond: Cond,
-    room: u32,
-    deep: u32,
-) -> Result<(StmtKind, &[Token]), Fault>
-    ensures { Gives (λ x. (x.0, x.1.now)) result (lined (λ _ tail. if_made cond tail) (then_by (many STMT (stmt_read room deep))) tokens.now) }
+    tokens: Cursor<'_>,
+    cond: Boxed<Cond>,
+    room: usize,
+    deep: usize,
+) -> Result<(StmtKind, Cursor<'_>), Fault>
+    ensures { Reads result (if_with cond (then_by (stmts_read room deep))) tokens.entry }
 {
     let (_, left) = word(tokens, words::THEN)?;
     let (first, left) = stmts(alloc, left, room, deep)?;
@@ -217,11 +223,11 @@ fn then_of(
 #[tactic(auto, unfolding(crate::specs::Statements::else_by))]
 fn else_of(
     alloc: Global,
-    tokens: &[Token],
-    room: u32,
-    deep: u32,
-) -> Result<(Option<Seq<Stmt>>, &[Token]), Fault>
-    ensures { Gives (λ x. (x.0, x.1.now)) result (else_by (many STMT (stmt_read room deep)) tokens.now) }
+    tokens: Cursor<'_>,
+    room: usize,
+    deep: usize,
+) -> Result<(Option<Seq<Stmt>>, Cursor<'_>), Fault>
+    ensures { Reads result (else_by (stmts_read room deep)) tokens.entry }
 {
     if starts(tokens, words::ELSE) {
         let (_, left) = word(tokens, words::ELSE)?;
@@ -237,11 +243,11 @@ fn else_of(
 #[tactic(auto, unfolding(crate::specs::Statements::nest_by))]
 fn nest(
     alloc: Global,
-    tokens: &[Token],
-    room: u32,
-    deep: u32,
-) -> Result<(StmtKind, &[Token]), Fault>
-    ensures { Gives (λ x. (x.0, x.1.now)) result (nest_by room (many STMT (stmt_read room deep)) tokens.now) }
+    tokens: Cursor<'_>,
+    room: usize,
+    deep: usize,
+) -> Result<(StmtKind, Cursor<'_>), Fault>
+    ensures { Reads result (nest_by room (stmts_read room deep)) tokens.entry }
 {
     if starts(tokens, words::CASE) {
         case(alloc, tokens, room, deep)
@@ -255,11 +261,11 @@ fn nest(
 #[tactic(auto, unfolding(crate::specs::Statements::case_by))]
 fn case(
     alloc: Global,
-    tokens: &[Token],
-    room: u32,
-    deep: u32,
-) -> Result<(StmtKind, &[Token]), Fault>
-    ensures { Gives (λ x. (x.0, x.1.now)) result (case_by room (many STMT (stmt_read room deep)) tokens.now) }
+    tokens: Cursor<'_>,
+    room: usize,
+    deep: usize,
+) -> Result<(StmtKind, Cursor<'_>), Fault>
+    ensures { Reads result (case_by room (stmts_read room deep)) tokens.entry }
 {
     let (_, left) = word(tokens, words::CASE)?;
     let (value, left) = expr(alloc, left, room)?;
@@ -272,7 +278,7 @@ fn case(
     let (_, left) = word(left, words::SEMI)?;
     Ok((
         StmtKind::Case {
-            value,
+            value: boxed(alloc, value)?,
             whens,
             otherwise,
         },
@@ -284,11 +290,11 @@ fn case(
 #[tactic(auto, using(crate::proofs::Loops::when_less, crate::proofs::Loops::when_on, crate::proofs::Loops::when_end, crate::proofs::Loops::when_bad))]
 fn whens(
     alloc: Global,
-    tokens: &[Token],
-    room: u32,
-    deep: u32,
-) -> Result<(Seq<When>, &[Token]), Fault>
-    ensures { Gives (λ x. (x.0, x.1.now)) result (many classes.WHEN (when_by (many STMT (stmt_read room deep))) tokens.now) }
+    tokens: Cursor<'_>,
+    room: usize,
+    deep: usize,
+) -> Result<(Seq<When>, Cursor<'_>), Fault>
+    ensures { Reads result (many classes.WHEN (when_by (stmts_read room deep))) tokens.entry }
 {
     let mut left = tokens;
     let mut list = Seq::new(alloc);
@@ -305,8 +311,13 @@ fn whens(
 /// `WHEN number DO { stmt }`
 #[cycle(statements)]
 #[tactic(auto, unfolding(crate::specs::Statements::when_by))]
-fn when(alloc: Global, tokens: &[Token], room: u32, deep: u32) -> Result<(When, &[Token]), Fault>
-    ensures { Gives (λ x. (x.0, x.1.now)) result (when_by (many STMT (stmt_read room deep)) tokens.now) }
+fn when(
+    alloc: Global,
+    tokens: Cursor<'_>,
+    room: usize,
+    deep: usize,
+) -> Result<(When, Cursor<'_>), Fault>
+    ensures { Reads result (when_by (stmts_read room deep)) tokens.entry }
 {
     let line = line_of(tokens);
     let (_, left) = word(tokens, words::WHEN)?;
@@ -319,8 +330,13 @@ fn when(alloc: Global, tokens: &[Token], room: u32, deep: u32) -> Result<(When, 
 /// `ON name FROM expr UPTO expr DO { stmt } NO ;`
 #[cycle(statements)]
 #[tactic(auto, unfolding(crate::specs::Statements::on_by))]
-fn on(alloc: Global, tokens: &[Token], room: u32, deep: u32) -> Result<(StmtKind, &[Token]), Fault>
-    ensures { Gives (λ x. (x.0, x.1.now)) result (on_by room (many STMT (stmt_read room deep)) tokens.now) }
+fn on(
+    alloc: Global,
+    tokens: Cursor<'_>,
+    room: usize,
+    deep: usize,
+) -> Result<(StmtKind, Cursor<'_>), Fault>
+    ensures { Reads result (on_by room (stmts_read room deep)) tokens.entry }
 {
     let (_, left) = word(tokens, words::ON)?;
     let (counter, left) = name(left)?;
@@ -334,9 +350,9 @@ fn on(alloc: Global, tokens: &[Token], room: u32, deep: u32) -> Result<(StmtKind
     let (_, left) = word(left, words::SEMI)?;
     Ok((
         StmtKind::On {
-            name: counter,
-            from,
-            upto,
+            name: boxed(alloc, counter)?,
+            from: boxed(alloc, from)?,
+            upto: boxed(alloc, upto)?,
             body,
         },
         left,

@@ -1,7 +1,7 @@
 // A whole exchange.
-ghost use Rattle.std.specs.Prelude.{◌≡◌, ◌≤◌, ◌^◌, ℕ, true, length};
-ghost use Rattle.token_grammar.specs.Gives.{Gives};
-ghost use Rattle.plex_ast.specs.Grammar.{tree as spells};
+ghost use Rattle.std.specs.Prelude.{◌≡◌, ◌≤◌, ℕ, true, length};
+ghost use Rattle.token_grammar.specs.Gives.{Gives, Reads};
+ghost use Rattle.plex_ast.specs.Grammar.{Sentence};
 ghost use Rattle.plex_ast.specs.declared.tree.Tree.{Tree};
 ghost use Rattle.plex_parser.specs.Blocks.{tree_read};
 ghost use Rattle.plex_parser.specs.Parses.{fault_of, parsed, tree_of, Answers, Parses, Yields};
@@ -9,16 +9,11 @@ ghost use Rattle.plex_parser.specs.Parses.{fault_of, parsed, tree_of, Answers, P
 use crate::block::blocks;
 use crate::signal::signals;
 use plex_ast::Tree;
-use plex_lexer::Token;
+use plex_lexer::{Cursor, Tokens};
+use plex_limits::{MOST_BRACKETS, MOST_NESTED, MOST_TOKENS};
 use std::alloc::Global;
 use thiserror::Error;
 use token_grammar::{Fault, line_of};
-
-/// How deep brackets may nest.
-const ROOM: u32 = 6;
-
-/// How deep statements that hold statements may nest.
-const DEPTH: u32 = 12;
 
 /// Why a list of tokens is no sentence: the place, from 0, of the first token after the longest front that begins some
 /// sentence; or that memory was refused.
@@ -38,34 +33,33 @@ pub enum ParseFault {
 }
 
 /// The tree that the tokens spell, or the first token that does not fit. Takes time in proportion to their number.
-pub fn parse(alloc: Global, tokens: &[Token]) -> Result<Tree, ParseFault>
-    requires { length tokens.now ≤ 2 ^ 24 }
+pub fn parse(alloc: Global, tokens: &Tokens<'_>) -> Result<Tree, ParseFault>
+    requires { length tokens.now ≤ MOST_TOKENS }
     // What comes is spelled so, and a fault is that of the tokens.
     ensures told { Parses result tokens.now }
     // What is spelled so comes, unless memory runs out.
-    ensures all { (t : Tree) → spells true 6 12 t tokens.now → Yields result t }
+    ensures all { (t : Tree) → Sentence t tokens.now → Yields result t }
     // The answer is a function of the tokens, unless memory runs out.
     ensures same { Answers result (parsed tokens.now) }
 {
     match whole(alloc, tokens) {
         Ok(tree) => Ok(tree),
         Err(Fault::Memory) => Err(ParseFault::Memory),
-        Err(Fault::Stuck { left, deep }) => Err(fault_at(tokens, left, deep)),
+        Err(Fault::Stuck { left, deep }) => Err(fault_at(tokens.len(), left, deep)),
     }
 }
 
 #[tactic(auto, unfolding(crate::specs::Parses::tree_of))]
-fn whole(alloc: Global, tokens: &[Token]) -> Result<Tree, Fault>
+fn whole(alloc: Global, tokens: &Tokens<'_>) -> Result<Tree, Fault>
     ensures { Gives (λ x. x) result (tree_of tokens.now) }
 {
-    let (tree, left) = exchange(alloc, tokens, ROOM, DEPTH)?;
-    if left.is_empty() {
-        Ok(tree)
-    } else {
-        Err(Fault::Stuck {
+    let (tree, left) = exchange(alloc, tokens.cursor(), MOST_BRACKETS, MOST_NESTED)?;
+    match left.split_first() {
+        None => Ok(tree),
+        Some(_) => Err(Fault::Stuck {
             left: left.len(),
             deep: false,
-        })
+        }),
     }
 }
 
@@ -73,11 +67,11 @@ fn whole(alloc: Global, tokens: &[Token]) -> Result<Tree, Fault>
 #[tactic(auto, unfolding(crate::specs::Blocks::tree_read, crate::specs::Blocks::lists_read))]
 fn exchange(
     alloc: Global,
-    tokens: &[Token],
-    room: u32,
-    deep: u32,
-) -> Result<(Tree, &[Token]), Fault>
-    ensures { Gives (λ x. (x.0, x.1.now)) result (tree_read room deep tokens.now) }
+    tokens: Cursor<'_>,
+    room: usize,
+    deep: usize,
+) -> Result<(Tree, Cursor<'_>), Fault>
+    ensures { Reads result (tree_read room deep) tokens.entry }
 {
     let line = line_of(tokens);
     let (signals, left) = signals(alloc, tokens)?;
@@ -92,15 +86,15 @@ fn exchange(
     ))
 }
 
-/// The fault of a reading that stopped with so many tokens left.
-fn fault_at(tokens: &[Token], left: usize, deep: bool) -> ParseFault
-    requires small { length tokens.now ≤ 2 ^ 24 }
-    ensures { result ≡ fault_of (length tokens.now) left deep }
+/// The fault of a reading of so many tokens that stopped with so many left.
+fn fault_at(many: usize, left: usize, deep: bool) -> ParseFault
+    requires { many ≤ MOST_TOKENS }
+    ensures { result ≡ fault_of many left deep }
 {
     if left == 0 {
         return ParseFault::Ended;
     }
-    let token = tokens.len().saturating_sub(left) as u32;
+    let token = many.saturating_sub(left) as u32;
     if deep {
         ParseFault::TooDeep { token }
     } else {

@@ -1,12 +1,12 @@
 // Statements that begin with a word and hold no statement.
 ghost use Rattle.std.specs.Prelude.{◌≡◌};
-ghost use Rattle.token_grammar.specs.Gives.{Gives};
+ghost use Rattle.token_grammar.specs.Gives.{Reads};
 ghost use Rattle.plex_parser.specs.Statements.{exit_read, first_read, free_read, goto_read, plain_read, seize_read, to_label_read};
 
 use crate::signalling::signalling;
 use plex_ast::{Named, StmtKind, words};
-use plex_expr_parser::{expr, rel};
-use plex_lexer::Token;
+use plex_expr_parser::{boxed, expr, rel};
+use plex_lexer::Cursor;
 use std::alloc::Global;
 use token_grammar::{Fault, name, starts, starts_in, word};
 
@@ -14,8 +14,12 @@ const SIGNALLING: [u64; 4] = [words::SEND, words::RETRIEVE, words::RETURN, words
 
 /// One of them, and the tokens after it.
 #[tactic(auto, unfolding(crate::specs::Statements::plain_read))]
-pub fn plain(alloc: Global, tokens: &[Token], room: u32) -> Result<(StmtKind, &[Token]), Fault>
-    ensures { Gives (λ x. (x.0, x.1.now)) result (plain_read room tokens.now) }
+pub fn plain(
+    alloc: Global,
+    tokens: Cursor<'_>,
+    room: usize,
+) -> Result<(StmtKind, Cursor<'_>), Fault>
+    ensures { Reads result (plain_read room) tokens.entry }
 {
     if starts_in(tokens, &SIGNALLING) {
         signalling(alloc, tokens, room)
@@ -24,9 +28,9 @@ pub fn plain(alloc: Global, tokens: &[Token], room: u32) -> Result<(StmtKind, &[
     } else if starts(tokens, words::FOR) {
         for_first(alloc, tokens, room)
     } else if starts(tokens, words::SEIZE) {
-        seize(tokens)
+        seize(alloc, tokens)
     } else if starts(tokens, words::FREE) {
-        free(tokens)
+        free(alloc, tokens)
     } else {
         exit(tokens)
     }
@@ -34,8 +38,8 @@ pub fn plain(alloc: Global, tokens: &[Token], room: u32) -> Result<(StmtKind, &[
 
 /// `GOTO name ;`: the label, and the tokens after it.
 #[tactic(auto, unfolding(crate::specs::Statements::to_label_read))]
-pub fn to_label(tokens: &[Token]) -> Result<(Named, &[Token]), Fault>
-    ensures { Gives (λ x. (x.0, x.1.now)) result (to_label_read tokens.now) }
+pub fn to_label(tokens: Cursor<'_>) -> Result<(Named, Cursor<'_>), Fault>
+    ensures { Reads result to_label_read tokens.entry }
 {
     let (_, left) = word(tokens, words::GOTO)?;
     let (label, left) = name(left)?;
@@ -44,8 +48,8 @@ pub fn to_label(tokens: &[Token]) -> Result<(Named, &[Token]), Fault>
 }
 
 #[tactic(auto, unfolding(crate::specs::Statements::goto_read))]
-fn goto(tokens: &[Token]) -> Result<(StmtKind, &[Token]), Fault>
-    ensures { Gives (λ x. (x.0, x.1.now)) result (goto_read tokens.now) }
+fn goto(tokens: Cursor<'_>) -> Result<(StmtKind, Cursor<'_>), Fault>
+    ensures { Reads result goto_read tokens.entry }
 {
     let (label, left) = to_label(tokens)?;
     Ok((StmtKind::Goto { label }, left))
@@ -53,8 +57,12 @@ fn goto(tokens: &[Token]) -> Result<(StmtKind, &[Token]), Fault>
 
 /// `FOR FIRST name IN name WHERE name rel expr GOTO name ;`
 #[tactic(auto, unfolding(crate::specs::Statements::first_read))]
-fn for_first(alloc: Global, tokens: &[Token], room: u32) -> Result<(StmtKind, &[Token]), Fault>
-    ensures { Gives (λ x. (x.0, x.1.now)) result (first_read room tokens.now) }
+fn for_first(
+    alloc: Global,
+    tokens: Cursor<'_>,
+    room: usize,
+) -> Result<(StmtKind, Cursor<'_>), Fault>
+    ensures { Reads result (first_read room) tokens.entry }
 {
     let (_, left) = word(tokens, words::FOR)?;
     let (_, left) = word(left, words::FIRST)?;
@@ -68,12 +76,12 @@ fn for_first(alloc: Global, tokens: &[Token], room: u32) -> Result<(StmtKind, &[
     let (label, left) = to_label(left)?;
     Ok((
         StmtKind::ForFirst {
-            name: pointer,
-            file,
-            field,
+            name: boxed(alloc, pointer)?,
+            file: boxed(alloc, file)?,
+            field: boxed(alloc, field)?,
             rel,
-            value,
-            label,
+            value: boxed(alloc, value)?,
+            label: boxed(alloc, label)?,
         },
         left,
     ))
@@ -81,8 +89,8 @@ fn for_first(alloc: Global, tokens: &[Token], room: u32) -> Result<(StmtKind, &[
 
 /// `SEIZE name IN name ELSE GOTO name ;`
 #[tactic(auto, unfolding(crate::specs::Statements::seize_read))]
-fn seize(tokens: &[Token]) -> Result<(StmtKind, &[Token]), Fault>
-    ensures { Gives (λ x. (x.0, x.1.now)) result (seize_read tokens.now) }
+fn seize(alloc: Global, tokens: Cursor<'_>) -> Result<(StmtKind, Cursor<'_>), Fault>
+    ensures { Reads result seize_read tokens.entry }
 {
     let (_, left) = word(tokens, words::SEIZE)?;
     let (pointer, left) = name(left)?;
@@ -92,9 +100,9 @@ fn seize(tokens: &[Token]) -> Result<(StmtKind, &[Token]), Fault>
     let (label, left) = to_label(left)?;
     Ok((
         StmtKind::Seize {
-            name: pointer,
-            file,
-            label,
+            name: boxed(alloc, pointer)?,
+            file: boxed(alloc, file)?,
+            label: boxed(alloc, label)?,
         },
         left,
     ))
@@ -102,8 +110,8 @@ fn seize(tokens: &[Token]) -> Result<(StmtKind, &[Token]), Fault>
 
 /// `FREE name IN name ;`
 #[tactic(auto, unfolding(crate::specs::Statements::free_read))]
-fn free(tokens: &[Token]) -> Result<(StmtKind, &[Token]), Fault>
-    ensures { Gives (λ x. (x.0, x.1.now)) result (free_read tokens.now) }
+fn free(alloc: Global, tokens: Cursor<'_>) -> Result<(StmtKind, Cursor<'_>), Fault>
+    ensures { Reads result free_read tokens.entry }
 {
     let (_, left) = word(tokens, words::FREE)?;
     let (pointer, left) = name(left)?;
@@ -112,8 +120,8 @@ fn free(tokens: &[Token]) -> Result<(StmtKind, &[Token]), Fault>
     let (_, left) = word(left, words::SEMI)?;
     Ok((
         StmtKind::Free {
-            name: pointer,
-            file,
+            name: boxed(alloc, pointer)?,
+            file: boxed(alloc, file)?,
         },
         left,
     ))
@@ -121,8 +129,8 @@ fn free(tokens: &[Token]) -> Result<(StmtKind, &[Token]), Fault>
 
 /// `EXIT ;`
 #[tactic(auto, unfolding(crate::specs::Statements::exit_read))]
-fn exit(tokens: &[Token]) -> Result<(StmtKind, &[Token]), Fault>
-    ensures { Gives (λ x. (x.0, x.1.now)) result (exit_read tokens.now) }
+fn exit(tokens: Cursor<'_>) -> Result<(StmtKind, Cursor<'_>), Fault>
+    ensures { Reads result exit_read tokens.entry }
 {
     let (_, left) = word(tokens, words::EXIT)?;
     let (_, left) = word(left, words::SEMI)?;

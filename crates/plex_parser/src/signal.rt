@@ -1,20 +1,20 @@
 // Signals.
 ghost use Rattle.std.specs.Prelude.{◌≡◌};
-ghost use Rattle.token_grammar.specs.Gives.{Gives};
+ghost use Rattle.token_grammar.specs.Gives.{Reads};
 ghost use Rattle.token_grammar.specs.Reading.{many};
 ghost use Rattle.plex_parser.specs.Blocks.{buffered_read, combined_read, data_read, direct_read, outside_read, shape_kind_read, shape_read, signal_read, single_read};
 ghost use Rattle.plex_ast.specs.Words as classes;
 
 use plex_ast::{Numbered, Shape, ShapeKind, Signal, words};
-use plex_lexer::Token;
+use plex_lexer::Cursor;
 use plex_num::Seq;
 use std::alloc::Global;
 use token_grammar::{Fault, level, line_of, name, number, starts, word};
 
 /// As many signals as stand there, and the tokens after them.
 #[tactic(auto, using(crate::proofs::BlockLoops::signal_less, crate::proofs::BlockLoops::signal_on, crate::proofs::BlockLoops::signal_end, crate::proofs::BlockLoops::signal_bad))]
-pub fn signals(alloc: Global, tokens: &[Token]) -> Result<(Seq<Signal>, &[Token]), Fault>
-    ensures { Gives (λ x. (x.0, x.1.now)) result (many classes.SIGNAL signal_read tokens.now) }
+pub fn signals(alloc: Global, tokens: Cursor<'_>) -> Result<(Seq<Signal>, Cursor<'_>), Fault>
+    ensures { Reads result (many classes.SIGNAL signal_read) tokens.entry }
 {
     let mut left = tokens;
     let mut list = Seq::new(alloc);
@@ -30,8 +30,8 @@ pub fn signals(alloc: Global, tokens: &[Token]) -> Result<(Seq<Signal>, &[Token]
 
 /// `SIGNAL name shape ;`
 #[tactic(auto, unfolding(crate::specs::Blocks::signal_read))]
-fn one_signal(tokens: &[Token]) -> Result<(Signal, &[Token]), Fault>
-    ensures { Gives (λ x. (x.0, x.1.now)) result (signal_read tokens.now) }
+fn one_signal(tokens: Cursor<'_>) -> Result<(Signal, Cursor<'_>), Fault>
+    ensures { Reads result signal_read tokens.entry }
 {
     let line = line_of(tokens);
     let (_, left) = word(tokens, words::SIGNAL)?;
@@ -49,8 +49,8 @@ fn one_signal(tokens: &[Token]) -> Result<(Signal, &[Token]), Fault>
 }
 
 #[tactic(auto, unfolding(crate::specs::Blocks::shape_read))]
-fn shape(tokens: &[Token]) -> Result<(Shape, &[Token]), Fault>
-    ensures { Gives (λ x. (x.0, x.1.now)) result (shape_read tokens.now) }
+fn shape(tokens: Cursor<'_>) -> Result<(Shape, Cursor<'_>), Fault>
+    ensures { Reads result shape_read tokens.entry }
 {
     let line = line_of(tokens);
     let (kind, left) = shape_kind(tokens)?;
@@ -58,8 +58,8 @@ fn shape(tokens: &[Token]) -> Result<(Shape, &[Token]), Fault>
 }
 
 #[tactic(auto, unfolding(crate::specs::Blocks::shape_kind_read))]
-fn shape_kind(tokens: &[Token]) -> Result<(ShapeKind, &[Token]), Fault>
-    ensures { Gives (λ x. (x.0, x.1.now)) result (shape_kind_read tokens.now) }
+fn shape_kind(tokens: Cursor<'_>) -> Result<(ShapeKind, Cursor<'_>), Fault>
+    ensures { Reads result shape_kind_read tokens.entry }
 {
     if starts(tokens, words::SINGLE) {
         single(tokens)
@@ -72,8 +72,8 @@ fn shape_kind(tokens: &[Token]) -> Result<(ShapeKind, &[Token]), Fault>
 
 /// `SINGLE BUFFERED level DATA number | SINGLE DIRECT DATA number`
 #[tactic(auto, unfolding(crate::specs::Blocks::single_read))]
-fn single(tokens: &[Token]) -> Result<(ShapeKind, &[Token]), Fault>
-    ensures { Gives (λ x. (x.0, x.1.now)) result (single_read tokens.now) }
+fn single(tokens: Cursor<'_>) -> Result<(ShapeKind, Cursor<'_>), Fault>
+    ensures { Reads result single_read tokens.entry }
 {
     let (_, left) = word(tokens, words::SINGLE)?;
     if starts(left, words::BUFFERED) {
@@ -85,8 +85,8 @@ fn single(tokens: &[Token]) -> Result<(ShapeKind, &[Token]), Fault>
 
 /// `BUFFERED level DATA number`
 #[tactic(auto, unfolding(crate::specs::Blocks::buffered_read))]
-fn buffered(tokens: &[Token]) -> Result<(ShapeKind, &[Token]), Fault>
-    ensures { Gives (λ x. (x.0, x.1.now)) result (buffered_read tokens.now) }
+fn buffered(tokens: Cursor<'_>) -> Result<(ShapeKind, Cursor<'_>), Fault>
+    ensures { Reads result buffered_read tokens.entry }
 {
     let (_, left) = word(tokens, words::BUFFERED)?;
     let (level, left) = level(left)?;
@@ -96,8 +96,8 @@ fn buffered(tokens: &[Token]) -> Result<(ShapeKind, &[Token]), Fault>
 
 /// `DIRECT DATA number`
 #[tactic(auto, unfolding(crate::specs::Blocks::direct_read))]
-fn direct(tokens: &[Token]) -> Result<(ShapeKind, &[Token]), Fault>
-    ensures { Gives (λ x. (x.0, x.1.now)) result (direct_read tokens.now) }
+fn direct(tokens: Cursor<'_>) -> Result<(ShapeKind, Cursor<'_>), Fault>
+    ensures { Reads result direct_read tokens.entry }
 {
     let (_, left) = word(tokens, words::DIRECT)?;
     let (data, left) = data(left)?;
@@ -106,8 +106,8 @@ fn direct(tokens: &[Token]) -> Result<(ShapeKind, &[Token]), Fault>
 
 /// `COMBINED DATA number ANSWER name DATA number`
 #[tactic(auto, unfolding(crate::specs::Blocks::combined_read))]
-fn combined(tokens: &[Token]) -> Result<(ShapeKind, &[Token]), Fault>
-    ensures { Gives (λ x. (x.0, x.1.now)) result (combined_read tokens.now) }
+fn combined(tokens: Cursor<'_>) -> Result<(ShapeKind, Cursor<'_>), Fault>
+    ensures { Reads result combined_read tokens.entry }
 {
     let (_, left) = word(tokens, words::COMBINED)?;
     let (sent, left) = data(left)?;
@@ -126,8 +126,8 @@ fn combined(tokens: &[Token]) -> Result<(ShapeKind, &[Token]), Fault>
 
 /// `OUTSIDE DATA number`
 #[tactic(auto, unfolding(crate::specs::Blocks::outside_read))]
-fn outside(tokens: &[Token]) -> Result<(ShapeKind, &[Token]), Fault>
-    ensures { Gives (λ x. (x.0, x.1.now)) result (outside_read tokens.now) }
+fn outside(tokens: Cursor<'_>) -> Result<(ShapeKind, Cursor<'_>), Fault>
+    ensures { Reads result outside_read tokens.entry }
 {
     let (_, left) = word(tokens, words::OUTSIDE)?;
     let (data, left) = data(left)?;
@@ -136,8 +136,8 @@ fn outside(tokens: &[Token]) -> Result<(ShapeKind, &[Token]), Fault>
 
 /// `DATA number`
 #[tactic(auto, unfolding(crate::specs::Blocks::data_read))]
-fn data(tokens: &[Token]) -> Result<(Numbered, &[Token]), Fault>
-    ensures { Gives (λ x. (x.0, x.1.now)) result (data_read tokens.now) }
+fn data(tokens: Cursor<'_>) -> Result<(Numbered, Cursor<'_>), Fault>
+    ensures { Reads result data_read tokens.entry }
 {
     let (_, left) = word(tokens, words::DATA)?;
     number(left)

@@ -1,18 +1,22 @@
 // Statements that send, take and answer signals.
 ghost use Rattle.std.specs.Prelude.{◌≡◌};
-ghost use Rattle.token_grammar.specs.Gives.{Gives};
+ghost use Rattle.token_grammar.specs.Gives.{Reads};
 ghost use Rattle.plex_parser.specs.Statements.{fresh_read, receiver_read, retrieve_read, return_read, send_read, signal_read, taken_read, transfer_read, values_read};
 
-use plex_ast::{Exprs, Names, Reference, StmtKind, words};
-use plex_expr_parser::{exprs, names, reference};
-use plex_lexer::Token;
+use plex_ast::{Boxed, Exprs, Names, Reference, StmtKind, words};
+use plex_expr_parser::{boxed, exprs, names, reference};
+use plex_lexer::Cursor;
 use std::alloc::Global;
 use token_grammar::{Fault, name, starts, word};
 
 /// One of the four, and the tokens after it.
 #[tactic(auto, unfolding(crate::specs::Statements::signal_read))]
-pub fn signalling(alloc: Global, tokens: &[Token], room: u32) -> Result<(StmtKind, &[Token]), Fault>
-    ensures { Gives (λ x. (x.0, x.1.now)) result (signal_read room tokens.now) }
+pub fn signalling(
+    alloc: Global,
+    tokens: Cursor<'_>,
+    room: usize,
+) -> Result<(StmtKind, Cursor<'_>), Fault>
+    ensures { Reads result (signal_read room) tokens.entry }
 {
     if starts(tokens, words::SEND) {
         send(alloc, tokens, room)
@@ -21,24 +25,24 @@ pub fn signalling(alloc: Global, tokens: &[Token], room: u32) -> Result<(StmtKin
     } else if starts(tokens, words::RETURN) {
         return_of(alloc, tokens, room)
     } else {
-        transfer(tokens)
+        transfer(alloc, tokens)
     }
 }
 
 /// `SEND name [ ref ] [ exprs ] [ NEW FORLOPP ] ;`
 #[tactic(auto, unfolding(crate::specs::Statements::send_read))]
-fn send(alloc: Global, tokens: &[Token], room: u32) -> Result<(StmtKind, &[Token]), Fault>
-    ensures { Gives (λ x. (x.0, x.1.now)) result (send_read room tokens.now) }
+fn send(alloc: Global, tokens: Cursor<'_>, room: usize) -> Result<(StmtKind, Cursor<'_>), Fault>
+    ensures { Reads result (send_read room) tokens.entry }
 {
     let (_, left) = word(tokens, words::SEND)?;
     let (signal, left) = name(left)?;
-    let (reference, left) = receiver(left)?;
+    let (reference, left) = receiver(alloc, left)?;
     let (values, left) = values(alloc, left, room)?;
     let (fresh, left) = fresh(left)?;
     let (_, left) = word(left, words::SEMI)?;
     Ok((
         StmtKind::Send {
-            signal,
+            signal: boxed(alloc, signal)?,
             reference,
             values,
             fresh,
@@ -49,8 +53,8 @@ fn send(alloc: Global, tokens: &[Token], room: u32) -> Result<(StmtKind, &[Token
 
 /// `RETRIEVE name [ names ] ;`
 #[tactic(auto, unfolding(crate::specs::Statements::retrieve_read))]
-fn retrieve(alloc: Global, tokens: &[Token]) -> Result<(StmtKind, &[Token]), Fault>
-    ensures { Gives (λ x. (x.0, x.1.now)) result (retrieve_read tokens.now) }
+fn retrieve(alloc: Global, tokens: Cursor<'_>) -> Result<(StmtKind, Cursor<'_>), Fault>
+    ensures { Reads result retrieve_read tokens.entry }
 {
     let (_, left) = word(tokens, words::RETRIEVE)?;
     let (signal, left) = name(left)?;
@@ -61,8 +65,12 @@ fn retrieve(alloc: Global, tokens: &[Token]) -> Result<(StmtKind, &[Token]), Fau
 
 /// `RETURN name [ exprs ] ;`
 #[tactic(auto, unfolding(crate::specs::Statements::return_read))]
-fn return_of(alloc: Global, tokens: &[Token], room: u32) -> Result<(StmtKind, &[Token]), Fault>
-    ensures { Gives (λ x. (x.0, x.1.now)) result (return_read room tokens.now) }
+fn return_of(
+    alloc: Global,
+    tokens: Cursor<'_>,
+    room: usize,
+) -> Result<(StmtKind, Cursor<'_>), Fault>
+    ensures { Reads result (return_read room) tokens.entry }
 {
     let (_, left) = word(tokens, words::RETURN)?;
     let (signal, left) = name(left)?;
@@ -73,24 +81,27 @@ fn return_of(alloc: Global, tokens: &[Token], room: u32) -> Result<(StmtKind, &[
 
 /// `TRANSFER name [ ref ] ;`
 #[tactic(auto, unfolding(crate::specs::Statements::transfer_read))]
-fn transfer(tokens: &[Token]) -> Result<(StmtKind, &[Token]), Fault>
-    ensures { Gives (λ x. (x.0, x.1.now)) result (transfer_read tokens.now) }
+fn transfer(alloc: Global, tokens: Cursor<'_>) -> Result<(StmtKind, Cursor<'_>), Fault>
+    ensures { Reads result transfer_read tokens.entry }
 {
     let (_, left) = word(tokens, words::TRANSFER)?;
     let (signal, left) = name(left)?;
-    let (reference, left) = receiver(left)?;
+    let (reference, left) = receiver(alloc, left)?;
     let (_, left) = word(left, words::SEMI)?;
     Ok((StmtKind::Transfer { signal, reference }, left))
 }
 
 /// `[ ref ]`
 #[tactic(auto, unfolding(crate::specs::Statements::receiver_read))]
-fn receiver(tokens: &[Token]) -> Result<(Option<Reference>, &[Token]), Fault>
-    ensures { Gives (λ x. (x.0, x.1.now)) result (receiver_read tokens.now) }
+fn receiver(
+    alloc: Global,
+    tokens: Cursor<'_>,
+) -> Result<(Option<Boxed<Reference>>, Cursor<'_>), Fault>
+    ensures { Reads result receiver_read tokens.entry }
 {
     if starts(tokens, words::REFERENCE) {
         let (reference, left) = reference(tokens)?;
-        Ok((Some(reference), left))
+        Ok((Some(boxed(alloc, reference)?), left))
     } else {
         Ok((None, tokens))
     }
@@ -98,12 +109,16 @@ fn receiver(tokens: &[Token]) -> Result<(Option<Reference>, &[Token]), Fault>
 
 /// `[ exprs ]`
 #[tactic(auto, unfolding(crate::specs::Statements::values_read))]
-fn values(alloc: Global, tokens: &[Token], room: u32) -> Result<(Option<Exprs>, &[Token]), Fault>
-    ensures { Gives (λ x. (x.0, x.1.now)) result (values_read room tokens.now) }
+fn values(
+    alloc: Global,
+    tokens: Cursor<'_>,
+    room: usize,
+) -> Result<(Option<Boxed<Exprs>>, Cursor<'_>), Fault>
+    ensures { Reads result (values_read room) tokens.entry }
 {
     if starts(tokens, words::WITH) {
         let (exprs, left) = exprs(alloc, tokens, room)?;
-        Ok((Some(exprs), left))
+        Ok((Some(boxed(alloc, exprs)?), left))
     } else {
         Ok((None, tokens))
     }
@@ -111,12 +126,12 @@ fn values(alloc: Global, tokens: &[Token], room: u32) -> Result<(Option<Exprs>, 
 
 /// `[ names ]` and the tokens after it.
 #[tactic(auto, unfolding(crate::specs::Statements::taken_read))]
-pub fn taken(alloc: Global, tokens: &[Token]) -> Result<(Option<Names>, &[Token]), Fault>
-    ensures { Gives (λ x. (x.0, x.1.now)) result (taken_read tokens.now) }
+pub fn taken(alloc: Global, tokens: Cursor<'_>) -> Result<(Option<Boxed<Names>>, Cursor<'_>), Fault>
+    ensures { Reads result taken_read tokens.entry }
 {
     if starts(tokens, words::WITH) {
         let (names, left) = names(alloc, tokens)?;
-        Ok((Some(names), left))
+        Ok((Some(boxed(alloc, names)?), left))
     } else {
         Ok((None, tokens))
     }
@@ -124,8 +139,8 @@ pub fn taken(alloc: Global, tokens: &[Token]) -> Result<(Option<Names>, &[Token]
 
 /// Whether `NEW FORLOPP` stands there.
 #[tactic(auto, unfolding(crate::specs::Statements::fresh_read))]
-fn fresh(tokens: &[Token]) -> Result<(bool, &[Token]), Fault>
-    ensures { Gives (λ x. (x.0, x.1.now)) result (fresh_read tokens.now) }
+fn fresh(tokens: Cursor<'_>) -> Result<(bool, Cursor<'_>), Fault>
+    ensures { Reads result fresh_read tokens.entry }
 {
     if starts(tokens, words::NEW) {
         let (_, left) = word(tokens, words::NEW)?;

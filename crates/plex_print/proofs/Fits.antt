@@ -13,8 +13,8 @@ use Rattle.token_grammar.specs.declared.named.Numbered.{Numbered}
 use Rattle.token_grammar.specs.declared.named.Leveled.{Leveled}
 use Rattle.token_grammar.specs.Language.{Lang, word, ◌·◌, nothing, never, on, each, maybe, flag, named, numbered, leveled, level_name, mem, kind_class, name_class, keyword, mark}
 use Rattle.plex_lexer.specs.Words.{keyword_of}
-use Rattle.plex_print.specs.Keeps.{IsName, IsNamed, IsNumbered, Every}
-use Rattle.plex_print.specs.Spelled.{AreWords, IsWord}
+use Rattle.kept_trees.specs.Keeps.{IsName, IsNamed, IsNumbered, Every}
+use Rattle.kept_trees.specs.Words.{AreWords, IsWord}
 use Rattle.plex_print.specs.Writing.{Writer, say, semi, leave, ◌▷◌, each_of, maybe_of, flag_of}
 use Rattle.plex_print.specs.Printed.{name_text, number_text, level_text}
 use Rattle.plex_print.proofs.Lexing.{kinds_of, kinds-append, Reads, Reads-none, Reads-append, Reads-word, Reads-name, Reads-number, Reads-semi}
@@ -32,12 +32,11 @@ pub record Some_words (M : Lang) : Type 0 where
   pub spell : M words
 
 -- whatever words spell the thing, words of their kinds are written, and each list of words of those kinds spells it, lines
--- aside; some words spell it exactly where it keeps K
+-- aside; some words spell it where it keeps K
 pub record Fits (K : Type 0) (L M : Lang) (f : Writer) : Type 0 where
   pub wrote : (u : List Token) → AreWords u → L u → (old : List ℕ) → Wrote (kinds_of u) old (f old)
   pub same : (u v : List Token) → kinds_of u ≡ kinds_of v → L u → M v
   pub has : K → Some_words M
-  pub keeps : (u : List Token) → AreWords u → L u → K
 
 -- lists of words
 
@@ -102,7 +101,7 @@ one_of k (s ∷ r ∷ v) e = absurd (no (tails k s.kind [] (r.kind ∷ kinds_of 
 -- one after the other
 
 pub Fits-then : {K J : Type 0} {L L' M M' : Lang} {f g : Writer} → Fits K L L' f → Fits J M M' g → Fits (K × J) (L · M) (L' · M') (f ▷ g)
-Fits-then {K} {J} {L} {L'} {M} {M'} {f} {g} F G = record { wrote = wrote; same = same; has = has; keeps = keeps }
+Fits-then {K} {J} {L} {L'} {M} {M'} {f} {g} F G = record { wrote = wrote; same = same; has = has }
   where
     wrote : (u : List Token) → AreWords u → (L · M) u → (old : List ℕ) → Wrote (kinds_of u) old (g (f old))
     wrote u k h old =
@@ -127,21 +126,16 @@ Fits-then {K} {J} {L} {L'} {M} {M'} {f} {g} F G = record { wrote = wrote; same =
         let y = G.has k.1 in
         record { words = x.words ++ y.words; are = words-both x.words y.words x.are y.are; spell = (x.words, y.words, refl, x.spell, y.spell) }
 
-    keeps : (u : List Token) → AreWords u → (L · M) u → K × J
-    keeps u k h =
-        let k2 : AreWords (h.0 ++ h.1) = subst AreWords h.2 k in
-        (F.keeps h.0 (words-first h.0 h.1 k2) h.3, G.keeps h.1 (words-second h.0 h.1 k2) h.4)
-
 -- the same under another condition
-pub Fits-as : {K J : Type 0} {L M : Lang} {f : Writer} → (J → K) → (K → J) → Fits K L M f → Fits J L M f
-Fits-as to from F = record { wrote = F.wrote; same = F.same; has = λ j. F.has (to j); keeps = λ u w h. from (F.keeps u w h) }
+pub Fits-as : {K J : Type 0} {L M : Lang} {f : Writer} → (J → K) → Fits K L M f → Fits J L M f
+Fits-as to F = record { wrote = F.wrote; same = F.same; has = λ j. F.has (to j) }
 
 -- a word first, and a word last
 pub Fits-after : {J : Type 0} {L L' M M' : Lang} {f g : Writer} → Fits (Unit {0}) L L' f → Fits J M M' g → Fits J (L · M) (L' · M') (f ▷ g)
-Fits-after {J} F G = Fits-as (λ (j : J). (tt, j)) (λ (p : Unit {0} × J). p.1) (Fits-then F G)
+Fits-after {J} F G = Fits-as (λ (j : J). (tt, j)) (Fits-then F G)
 
 pub Fits-ended : {K : Type 0} {L L' M M' : Lang} {f g : Writer} → Fits K L L' f → Fits (Unit {0}) M M' g → Fits K (L · M) (L' · M') (f ▷ g)
-Fits-ended {K} F G = Fits-as (λ (k : K). (k, tt)) (λ (p : K × Unit {0}). p.0) (Fits-then F G)
+Fits-ended {K} F G = Fits-as (λ (k : K). (k, tt)) (Fits-then F G)
 
 -- nothing
 
@@ -157,11 +151,10 @@ Fits-nothing = record {
   wrote = λ u k h old. record { bytes = []; adds = sym (append-nil old); reads = subst (λ z. Reads (kinds_of z) []) (sym h) Reads-none };
   same = λ u v e h. no_tokens v (ap kinds_of (sym h) ∙ e);
   has = λ k. record { words = []; are = tt; spell = refl };
-  keeps = λ u k h. tt;
 }
 
 pub Fits-never : {X : Type 0} (x : X) (f : Writer) → Fits ⊥ (never x) (never x) f
-Fits-never x f = record { wrote = λ u k h old. absurd h; same = λ u v e h. h; has = λ k. absurd k; keeps = λ u k h. h }
+Fits-never x f = record { wrote = λ u k h old. absurd h; same = λ u v e h. h; has = λ k. absurd k }
 
 -- where lines count or do not
 
@@ -170,7 +163,6 @@ Fits-on s line F = record {
   wrote = λ u k h old. F.wrote u k h.0 old;
   same = λ u v e h. (F.same u v e h.0, λ z. absurd (no z));
   has = λ k. let x = F.has k in record { words = x.words; are = x.are; spell = (x.spell, λ z. absurd (no z)) };
-  keeps = λ u k h. F.keeps u k h.0;
 }
   where
     no : false ≡ true → ⊥
@@ -215,7 +207,6 @@ Fits-word cs k bytes f good its only r adds = record {
   wrote = λ u w h old. wrote_one k bytes f u h.0 h.1 (only h.0.kind h.2) r adds old;
   same = word_same cs;
   has = λ _. record { words = an k ∷ []; are = (good, tt); spell = (an k, refl, its) };
-  keeps = λ u w h. tt;
 }
 
 one_is : (c : ℕ) → mem c (c ∷ []) ≡ true
@@ -266,7 +257,6 @@ Fits-name s x = record {
   wrote = λ u w h old. wrote_one (kinds.Name x.name) (x.name ++ (32 ∷ [])) (say x.name) u h.0 h.1 h.2 (Reads-name x.name (word_at u h.0 (kinds.Name x.name) h.1 h.2 w)) (said x.name) old;
   same = λ u v e h. let o = one_of h.0.kind v (ap kinds_of (sym h.1) ∙ e) in (o.token, o.is, o.kind ∙ h.2, λ z. absurd (no z));
   has = λ k. record { words = an (kinds.Name x.name) ∷ []; are = (k, tt); spell = (an (kinds.Name x.name), refl, refl, λ z. absurd (no z)) };
-  keeps = λ u w h. word_at u h.0 (kinds.Name x.name) h.1 h.2 w;
 }
   where
     no : false ≡ true → ⊥
@@ -277,7 +267,6 @@ Fits-number s x = record {
   wrote = λ u w h old. wrote_one (kinds.Number x.value) (decimal x.value ++ (32 ∷ [])) (say (decimal x.value)) u h.0 h.1 h.2 (Reads-number x.value (word_at u h.0 (kinds.Number x.value) h.1 h.2 w)) (said (decimal x.value)) old;
   same = λ u v e h. let o = one_of h.0.kind v (ap kinds_of (sym h.1) ∙ e) in (o.token, o.is, o.kind ∙ h.2, λ z. absurd (no z));
   has = λ k. record { words = an (kinds.Number x.value) ∷ []; are = (k, tt); spell = (an (kinds.Number x.value), refl, refl, λ z. absurd (no z)) };
-  keeps = λ u w h. word_at u h.0 (kinds.Number x.value) h.1 h.2 w;
 }
   where
     no : false ≡ true → ⊥
@@ -302,7 +291,6 @@ Fits-level s x = record {
   wrote = λ u w h old. wrote_one (kinds.Name (level_name x.level)) (level_name x.level ++ (32 ∷ [])) (say (level_name x.level)) u h.0 h.1 h.2 (level_reads x.level) (said (level_name x.level)) old;
   same = λ u v e h. let o = one_of h.0.kind v (ap kinds_of (sym h.1) ∙ e) in (o.token, o.is, o.kind ∙ h.2, λ z. absurd (no z));
   has = λ k. record { words = an (kinds.Name (level_name x.level)) ∷ []; are = (level_is x.level, tt); spell = (an (kinds.Name (level_name x.level)), refl, refl, λ z. absurd (no z)) };
-  keeps = λ u w h. tt;
 }
   where
     no : false ≡ true → ⊥

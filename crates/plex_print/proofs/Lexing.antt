@@ -14,7 +14,7 @@ use Rattle.plex_lexer.specs.Marks.{single_mark}
 use Rattle.plex_lexer.specs.Pieces.{with_tokens, token_at, and_the_rest, kind_and_rest}
 use Rattle.plex_lexer.specs.Words.{word_kind, number_kind, number_or_fault}
 use Rattle.plex_lexer.proofs.Steps.{at_token, at_blank}
-use Rattle.plex_print.specs.Keeps.{IsName}
+use Rattle.kept_trees.specs.Keeps.{IsName}
 use Rattle.plex_print.proofs.Numbers.{decimal_all_digits, decimal_some, number_of_decimal}
 use Rattle.plex_num.specs.Number.{number_of}
 
@@ -194,8 +194,3 @@ Reads-number n h = digits_read n (decimal n) (decimal_some n h) (decimal_all_dig
 pub Reads-semi : Reads (kinds.Mark 0 ∷ []) (59 ∷ 10 ∷ [])
 unfolding lexed single_mark
 Reads-semi = Reads-one (kinds.Mark 0) (59 ∷ 10 ∷ []) (λ l. l + 1) (λ n line rest. refl)
-
--- the whole text
-unfolding_end : (n line : ℕ) → lexed Between n line [] ≡ Ok []
-unfolding lexed
-unfolding_end n line = refl

@@ -2,6 +2,5 @@ pub mod Fits
 pub mod Lexing
 pub mod Numbers
 pub mod Productions
-pub mod Texts
 pub mod Vocabulary
 pub mod Words

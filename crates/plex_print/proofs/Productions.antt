@@ -1,5 +1,5 @@
 -- What is written for each production spells it, one line for each production or alternative of the grammar.
-use Rattle.std.proofs.Common.{◌≡◌, ℕ, zero, suc, Bool, false, List, [], ◌++◌, length, Result, Ok, Err, IfOk, sym, ◌∙◌, ap}
+use Rattle.std.proofs.Common.{◌≡◌, ℕ, zero, suc, Bool, false, List, [], ◌++◌, length, Result, Ok, Err, IfOk, ◌↔◌, refl, sym, ◌∙◌, ap}
 use Rattle.token_grammar.specs.declared.named.Numbered.{Numbered}
 use Rattle.token_grammar.specs.declared.named.Named.{Named}
 use Rattle.plex_ast.specs.declared.expr.Expr.{Expr}
@@ -18,6 +18,8 @@ use Rattle.plex_ast.specs.declared.expr.Cond.{Cond}
 use Rattle.plex_ast.specs.declared.expr.Exprs.{Exprs}
 use Rattle.plex_ast.specs.declared.stmt.Names.{Names}
 use Rattle.plex_ast.specs.declared.stmt.Reference.{Reference}
+use Rattle.plex_ast.specs.declared.stmt.ReferenceKind.{ReferenceKind}
+use Rattle.plex_ast.specs.declared.stmt.ReferenceKind.TheVariants as references
 use Rattle.plex_ast.specs.declared.stmt.Stmt.{Stmt}
 use Rattle.plex_ast.specs.declared.stmt.StmtKind.{StmtKind, out-StmtKind}
 use Rattle.plex_ast.specs.declared.stmt.StmtKind.TheOpen as open_stmt
@@ -43,16 +45,18 @@ use Rattle.plex_lexer.specs.declared.token.Token.{Token}
 use Rattle.plex_lexer.specs.Lexed.{Between, lexed, tokens_of}
 use Rattle.plex_lexer.specs.Pieces.{with_tokens}
 use Rattle.token_grammar.specs.Language.{Lang, ◌·◌, word, named}
+use Rattle.plex_limits.specs.declared.limits.TheConstants.{MOST_BRACKETS, MOST_NESTED}
 use Rattle.plex_num.specs.declared.seq.Memory.{Memory}
 use Rattle.plex_ast.specs.Grammar as grammar
 use Rattle.plex_ast.specs.Words as classes
 use Rattle.plex_print.specs.Writing.{Writer}
 use Rattle.plex_print.specs.Printed as printed
-use Rattle.plex_print.specs.Keeps as keeps
-use Rattle.plex_print.specs.Keeps.{Keeps}
+use Rattle.kept_trees.specs.Keeps as keeps
+use Rattle.kept_trees.specs.Keeps.{Keeps}
 use Rattle.plex_print.specs.Spelled.{Spells}
+use Rattle.kept_trees.proofs.Texts.{read_keeps}
 use Rattle.plex_print.proofs.Fits.{Fits, Fits-then, Fits-after, Fits-ended, Fits-never, Fits-on, Fits-each, Fits-maybe, Fits-flag, Fits-semi, Fits-name, Fits-number, Fits-level}
-use Rattle.plex_print.proofs.Vocabulary.{fits-SIGNAL, fits-SINGLE, fits-COMBINED, fits-BUFFERED, fits-DIRECT, fits-OUTSIDE, fits-DATA, fits-ANSWER, fits-BLOCK, fits-DECLARE, fits-VARIABLE, fits-TEMPORARY, fits-FILE, fits-FORLOPP, fits-FIELD, fits-WIDTH, fits-SIZE, fits-INIT, fits-SURVEY, fits-RECEIVE, fits-SEND, fits-PROGRAM, fits-END, fits-GOTO, fits-IF, fits-THEN, fits-ELSE, fits-FI, fits-CASE, fits-IS, fits-WHEN, fits-DO, fits-OTHERWISE, fits-ESAC, fits-ON, fits-FROM, fits-UPTO, fits-NO, fits-FOR, fits-FIRST, fits-IN, fits-WHERE, fits-ENTER, fits-WITH, fits-REFERENCE, fits-NEW, fits-RETRIEVE, fits-RETURN, fits-TRANSFER, fits-EXIT, fits-SEIZE, fits-FREE, fits-AND, fits-OR, fits-MOD, fits-COMMA, fits-OPEN, fits-CLOSE, fits-EQUAL, fits-PLUS, fits-MINUS, fits-TIMES, fits-OVER, fits-BELOW, fits-ABOVE, fits-AT_MOST, fits-AT_LEAST, fits-UNEQUAL}
+use Rattle.plex_print.proofs.Vocabulary.{fits-SIGNAL, fits-SINGLE, fits-COMBINED, fits-BUFFERED, fits-DIRECT, fits-OUTSIDE, fits-DATA, fits-ANSWER, fits-BLOCK, fits-DECLARE, fits-VARIABLE, fits-TEMPORARY, fits-FILE, fits-FORLOPP, fits-FIELD, fits-WIDTH, fits-SIZE, fits-INIT, fits-SURVEY, fits-RECEIVE, fits-SEND, fits-PROGRAM, fits-END, fits-GOTO, fits-IF, fits-THEN, fits-ELSE, fits-FI, fits-CASE, fits-IS, fits-WHEN, fits-DO, fits-OTHERWISE, fits-ESAC, fits-ON, fits-FROM, fits-UPTO, fits-NO, fits-FOR, fits-FIRST, fits-IN, fits-WHERE, fits-ENTER, fits-WITH, fits-REFERENCE, fits-NEW, fits-RETRIEVE, fits-RETURN, fits-TRANSFER, fits-EXIT, fits-SEIZE, fits-FREE, fits-AND, fits-OR, fits-MOD, fits-CLEAR, fits-COMMA, fits-OPEN, fits-CLOSE, fits-EQUAL, fits-PLUS, fits-MINUS, fits-TIMES, fits-OVER, fits-BELOW, fits-ABOVE, fits-AT_MOST, fits-AT_LEAST, fits-UNEQUAL}
 
 -- expressions
 
@@ -61,6 +65,7 @@ Fits-factor-at s inner (open_expr.Number n) = Fits-number s n
 Fits-factor-at s inner (open_expr.Name n) = Fits-name s n
 Fits-factor-at s inner (open_expr.Field n p) = Fits-then (Fits-name s n) (Fits-after fits-OPEN (Fits-ended (Fits-name s p) fits-CLOSE))
 Fits-factor-at s inner (open_expr.Bracket e) = Fits-after fits-OPEN (Fits-ended (inner e) fits-CLOSE)
+Fits-factor-at s inner (open_expr.Reference m) = Fits-after fits-REFERENCE (Fits-name s m)
 
 Fits-factor-with : {K : Expr → Type 0} {I J : Expr → Lang} {w : Expr → Writer} (s : Bool) → ((e : Expr) → Fits (K e) (I e) (J e) (w e)) → (f : Factor) → Fits (keeps.KeepsFactorWith K f) (grammar.factor_with s I f) (grammar.factor_with false J f) (printed.factor_with w f)
 Fits-factor-with s inner f = Fits-on s f.line (Fits-factor-at s inner (out-FactorKind f.kind))
@@ -125,9 +130,13 @@ Fits-exprs : (s : Bool) (b : ℕ) (x : Exprs) → Fits (keeps.KeepsExprs b x) (g
 unfolding printed.exprs_text printed.comma_expr_text
 Fits-exprs s b x = Fits-on s x.line (Fits-after fits-WITH (Fits-then (Fits-expr s b x.first) (Fits-each (λ e. Fits-after fits-COMMA (Fits-expr s b e)) x.rest)))
 
+Fits-reference-at : (s : Bool) (k : ReferenceKind) → Fits (keeps.KeepsReferenceAt k) (grammar.reference_at s k) (grammar.reference_at false k) (printed.reference_at k)
+Fits-reference-at s (references.Block m) = Fits-after fits-REFERENCE (Fits-name s m)
+Fits-reference-at s (references.Held v) = Fits-after fits-REFERENCE (Fits-after fits-OPEN (Fits-ended (Fits-name s v) fits-CLOSE))
+
 Fits-reference : (s : Bool) (x : Reference) → Fits (keeps.KeepsReference x) (grammar.reference s x) (grammar.reference false x) (printed.reference_text x)
 unfolding printed.reference_text
-Fits-reference s x = Fits-on s x.line (Fits-after fits-REFERENCE (Fits-name s x.block))
+Fits-reference s x = Fits-on s x.line (Fits-reference-at s x.kind)
 
 -- statements
 
@@ -201,7 +210,7 @@ Fits-field s x = Fits-on s x.line (Fits-after fits-FIELD (Fits-then (Fits-name s
 
 Fits-decl-at : (s : Bool) (k : DeclKind) → Fits (keeps.KeepsDeclAt k) (grammar.decl_at s k) (grammar.decl_at false k) (printed.decl_at k)
 unfolding printed.variable_text printed.temporary_text printed.file_text
-Fits-decl-at s (decls.Variable n w i) = Fits-after fits-VARIABLE (Fits-then (Fits-name s n) (Fits-after fits-WIDTH (Fits-then (Fits-number s w) (Fits-ended (Fits-maybe (Fits-init s) i) Fits-semi))))
+Fits-decl-at s (decls.Variable n w i clear) = Fits-after fits-VARIABLE (Fits-then (Fits-name s n) (Fits-after fits-WIDTH (Fits-then (Fits-number s w) (Fits-ended (Fits-maybe (Fits-init s) i) (Fits-ended (Fits-flag fits-CLEAR clear) Fits-semi)))))
 Fits-decl-at s (decls.Temporary n) = Fits-after fits-TEMPORARY (Fits-ended (Fits-name s n) Fits-semi)
 Fits-decl-at s (decls.File forlopp n size fields) = Fits-after (Fits-flag fits-FORLOPP forlopp) (Fits-after fits-FILE (Fits-then (Fits-name s n) (Fits-after fits-SIZE (Fits-then (Fits-number s size) (Fits-after Fits-semi (Fits-each (Fits-field s) fields))))))
 
@@ -245,16 +254,20 @@ at_end : (n line : ℕ) (tokens : List Token) → with_tokens tokens (lexed Betw
 unfolding lexed
 at_end n line tokens = ap (λ v. Ok v) (append-nil tokens)
 
-pub spelled : (t : Tree) (text : List ℕ) → text ≡ printed.tree_text 6 12 t [] → Keeps 6 12 t → Spells text t
+pub spelled : (t : Tree) (text : List ℕ) → text ≡ printed.tree_text MOST_BRACKETS MOST_NESTED t [] → Keeps MOST_BRACKETS MOST_NESTED t → Spells text t
 unfolding tokens_of
 spelled t text e k =
-    let F = Fits-tree false 6 12 t in
+    let F = Fits-tree false MOST_BRACKETS MOST_NESTED t in
     let u = F.has k in
     let w = F.wrote u.words u.are u.spell [] in
     let r = w.reads (length text) 1 [] in
     let is : text ≡ w.bytes ++ [] = e ∙ w.adds ∙ sym (append-nil w.bytes) in
     (r.tokens, ap (lexed Between (length text) 1) is ∙ r.is ∙ at_end (length text) r.next r.tokens, F.same u.words r.tokens (sym r.same) u.spell)
 
-pub all_spelled : (t : Tree) (r : Result (List ℕ) Memory) → IfOk r (λ text. text ≡ printed.tree_text 6 12 t []) → IfOk r (λ text. Keeps 6 12 t → Spells text t)
+pub all_spelled : (t : Tree) (r : Result (List ℕ) Memory) → IfOk r (λ text. text ≡ printed.tree_text MOST_BRACKETS MOST_NESTED t []) → IfOk r (λ text. Keeps MOST_BRACKETS MOST_NESTED t → Spells text t)
 all_spelled t (Ok text) h = spelled t text h
 all_spelled t (Err e) h = tt
+
+-- .. and which trees have a text
+pub kept : (t : Tree) → Keeps MOST_BRACKETS MOST_NESTED t ↔ ((text : List ℕ) × Spells text t)
+kept t = (λ k. (printed.tree_text MOST_BRACKETS MOST_NESTED t [], spelled t (printed.tree_text MOST_BRACKETS MOST_NESTED t []) refl k), λ x. read_keeps false x.0 x.1.0 t x.1.1 x.1.2)

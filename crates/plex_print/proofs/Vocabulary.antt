@@ -230,6 +230,10 @@ pub fits-MOD : Fits (Unit {0}) (word classes.MOD) (word classes.MOD) (say (codes
 unfolding keyword_of
 fits-MOD = Fits-keyword 54 (codes "MOD") (Reads-word 77 (79 ∷ 68 ∷ []) (kinds.Keyword 54) refl refl (λ o l. refl))
 
+pub fits-CLEAR : Fits (Unit {0}) (word classes.CLEAR) (word classes.CLEAR) (say (codes "CLEAR"))
+unfolding keyword_of
+fits-CLEAR = Fits-keyword 55 (codes "CLEAR") (Reads-word 67 (76 ∷ 69 ∷ 65 ∷ 82 ∷ []) (kinds.Keyword 55) refl refl (λ o l. refl))
+
 pub fits-COMMA : Fits (Unit {0}) (word classes.COMMA) (word classes.COMMA) (say (codes ","))
 unfolding lexed single_mark
 fits-COMMA = Fits-mark 1 (codes ",") (Reads-one (kinds.Mark 1) (codes "," ++ (32 ∷ [])) (λ l. l) (λ n line rest. refl))

@@ -1,4 +1,3 @@
-pub mod Keeps
 pub mod Printed
 pub mod Spelled
 pub mod Writing

@@ -22,6 +22,8 @@ use Rattle.plex_ast.specs.declared.expr.Cond.{Cond}
 use Rattle.plex_ast.specs.declared.expr.Exprs.{Exprs}
 use Rattle.plex_ast.specs.declared.stmt.Names.{Names}
 use Rattle.plex_ast.specs.declared.stmt.Reference.{Reference}
+use Rattle.plex_ast.specs.declared.stmt.ReferenceKind.{ReferenceKind}
+use Rattle.plex_ast.specs.declared.stmt.ReferenceKind.TheVariants as references
 use Rattle.plex_ast.specs.declared.stmt.Stmt.{Stmt}
 use Rattle.plex_ast.specs.declared.stmt.StmtKind.{StmtKind, out-StmtKind}
 use Rattle.plex_ast.specs.declared.stmt.StmtKind.TheOpen as open_stmt
@@ -62,6 +64,7 @@ factor_at inner (open_expr.Number n) = number_text n
 factor_at inner (open_expr.Name n) = name_text n
 factor_at inner (open_expr.Field n p) = name_text n ▷ (say (codes "(") ▷ (name_text p ▷ say (codes ")")))
 factor_at inner (open_expr.Bracket e) = say (codes "(") ▷ (inner e ▷ say (codes ")"))
+factor_at inner (open_expr.Reference m) = say (codes "REFERENCE") ▷ name_text m
 
 abbrev pub factor_with : (Expr → Writer) → Factor → Writer
 factor_with inner f = factor_at inner (out-FactorKind f.kind)
@@ -149,8 +152,12 @@ comma_expr_text b e = say (codes ",") ▷ expr_text b e
 unfoldable pub exprs_text : ℕ → Exprs → Writer
 exprs_text b x = say (codes "WITH") ▷ (expr_text b x.first ▷ each_of (comma_expr_text b) x.rest)
 
+abbrev pub reference_at : ReferenceKind → Writer
+reference_at (references.Block m) = say (codes "REFERENCE") ▷ name_text m
+reference_at (references.Held v) = say (codes "REFERENCE") ▷ (say (codes "(") ▷ (name_text v ▷ say (codes ")")))
+
 unfoldable pub reference_text : Reference → Writer
-reference_text x = say (codes "REFERENCE") ▷ name_text x.block
+reference_text x = reference_at x.kind
 
 -- statements: `body` writes what one that holds statements holds
 
@@ -262,8 +269,8 @@ init_text i = say (codes "INIT") ▷ number_text i
 unfoldable pub field_text : Field → Writer
 field_text x = say (codes "FIELD") ▷ (name_text x.name ▷ (say (codes "WIDTH") ▷ (number_text x.width ▷ (maybe_of init_text x.init ▷ semi))))
 
-unfoldable pub variable_text : Named → Numbered → Option Numbered → Writer
-variable_text n w i = say (codes "VARIABLE") ▷ (name_text n ▷ (say (codes "WIDTH") ▷ (number_text w ▷ (maybe_of init_text i ▷ semi))))
+unfoldable pub variable_text : Named → Numbered → Option Numbered → Bool → Writer
+variable_text n w i clear = say (codes "VARIABLE") ▷ (name_text n ▷ (say (codes "WIDTH") ▷ (number_text w ▷ (maybe_of init_text i ▷ (flag_of (say (codes "CLEAR")) clear ▷ semi)))))
 
 unfoldable pub temporary_text : Named → Writer
 temporary_text n = say (codes "TEMPORARY") ▷ (name_text n ▷ semi)
@@ -272,7 +279,7 @@ unfoldable pub file_text : Bool → Named → Numbered → List Field → Writer
 file_text forlopp n size fields = flag_of (say (codes "FORLOPP")) forlopp ▷ (say (codes "FILE") ▷ (name_text n ▷ (say (codes "SIZE") ▷ (number_text size ▷ (semi ▷ each_of field_text fields)))))
 
 abbrev pub decl_at : DeclKind → Writer
-decl_at (decls.Variable n w i) = variable_text n w i
+decl_at (decls.Variable n w i clear) = variable_text n w i clear
 decl_at (decls.Temporary n) = temporary_text n
 decl_at (decls.File forlopp n size fields) = file_text forlopp n size fields
 

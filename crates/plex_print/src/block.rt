@@ -12,7 +12,7 @@ use plex_num::{Memory, Seq};
 
 /// Appends a block.
 #[tactic(auto, unfolding(crate::specs::Printed::block_text))]
-pub fn block(text: &mut Seq<u8>, block: &Block, room: u32, deep: u32) -> Result<(), Memory>
+pub fn block(text: &mut Seq<u8>, block: &Block, room: usize, deep: usize) -> Result<(), Memory>
     ensures { IfOk result (λ _. text.new ≡ block_text room deep block.now text.old) }
 {
     word(text, b"BLOCK")?;
@@ -88,7 +88,7 @@ fn survey(text: &mut Seq<u8>, survey: &Survey) -> Result<(), Memory>
 
 /// `PROGRAM ; { item }`
 #[tactic(auto, unfolding(crate::specs::Printed::program_text))]
-fn program(text: &mut Seq<u8>, list: &[Item], room: u32, deep: u32) -> Result<(), Memory>
+fn program(text: &mut Seq<u8>, list: &[Item], room: usize, deep: usize) -> Result<(), Memory>
     ensures { IfOk result (λ _. text.new ≡ program_text room deep list.now text.old) }
 {
     word(text, b"PROGRAM")?;
@@ -96,7 +96,7 @@ fn program(text: &mut Seq<u8>, list: &[Item], room: u32, deep: u32) -> Result<()
     items(text, list, room, deep)
 }
 
-fn items(text: &mut Seq<u8>, list: &[Item], room: u32, deep: u32) -> Result<(), Memory>
+fn items(text: &mut Seq<u8>, list: &[Item], room: usize, deep: usize) -> Result<(), Memory>
     ensures { IfOk result (λ _. text.new ≡ each_of (item_text room deep) list.now text.old) }
 {
     let mut rest = list;
@@ -108,7 +108,7 @@ fn items(text: &mut Seq<u8>, list: &[Item], room: u32, deep: u32) -> Result<(), 
 }
 
 #[tactic(auto, unfolding(crate::specs::Printed::item_text))]
-fn item(text: &mut Seq<u8>, item: &Item, room: u32, deep: u32) -> Result<(), Memory>
+fn item(text: &mut Seq<u8>, item: &Item, room: usize, deep: usize) -> Result<(), Memory>
     ensures { IfOk result (λ _. text.new ≡ item_text room deep item.now text.old) }
 {
     match &item.kind {

@@ -10,14 +10,14 @@ use plex_num::{Memory, Seq};
 
 /// Appends a condition.
 #[tactic(auto, unfolding(crate::specs::Printed::cond_text))]
-pub fn cond(text: &mut Seq<u8>, cond: &Cond, room: u32) -> Result<(), Memory>
+pub fn cond(text: &mut Seq<u8>, cond: &Cond, room: usize) -> Result<(), Memory>
     ensures { IfOk result (λ _. text.new ≡ cond_text room cond.now text.old) }
 {
     conj(text, &cond.first, room)?;
     or_list(text, cond.rest.as_slice(), room)
 }
 
-fn or_list(text: &mut Seq<u8>, list: &[Conj], room: u32) -> Result<(), Memory>
+fn or_list(text: &mut Seq<u8>, list: &[Conj], room: usize) -> Result<(), Memory>
     ensures { IfOk result (λ _. text.new ≡ each_of (or_text room) list.now text.old) }
 {
     let mut rest = list;
@@ -29,7 +29,7 @@ fn or_list(text: &mut Seq<u8>, list: &[Conj], room: u32) -> Result<(), Memory>
 }
 
 #[tactic(auto, unfolding(crate::specs::Printed::or_text))]
-fn or(text: &mut Seq<u8>, next: &Conj, room: u32) -> Result<(), Memory>
+fn or(text: &mut Seq<u8>, next: &Conj, room: usize) -> Result<(), Memory>
     ensures { IfOk result (λ _. text.new ≡ or_text room next.now text.old) }
 {
     word(text, b"OR")?;
@@ -37,14 +37,14 @@ fn or(text: &mut Seq<u8>, next: &Conj, room: u32) -> Result<(), Memory>
 }
 
 #[tactic(auto, unfolding(crate::specs::Printed::conj_text))]
-fn conj(text: &mut Seq<u8>, conj: &Conj, room: u32) -> Result<(), Memory>
+fn conj(text: &mut Seq<u8>, conj: &Conj, room: usize) -> Result<(), Memory>
     ensures { IfOk result (λ _. text.new ≡ conj_text room conj.now text.old) }
 {
     relation(text, &conj.first, room)?;
     and_list(text, conj.rest.as_slice(), room)
 }
 
-fn and_list(text: &mut Seq<u8>, list: &[Relation], room: u32) -> Result<(), Memory>
+fn and_list(text: &mut Seq<u8>, list: &[Relation], room: usize) -> Result<(), Memory>
     ensures { IfOk result (λ _. text.new ≡ each_of (and_text room) list.now text.old) }
 {
     let mut rest = list;
@@ -56,7 +56,7 @@ fn and_list(text: &mut Seq<u8>, list: &[Relation], room: u32) -> Result<(), Memo
 }
 
 #[tactic(auto, unfolding(crate::specs::Printed::and_text))]
-fn and(text: &mut Seq<u8>, next: &Relation, room: u32) -> Result<(), Memory>
+fn and(text: &mut Seq<u8>, next: &Relation, room: usize) -> Result<(), Memory>
     ensures { IfOk result (λ _. text.new ≡ and_text room next.now text.old) }
 {
     word(text, b"AND")?;
@@ -64,7 +64,7 @@ fn and(text: &mut Seq<u8>, next: &Relation, room: u32) -> Result<(), Memory>
 }
 
 #[tactic(auto, unfolding(crate::specs::Printed::relation_text))]
-fn relation(text: &mut Seq<u8>, relation: &Relation, room: u32) -> Result<(), Memory>
+fn relation(text: &mut Seq<u8>, relation: &Relation, room: usize) -> Result<(), Memory>
     ensures { IfOk result (λ _. text.new ≡ relation_text room relation.now text.old) }
 {
     expr(text, &relation.left, room)?;

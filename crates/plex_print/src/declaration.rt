@@ -18,7 +18,8 @@ pub fn decl(text: &mut Seq<u8>, decl: &Decl) -> Result<(), Memory>
             name: variable_name,
             width,
             init,
-        } => variable(text, variable_name, width, init),
+            clear,
+        } => variable(text, variable_name, width, init, *clear),
         DeclKind::Temporary {
             name: temporary_name,
         } => temporary(text, temporary_name),
@@ -31,22 +32,31 @@ pub fn decl(text: &mut Seq<u8>, decl: &Decl) -> Result<(), Memory>
     }
 }
 
-/// `VARIABLE name WIDTH number [ INIT number ] ;`
+/// `VARIABLE name WIDTH number [ INIT number ] [ CLEAR ] ;`
 #[tactic(auto, unfolding(crate::specs::Printed::variable_text))]
 fn variable(
     text: &mut Seq<u8>,
     variable: &Named,
     width: &Numbered,
     init: &Option<Numbered>,
+    clear: bool,
 ) -> Result<(), Memory>
-    ensures { IfOk result (λ _. text.new ≡ variable_text variable.now width.now init.now text.old) }
+    ensures { IfOk result (λ _. text.new ≡ variable_text variable.now width.now init.now clear
+        text.old) }
 {
     word(text, b"VARIABLE")?;
     name(text, variable)?;
     word(text, b"WIDTH")?;
     number(text, width)?;
     some_init(text, init)?;
+    some_clear(text, clear)?;
     end(text)
+}
+
+fn some_clear(text: &mut Seq<u8>, clear: bool) -> Result<(), Memory>
+    ensures { IfOk result (λ _. text.new ≡ flag_of (say (codes "CLEAR")) clear text.old) }
+{
+    if clear { word(text, b"CLEAR") } else { Ok(()) }
 }
 
 #[tactic(auto, unfolding(crate::specs::Printed::init_text))]

@@ -10,7 +10,7 @@ use plex_num::{Memory, Seq};
 /// Appends an expression.
 #[cycle(expressions)]
 #[tactic(auto, unfolding(crate::specs::Printed::expr_text))]
-pub fn expr(text: &mut Seq<u8>, expr: &Expr, room: u32) -> Result<(), Memory>
+pub fn expr(text: &mut Seq<u8>, expr: &Expr, room: usize) -> Result<(), Memory>
     ensures { IfOk result (λ _. text.new ≡ expr_text room expr.now text.old) }
 {
     term(text, &expr.first, room)?;
@@ -18,7 +18,7 @@ pub fn expr(text: &mut Seq<u8>, expr: &Expr, room: u32) -> Result<(), Memory>
 }
 
 #[cycle(expressions)]
-fn added_list(text: &mut Seq<u8>, list: &[Added], room: u32) -> Result<(), Memory>
+fn added_list(text: &mut Seq<u8>, list: &[Added], room: usize) -> Result<(), Memory>
     ensures { IfOk result (λ _. text.new ≡ each_of (added_text room) list.now text.old) }
 {
     let mut rest = list;
@@ -31,7 +31,7 @@ fn added_list(text: &mut Seq<u8>, list: &[Added], room: u32) -> Result<(), Memor
 
 #[cycle(expressions)]
 #[tactic(auto, unfolding(crate::specs::Printed::added_text))]
-fn added(text: &mut Seq<u8>, added: &Added, room: u32) -> Result<(), Memory>
+fn added(text: &mut Seq<u8>, added: &Added, room: usize) -> Result<(), Memory>
     ensures { IfOk result (λ _. text.new ≡ added_text room added.now text.old) }
 {
     match added {
@@ -48,7 +48,7 @@ fn added(text: &mut Seq<u8>, added: &Added, room: u32) -> Result<(), Memory>
 
 #[cycle(expressions)]
 #[tactic(auto, unfolding(crate::specs::Printed::term_text))]
-fn term(text: &mut Seq<u8>, term: &Term, room: u32) -> Result<(), Memory>
+fn term(text: &mut Seq<u8>, term: &Term, room: usize) -> Result<(), Memory>
     ensures { IfOk result (λ _. text.new ≡ term_text room term.now text.old) }
 {
     factor(text, &term.first, room)?;
@@ -56,7 +56,7 @@ fn term(text: &mut Seq<u8>, term: &Term, room: u32) -> Result<(), Memory>
 }
 
 #[cycle(expressions)]
-fn multiplied_list(text: &mut Seq<u8>, list: &[Multiplied], room: u32) -> Result<(), Memory>
+fn multiplied_list(text: &mut Seq<u8>, list: &[Multiplied], room: usize) -> Result<(), Memory>
     ensures { IfOk result (λ _. text.new ≡ each_of (multiplied_text room) list.now text.old) }
 {
     let mut rest = list;
@@ -69,7 +69,7 @@ fn multiplied_list(text: &mut Seq<u8>, list: &[Multiplied], room: u32) -> Result
 
 #[cycle(expressions)]
 #[tactic(auto, unfolding(crate::specs::Printed::multiplied_text))]
-fn multiplied(text: &mut Seq<u8>, multiplied: &Multiplied, room: u32) -> Result<(), Memory>
+fn multiplied(text: &mut Seq<u8>, multiplied: &Multiplied, room: usize) -> Result<(), Memory>
     ensures { IfOk result (λ _. text.new ≡ multiplied_text room multiplied.now text.old) }
 {
     match multiplied {
@@ -90,7 +90,7 @@ fn multiplied(text: &mut Seq<u8>, multiplied: &Multiplied, room: u32) -> Result<
 
 #[cycle(expressions)]
 #[tactic(auto, unfolding(crate::specs::Printed::factor_text))]
-fn factor(text: &mut Seq<u8>, factor: &Factor, room: u32) -> Result<(), Memory>
+fn factor(text: &mut Seq<u8>, factor: &Factor, room: usize) -> Result<(), Memory>
     ensures { IfOk result (λ _. text.new ≡ factor_text room factor.now text.old) }
 {
     match &factor.kind {
@@ -100,9 +100,9 @@ fn factor(text: &mut Seq<u8>, factor: &Factor, room: u32) -> Result<(), Memory>
             name: field,
             pointer,
         } => {
-            name(text, field)?;
+            name(text, field.get())?;
             word(text, b"(")?;
-            name(text, pointer)?;
+            name(text, pointer.get())?;
             word(text, b")")
         }
         FactorKind::Bracket(held) => {
@@ -110,13 +110,17 @@ fn factor(text: &mut Seq<u8>, factor: &Factor, room: u32) -> Result<(), Memory>
             inside(text, held.get(), room)?;
             word(text, b")")
         }
+        FactorKind::Reference { block } => {
+            word(text, b"REFERENCE")?;
+            name(text, block)
+        }
     }
 }
 
 /// What a bracket holds.
 #[cycle(expressions)]
 #[tactic(auto, using(crate::proofs::Words::inside_none, crate::proofs::Words::inside_some))]
-fn inside(text: &mut Seq<u8>, held: &Expr, room: u32) -> Result<(), Memory>
+fn inside(text: &mut Seq<u8>, held: &Expr, room: usize) -> Result<(), Memory>
     ensures { IfOk result (λ _. text.new ≡ inside_text room held.now text.old) }
 {
     if room == 0 {

@@ -14,10 +14,6 @@ mod lists;
 mod nested;
 mod plain;
 mod printer;
-#[cfg(test)]
-mod programs;
-#[cfg(test)]
-mod tests;
 mod word;
 
 pub use printer::print_tree;

@@ -5,16 +5,16 @@ ghost use Rattle.plex_print.specs.Writing.{each_of, maybe_of};
 
 use crate::expression::expr;
 use crate::word::{name, word};
-use plex_ast::{Expr, Exprs, Named, Names, Reference};
+use plex_ast::{Boxed, Expr, Exprs, Named, Names, Reference, ReferenceKind};
 use plex_num::{Memory, Seq};
 
 /// Appends a list of names, where there is one.
-pub fn some_names(text: &mut Seq<u8>, list: &Option<Names>) -> Result<(), Memory>
+pub fn some_names(text: &mut Seq<u8>, list: &Option<Boxed<Names>>) -> Result<(), Memory>
     ensures { IfOk result (λ _. text.new ≡ maybe_of names_text list.now text.old) }
 {
     match list {
         None => Ok(()),
-        Some(list) => names(text, list),
+        Some(list) => names(text, list.get()),
     }
 }
 
@@ -47,17 +47,21 @@ fn comma_name(text: &mut Seq<u8>, next: &Named) -> Result<(), Memory>
 }
 
 /// Appends a list of values, where there is one.
-pub fn some_exprs(text: &mut Seq<u8>, list: &Option<Exprs>, room: u32) -> Result<(), Memory>
+pub fn some_exprs(
+    text: &mut Seq<u8>,
+    list: &Option<Boxed<Exprs>>,
+    room: usize,
+) -> Result<(), Memory>
     ensures { IfOk result (λ _. text.new ≡ maybe_of (exprs_text room) list.now text.old) }
 {
     match list {
         None => Ok(()),
-        Some(list) => exprs(text, list, room),
+        Some(list) => exprs(text, list.get(), room),
     }
 }
 
 #[tactic(auto, unfolding(crate::specs::Printed::exprs_text))]
-fn exprs(text: &mut Seq<u8>, exprs: &Exprs, room: u32) -> Result<(), Memory>
+fn exprs(text: &mut Seq<u8>, exprs: &Exprs, room: usize) -> Result<(), Memory>
     ensures { IfOk result (λ _. text.new ≡ exprs_text room exprs.now text.old) }
 {
     word(text, b"WITH")?;
@@ -65,7 +69,7 @@ fn exprs(text: &mut Seq<u8>, exprs: &Exprs, room: u32) -> Result<(), Memory>
     expr_list(text, exprs.rest.as_slice(), room)
 }
 
-fn expr_list(text: &mut Seq<u8>, list: &[Expr], room: u32) -> Result<(), Memory>
+fn expr_list(text: &mut Seq<u8>, list: &[Expr], room: usize) -> Result<(), Memory>
     ensures { IfOk result (λ _. text.new ≡ each_of (comma_expr_text room) list.now text.old) }
 {
     let mut rest = list;
@@ -77,7 +81,7 @@ fn expr_list(text: &mut Seq<u8>, list: &[Expr], room: u32) -> Result<(), Memory>
 }
 
 #[tactic(auto, unfolding(crate::specs::Printed::comma_expr_text))]
-fn comma_expr(text: &mut Seq<u8>, next: &Expr, room: u32) -> Result<(), Memory>
+fn comma_expr(text: &mut Seq<u8>, next: &Expr, room: usize) -> Result<(), Memory>
     ensures { IfOk result (λ _. text.new ≡ comma_expr_text room next.now text.old) }
 {
     word(text, b",")?;
@@ -85,15 +89,33 @@ fn comma_expr(text: &mut Seq<u8>, next: &Expr, room: u32) -> Result<(), Memory>
 }
 
 /// Appends a receiver, where there is one.
-#[tactic(auto, unfolding(crate::specs::Printed::reference_text))]
-pub fn some_reference(text: &mut Seq<u8>, reference: &Option<Reference>) -> Result<(), Memory>
+pub fn some_reference(
+    text: &mut Seq<u8>,
+    reference: &Option<Boxed<Reference>>,
+) -> Result<(), Memory>
     ensures { IfOk result (λ _. text.new ≡ maybe_of reference_text reference.now text.old) }
 {
     match reference {
         None => Ok(()),
-        Some(reference) => {
+        Some(reference) => receiver(text, reference.get()),
+    }
+}
+
+/// `REFERENCE name | REFERENCE ( name )`
+#[tactic(auto, unfolding(crate::specs::Printed::reference_text))]
+fn receiver(text: &mut Seq<u8>, reference: &Reference) -> Result<(), Memory>
+    ensures { IfOk result (λ _. text.new ≡ reference_text reference.now text.old) }
+{
+    match &reference.kind {
+        ReferenceKind::Block { name: block } => {
             word(text, b"REFERENCE")?;
-            name(text, &reference.block)
+            name(text, block)
+        }
+        ReferenceKind::Held { name: holder } => {
+            word(text, b"REFERENCE")?;
+            word(text, b"(")?;
+            name(text, holder)?;
+            word(text, b")")
         }
     }
 }

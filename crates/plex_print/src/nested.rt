@@ -17,7 +17,7 @@ use plex_num::{Memory, Seq};
 /// Appends a statement.
 #[cycle(statements)]
 #[tactic(auto, unfolding(crate::specs::Printed::stmt_text))]
-pub fn stmt(text: &mut Seq<u8>, stmt: &Stmt, room: u32, deep: u32) -> Result<(), Memory>
+pub fn stmt(text: &mut Seq<u8>, stmt: &Stmt, room: usize, deep: usize) -> Result<(), Memory>
     ensures { IfOk result (λ _. text.new ≡ stmt_text room deep stmt.now text.old) }
 {
     kind(text, &stmt.kind, room, deep)
@@ -25,33 +25,33 @@ pub fn stmt(text: &mut Seq<u8>, stmt: &Stmt, room: u32, deep: u32) -> Result<(),
 
 #[cycle(statements)]
 #[tactic(auto, unfolding(crate::specs::Printed::kind_text))]
-fn kind(text: &mut Seq<u8>, kind: &StmtKind, room: u32, deep: u32) -> Result<(), Memory>
+fn kind(text: &mut Seq<u8>, kind: &StmtKind, room: usize, deep: usize) -> Result<(), Memory>
     ensures { IfOk result (λ _. text.new ≡ kind_text room deep kind.now text.old) }
 {
     match kind {
         StmtKind::Assign {
             name: target,
             value,
-        } => assign(text, target, value, room),
+        } => assign(text, target, value.get(), room),
         StmtKind::SetField {
             name: field,
             pointer,
             value,
-        } => set_field(text, field, pointer, value, room),
+        } => set_field(text, field, pointer.get(), value.get(), room),
         StmtKind::Goto { label } => to_label(text, label),
-        StmtKind::IfGoto { cond: test, label } => if_goto(text, test, label, room),
+        StmtKind::IfGoto { cond: test, label } => if_goto(text, test.get(), label, room),
         StmtKind::If {
             cond: test,
             first,
             other,
-        } => if_then(text, test, first, other, room, deep),
+        } => if_then(text, test.get(), first, other, room, deep),
         StmtKind::Case {
             value,
             whens,
             otherwise,
         } => case(
             text,
-            value,
+            value.get(),
             whens.as_slice(),
             otherwise.as_slice(),
             room,
@@ -62,7 +62,15 @@ fn kind(text: &mut Seq<u8>, kind: &StmtKind, room: u32, deep: u32) -> Result<(),
             from,
             upto,
             body: held,
-        } => on(text, counter, from, upto, held.as_slice(), room, deep),
+        } => on(
+            text,
+            counter.get(),
+            from.get(),
+            upto.get(),
+            held.as_slice(),
+            room,
+            deep,
+        ),
         StmtKind::ForFirst {
             name: pointer,
             file,
@@ -70,13 +78,22 @@ fn kind(text: &mut Seq<u8>, kind: &StmtKind, room: u32, deep: u32) -> Result<(),
             rel,
             value,
             label,
-        } => for_first(text, pointer, file, field, rel, value, label, room),
+        } => for_first(
+            text,
+            pointer.get(),
+            file.get(),
+            field.get(),
+            rel,
+            value.get(),
+            label.get(),
+            room,
+        ),
         StmtKind::Send {
             signal,
             reference,
             values,
             fresh,
-        } => send(text, signal, reference, values, *fresh, room),
+        } => send(text, signal.get(), reference, values, *fresh, room),
         StmtKind::Retrieve { signal, names } => retrieve(text, signal, names),
         StmtKind::Return { signal, values } => return_of(text, signal, values, room),
         StmtKind::Transfer { signal, reference } => transfer(text, signal, reference),
@@ -84,11 +101,11 @@ fn kind(text: &mut Seq<u8>, kind: &StmtKind, room: u32, deep: u32) -> Result<(),
             name: pointer,
             file,
             label,
-        } => seize(text, pointer, file, label),
+        } => seize(text, pointer.get(), file.get(), label.get()),
         StmtKind::Free {
             name: pointer,
             file,
-        } => free(text, pointer, file),
+        } => free(text, pointer.get(), file.get()),
         StmtKind::Exit => exit(text),
     }
 }
@@ -101,10 +118,11 @@ fn if_then(
     test: &Cond,
     first: &Seq<Stmt>,
     other: &Option<Seq<Stmt>>,
-    room: u32,
-    deep: u32,
+    room: usize,
+    deep: usize,
 ) -> Result<(), Memory>
-    ensures { IfOk result (λ _. text.new ≡ if_text room (body_text room deep) test.now first.now other.now text.old) }
+    ensures { IfOk result (λ _. text.new ≡ if_text room (body_text room deep) test.now first.now
+        other.now text.old) }
 {
     word(text, b"IF")?;
     cond(text, test, room)?;
@@ -120,10 +138,11 @@ fn if_then(
 fn some_else(
     text: &mut Seq<u8>,
     other: &Option<Seq<Stmt>>,
-    room: u32,
-    deep: u32,
+    room: usize,
+    deep: usize,
 ) -> Result<(), Memory>
-    ensures { IfOk result (λ _. text.new ≡ maybe_of (else_text (body_text room deep)) other.now text.old) }
+    ensures { IfOk result (λ _. text.new ≡ maybe_of (else_text (body_text room deep)) other.now
+        text.old) }
 {
     match other {
         None => Ok(()),
@@ -142,10 +161,11 @@ fn case(
     value: &Expr,
     choices: &[When],
     otherwise: &[Stmt],
-    room: u32,
-    deep: u32,
+    room: usize,
+    deep: usize,
 ) -> Result<(), Memory>
-    ensures { IfOk result (λ _. text.new ≡ case_text room (body_text room deep) value.now choices.now otherwise.now text.old) }
+    ensures { IfOk result (λ _. text.new ≡ case_text room (body_text room deep) value.now
+        choices.now otherwise.now text.old) }
 {
     word(text, b"CASE")?;
     expr(text, value, room)?;
@@ -159,8 +179,9 @@ fn case(
 }
 
 #[cycle(statements)]
-fn whens(text: &mut Seq<u8>, list: &[When], room: u32, deep: u32) -> Result<(), Memory>
-    ensures { IfOk result (λ _. text.new ≡ each_of (when_text (body_text room deep)) list.now text.old) }
+fn whens(text: &mut Seq<u8>, list: &[When], room: usize, deep: usize) -> Result<(), Memory>
+    ensures { IfOk result (λ _. text.new ≡ each_of (when_text (body_text room deep)) list.now
+        text.old) }
 {
     let mut rest = list;
     'whens: while let Some((next, left)) = rest.split_first() {
@@ -173,7 +194,7 @@ fn whens(text: &mut Seq<u8>, list: &[When], room: u32, deep: u32) -> Result<(), 
 /// `WHEN number DO { stmt }`
 #[cycle(statements)]
 #[tactic(auto, unfolding(crate::specs::Printed::when_text))]
-fn when(text: &mut Seq<u8>, when: &When, room: u32, deep: u32) -> Result<(), Memory>
+fn when(text: &mut Seq<u8>, when: &When, room: usize, deep: usize) -> Result<(), Memory>
     ensures { IfOk result (λ _. text.new ≡ when_text (body_text room deep) when.now text.old) }
 {
     word(text, b"WHEN")?;
@@ -191,10 +212,11 @@ fn on(
     from: &Expr,
     upto: &Expr,
     held: &[Stmt],
-    room: u32,
-    deep: u32,
+    room: usize,
+    deep: usize,
 ) -> Result<(), Memory>
-    ensures { IfOk result (λ _. text.new ≡ on_text room (body_text room deep) counter.now from.now upto.now held.now text.old) }
+    ensures { IfOk result (λ _. text.new ≡ on_text room (body_text room deep) counter.now from.now
+        upto.now held.now text.old) }
 {
     word(text, b"ON")?;
     name(text, counter)?;
@@ -211,7 +233,7 @@ fn on(
 /// What a statement holds.
 #[cycle(statements)]
 #[tactic(auto, using(crate::proofs::Words::body_none, crate::proofs::Words::body_some))]
-fn body(text: &mut Seq<u8>, list: &[Stmt], room: u32, deep: u32) -> Result<(), Memory>
+fn body(text: &mut Seq<u8>, list: &[Stmt], room: usize, deep: usize) -> Result<(), Memory>
     ensures { IfOk result (λ _. text.new ≡ body_text room deep list.now text.old) }
 {
     if deep == 0 {
@@ -221,7 +243,7 @@ fn body(text: &mut Seq<u8>, list: &[Stmt], room: u32, deep: u32) -> Result<(), M
 }
 
 #[cycle(statements)]
-fn stmts(text: &mut Seq<u8>, list: &[Stmt], room: u32, deep: u32) -> Result<(), Memory>
+fn stmts(text: &mut Seq<u8>, list: &[Stmt], room: usize, deep: usize) -> Result<(), Memory>
     ensures { IfOk result (λ _. text.new ≡ each_of (stmt_text room deep) list.now text.old) }
 {
     let mut rest = list;

@@ -8,12 +8,12 @@ use crate::condition::{cond, rel};
 use crate::expression::expr;
 use crate::lists::{some_exprs, some_names, some_reference};
 use crate::word::{end, name, word};
-use plex_ast::{Cond, Expr, Exprs, Named, Names, Reference, Rel};
+use plex_ast::{Boxed, Cond, Expr, Exprs, Named, Names, Reference, Rel};
 use plex_num::{Memory, Seq};
 
 /// `name = expr ;`
 #[tactic(auto, unfolding(crate::specs::Printed::assign_text))]
-pub fn assign(text: &mut Seq<u8>, target: &Named, value: &Expr, room: u32) -> Result<(), Memory>
+pub fn assign(text: &mut Seq<u8>, target: &Named, value: &Expr, room: usize) -> Result<(), Memory>
     ensures { IfOk result (λ _. text.new ≡ assign_text room target.now value.now text.old) }
 {
     name(text, target)?;
@@ -29,9 +29,10 @@ pub fn set_field(
     field: &Named,
     pointer: &Named,
     value: &Expr,
-    room: u32,
+    room: usize,
 ) -> Result<(), Memory>
-    ensures { IfOk result (λ _. text.new ≡ set_field_text room field.now pointer.now value.now text.old) }
+    ensures { IfOk result (λ _. text.new ≡ set_field_text room field.now pointer.now value.now
+        text.old) }
 {
     name(text, field)?;
     word(text, b"(")?;
@@ -54,7 +55,7 @@ pub fn to_label(text: &mut Seq<u8>, label: &Named) -> Result<(), Memory>
 
 /// `IF cond GOTO name ;`
 #[tactic(auto, unfolding(crate::specs::Printed::if_goto_text))]
-pub fn if_goto(text: &mut Seq<u8>, test: &Cond, label: &Named, room: u32) -> Result<(), Memory>
+pub fn if_goto(text: &mut Seq<u8>, test: &Cond, label: &Named, room: usize) -> Result<(), Memory>
     ensures { IfOk result (λ _. text.new ≡ if_goto_text room test.now label.now text.old) }
 {
     word(text, b"IF")?;
@@ -72,9 +73,10 @@ pub fn for_first(
     relation: &Rel,
     value: &Expr,
     label: &Named,
-    room: u32,
+    room: usize,
 ) -> Result<(), Memory>
-    ensures { IfOk result (λ _. text.new ≡ for_first_text room pointer.now file.now field.now relation.now value.now label.now text.old) }
+    ensures { IfOk result (λ _. text.new ≡ for_first_text room pointer.now file.now field.now
+        relation.now value.now label.now text.old) }
 {
     word(text, b"FOR")?;
     word(text, b"FIRST")?;
@@ -93,12 +95,13 @@ pub fn for_first(
 pub fn send(
     text: &mut Seq<u8>,
     signal: &Named,
-    receiver: &Option<Reference>,
-    values: &Option<Exprs>,
+    receiver: &Option<Boxed<Reference>>,
+    values: &Option<Boxed<Exprs>>,
     fresh: bool,
-    room: u32,
+    room: usize,
 ) -> Result<(), Memory>
-    ensures { IfOk result (λ _. text.new ≡ send_text room signal.now receiver.now values.now fresh text.old) }
+    ensures { IfOk result (λ _. text.new ≡ send_text room signal.now receiver.now values.now fresh
+        text.old) }
 {
     word(text, b"SEND")?;
     name(text, signal)?;
@@ -109,7 +112,8 @@ pub fn send(
 }
 
 fn new_forlopp(text: &mut Seq<u8>, fresh: bool) -> Result<(), Memory>
-    ensures { IfOk result (λ _. text.new ≡ flag_of (say (codes "NEW") ▷ say (codes "FORLOPP")) fresh text.old) }
+    ensures { IfOk result (λ _. text.new ≡ flag_of (say (codes "NEW") ▷ say (codes "FORLOPP"))
+        fresh text.old) }
 {
     if fresh {
         word(text, b"NEW")?;
@@ -121,7 +125,11 @@ fn new_forlopp(text: &mut Seq<u8>, fresh: bool) -> Result<(), Memory>
 
 /// `RETRIEVE name [ names ] ;`
 #[tactic(auto, unfolding(crate::specs::Printed::retrieve_text))]
-pub fn retrieve(text: &mut Seq<u8>, signal: &Named, names: &Option<Names>) -> Result<(), Memory>
+pub fn retrieve(
+    text: &mut Seq<u8>,
+    signal: &Named,
+    names: &Option<Boxed<Names>>,
+) -> Result<(), Memory>
     ensures { IfOk result (λ _. text.new ≡ retrieve_text signal.now names.now text.old) }
 {
     word(text, b"RETRIEVE")?;
@@ -135,8 +143,8 @@ pub fn retrieve(text: &mut Seq<u8>, signal: &Named, names: &Option<Names>) -> Re
 pub fn return_of(
     text: &mut Seq<u8>,
     signal: &Named,
-    values: &Option<Exprs>,
-    room: u32,
+    values: &Option<Boxed<Exprs>>,
+    room: usize,
 ) -> Result<(), Memory>
     ensures { IfOk result (λ _. text.new ≡ return_text room signal.now values.now text.old) }
 {
@@ -151,7 +159,7 @@ pub fn return_of(
 pub fn transfer(
     text: &mut Seq<u8>,
     signal: &Named,
-    receiver: &Option<Reference>,
+    receiver: &Option<Boxed<Reference>>,
 ) -> Result<(), Memory>
     ensures { IfOk result (λ _. text.new ≡ transfer_text signal.now receiver.now text.old) }
 {

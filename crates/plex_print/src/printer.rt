@@ -1,41 +1,36 @@
 // Exchanges.
 ghost use Rattle.std.specs.Prelude.{◌≡◌, [], IfOk};
 ghost use Rattle.plex_print.specs.Printed.{block_text, data_text, shape_text, signal_text, tree_text};
-ghost use Rattle.plex_print.specs.Keeps.{Keeps};
+ghost use Rattle.kept_trees.specs.Keeps.{IsKept};
 ghost use Rattle.plex_print.specs.Spelled.{Spells};
 ghost use Rattle.plex_print.specs.Writing.{each_of};
 
 use crate::block::block;
 use crate::word::{end, level, name, number, word};
 use plex_ast::{Block, Numbered, Shape, ShapeKind, Signal, Tree};
+use plex_limits::{MOST_BRACKETS, MOST_NESTED};
 use plex_num::{Memory, Seq};
 use std::alloc::Global;
-
-/// How deep brackets may nest.
-const ROOM: u32 = 6;
-
-/// How deep statements that hold statements may nest.
-const DEPTH: u32 = 12;
 
 /// A text whose tokens spell the tree, lines aside: each word is followed by a blank, and each semicolon by an LF. It
 /// fails only where memory is refused.
 #[tactic(auto, using(crate::proofs::Productions::all_spelled))]
 pub fn print_tree(alloc: Global, tree: &Tree) -> Result<Seq<u8>, Memory>
-    ensures { IfOk result (λ text. Keeps 6 12 tree.now → Spells text tree.now) }
+    ensures { IfOk result (λ text. IsKept tree.now → Spells text tree.now) }
 {
     written(alloc, tree)
 }
 
 fn written(alloc: Global, tree: &Tree) -> Result<Seq<u8>, Memory>
-    ensures { IfOk result (λ text. text ≡ tree_text 6 12 tree.now []) }
+    ensures { IfOk result (λ text. text ≡ tree_text MOST_BRACKETS MOST_NESTED tree.now []) }
 {
     let mut text = Seq::new(alloc);
-    exchange(&mut text, tree, ROOM, DEPTH)?;
+    exchange(&mut text, tree, MOST_BRACKETS, MOST_NESTED)?;
     Ok(text)
 }
 
 #[tactic(auto, unfolding(crate::specs::Printed::tree_text))]
-fn exchange(text: &mut Seq<u8>, tree: &Tree, room: u32, deep: u32) -> Result<(), Memory>
+fn exchange(text: &mut Seq<u8>, tree: &Tree, room: usize, deep: usize) -> Result<(), Memory>
     ensures { IfOk result (λ _. text.new ≡ tree_text room deep tree.now text.old) }
 {
     signals(text, tree.signals.as_slice())?;
@@ -110,7 +105,7 @@ fn data(text: &mut Seq<u8>, count: &Numbered) -> Result<(), Memory>
     number(text, count)
 }
 
-fn blocks(text: &mut Seq<u8>, list: &[Block], room: u32, deep: u32) -> Result<(), Memory>
+fn blocks(text: &mut Seq<u8>, list: &[Block], room: usize, deep: usize) -> Result<(), Memory>
     ensures { IfOk result (λ _. text.new ≡ each_of (block_text room deep) list.now text.old) }
 {
     let mut rest = list;

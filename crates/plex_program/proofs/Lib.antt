@@ -1,7 +1,8 @@
 pub mod Endings
-pub mod Forms
-pub mod Lines
 pub mod Resolving
+pub mod Answering
+pub mod Signals
 pub mod Spelled
 pub mod Stages
+pub mod TokenLines
 pub mod Words

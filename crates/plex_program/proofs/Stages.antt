@@ -4,8 +4,8 @@ use Rattle.std.proofs.lemmas.List.{take_all, length-take}
 use Rattle.std.proofs.lemmas.Bool.{lt-ltb, le-ltb}
 use Rattle.plex_io.specs.Files.{Files, Gives, Lacks}
 use Rattle.plex_io.specs.Causes.{Rose}
+use Rattle.plex_limits.specs.declared.limits.TheConstants.{MOST_BYTES}
 use Rattle.plex_program.specs.Answer.{fitting, Out, goes_on, text_held, text_at, Comes, StopsBy, Reads}
-use Rattle.plex_program.specs.declared.limits.TheConstants.{TEXT_LIMIT}
 use Rattle.plex_program.specs.declared.perform.Stop.{Stop}
 use Rattle.plex_program.specs.declared.perform.Stop.TheVariants as stop
 
@@ -24,21 +24,21 @@ module _ (limit : ℕ) where
       let all : limit < length bytes = (let n : length got ≡ min (limit + 1) (length bytes) = same_size bytes got e in omega (arith, n, lt)) in
       rw (lt-ltb limit (length bytes) all) refl
 
-fits_held : (o : Option (List ℕ)) (got : List ℕ) → Gives o TEXT_LIMIT got → length got ≤ TEXT_LIMIT → text_held o ≡ Ok (Some got)
+fits_held : (o : Option (List ℕ)) (got : List ℕ) → Gives o MOST_BYTES got → length got ≤ MOST_BYTES → text_held o ≡ Ok (Some got)
 fits_held None got e le = absurd e
-fits_held (Some bytes) got e le = ap Ok (fits_one TEXT_LIMIT bytes got e le)
+fits_held (Some bytes) got e le = ap Ok (fits_one MOST_BYTES bytes got e le)
 
-large_held : (o : Option (List ℕ)) (got : List ℕ) → Gives o TEXT_LIMIT got → TEXT_LIMIT < length got → text_held o ≡ Ok None
+large_held : (o : Option (List ℕ)) (got : List ℕ) → Gives o MOST_BYTES got → MOST_BYTES < length got → text_held o ≡ Ok None
 large_held None got e lt = absurd e
-large_held (Some bytes) got e lt = ap Ok (large_one TEXT_LIMIT bytes got e lt)
+large_held (Some bytes) got e lt = ap Ok (large_one MOST_BYTES bytes got e lt)
 
 -- the file fits
-pub text_fits : (files : Option Files) (name got : List ℕ) → IfSome files (λ f. Gives (f name) TEXT_LIMIT got) → length got ≤ TEXT_LIMIT → IfSome files (λ f. text_at name f ≡ Ok (Some got))
+pub text_fits : (files : Option Files) (name got : List ℕ) → IfSome files (λ f. Gives (f name) MOST_BYTES got) → length got ≤ MOST_BYTES → IfSome files (λ f. text_at name f ≡ Ok (Some got))
 text_fits None name got e le = tt
 text_fits (Some files) name got e le = fits_held (files name) got e le
 
 -- the file is too large
-pub text_large : (files : Option Files) (name got : List ℕ) → IfSome files (λ f. Gives (f name) TEXT_LIMIT got) → TEXT_LIMIT < length got → IfSome files (λ f. text_at name f ≡ Ok None)
+pub text_large : (files : Option Files) (name got : List ℕ) → IfSome files (λ f. Gives (f name) MOST_BYTES got) → MOST_BYTES < length got → IfSome files (λ f. text_at name f ≡ Ok None)
 text_large None name got e lt = tt
 text_large (Some files) name got e lt = large_held (files name) got e lt
 

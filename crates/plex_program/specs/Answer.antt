@@ -1,29 +1,29 @@
 -- What the program answers: a status and a text for each list of words and each set of files.
-use Rattle.std.specs.Prelude.{◌≡◌, ℕ, ◌≤◌, nat_lt, List, [], length, Option, Some, None, Result, Ok, Err, IfOk, IfErr, IfSome, IsSomeAnd, if◌then◌else◌}
-use Rattle.std.specs.List.{list_all}
+use Rattle.std.specs.Prelude.{◌≡◌, ℕ, ◌≤◌, nat_lt, List, [], length, map, Option, Some, None, Result, Ok, Err, IfOk, IfErr, IfSome, IsSomeAnd, unwrap_or, if◌then◌else◌}
 use Rattle.plex_io.specs.Causes.{Rose}
 use Rattle.plex_io.specs.Files.{Files}
+use Rattle.plex_limits.specs.declared.limits.TheConstants.{MOST_BYTES}
 use Rattle.plex_ast.specs.declared.tree.Tree.{Tree}
-use Rattle.resolver.specs.Resolved.{resolved}
-use Rattle.resolver.specs.declared.fault.TextFault.{TextFault}
-use Rattle.small_check.specs.Form.{is_small}
+use Rattle.front_end.specs.Resolved.{resolved}
+use Rattle.front_end.specs.declared.fault.TextFault.{TextFault}
 use Rattle.exchange_model.specs.declared.exchange.Exchange.{Exchange}
 use Rattle.signal_file.specs.declared.fault.SignalFault.{SignalFault}
 use Rattle.signal_file.specs.declared.line.Line.{Line}
 use Rattle.signal_file.specs.Lines.{signal_lines}
-use Rattle.small_meaning.specs.Bare.{end_of}
-use Rattle.small_run.specs.Runs.{comes_at_once, comings}
-use Rattle.plex_program.specs.Reading.{resolve_fault, tree_of_file}
-use Rattle.plex_program.specs.Report.{report}
+use Rattle.source_meaning.specs.SingleRun.{Ending, Finished, Limited, Restarted, end_state, ending_at, opening}
+use Rattle.source_meaning.specs.State.{State}
+use Rattle.retire_order.specs.Lines.{coming_of}
+use Rattle.report_text.specs.Report.{report_text}
+use Rattle.plex_program.specs.Reading.{large_signals, resolve_fault, signals_fault, tree_of_file}
 use Rattle.plex_program.specs.Text.{refusal_text, usage_text}
 use Rattle.plex_program.specs.Words.{Word, shape}
 use Rattle.plex_program.specs.declared.fault.SourceFault.{SourceFault}
 use Rattle.plex_program.specs.declared.command.Command.{Command}
 use Rattle.plex_program.specs.declared.command.Command.TheVariants.{Run, Single}
-use Rattle.plex_program.specs.declared.limits.TheConstants.{TEXT_LIMIT}
+use Rattle.plex_program.specs.declared.command.RunWords.{RunWords}
 use Rattle.plex_program.specs.declared.perform.Answer.{Answer}
 use Rattle.plex_program.specs.declared.perform.Refused.{Refused}
-use Rattle.plex_program.specs.declared.perform.Refused.TheVariants.{Source, NotYetSource, NotYetSignals}
+use Rattle.plex_program.specs.declared.perform.Refused.TheVariants.{Signals, Source}
 use Rattle.plex_program.specs.declared.perform.Stop.{Stop}
 use Rattle.plex_program.specs.declared.perform.Stop.TheVariants as stop
 use Rattle.plex_program.specs.declared.program.Status.{Status}
@@ -50,7 +50,7 @@ fitting limit bytes = (if nat_lt limit (length bytes) then None else Some bytes)
 -- the text of a file, where it is not too large
 abbrev pub text_held : Option (List ℕ) → Out (Option (List ℕ))
 text_held None = Err None
-text_held (Some bytes) = Ok (fitting TEXT_LIMIT bytes)
+text_held (Some bytes) = Ok (fitting MOST_BYTES bytes)
 
 abbrev pub text_at : Word → Files → Out (Option (List ℕ))
 text_at name files = text_held (files name)
@@ -65,13 +65,9 @@ abbrev pub or_broken : Result Exchange TextFault → Out Exchange
 or_broken (Ok x) = Ok x
 or_broken (Err f) = Err (Some (Source (resolve_fault f)))
 
--- the exchange, where it runs so far
-abbrev pub or_waits : Exchange → Out Exchange
-or_waits x = (if is_small x then Ok x else Err (Some NotYetSource))
-
 -- the exchange that a tree means
 abbrev pub exchange_of_tree : Tree → Out Exchange
-exchange_of_tree t = goes_on (or_broken (resolved t)) (λ x. or_waits x)
+exchange_of_tree t = or_broken (resolved t)
 
 -- the exchange that an exchange text means
 abbrev pub exchange_of_file : Option (List ℕ) → Out Exchange
@@ -81,47 +77,63 @@ exchange_of_file text = goes_on (or_fault (tree_of_file text)) (λ t. exchange_o
 abbrev pub exchange_at : Word → Files → Out Exchange
 exchange_at name files = goes_on (text_at name files) (λ text. exchange_of_file text)
 
--- lines of the first form: each of them comes at once, in no forlopp
-abbrev pub of_first_form : Result (List Line) SignalFault → Option (List Line)
-of_first_form (Ok lines) = (if list_all comes_at_once lines then Some lines else None)
-of_first_form (Err fault) = None
+-- the lines, or the fault of the signal file
+abbrev pub or_unread : Result (List Line) SignalFault → Out (List Line)
+or_unread (Ok lines) = Ok lines
+or_unread (Err f) = Err (Some (Signals (signals_fault f)))
 
-abbrev pub lines_of_file : Exchange → Option (List ℕ) → Option (List Line)
-lines_of_file x None = None
-lines_of_file x (Some text) = of_first_form (signal_lines x text)
+abbrev pub lines_of_file : Exchange → Option (List ℕ) → Out (List Line)
+lines_of_file x None = Err (Some (Signals large_signals))
+lines_of_file x (Some text) = or_unread (signal_lines x text)
 
 -- the signal lines of a file
 abbrev pub lines_at : Exchange → Word → Files → Out (List Line)
-lines_at x name files = goes_on (text_at name files) (λ text. or_refused NotYetSignals (lines_of_file x text))
+lines_at x name files = goes_on (text_at name files) (λ text. lines_of_file x text)
 
--- the report of the single run
-abbrev pub run_report : Exchange → List Line → List ℕ
-run_report x lines = report x (end_of x (comings lines))
+-- the status of an ending
+abbrev pub ended_status : Ending → Status
+ended_status Finished = status.Done
+ended_status Restarted = status.Restart
+ended_status Limited = status.Limit
 
-abbrev pub run_of : Word → Word → Files → Out (List ℕ)
-run_of e s files =
-    goes_on (exchange_at e files) (λ x.
-    goes_on (lines_at x s files) (λ lines.
-    Ok (run_report x lines)))
+-- how a run ends in this state, which may go on for so many jobs; of a state in which it does not end nothing is asked
+abbrev pub ending_of : ℕ → State → Ending
+ending_of jobs s = unwrap_or (ending_at jobs s) Limited
 
--- the text that a command comes to: what the compiled code leaves is what the source means
-abbrev pub performed : Command → Files → Out (List ℕ)
-performed (Run e s) files = run_of e s files
-performed (Single e s) files = run_of e s files
+-- the report of the single run that ends so, and the status of that ending
+abbrev pub ended_answer : Exchange → State → Ending → Answer
+ended_answer x s ending = record { status = ended_status ending; text = report_text x s ending }
+
+-- the state in which the single run of these lines ends, which ends after so many jobs at the latest
+abbrev pub end_of : Exchange → List Line → ℕ → State
+end_of x lines jobs = end_state x jobs (opening x (map coming_of lines))
+
+abbrev pub run_answer : Exchange → List Line → ℕ → Answer
+run_answer x lines jobs = ended_answer x (end_of x lines jobs) (ending_of jobs (end_of x lines jobs))
+
+abbrev pub run_of : RunWords → Files → Out Answer
+run_of w files =
+    goes_on (exchange_at w.exchange files) (λ x.
+    goes_on (lines_at x w.signals files) (λ lines.
+    Ok (run_answer x lines w.jobs)))
+
+-- what a command comes to: what the compiled code leaves is what the source means
+abbrev pub performed : Command → Files → Out Answer
+performed (Run w) files = run_of w files
+performed (Single w) files = run_of w files
 
 -- the status of a refusal
 abbrev pub refused_status : Refused → Status
 refused_status (Source f) = status.Source
-refused_status NotYetSource = status.NotYet
-refused_status NotYetSignals = status.NotYet
+refused_status (Signals f) = status.Signals
 
 -- the status and the text of a refusal
 abbrev pub refused_answer : Refused → Answer
 refused_answer r = record { status = refused_status r; text = refusal_text r }
 
 -- the status and the text
-abbrev pub answer_of : Out (List ℕ) → Answer
-answer_of (Ok text) = record { status = status.Done; text = text }
+abbrev pub answer_of : Out Answer → Answer
+answer_of (Ok a) = a
 answer_of (Err (Some r)) = refused_answer r
 answer_of (Err None) = record { status = status.Read; text = [] }
 
@@ -145,14 +157,6 @@ pub record Comes {A : Type 0} (held : Option Files) (stage : Files → Out A) (b
   pub ok : IfOk result (λ a. IfSome held (λ files. stage files ≡ Ok a))
   pub stops : IfErr result (StopsBy held stage before after)
   pub later : before ≤ after
-
--- a value is made, or memory was refused
-abbrev pub Builds : {A : Type 0} → A → Result A Stop → Type 0
-Builds a (Ok b) = b ≡ a
-Builds a (Err stop.Memory) = Unit {0}
-Builds a (Err stop.Failed) = ⊥
-Builds a (Err stop.NotHeld) = ⊥
-Builds a (Err (stop.Refused r)) = ⊥
 
 -- a value comes as said, or a refusal, or memory was refused; no file is read
 abbrev pub Reads : {A : Type 0} → Out A → Result A Stop → Type 0

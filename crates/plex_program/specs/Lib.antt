@@ -1,6 +1,6 @@
 pub mod Answer
 pub mod Program
 pub mod Reading
-pub mod Report
 pub mod Text
 pub mod Words
+pub mod Runs

@@ -80,7 +80,16 @@ abbrev pub exit_number : Status → ℕ
 exit_number status.Done = 0
 exit_number status.Usage = 1
 exit_number status.Source = 2
+exit_number status.Signals = 3
+exit_number status.Restart = 4
+exit_number status.Limit = 5
 exit_number status.Read = 6
 exit_number status.Write = 7
 exit_number status.Memory = 8
-exit_number status.NotYet = 10
+
+-- the status of a run
+abbrev pub IsEnding : Status → Type 0
+IsEnding status.Done = Unit {0}
+IsEnding status.Restart = Unit {0}
+IsEnding status.Limit = Unit {0}
+IsEnding s = ⊥

@@ -1,6 +1,8 @@
--- The tree of an exchange text, or its first fault: a fault of its size, then of its tokens, then of its sentence.
+-- The tree of an exchange text, or its first fault: a fault of its size, then of its tokens, then of its sentence. The fault of a
+-- signal file.
 use Rattle.std.specs.Prelude.{ℕ, ◌≤◌, ◌+◌, List, slice_get, Option, Some, None, Result, Ok, Err}
 use Rattle.plex_lexer.specs.Lexed.{tokens_of}
+use Rattle.plex_lexer.specs.Cursors.{lines}
 use Rattle.plex_lexer.specs.Lines.{feeds}
 use Rattle.plex_lexer.specs.declared.token.Token.{Token}
 use Rattle.plex_lexer.specs.declared.fault.LexFault.{LexFault}
@@ -9,13 +11,21 @@ use Rattle.plex_ast.specs.declared.tree.Tree.{Tree}
 use Rattle.plex_parser.specs.Parses.{parsed}
 use Rattle.plex_parser.specs.declared.parser.ParseFault.{ParseFault}
 use Rattle.plex_parser.specs.declared.parser.ParseFault.TheVariants as parsing
-use Rattle.exchange_model.specs.declared.limits.TheConstants.{MOST_WHENS}
-use Rattle.plex_print.specs.Keeps.{Keeps}
-use Rattle.exchange_fits.specs.Texts.{choices_in, exchange_of_tree}
-use Rattle.link_rules.specs.declared.link.LinkRule.{LinkRule}
-use Rattle.link_rules.specs.declared.link.LinkRule.TheVariants as links
-use Rattle.resolver.specs.declared.fault.TextFault.{TextFault}
-use Rattle.resolver.specs.declared.fault.TextFault.TheVariants as resolving
+use Rattle.plex_limits.specs.declared.limits.TheConstants.{MOST_WHENS}
+use Rattle.kept_trees.specs.Keeps.{IsKept}
+use Rattle.text_rules.specs.declared.rule.Rule.{Rule as TextRule}
+use Rattle.text_rules.specs.declared.rule.Rule.TheVariants.{Signals, Blocks, Links}
+use Rattle.text_rules.specs.declared.rule.LinkRule.{LinkRule}
+use Rattle.text_rules.specs.declared.rule.LinkRule.TheVariants as links
+use Rattle.text_rules.specs.Signals as signals
+use Rattle.text_rules.specs.Blocks as blocks
+use Rattle.resolved_block.specs.Texts.{choices_in, exchange_of_tree}
+use Rattle.front_end.specs.declared.fault.TextFault.{TextFault}
+use Rattle.front_end.specs.declared.fault.TextFault.TheVariants as resolving
+use Rattle.signal_file.specs.declared.fault.SignalFault.{SignalFault}
+use Rattle.signal_file.specs.declared.fault.SignalFault.TheVariants as reading
+use Rattle.plex_program.specs.declared.fault.SignalsFault.{SignalsFault}
+use Rattle.plex_program.specs.declared.fault.SignalsRule.TheVariants as signals_rule
 use Rattle.plex_program.specs.declared.fault.SourceFault.{SourceFault}
 use Rattle.plex_program.specs.declared.fault.Rule.{Rule}
 use Rattle.plex_program.specs.declared.fault.Rule.TheVariants as rule
@@ -34,13 +44,13 @@ lex_fault (lexing.BadNumber offset line) = at_line line rule.BadNumber
 lex_fault (lexing.LongName offset line) = at_line line rule.LongName
 lex_fault lexing.Memory = too_large
 
-abbrev pub line_at : Option Token → ℕ
-line_at None = 0
-line_at (Some t) = t.line
+abbrev pub line_or_none : Option ℕ → ℕ
+line_or_none None = 0
+line_or_none (Some line) = line
 
 -- the line of the token at a place
 abbrev pub token_line : List Token → ℕ → ℕ
-token_line tokens i = line_at (slice_get tokens i)
+token_line tokens i = line_or_none (slice_get (lines tokens) i)
 
 -- the line on which a text ends
 abbrev pub end_line : List ℕ → ℕ
@@ -76,7 +86,7 @@ tree_of_file (Some text) = tree_of text
 -- a tree that a text spells: its numbers have 32 bits, its brackets and statements nest as deep as they may, and its CASEs have no more
 -- choices than a text has bytes
 pub record IsSpelled (t : Tree) : Type 0 where
-  pub keeps : Keeps 6 12 t
+  pub keeps : IsKept t
   pub few : choices_in (exchange_of_tree t) ≤ MOST_WHENS
 
 -- a fault of the rules of a text
@@ -90,8 +100,26 @@ link_rule links.TwoEnters = rule.TwoEnters
 link_rule links.NoEnter = rule.NoEnter
 link_rule links.Limit = rule.Limit
 
+-- a rule of signals or blocks has a number, a link rule has a word
+abbrev pub rule_of : TextRule → Rule
+rule_of (Signals r) = rule.Numbered (signals.number_of r)
+rule_of (Blocks r) = rule.Numbered (blocks.number_of r)
+rule_of (Links r) = link_rule r
+
 -- want of memory is none
 abbrev pub resolve_fault : TextFault → SourceFault
-resolve_fault (resolving.Rule number line) = at_line line (rule.Numbered number)
-resolve_fault (resolving.Link broken line) = at_line line (link_rule broken)
+resolve_fault (resolving.Rule broken line) = at_line line (rule_of broken)
 resolve_fault resolving.Memory = too_large
+
+-- the first fault of a signal file; a file that is too large has no line, and want of memory is none
+abbrev pub large_signals : SignalsFault
+large_signals = record { line = 0; rule = signals_rule.TooLarge }
+
+abbrev pub signals_fault : SignalFault → SignalsFault
+signals_fault (reading.BadLine line) = record { line = line; rule = signals_rule.BadLine }
+signals_fault (reading.UnknownSignal line) = record { line = line; rule = signals_rule.UnknownSignal }
+signals_fault (reading.UnknownBlock line) = record { line = line; rule = signals_rule.UnknownBlock }
+signals_fault (reading.WrongData line) = record { line = line; rule = signals_rule.WrongData }
+signals_fault (reading.FallingCount line) = record { line = line; rule = signals_rule.FallingCount }
+signals_fault (reading.BadAs line) = record { line = line; rule = signals_rule.BadAs }
+signals_fault reading.Memory = large_signals

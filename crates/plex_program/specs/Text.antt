@@ -1,12 +1,18 @@
 -- The lines that are written in place of a report.
-use Rattle.std.specs.Prelude.{List, ℕ, ◌++◌, codes}
+use Rattle.std.specs.Prelude.{List, ℕ, [], ◌∷◌, ◌++◌, codes}
 use Rattle.std.specs.Fmt.{decimal}
 use Rattle.plex_program.specs.declared.fault.SourceFault.{SourceFault}
 use Rattle.plex_program.specs.declared.fault.Rule.{Rule}
 use Rattle.plex_program.specs.declared.fault.Rule.TheVariants as rule
-use Rattle.plex_program.specs.Report.{LF}
+use Rattle.plex_program.specs.declared.fault.SignalsFault.{SignalsFault}
+use Rattle.plex_program.specs.declared.fault.SignalsRule.{SignalsRule}
+use Rattle.plex_program.specs.declared.fault.SignalsRule.TheVariants as signals_rule
 use Rattle.plex_program.specs.declared.perform.Refused.{Refused}
-use Rattle.plex_program.specs.declared.perform.Refused.TheVariants.{Source, NotYetSource, NotYetSignals}
+use Rattle.plex_program.specs.declared.perform.Refused.TheVariants.{Signals, Source}
+
+-- the end of a line
+abbrev pub LF : List ℕ
+LF = 10 ∷ []
 
 -- `N` and a number
 abbrev pub numbered_name : ℕ → List ℕ
@@ -33,12 +39,24 @@ rule_name rule.Limit = codes "LIMIT"
 abbrev pub fault_text : SourceFault → List ℕ
 fault_text f = codes "SOURCE line " ++ decimal f.line ++ codes " " ++ rule_name f.rule ++ LF
 
--- the first fault of the exchange text, or which file is not of the form that runs so far
+abbrev pub signals_rule_name : SignalsRule → List ℕ
+signals_rule_name signals_rule.TooLarge = codes "TOOLARGE"
+signals_rule_name signals_rule.BadLine = codes "BADLINE"
+signals_rule_name signals_rule.UnknownSignal = codes "UNKNOWNSIGNAL"
+signals_rule_name signals_rule.UnknownBlock = codes "UNKNOWNBLOCK"
+signals_rule_name signals_rule.WrongData = codes "WRONGDATA"
+signals_rule_name signals_rule.FallingCount = codes "FALLINGCOUNT"
+signals_rule_name signals_rule.BadAs = codes "BADAS"
+
+-- `SIGNALS line L RULE`
+abbrev pub signals_text : SignalsFault → List ℕ
+signals_text f = codes "SIGNALS line " ++ decimal f.line ++ codes " " ++ signals_rule_name f.rule ++ LF
+
+-- the first fault of the exchange text or of the signal file
 unfoldable pub refusal_text : Refused → List ℕ
 refusal_text (Source f) = fault_text f
-refusal_text NotYetSource = codes "NOTYET SOURCE" ++ LF
-refusal_text NotYetSignals = codes "NOTYET SIGNALS" ++ LF
+refusal_text (Signals f) = signals_text f
 
 -- the usage line
 unfoldable pub usage_text : List ℕ
-usage_text = codes "usage: plex run E S | plex single E S" ++ LF
+usage_text = codes "usage: plex run E S [--jobs N] | plex single E S [--jobs N]" ++ LF

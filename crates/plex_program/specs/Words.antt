@@ -1,21 +1,37 @@
 -- What the words of the command ask for.
-use Rattle.std.specs.Prelude.{ℕ, List, [], ◌∷◌, Option, Some, None, if◌then◌else◌, codes}
+use Rattle.std.specs.Prelude.{ℕ, nat_le, ◌&&◌, List, [], ◌∷◌, Option, Some, None, if◌then◌else◌, codes}
+use Rattle.std.specs.Option.{option_map}
 use Rattle.std.specs.Str.{bytes_eq}
+use Rattle.plex_limits.specs.declared.limits.TheConstants.{MOST_JOBS}
+use Rattle.plex_num.specs.Number.{number_of}
+use Rattle.plex_program.specs.declared.command.TheConstants.{USUAL_JOBS}
 use Rattle.plex_program.specs.declared.command.Command.{Command}
 use Rattle.plex_program.specs.declared.command.Command.TheVariants.{Run, Single}
+use Rattle.plex_program.specs.declared.command.RunWords.{RunWords}
 
 -- a word
 abbrev pub Word : Type 0
 Word = List ℕ
 
--- the command of an exchange file and a signal file, which are all its words
-abbrev pub of_two : (Word → Word → Command) → List Word → Option Command
-of_two command [] = None
-of_two command (e ∷ []) = None
-of_two command (e ∷ s ∷ []) = Some (command e s)
-of_two command (e ∷ s ∷ more ∷ rest) = None
+-- after how many jobs a run may be told to end
+abbrev pub allowed_jobs : Option ℕ → Option ℕ
+allowed_jobs None = None
+allowed_jobs (Some n) = (if nat_le 1 n && nat_le n MOST_JOBS then Some n else None)
+
+-- after how many jobs the run ends, by these options
+abbrev pub jobs_in : List Word → Option ℕ
+jobs_in [] = Some USUAL_JOBS
+jobs_in (name ∷ []) = None
+jobs_in (name ∷ value ∷ []) = (if bytes_eq name (codes "--jobs") then allowed_jobs (number_of value) else None)
+jobs_in (name ∷ value ∷ more ∷ rest) = None
+
+-- an exchange file, a signal file and options
+abbrev pub run_words : List Word → Option RunWords
+run_words [] = None
+run_words (e ∷ []) = None
+run_words (e ∷ s ∷ options) = option_map (λ jobs. record { exchange = e; signals = s; jobs = jobs }) (jobs_in options)
 
 -- the command that these words are
 abbrev pub shape : List Word → Option Command
 shape [] = None
-shape (name ∷ rest) = (if bytes_eq name (codes "run") then of_two Run rest else (if bytes_eq name (codes "single") then of_two Single rest else None))
+shape (name ∷ rest) = (if bytes_eq name (codes "run") then option_map Run (run_words rest) else (if bytes_eq name (codes "single") then option_map Single (run_words rest) else None))

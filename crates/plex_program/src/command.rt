@@ -1,59 +1,123 @@
 // The words of the command.
-ghost use Rattle.std.specs.Prelude.{◌≡◌, IfOk, IfSome, MatchOption, None};
+ghost use Rattle.std.specs.Prelude.{◌≡◌, ◌≤◌, IfOk, IfSome};
+ghost use Rattle.std.specs.Option.{option_map};
 ghost use Rattle.std.specs.Str.{bytes_eq};
-ghost use Rattle.plex_program.specs.Words.{of_two, shape};
+ghost use Rattle.plex_limits.specs.declared.limits.TheConstants.{MOST_JOBS};
+ghost use Rattle.plex_program.specs.Runs.{HasJobs};
+ghost use Rattle.plex_program.specs.Words.{allowed_jobs, jobs_in, run_words, shape};
 
 use plex_io::Word;
-use plex_num::{Memory, Seq};
+use plex_limits::MOST_JOBS;
+use plex_num::{Memory, Seq, read_number};
 use std::alloc::Global;
+
+/// After how many jobs a run ends, where the words do not say.
+pub const USUAL_JOBS: u32 = 1_000_000;
 
 /// What the words ask for.
 #[derive(Drop)]
 pub enum Command {
-    /// `run E S`: the report of the run of an exchange file and a signal file.
-    Run { exchange: Word, signals: Word },
-    /// `single E S`: the same report, one job after the other by the source itself, as `run` does today.
-    Single { exchange: Word, signals: Word },
+    /// `run E S [--jobs N]`: the report of the run of an exchange file and a signal file.
+    Run(RunWords),
+    /// `single E S [--jobs N]`: the same report, each job by the source itself.
+    Single(RunWords),
+}
+
+/// The words of a run after its name.
+#[derive(Drop)]
+pub struct RunWords {
+    /// The name of the file with the exchange text.
+    pub exchange: Word,
+    /// The name of the signal file.
+    pub signals: Word,
+    /// After how many jobs the run ends at the latest, from 1 to 10,000,000.
+    pub jobs: u32,
 }
 
 /// The command that these words are; `None` where they are none.
 pub fn read_command(alloc: Global, words: &[Word]) -> Result<Option<Command>, Memory>
-    ensures { IfOk result (λ command. command ≡ shape words.now) }
+    ensures command { IfOk result (λ command. command ≡ shape words.now) }
+    ensures jobs { IfOk result (λ command. IfSome command HasJobs) }
 {
     let Some((name, rest)) = words.split_first() else {
         return Ok(None);
     };
     if is_word(name.as_slice(), b"run") {
-        read_run(alloc, rest)
+        Ok(as_run(read_run(alloc, rest)?))
     } else if is_word(name.as_slice(), b"single") {
-        read_single(alloc, rest)
+        Ok(as_single(read_run(alloc, rest)?))
     } else {
         Ok(None)
     }
 }
 
-/// The words of `run` after its name.
-fn read_run(alloc: Global, rest: &[Word]) -> Result<Option<Command>, Memory>
-    ensures { IfOk result (λ command. command ≡ of_two Command.Run rest.now) }
+fn as_run(words: Option<RunWords>) -> Option<Command>
+    ensures is { result ≡ option_map Command.Run words }
+    ensures jobs { IfSome words (λ w. w.jobs ≤ MOST_JOBS) → IfSome result HasJobs }
 {
-    if rest.len() != 2 {
-        return Ok(None);
+    match words {
+        Some(words) => Some(Command::Run(words)),
+        None => None,
     }
-    let exchange = Seq::copied(alloc, rest[0].as_slice())?;
-    let signals = Seq::copied(alloc, rest[1].as_slice())?;
-    Ok(Some(Command::Run { exchange, signals }))
 }
 
-/// The words of `single` after its name.
-fn read_single(alloc: Global, rest: &[Word]) -> Result<Option<Command>, Memory>
-    ensures { IfOk result (λ command. command ≡ of_two Command.Single rest.now) }
+fn as_single(words: Option<RunWords>) -> Option<Command>
+    ensures is { result ≡ option_map Command.Single words }
+    ensures jobs { IfSome words (λ w. w.jobs ≤ MOST_JOBS) → IfSome result HasJobs }
 {
-    if rest.len() != 2 {
-        return Ok(None);
+    match words {
+        Some(words) => Some(Command::Single(words)),
+        None => None,
     }
-    let exchange = Seq::copied(alloc, rest[0].as_slice())?;
-    let signals = Seq::copied(alloc, rest[1].as_slice())?;
-    Ok(Some(Command::Single { exchange, signals }))
+}
+
+/// The words of a run after its name; `None` where they are none.
+fn read_run(alloc: Global, rest: &[Word]) -> Result<Option<RunWords>, Memory>
+    ensures words { IfOk result (λ words. words ≡ run_words rest.now) }
+    ensures jobs { IfOk result (λ words. IfSome words (λ w. w.jobs ≤ MOST_JOBS)) }
+{
+    let Some((exchange, after)) = rest.split_first() else {
+        return Ok(None);
+    };
+    let Some((signals, options)) = after.split_first() else {
+        return Ok(None);
+    };
+    let Some(jobs) = jobs_in(options) else {
+        return Ok(None);
+    };
+    Ok(Some(RunWords {
+        exchange: Seq::copied(alloc, exchange.as_slice())?,
+        signals: Seq::copied(alloc, signals.as_slice())?,
+        jobs,
+    }))
+}
+
+/// After how many jobs the run ends, by these options; `None` where they are none.
+fn jobs_in(options: &[Word]) -> Option<u32>
+    ensures is { result ≡ jobs_in options.now }
+    ensures few { IfSome result (λ n. n ≤ MOST_JOBS) }
+{
+    let Some((name, after)) = options.split_first() else {
+        return Some(USUAL_JOBS);
+    };
+    let (value, more) = after.split_first()?;
+    if !more.is_empty() || !is_word(name.as_slice(), b"--jobs") {
+        return None;
+    }
+    allowed_jobs(read_number(value.as_slice()))
+}
+
+/// The number, where a run may be told to end after so many jobs.
+fn allowed_jobs(number: Option<u32>) -> Option<u32>
+    ensures is { result ≡ allowed_jobs number }
+    ensures few { IfSome result (λ n. n ≤ MOST_JOBS) }
+{
+    let jobs = number?;
+    if 1 <= jobs && jobs <= MOST_JOBS as u32 {
+        Some(jobs)
+    } else {
+        None
+    }
 }
 
 /// Whether the bytes are those of this text.

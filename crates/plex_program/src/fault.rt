@@ -1,4 +1,4 @@
-// The first fault of an exchange text.
+// The first fault of an exchange text, and of a signal file.
 
 /// Why an exchange text is refused, and where.
 #[derive(Clone, Copy, Debug)]
@@ -25,7 +25,7 @@ pub enum Rule {
     Ended,
     /// A token would be allowed if brackets and statements could nest deeper.
     TooDeep,
-    /// A rule of signals and blocks, by its number from 1 to 16 (docs/LANGUAGE.md, Rules).
+    /// A rule of signals and blocks, by its number from 1 to 17 (docs/LANGUAGE.md, Rules).
     Numbered(u8),
     /// A signal is sent that nobody receives.
     NoReceiver,
@@ -41,4 +41,31 @@ pub enum Rule {
     NoEnter,
     /// A limit is passed.
     Limit,
+}
+
+/// Why a signal file is refused, and where.
+#[derive(Clone, Copy, Debug)]
+pub struct SignalsFault {
+    /// The first faulty line, from 1; 0 where the fault has none.
+    pub line: u32,
+    pub rule: SignalsRule,
+}
+
+/// The rules of a signal file whose first breach is told (docs/FORMATS.md, Signal file).
+#[derive(Clone, Copy, Debug)]
+pub enum SignalsRule {
+    /// The text has more than 16,777,216 bytes.
+    TooLarge,
+    /// The line is no signal line.
+    BadLine,
+    /// No single buffered signal has that name.
+    UnknownSignal,
+    /// No block of that name receives the signal.
+    UnknownBlock,
+    /// There are more or fewer values than the signal has.
+    WrongData,
+    /// The count is below that of the signal line before.
+    FallingCount,
+    /// The number after AS is that of no earlier signal line, or of one that ends in NONE.
+    BadAs,
 }

@@ -1,24 +1,22 @@
 // The program as one call.
 //
-// What goes in: the words of the command, a shelf of files and a sink. What comes out: a status, and the
-// text in the sink. The contract of `plex` says which: the answer is a function of the words and the
-// files, the report of the single run among it.
+// What goes in: the words of the command, a shelf of files and a sink. What comes out: a status, and
+// the text in the sink. The contract of `plex` says which: the answer is a function of the words and
+// the files, the report of the single run among it.
 // It knows no process: main gives it the real devices.
 #![tactic(auto)]
 
 mod command;
 mod fault;
-mod limits;
 mod perform;
 mod program;
 mod reading;
-mod report;
+mod running;
 #[cfg(test)]
 mod tests;
 mod text;
 
-pub use command::Command;
-pub use fault::{Rule, SourceFault};
-pub use limits::TEXT_LIMIT;
+pub use command::{Command, RunWords};
+pub use fault::{Rule, SignalsFault, SignalsRule, SourceFault};
 pub use perform::{Answer, Refused, Stop};
 pub use program::{Quit, Status, plex};

@@ -1,26 +1,25 @@
-// The work of each command, up to its text.
-ghost use Rattle.std.specs.Prelude.{◌≡◌, ◌≤◌, IfOk, IfSome, length};
-ghost use Rattle.small_meaning.specs.Small.{IsSmall};
-ghost use Rattle.small_run.specs.Runs.{AreOf, ComesTo};
+// The work of each command, up to its answer.
+ghost use Rattle.std.specs.Prelude.{◌≡◌, ◌≤◌, Ok, IfOk, IfSome, length};
 ghost use Rattle.signal_file.specs.Lines.{signal_lines};
-ghost use Rattle.resolver.specs.Resolved.{resolved};
-ghost use Rattle.plex_program.specs.Reading.{IsSpelled};
-ghost use Rattle.plex_program.specs.Answer.{Builds, Comes, Reads, exchange_at, exchange_of_file, exchange_of_tree, lines_at, lines_of_file, of_first_form, or_broken, or_waits, performed, run_of, run_report, text_at};
+ghost use Rattle.plex_limits.specs.declared.limits.TheConstants.{MOST_BYTES, MOST_JOBS};
+ghost use Rattle.front_end.specs.Resolved.{resolved};
+ghost use Rattle.plex_program.specs.Program.{IsEnding};
+ghost use Rattle.plex_program.specs.Reading.{IsSpelled, signals_fault};
+ghost use Rattle.plex_program.specs.Answer.{Comes, Reads, exchange_at, exchange_of_file, exchange_of_tree, lines_at, lines_of_file, or_broken, or_unread, performed, run_answer, run_of, text_at};
+ghost use Rattle.plex_program.specs.Runs.{AreRead, HasJobs};
 
-use crate::command::Command;
-use crate::fault::{Rule, SourceFault};
-use crate::limits::TEXT_LIMIT;
+use crate::command::{Command, RunWords};
+use crate::fault::{SignalsFault, SignalsRule, SourceFault};
 use crate::program::Status;
-use crate::reading::{link_rule, refused, tree_of_file};
-use crate::report::report;
+use crate::reading::{refused, rule_of, tree_of_file};
+use crate::running::{Means, run_answer};
 use exchange_model::Exchange;
+use front_end::{TextFault, resolve};
 use plex_ast::Tree;
 use plex_io::{Shelf, ShelfFault, Word};
+use plex_limits::MOST_BYTES;
 use plex_num::{Memory, Seq};
-use resolver::{TextFault, resolve};
 use signal_file::{Line, SignalFault, read_signals};
-use small_check::is_small;
-use small_run::{Finished, come_at_once, compiled_run, single_run};
 use std::alloc::Global;
 
 /// The first refusal.
@@ -28,10 +27,8 @@ use std::alloc::Global;
 pub enum Refused {
     /// The exchange text has a fault.
     Source(SourceFault),
-    /// The exchange text is right, but its exchange does not run yet.
-    NotYetSource,
-    /// The signal file is not of the first form.
-    NotYetSignals,
+    /// The signal file has a fault.
+    Signals(SignalsFault),
 }
 
 /// What the program writes and ends with.
@@ -55,13 +52,14 @@ pub enum Stop {
 /// The text of a file, where it is not too large.
 #[tactic(auto, using(crate::proofs::Stages::text_absent))]
 fn text_in<S: Shelf>(alloc: Global, shelf: &mut S, name: &Word) -> Result<Option<Seq<u8>>, Stop>
-    ensures comes { Comes (S.held shelf.old) (text_at name.now) (S.faults shelf.old) (S.faults shelf.new) result }
+    ensures comes { Comes (S.held shelf.old) (text_at name.now) (S.faults shelf.old)
+        (S.faults shelf.new) result }
     ensures kept { S.held shelf.new ≡ S.held shelf.old }
-    ensures size { IfOk result (λ t. IfSome t (λ text. length text ≤ TEXT_LIMIT)) }
+    ensures size { IfOk result (λ t. IfSome t (λ text. length text ≤ MOST_BYTES)) }
 {
-    match shelf.read_file(alloc, name, TEXT_LIMIT) {
+    match shelf.read_file(alloc, name, MOST_BYTES as u64) {
         Ok(text) => {
-            if text.len() as u64 > TEXT_LIMIT {
+            if text.len() > MOST_BYTES {
                 Ok(None)
             } else {
                 Ok(Some(text))
@@ -76,9 +74,9 @@ fn text_in<S: Shelf>(alloc: Global, shelf: &mut S, name: &Word) -> Result<Option
 /// The exchange of a file.
 #[tactic(auto, using(crate::proofs::Stages::comes_stop, crate::proofs::Stages::comes_go, crate::proofs::Stages::comes_reads))]
 fn exchange_in<S: Shelf>(alloc: Global, shelf: &mut S, name: &Word) -> Result<Exchange, Stop>
-    ensures comes { Comes (S.held shelf.old) (exchange_at name.now) (S.faults shelf.old) (S.faults shelf.new) result }
+    ensures comes { Comes (S.held shelf.old) (exchange_at name.now) (S.faults shelf.old)
+        (S.faults shelf.new) result }
     ensures kept { S.held shelf.new ≡ S.held shelf.old }
-    ensures small { IfOk result (λ x. IsSmall x) }
 {
     let text = text_in(alloc, shelf, name)?;
     exchange_of_file(alloc, &text)
@@ -87,194 +85,131 @@ fn exchange_in<S: Shelf>(alloc: Global, shelf: &mut S, name: &Word) -> Result<Ex
 /// The exchange that a file's text means.
 #[tactic(auto, using(crate::proofs::Stages::reads_stop, crate::proofs::Stages::reads_go))]
 fn exchange_of_file(alloc: Global, text: &Option<Seq<u8>>) -> Result<Exchange, Stop>
-    requires { IfSome text.now (λ t. length t ≤ TEXT_LIMIT) }
-    ensures reads { Reads (exchange_of_file text.now) result }
-    ensures small { IfOk result (λ x. IsSmall x) }
+    requires { IfSome text.now (λ t. length t ≤ MOST_BYTES) }
+    ensures { Reads (exchange_of_file text.now) result }
 {
     let tree = tree_of_file(alloc, text)?;
     exchange_of_tree(alloc, &tree)
 }
 
-/// The exchange that a tree means.
-#[tactic(auto, using(crate::proofs::Stages::reads_stop, crate::proofs::Stages::reads_go))]
+/// The exchange of a tree that breaks no rule.
+#[tactic(auto, using(crate::proofs::Resolving::resolves_ok, crate::proofs::Resolving::resolves_rule))]
 fn exchange_of_tree(alloc: Global, tree: &Tree) -> Result<Exchange, Stop>
     requires { IsSpelled tree.now }
-    ensures reads { Reads (exchange_of_tree tree.now) result }
-    ensures small { IfOk result (λ x. IsSmall x) }
-{
-    let exchange = resolved_tree(alloc, tree)?;
-    running(exchange)
-}
-
-/// The exchange of a tree that breaks no rule.
-#[tactic(auto, using(crate::proofs::Resolving::resolves_ok, crate::proofs::Resolving::resolves_rule, crate::proofs::Resolving::resolves_link))]
-fn resolved_tree(alloc: Global, tree: &Tree) -> Result<Exchange, Stop>
-    requires { IsSpelled tree.now }
-    ensures { Reads (or_broken (resolved tree.now)) result }
+    ensures { Reads (exchange_of_tree tree.now) result }
 {
     match resolve(alloc, tree) {
         Ok(exchange) => Ok(exchange),
-        Err(TextFault::Rule { number, line }) => Err(refused(line, Rule::Numbered(number))),
-        Err(TextFault::Link { rule, line }) => Err(refused(line, link_rule(rule))),
+        Err(TextFault::Rule { rule, line }) => Err(refused(line, rule_of(rule))),
         Err(TextFault::Memory) => Err(Stop::Memory),
     }
 }
 
-/// An exchange that runs so far.
-fn running(exchange: Exchange) -> Result<Exchange, Stop>
-    ensures reads { Reads (or_waits exchange) result }
-    ensures small { IfOk result (λ x. IsSmall x) }
-{
-    if is_small(&exchange) {
-        Ok(exchange)
-    } else {
-        Err(Stop::Refused(Refused::NotYetSource))
-    }
-}
-
 /// The signal lines of a file.
-#[tactic(auto, using(crate::proofs::Stages::comes_stop))]
-fn lines_of<S: Shelf>(
+#[tactic(auto, using(crate::proofs::Stages::comes_stop, crate::proofs::Stages::comes_go, crate::proofs::Stages::comes_reads))]
+fn lines_in<S: Shelf>(
     alloc: Global,
     shelf: &mut S,
     exchange: &Exchange,
     name: &Word,
 ) -> Result<Seq<Line>, Stop>
-    requires { IsSmall exchange.now }
-    ensures comes { Comes (S.held shelf.old) (lines_at exchange.now name.now) (S.faults shelf.old) (S.faults shelf.new) result }
+    ensures comes { Comes (S.held shelf.old) (lines_at exchange.now name.now) (S.faults shelf.old)
+        (S.faults shelf.new) result }
     ensures kept { S.held shelf.new ≡ S.held shelf.old }
-    ensures lines { IfOk result (λ lines. AreOf exchange.now lines) }
+    ensures read { IfOk result (λ lines. AreRead exchange.now lines) }
 {
     let text = text_in(alloc, shelf, name)?;
-    match lines_of_file(alloc, exchange, &text) {
-        Ok(Some(lines)) => Ok(lines),
-        Ok(None) => Err(Stop::Refused(Refused::NotYetSignals)),
-        Err(Memory) => Err(Stop::Memory),
-    }
+    lines_of_file(alloc, exchange, &text)
 }
 
+/// The signal lines of a file's text, which may be too large.
 fn lines_of_file(
     alloc: Global,
     exchange: &Exchange,
     text: &Option<Seq<u8>>,
-) -> Result<Option<Seq<Line>>, Memory>
-    requires small { IsSmall exchange.now }
-    requires size { IfSome text.now (λ t. length t ≤ TEXT_LIMIT) }
-    ensures lines { IfOk result (λ lines. lines ≡ lines_of_file exchange.now text.now) }
-    ensures fit { IfOk result (λ lines. IfSome lines (λ lines. AreOf exchange.now lines)) }
+) -> Result<Seq<Line>, Stop>
+    requires { IfSome text.now (λ t. length t ≤ MOST_BYTES) }
+    ensures reads { Reads (lines_of_file exchange.now text.now) result }
+    ensures read { IfOk result (λ lines. AreRead exchange.now lines) }
 {
     match text {
-        Some(text) => first_form(alloc, exchange, text.as_slice()),
-        None => Ok(None),
+        Some(text) => lines_of_text(alloc, exchange, text.as_slice()),
+        None => Err(unread(0, SignalsRule::TooLarge)),
     }
 }
 
-/// The lines of a text of the first form.
-#[tactic(auto, using(crate::proofs::Forms::form_fault, crate::proofs::Forms::form_no, crate::proofs::Forms::form_yes, crate::proofs::Forms::form_fits))]
-fn first_form(alloc: Global, exchange: &Exchange, text: &[u8]) -> Result<Option<Seq<Line>>, Memory>
-    requires small { IsSmall exchange.now }
-    requires size { length text.now ≤ TEXT_LIMIT }
-    ensures lines { IfOk result (λ lines. lines ≡ of_first_form (signal_lines exchange.now text.now)) }
-    ensures fit { IfOk result (λ lines. IfSome lines (λ lines. AreOf exchange.now lines)) }
+/// The signal lines of a text.
+#[tactic(auto, using(crate::proofs::Signals::lines_read, crate::proofs::Signals::lines_refused, crate::proofs::Signals::lines_are_read))]
+fn lines_of_text(alloc: Global, exchange: &Exchange, text: &[u8]) -> Result<Seq<Line>, Stop>
+    requires { length text.now ≤ MOST_BYTES }
+    ensures reads { Reads (or_unread (signal_lines exchange.now text.now)) result }
+    ensures read { IfOk result (λ lines. AreRead exchange.now lines) }
 {
     match read_signals(alloc, exchange, text) {
-        Ok(lines) => {
-            if come_at_once(lines.as_slice()) {
-                Ok(Some(lines))
-            } else {
-                Ok(None)
-            }
-        }
-        Err(SignalFault::Memory) => Err(Memory),
-        Err(_fault) => Ok(None),
+        Ok(lines) => Ok(lines),
+        Err(SignalFault::BadLine { line }) => Err(unread(line, SignalsRule::BadLine)),
+        Err(SignalFault::UnknownSignal { line }) => Err(unread(line, SignalsRule::UnknownSignal)),
+        Err(SignalFault::UnknownBlock { line }) => Err(unread(line, SignalsRule::UnknownBlock)),
+        Err(SignalFault::WrongData { line }) => Err(unread(line, SignalsRule::WrongData)),
+        Err(SignalFault::FallingCount { line }) => Err(unread(line, SignalsRule::FallingCount)),
+        Err(SignalFault::BadAs { line }) => Err(unread(line, SignalsRule::BadAs)),
+        Err(SignalFault::Memory) => Err(Stop::Memory),
     }
 }
 
-/// What runs the jobs of an exchange.
-#[derive(Clone, Copy)]
-enum Runner {
-    /// The source interpreter.
-    Source,
-    /// The register machine, on the compiled code.
-    Code,
+/// The stop at a fault of the signal file.
+fn unread(line: u32, rule: SignalsRule) -> Stop
+    ensures { result ≡ Stop.Refused (Refused.Signals (record { line = line; rule = rule })) }
+{
+    Stop::Refused(Refused::Signals(SignalsFault { line, rule }))
 }
 
-/// Where the single run comes to.
-fn run_by(
+/// `run` and `single`.
+#[tactic(auto, using(crate::proofs::Stages::comes_stop, crate::proofs::Stages::comes_go, crate::proofs::Stages::comes_reads))]
+fn perform_run<S: Shelf>(
     alloc: Global,
-    runner: Runner,
-    exchange: &Exchange,
-    lines: &[Line],
-) -> Result<Finished, Memory>
-    requires small { IsSmall exchange.now }
-    requires lines { AreOf exchange.now lines.now }
-    ensures { IfOk result (λ end. ComesTo exchange.now lines.now end.ended end.store) }
+    means: Means,
+    shelf: &mut S,
+    words: &RunWords,
+) -> Result<Answer, Stop>
+    requires { words.now.jobs ≤ MOST_JOBS }
+    ensures comes { Comes (S.held shelf.old) (run_of words.now) (S.faults shelf.old)
+        (S.faults shelf.new) result }
+    ensures ending { IfOk result (λ a. IsEnding a.status) }
 {
-    match runner {
-        Runner::Source => single_run(alloc, exchange, lines),
-        Runner::Code => compiled_run(alloc, exchange, lines),
-    }
+    let exchange = exchange_in(alloc, shelf, &words.exchange)?;
+    let lines = lines_in(alloc, shelf, &exchange, &words.signals)?;
+    answer_run(alloc, means, &exchange, lines, words.jobs)
 }
 
-/// The report of the single run.
-#[tactic(auto, using(crate::proofs::Forms::report_is))]
-fn run_report(
+/// The answer of a run, as a stage.
+fn answer_run(
     alloc: Global,
-    runner: Runner,
+    means: Means,
     exchange: &Exchange,
-    lines: &[Line],
-) -> Result<Seq<u8>, Memory>
-    requires small { IsSmall exchange.now }
-    requires lines { AreOf exchange.now lines.now }
-    ensures { IfOk result (λ text. text ≡ run_report exchange.now lines.now) }
+    lines: Seq<Line>,
+    jobs: u32,
+) -> Result<Answer, Stop>
+    requires lines { AreRead exchange.now lines }
+    requires jobs { jobs ≤ MOST_JOBS }
+    ensures reads { Reads (Ok (run_answer exchange.now lines jobs)) result }
+    ensures ending { IfOk result (λ a. IsEnding a.status) }
 {
-    let end = run_by(alloc, runner, exchange, lines)?;
-    report(alloc, exchange, end.ended, end.store.as_slice())
-}
-
-/// The same as a stage.
-fn run_text(
-    alloc: Global,
-    runner: Runner,
-    exchange: &Exchange,
-    lines: &[Line],
-) -> Result<Seq<u8>, Stop>
-    requires small { IsSmall exchange.now }
-    requires lines { AreOf exchange.now lines.now }
-    ensures { Builds (run_report exchange.now lines.now) result }
-{
-    match run_report(alloc, runner, exchange, lines) {
-        Ok(text) => Ok(text),
+    match run_answer(alloc, means, exchange, lines, jobs) {
+        Ok(answer) => Ok(answer),
         Err(Memory) => Err(Stop::Memory),
     }
 }
 
-/// `run` and `single`.
-#[tactic(auto, using(crate::proofs::Stages::comes_stop, crate::proofs::Stages::comes_go))]
-fn perform_run<S: Shelf>(
-    alloc: Global,
-    runner: Runner,
-    shelf: &mut S,
-    exchange: &Word,
-    signals: &Word,
-) -> Result<Seq<u8>, Stop>
-    ensures comes { Comes (S.held shelf.old) (run_of exchange.now signals.now) (S.faults shelf.old) (S.faults shelf.new) result }
-{
-    let exchange = exchange_in(alloc, shelf, exchange)?;
-    let lines = lines_of(alloc, shelf, &exchange, signals)?;
-    run_text(alloc, runner, &exchange, lines.as_slice())
-}
-
-/// The text that a command comes to.
-pub fn perform<S: Shelf>(alloc: Global, shelf: &mut S, command: &Command) -> Result<Seq<u8>, Stop>
-    ensures comes { Comes (S.held shelf.old) (performed command.now) (S.faults shelf.old) (S.faults shelf.new) result }
+/// What a command comes to.
+pub fn perform<S: Shelf>(alloc: Global, shelf: &mut S, command: &Command) -> Result<Answer, Stop>
+    requires { HasJobs command.now }
+    ensures comes { Comes (S.held shelf.old) (performed command.now) (S.faults shelf.old)
+        (S.faults shelf.new) result }
+    ensures ending { IfOk result (λ a. IsEnding a.status) }
 {
     match command {
-        Command::Run { exchange, signals } => {
-            perform_run(alloc, Runner::Code, shelf, exchange, signals)
-        }
-        Command::Single { exchange, signals } => {
-            perform_run(alloc, Runner::Source, shelf, exchange, signals)
-        }
+        Command::Run(words) => perform_run(alloc, Means::Code, shelf, words),
+        Command::Single(words) => perform_run(alloc, Means::Source, shelf, words),
     }
 }

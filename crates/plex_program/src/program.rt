@@ -22,14 +22,18 @@ pub enum Status {
     Usage,
     /// The exchange text has a fault; the line that tells the first one was written.
     Source,
+    /// The signal file has a fault; the line that tells the first one was written.
+    Signals,
+    /// The report was written of a run that ended with its last restart.
+    Restart,
+    /// The report was written of a run that ended after as many jobs as it may have.
+    Limit,
     /// A file could not be read; nothing was written.
     Read,
     /// The text could not be written whole.
     Write,
     /// Memory was refused; nothing was written.
     Memory,
-    /// A file is not of the form that runs so far; a line that says which was written.
-    NotYet,
 }
 
 impl Status {
@@ -41,10 +45,12 @@ impl Status {
             Status::Done => 0,
             Status::Usage => 1,
             Status::Source => 2,
+            Status::Signals => 3,
+            Status::Restart => 4,
+            Status::Limit => 5,
             Status::Read => 6,
             Status::Write => 7,
             Status::Memory => 8,
-            Status::NotYet => 10,
         }
     }
 }
@@ -52,9 +58,9 @@ impl Status {
 /// The program: reads the files that the words name, and writes the answer.
 ///
 /// `words` are the command's words without the program's name. Where the shelf tells its files, the
-/// status and the text are those of `answer`, but for `Read` where a read failed, `Write` where the sink
-/// failed or is full, and then a proper front of the text was written, and `Memory`. The threads and the
-/// gate are not used yet: one job runs at a time.
+/// status and the text are those of `answer`, but for `Read` where a read failed, `Write` where the
+/// sink failed or is full, and then a proper front of the text was written, and `Memory`. The
+/// threads and the gate are not used yet: one job runs at a time.
 #[tactic(auto, using(crate::proofs::Endings::ends_same))]
 pub fn plex<R: Threads + Wait + Sync, S: Shelf, K: Sink, G: Gate + Sync>(
     rt: &R,
@@ -64,13 +70,18 @@ pub fn plex<R: Threads + Wait + Sync, S: Shelf, K: Sink, G: Gate + Sync>(
     sink: &mut K,
     gate: &G,
 ) -> Status
-    ensures answers { IfSome (S.held shelf.old) (λ files. Ends (answer words.now files) (K.written sink.old) (K.written sink.new) result) }
-    ensures unshaped { shape words.now ≡ None → Ends usage_answer (K.written sink.old) (K.written sink.new) result }
+    ensures answers { IfSome (S.held shelf.old)
+        (λ files. Ends (answer words.now files) (K.written sink.old) (K.written sink.new) result) }
+    ensures unshaped { shape words.now ≡ None →
+        Ends usage_answer (K.written sink.old) (K.written sink.new) result }
     ensures usage { result ≡ Status.Usage → shape words.now ≡ None }
-    ensures read { result ≡ Status.Read → ReadCause (S.held shelf.old) words.now (S.faults shelf.old) (S.faults shelf.new) (K.written sink.old) (K.written sink.new) }
-    ensures write { result ≡ Status.Write → WriteCause (K.size sink.old) (K.written sink.new) (K.faults sink.old) (K.faults sink.new) }
+    ensures read { result ≡ Status.Read → ReadCause (S.held shelf.old) words.now
+        (S.faults shelf.old) (S.faults shelf.new) (K.written sink.old) (K.written sink.new) }
+    ensures write { result ≡ Status.Write →
+        WriteCause (K.size sink.old) (K.written sink.new) (K.faults sink.old) (K.faults sink.new) }
     ensures memory { result ≡ Status.Memory → K.written sink.new ≡ K.written sink.old }
-    ensures complete { IfSome (S.held shelf.old) (λ files. IsComplete (answer words.now files) (S.faults shelf.old) (S.faults shelf.new) (K.faults sink.old) (K.faults sink.new) result) }
+    ensures complete { IfSome (S.held shelf.old) (λ files. IsComplete (answer words.now files)
+        (S.faults shelf.old) (S.faults shelf.new) (K.faults sink.old) (K.faults sink.new) result) }
 {
     let _ = rt;
     let _ = gate;
@@ -89,9 +100,10 @@ pub enum Quit {
 }
 
 /// The answer to the words.
-#[tactic(auto, using(crate::proofs::Endings::answered_usage, crate::proofs::Endings::answered_report, crate::proofs::Endings::answered_not_held, crate::proofs::Endings::answered_refused))]
+#[tactic(auto, using(crate::proofs::Endings::answering))]
 fn answered<S: Shelf>(alloc: Global, words: &[Word], shelf: &mut S) -> Result<Answer, Quit>
-    ensures answers { Answers (S.held shelf.old) words.now (S.faults shelf.old) (S.faults shelf.new) result }
+    ensures answers { Answers (S.held shelf.old) words.now (S.faults shelf.old)
+        (S.faults shelf.new) result }
 {
     let command = match read_command(alloc, words) {
         Ok(Some(command)) => command,
@@ -99,7 +111,7 @@ fn answered<S: Shelf>(alloc: Global, words: &[Word], shelf: &mut S) -> Result<An
         Err(_) => return Err(Quit::Memory),
     };
     match perform(alloc, shelf, &command) {
-        Ok(text) => Ok(done_answer(text)),
+        Ok(answer) => Ok(answer),
         Err(Stop::NotHeld) => Err(Quit::Read),
         Err(Stop::Refused(refused)) => refused_answer(alloc, refused),
         Err(Stop::Failed) => Err(Quit::Read),
@@ -125,8 +137,7 @@ fn refused_status(refused: Refused) -> Status
 {
     match refused {
         Refused::Source(_) => Status::Source,
-        Refused::NotYetSource => Status::NotYet,
-        Refused::NotYetSignals => Status::NotYet,
+        Refused::Signals(_) => Status::Signals,
     }
 }
 
@@ -143,21 +154,12 @@ fn usage_answer(alloc: Global) -> Result<Answer, Quit>
     }
 }
 
-/// The answer of a report.
-fn done_answer(text: Seq<u8>) -> Answer
-    ensures { result ≡ record { status = Status.Done; text = text } }
-{
-    Answer {
-        status: Status::Done,
-        text,
-    }
-}
-
 /// Writes the answer.
 fn write_answer<K: Sink>(sink: &mut K, answer: &Answer) -> Status
     requires { IsPlain answer.now.status }
     ensures ends { Ends answer.now (K.written sink.old) (K.written sink.new) result }
-    ensures write { result ≡ Status.Write → WriteCause (K.size sink.old) (K.written sink.new) (K.faults sink.old) (K.faults sink.new) }
+    ensures write { result ≡ Status.Write →
+        WriteCause (K.size sink.old) (K.written sink.new) (K.faults sink.old) (K.faults sink.new) }
     ensures plain { (result ≡ Status.Write) ⊎ (result ≡ answer.now.status) }
 {
     match write_all(sink, answer.text.as_slice()) {

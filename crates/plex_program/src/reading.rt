@@ -1,23 +1,23 @@
 // The tree of an exchange text, or its first fault.
-ghost use Rattle.std.specs.Prelude.{◌≡◌, ◌≤◌, ◌^◌, true, IfOk, IfSome, length};
-ghost use Rattle.plex_ast.specs.Grammar.{tree};
+ghost use Rattle.std.specs.Prelude.{◌≡◌, ◌≤◌, IfOk, IfSome, length};
+ghost use Rattle.plex_ast.specs.Grammar.{Sentence};
+ghost use Rattle.plex_limits.specs.declared.limits.TheConstants.{MOST_BYTES, MOST_TOKENS};
 ghost use Rattle.plex_lexer.specs.Lines.{feeds};
 ghost use Rattle.plex_program.specs.Answer.{Reads, or_fault};
-ghost use Rattle.plex_program.specs.Reading.{at_line, end_line, link_rule, token_line, tree_of, tree_of_file, tree_of_tokens, IsSpelled};
+ghost use Rattle.plex_program.specs.Reading.{at_line, end_line, link_rule, rule_of, token_line, tree_of, tree_of_file, tree_of_tokens, IsSpelled};
 
 use crate::fault::{Rule, SourceFault};
-use crate::limits::TEXT_LIMIT;
 use crate::perform::{Refused, Stop};
-use link_rules::LinkRule;
 use plex_ast::Tree;
-use plex_lexer::{LexFault, Token, lex};
+use plex_lexer::{LexFault, Tokens, lex};
 use plex_num::Seq;
 use plex_parser::{ParseFault, parse};
 use std::alloc::Global;
+use text_rules::{LinkRule, Rule as TextRule};
 
 /// The tree of a file's text, which may be too large.
 pub fn tree_of_file(alloc: Global, text: &Option<Seq<u8>>) -> Result<Tree, Stop>
-    requires { IfSome text.now (λ t. length t ≤ TEXT_LIMIT) }
+    requires { IfSome text.now (λ t. length t ≤ MOST_BYTES) }
     ensures reads { Reads (or_fault (tree_of_file text.now)) result }
     ensures spelled { IfOk result IsSpelled }
 {
@@ -29,12 +29,12 @@ pub fn tree_of_file(alloc: Global, text: &Option<Seq<u8>>) -> Result<Tree, Stop>
 
 #[tactic(auto, unfolding(crate::specs::Reading::tree_of), using(crate::proofs::Spelled::text_spells))]
 fn tree_of(alloc: Global, text: &[u8]) -> Result<Tree, Stop>
-    requires { length text.now ≤ TEXT_LIMIT }
+    requires { length text.now ≤ MOST_BYTES }
     ensures reads { Reads (or_fault (tree_of text.now)) result }
     ensures spelled { IfOk result IsSpelled }
 {
     match lex(alloc, text) {
-        Ok(tokens) => tree_of_tokens(alloc, text, tokens.as_slice()),
+        Ok(tokens) => tree_of_tokens(alloc, text, &tokens),
         Err(LexFault::BadByte { line, .. }) => Err(refused(line, Rule::BadByte)),
         Err(LexFault::BadNumber { line, .. }) => Err(refused(line, Rule::BadNumber)),
         Err(LexFault::LongName { line, .. }) => Err(refused(line, Rule::LongName)),
@@ -42,11 +42,11 @@ fn tree_of(alloc: Global, text: &[u8]) -> Result<Tree, Stop>
     }
 }
 
-fn tree_of_tokens(alloc: Global, text: &[u8], tokens: &[Token]) -> Result<Tree, Stop>
-    requires text { length text.now ≤ 2 ^ 24 }
-    requires tokens { length tokens.now ≤ 2 ^ 24 }
+fn tree_of_tokens(alloc: Global, text: &[u8], tokens: &Tokens<'_>) -> Result<Tree, Stop>
+    requires text { length text.now ≤ MOST_BYTES }
+    requires tokens { length tokens.now ≤ MOST_TOKENS }
     ensures reads { Reads (or_fault (tree_of_tokens text.now tokens.now)) result }
-    ensures spelled { IfOk result (λ t. tree true 6 12 t tokens.now) }
+    ensures spelled { IfOk result (λ t. Sentence t tokens.now) }
 {
     match parse(alloc, tokens) {
         Ok(tree) => Ok(tree),
@@ -61,8 +61,18 @@ fn tree_of_tokens(alloc: Global, text: &[u8], tokens: &[Token]) -> Result<Tree, 
     }
 }
 
-/// The word of a link rule.
-pub fn link_rule(rule: LinkRule) -> Rule
+/// The word of a rule of a text.
+pub fn rule_of(rule: TextRule) -> Rule
+    ensures { result ≡ rule_of rule }
+{
+    match rule {
+        TextRule::Signals(rule) => Rule::Numbered(rule.number()),
+        TextRule::Blocks(rule) => Rule::Numbered(rule.number()),
+        TextRule::Links(rule) => link_rule(rule),
+    }
+}
+
+fn link_rule(rule: LinkRule) -> Rule
     ensures { result ≡ link_rule rule }
 {
     match rule {
@@ -84,18 +94,19 @@ pub fn refused(line: u32, rule: Rule) -> Stop
 }
 
 /// The line of the token at a place; 0 where there is none.
-fn token_line(tokens: &[Token], place: u32) -> u32
+#[tactic(auto, using(crate::proofs::TokenLines::line_found, crate::proofs::TokenLines::line_absent))]
+fn token_line(tokens: &Tokens<'_>, place: u32) -> u32
     ensures { result ≡ token_line tokens.now place }
 {
-    match tokens.get(place as usize) {
-        Some(token) => token.line,
+    match tokens.line_at(place as usize) {
+        Some(line) => line,
         None => 0,
     }
 }
 
 /// The line on which a text ends.
 fn end_line(text: &[u8]) -> u32
-    requires { length text.now ≤ 2 ^ 24 }
+    requires { length text.now ≤ MOST_BYTES }
     ensures { result ≡ end_line text.now }
 {
     1 + feeds(text) as u32

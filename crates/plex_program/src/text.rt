@@ -1,8 +1,8 @@
 // The lines that are written in place of a report.
 ghost use Rattle.std.specs.Prelude.{◌≡◌, ◌++◌, IfOk, OnOk};
-ghost use Rattle.plex_program.specs.Text.{fault_text, numbered_name, refusal_text, rule_name, usage_text};
+ghost use Rattle.plex_program.specs.Text.{fault_text, numbered_name, refusal_text, rule_name, signals_rule_name, signals_text, usage_text};
 
-use crate::fault::{Rule, SourceFault};
+use crate::fault::{Rule, SignalsFault, SignalsRule, SourceFault};
 use crate::perform::Refused;
 use plex_num::{Memory, Seq, print_number};
 use std::alloc::Global;
@@ -12,7 +12,7 @@ use std::alloc::Global;
 pub fn usage_line() -> &'static [u8]
     ensures { result.now ≡ usage_text }
 {
-    b"usage: plex run E S | plex single E S\n"
+    b"usage: plex run E S [--jobs N] | plex single E S [--jobs N]\n"
 }
 
 /// The line of a refusal.
@@ -22,8 +22,7 @@ pub fn refusal_line(alloc: Global, refused: Refused) -> Result<Seq<u8>, Memory>
 {
     match refused {
         Refused::Source(fault) => fault_line(alloc, fault),
-        Refused::NotYetSource => Seq::copied(alloc, b"NOTYET SOURCE\n"),
-        Refused::NotYetSignals => Seq::copied(alloc, b"NOTYET SIGNALS\n"),
+        Refused::Signals(fault) => signals_line(alloc, fault),
     }
 }
 
@@ -37,6 +36,33 @@ fn fault_line(alloc: Global, fault: SourceFault) -> Result<Seq<u8>, Memory>
     add_rule(&mut text, fault.rule)?;
     text.append(b"\n")?;
     Ok(text)
+}
+
+/// `SIGNALS line L RULE`.
+fn signals_line(alloc: Global, fault: SignalsFault) -> Result<Seq<u8>, Memory>
+    ensures { IfOk result (λ text. text ≡ signals_text fault) }
+{
+    let mut text = Seq::copied(alloc, b"SIGNALS line ")?;
+    print_number(u64::from(fault.line), &mut text)?;
+    text.append(b" ")?;
+    add_signals_rule(&mut text, fault.rule)?;
+    text.append(b"\n")?;
+    Ok(text)
+}
+
+/// Appends the word of a rule of signal files.
+fn add_signals_rule(text: &mut Seq<u8>, rule: SignalsRule) -> Result<(), Memory>
+    ensures { OnOk result (text.new ≡ text.old ++ signals_rule_name rule) }
+{
+    match rule {
+        SignalsRule::TooLarge => add_word(text, b"TOOLARGE"),
+        SignalsRule::BadLine => add_word(text, b"BADLINE"),
+        SignalsRule::UnknownSignal => add_word(text, b"UNKNOWNSIGNAL"),
+        SignalsRule::UnknownBlock => add_word(text, b"UNKNOWNBLOCK"),
+        SignalsRule::WrongData => add_word(text, b"WRONGDATA"),
+        SignalsRule::FallingCount => add_word(text, b"FALLINGCOUNT"),
+        SignalsRule::BadAs => add_word(text, b"BADAS"),
+    }
 }
 
 /// Appends a word.

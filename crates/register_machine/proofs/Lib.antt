@@ -1,4 +1,3 @@
-pub mod Chained
 pub mod Counting
 pub mod Going
 pub mod Meaning

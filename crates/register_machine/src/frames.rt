@@ -3,6 +3,7 @@ ghost use Rattle.std.specs.Prelude.{◌≡◌, ◌<◌, ◌≤◌, ◌∷◌, []
 ghost use Rattle.register_machine.specs.Private.{awaits};
 
 use arrayvec::ArrayVec;
+use plex_limits::MOST_CALLERS;
 use std::marker::Model;
 
 /// A caller that waits: the address at which it goes on, its locals and entry values, and the number of the signal that answers it.
@@ -29,7 +30,7 @@ impl Default for Frame {
 /// The callers that wait: at most eight, which contracts see as a list, the latest first.
 #[derive(Drop)]
 pub struct Frames {
-    waiting: ArrayVec<Frame, 8>,
+    waiting: ArrayVec<Frame, MOST_CALLERS>,
 }
 
 impl Model for Frames {
@@ -51,6 +52,13 @@ impl Frames {
         }
     }
 
+    /// No caller waits any more.
+    pub fn clear(&mut self)
+        ensures { self.new ≡ [] }
+    {
+        self.waiting.clear();
+    }
+
     /// How many callers wait.
     pub fn len(&self) -> usize
         ensures { result ≡ length self.now }
@@ -60,7 +68,7 @@ impl Frames {
 
     /// One more caller waits; there must be room for it.
     pub fn push(&mut self, frame: Frame)
-        requires { length self.old < 8 }
+        requires { length self.old < MOST_CALLERS }
         ensures { self.new ≡ frame ∷ self.old }
     {
         self.waiting.push(frame);

@@ -1,12 +1,10 @@
 // What a job has of its own.
 mod effects;
 mod table;
-#[cfg(test)]
-mod tests;
 
 ghost use Rattle.std.specs.Prelude.{◌≡◌, ◌<◌, ◌≤◌, ◌^◌, Some, length, slice_index, is_some, IsSome};
-ghost use Rattle.source_meaning.specs.Config.{eight};
-ghost use Rattle.register_machine.specs.Private.{fresh};
+ghost use Rattle.job_types.specs.Own.{eight};
+ghost use Rattle.register_machine.specs.Private.{fresh, idle};
 ghost use Rattle.register_machine.specs.Machine.{op_at};
 
 use crate::frames::Frames;
@@ -15,7 +13,8 @@ use machine_code::{Code, Op};
 use plex_num::Values;
 use std::marker::Model;
 
-/// The run of a job: what it has of its own while the machine makes its instructions. Contracts see it as a record of lists and numbers.
+/// The run of a job: what it has of its own while the machine makes its instructions. Contracts see it as a record of lists
+/// and numbers. A run that has ended can begin anew in its place, which costs no more than what it held.
 #[derive(Drop)]
 pub struct JobRun {
     address: usize,
@@ -26,16 +25,16 @@ pub struct JobRun {
     made: u64,
     given: [u32; 8],
     answers: [u32; 8],
-    sends: Outbox,
-    chain: Chain,
     forlopp: u64,
     count: u32,
     point: u32,
-    over: Option<Outcome>,
+    /// The sends and the chain so far, and once the job is over how it ended.
+    done: JobDone,
+    over: bool,
 }
 
 impl Model for JobRun {
-    ghost use Rattle.register_machine.specs.Private.{Private, WithinBudget};
+    ghost use Rattle.register_machine.specs.Private.{Private, WithinBudget, if_over};
 
     ghost Value = { Private };
 
@@ -49,48 +48,80 @@ impl Model for JobRun {
       own = record {
         given = r.given;
         answers = r.answers;
-        sends = r.sends;
-        chain = r.chain;
+        sends = r.done.sends;
+        chain = r.done.chain;
         forlopp = r.forlopp;
         count = r.count;
         point = r.point;
       };
-      over = r.over;
+      over = if_over r.over r.done.outcome;
     } };
 
-    ghost invariant = { λ r. WithinBudget r.over r.count };
+    ghost invariant = { λ r. WithinBudget (if_over r.over r.done.outcome) r.count };
 }
 
 impl JobRun {
-    /// The run of a start before its first instruction, which is at the address of the start's entry. The code must have that entry.
-    pub fn new(code: &Code, start: &JobStart) -> JobRun
-        requires { start.now.job.entry < length code.now.entries }
-        ensures { result ≡ fresh (slice_index code.now.entries start.now.job.entry) start.now }
+    /// The run of no job, in which jobs may begin one after the other.
+    pub fn idle() -> JobRun
+        ensures { result ≡ idle }
     {
-        let address = code.entries.as_slice()[start.job.entry as usize];
         JobRun {
-            address: address as usize,
+            address: 0,
             registers: [0; 16],
             locals: [0; 50],
             outgoing: Values::new(),
             frames: Frames::new(),
             made: 0,
-            given: eight_of(start.job.values.as_slice()),
+            given: [0; 8],
             answers: [0; 8],
-            sends: Outbox::new(),
-            chain: start.chain.copy(),
-            forlopp: start.job.forlopp,
+            forlopp: 0,
             count: 0,
             point: 0,
-            over: None,
+            done: JobDone {
+                sends: Outbox::new(),
+                chain: Chain::new(),
+                outcome: Outcome::Ended,
+            },
+            over: false,
         }
+    }
+
+    /// The run of a start before its first instruction, which is at the address of the start's entry. The code must have that entry.
+    pub fn new(code: &Code, start: &JobStart) -> JobRun
+        requires { start.now.job.entry < length code.now.entries }
+        ensures { result ≡ fresh (slice_index code.now.entries start.now.job.entry) start.now }
+    {
+        let mut run = JobRun::idle();
+        run.begin(code, start);
+        run
+    }
+
+    /// Begins anew in its place with another start, as `new` does.
+    pub fn begin(&mut self, code: &Code, start: &JobStart)
+        requires { start.now.job.entry < length code.now.entries }
+        ensures { self.new ≡ fresh (slice_index code.now.entries start.now.job.entry) start.now }
+    {
+        self.over = false;
+        self.address = code.entries.as_slice()[start.job.entry as usize] as usize;
+        self.registers = [0; 16];
+        self.locals = [0; 50];
+        self.outgoing = Values::new();
+        self.frames.clear();
+        self.made = 0;
+        self.given = eight_of(start.job.values.as_slice());
+        self.answers = [0; 8];
+        self.forlopp = start.job.forlopp;
+        self.count = 0;
+        self.point = 0;
+        self.done.sends.clear();
+        self.done.chain.copy_from(&start.chain);
     }
 
     /// Whether the job has ended.
     pub fn ended(&self) -> bool
         ensures { result ≡ is_some self.now.over }
     {
-        self.over.is_some()
+        self.over
     }
 
     /// How many instructions were made so far, modulo 2^64.
@@ -98,6 +129,20 @@ impl JobRun {
         ensures { result ≡ self.now.made }
     {
         self.made
+    }
+
+    /// The address of the next instruction.
+    pub fn address(&self) -> usize
+        ensures { result ≡ self.now.pc }
+    {
+        self.address
+    }
+
+    /// The outgoing values so far.
+    pub fn outgoing(&self) -> &[u32]
+        ensures { result.now ≡ self.now.out }
+    {
+        self.outgoing.as_slice()
     }
 
     /// The next instruction, whose address must be in the code.
@@ -116,12 +161,17 @@ impl JobRun {
         ensures chain { result.chain ≡ self.own.chain }
         ensures outcome { Some result.outcome ≡ self.over }
     {
-        let outcome = self.over.unwrap();
-        JobDone {
-            sends: self.sends,
-            chain: self.chain,
-            outcome,
-        }
+        self.done
+    }
+
+    /// What the job leaves, lent. It must have ended.
+    pub fn done(&self) -> &JobDone
+        requires { IsSome self.now.over }
+        ensures sends { result.now.sends ≡ self.now.own.sends }
+        ensures chain { result.now.chain ≡ self.now.own.chain }
+        ensures outcome { Some result.now.outcome ≡ self.now.over }
+    {
+        &self.done
     }
 }
 

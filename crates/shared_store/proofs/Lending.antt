@@ -1,5 +1,6 @@
 -- A new loan, and one that comes back, keep the rule.
 use Rattle.std.proofs.Common.{◌≡◌, ◌≢◌, ℕ, ◌+◌, ◌<◌, ◌^◌, true, false, [], ◌∷◌, ◌++◌, length, get_or, set, sym, refl, ap, ◌∙◌, subst, ⊎_elim, arith}
+use Rattle.std.proofs.lemmas.Bool.{cases_Bool, or_parts}
 use mathlib.Core.Logic.{dite}
 use mathlib.Core.Option.{some}
 use native.Mathlib.Decide.{ℕ_discrete}
@@ -15,9 +16,9 @@ use Rattle.shared_store.specs.declared.view.View.{View}
 use Rattle.shared_store.specs.declared.view.View.TheVariants.{Root, Loan, Spent}
 use Rattle.shared_store.specs.Loans.{Has, lent_out, without, lent, lender, borrower, current, taken_back, FitsBeside}
 use Rattle.shared_store.specs.Rule.{Holds, Listing, Seats, Words, Lending, cut_left, cut_right, both}
-use Rattle.machine_code.proofs.Touched.{length-stored}
-use Rattle.shared_store.proofs.Touched.{either_way, not_both, written_touched, stored_agree, stored_else, stored_small}
-use Rattle.shared_store.proofs.Loaned.{or_rest, lent_out_none, lent_out_all, fresh_above, kept_out, kept_in, Differ-without, Apart-sym}
+use Rattle.job_types.proofs.Touched.{length-stored}
+use Rattle.shared_store.proofs.Touched.{not_both, written_touched, stored_agree, stored_else, stored_small}
+use Rattle.shared_store.proofs.Loaned.{lent_out_none, lent_out_all, fresh_above, kept_out, kept_in, Differ-without, Apart-sym}
 use Rattle.shared_store.proofs.Views.{same_root}
 use Rattle.shared_store.proofs.RootSeats.{lent_was, seated_more, held_before, stayed, seated_fewer}
 
@@ -55,9 +56,9 @@ cuts id t v start permit is fits s r at =
             (λ (c : (j ≡ length (set s.views id (Root t'))) × (h ≡ i)). subst (λ (z : Hold). get_or s.words (u + 1) 0 ≡ get_or (current z) u 0) c.1
             (k.others u (lent_out_all t.loans u (λ a s. ⊎_elim
             (λ (wr : may_write a.permit u ≡ true). absurd (not_both (may_read permit u) (written_touched permit u (subst (λ (z : Hold). may_write z.lent.permit u ≡ true) (sym c.1) uw)) ((fits a s u).0 wr)))
-            (λ (f : may_write a.permit u ≡ false). f) (either_way (may_write a.permit u)))) lt))
+            (λ (f : may_write a.permit u ≡ false). f) (cases_Bool (may_write a.permit u)))) lt))
             (lent_was s.views id t t' q here h refl above tt j i e);
-        others = λ u out lt. k.others u (or_rest (may_write permit u) (lent_out t.loans u) out) lt;
+        others = λ u out lt. k.others u (or_parts (may_write permit u) (lent_out t.loans u) out).1 lt;
       };
     }
 
@@ -74,7 +75,7 @@ rejoins id t v other h u is is' s r at ne at' =
     let before : Holds s.views other h = held_before s.views id t t' q here h other ne held refl in
     let has' : Has t.loans h.lent = q.listed other h before in let sound' = q.sound other h before in let p : Permit = h.lent.permit in
     let apart : (a : Lent) (w : ℕ) → Has t.loans a → a.number ≢ n → may_read a.permit w ≡ true → may_write p w ≡ false = λ a w s d touch.
-    ⊎_elim (λ (wr : may_write p w ≡ true). absurd (not_both (may_read a.permit w) touch ((g.apart a h.lent s has' d w).1 wr))) (λ (f : may_write p w ≡ false). f) (either_way (may_write p w)) in
+    ⊎_elim (λ (wr : may_write p w ≡ true). absurd (not_both (may_read a.permit w) touch ((g.apart a h.lent s has' d w).1 wr))) (λ (f : may_write p w ≡ false). f) (cases_Bool (may_write p w)) in
     subst (λ (z : View). Lending record { words = s.words; homes = s.homes; views = set (set s.views id z) other Spent }) (sym goes) record {
       top = t';
       listing = record {
@@ -99,6 +100,6 @@ rejoins id t v other h u is is' s r at ne at' =
             (λ (e : a.number ≡ n). subst (λ (z : Lent). may_write z.permit w ≡ false) (sym (g.distinct a h.lent s has' e)) f)
             (λ (d : a.number ≢ n). lent_out_none (without n t.loans) a w (kept_in n t.loans a s d) out))) lt'
             ∙ sym (stored_else p h.touches h.lent.base t.values w sound' f))
-            (either_way (may_write p w));
+            (cases_Bool (may_write p w));
       };
     }

@@ -1,11 +1,12 @@
 -- What the seat of one loan may rely on, and what its step leaves behind.
 use Rattle.std.proofs.Common.{◌≡◌, ◌≢◌, ℕ, ◌+◌, ◌<◌, ◌^◌, true, false, List, [], ◌∷◌, ◌++◌, length, get_or, set, sym, refl, ap, ◌∙◌, subst, ⊎_elim, arith, length-set, get_or-set_same, get_or-set_other}
+use Rattle.std.proofs.lemmas.Bool.{cases_Bool}
 use mathlib.Core.Logic.{dite}
 use mathlib.Core.Option.{some}
 use native.Mathlib.Decide.{ℕ_discrete}
 use lib.ListN.{get_elem?}
 use Rattle.atomic_table.proofs.Lists.{at_set, set_else}
-use Rattle.machine_code.specs.declared.permit.Touch.TheVariants.{Load, Store}
+use Rattle.job_types.specs.declared.touch.Touch.TheVariants.{Load, Store}
 use Rattle.machine_code.specs.Permits.{may_write, may_read}
 use Rattle.shared_store.specs.Sound.{Sound}
 use Rattle.shared_store.specs.declared.view.Lent.{Lent}
@@ -16,8 +17,8 @@ use Rattle.shared_store.specs.declared.view.View.TheVariants.{Root, Loan}
 use Rattle.shared_store.specs.Loans.{Has, lent_out, current, touched}
 use Rattle.shared_store.specs.Seats.{hold_of}
 use Rattle.shared_store.specs.Rule.{Holds, Listing, Seats, Words}
-use Rattle.machine_code.proofs.Touched.{length-stored}
-use Rattle.shared_store.proofs.Touched.{either_way, not_both, written_touched, set_small, stored-snoc, stored_else, Sound-snoc}
+use Rattle.job_types.proofs.Touched.{length-stored}
+use Rattle.shared_store.proofs.Touched.{not_both, written_touched, set_small, stored-snoc, stored_else, Sound-snoc}
 use Rattle.shared_store.proofs.Loaned.{lent_out_none, lent_out_all}
 use Rattle.shared_store.proofs.Views.{same_loan, loan-not-root, set_at}
 
@@ -63,7 +64,7 @@ module _ (t : Top) (views : List View) (words : List ℕ) (r : Listing t) (q : S
   only_read w touch out = lent_out_all t.loans w (λ l s. dite (ℕ_discrete l.number h.lent.number)
       (λ (e : l.number ≡ h.lent.number). subst (λ (z : Lent). may_write z.permit w ≡ false) (sym (r.distinct l h.lent s has e)) out)
       (λ (ne : l.number ≢ h.lent.number). ⊎_elim (λ (wr : may_write l.permit w ≡ true). absurd (not_both (may_read h.lent.permit w) touch ((r.apart l h.lent s has ne w).0 wr)))
-      (λ (f : may_write l.permit w ≡ false). f) (either_way (may_write l.permit w))))
+      (λ (f : may_write l.permit w ≡ false). f) (cases_Bool (may_write l.permit w))))
 
   pub long : length (current h) ≡ length t.values
   long = length-stored h.touches h.lent.base ∙ r.long h.lent has
@@ -73,7 +74,7 @@ module _ (t : Top) (views : List View) (words : List ℕ) (r : Listing t) (q : S
   found w touch lt = ⊎_elim (λ (wr : may_write h.lent.permit w ≡ true). k.mine id h at w wr lt)
       (λ (out : may_write h.lent.permit w ≡ false). k.others w (only_read w touch out) lt
       ∙ (sym (r.based h.lent has w touch) ∙ sym (stored_else h.lent.permit h.touches h.lent.base h.lent.base w (q.sound id h at) out)))
-      (either_way (may_write h.lent.permit w))
+      (cases_Bool (may_write h.lent.permit w))
 
   pub loaded_sound : (w : ℕ) → may_read h.lent.permit w ≡ true → w < length t.values → Sound h.lent.permit h.lent.base (h.touches ++ Load w (get_or words (w + 1) 0) ∷ [])
   loaded_sound w touch lt = let wide = long in Sound-snoc h.lent.permit h.touches h.lent.base (Load w (get_or words (w + 1) 0)) (q.sound id h at)

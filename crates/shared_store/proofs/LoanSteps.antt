@@ -3,7 +3,7 @@ use Rattle.std.proofs.Common.{◌≡◌, ℕ, ◌+◌, ◌<◌, ◌^◌, true, L
 use mathlib.Core.Option.{none, some}
 use lib.Seq.{set-get_or}
 use Rattle.atomic_table.specs.Table.{step, keeps, Allows}
-use Rattle.machine_code.specs.declared.permit.Touch.TheVariants.{Load, Store}
+use Rattle.job_types.specs.declared.touch.Touch.TheVariants.{Load, Store}
 use Rattle.machine_code.specs.Permits.{may_write, may_read}
 use Rattle.shared_store.specs.declared.view.Hold.{Hold}
 use Rattle.shared_store.specs.declared.view.View.{View}

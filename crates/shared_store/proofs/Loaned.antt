@@ -1,42 +1,30 @@
 -- The root's list of loans.
-use Rattle.std.proofs.Common.{◌≡◌, ◌≢◌, ℕ, ◌<◌, Bool, true, false, ◌||◌, List, [], ◌∷◌, sym, refl, ap, ◌∙◌, subst, inl, inr, ⊎_elim, arith, eq-eqb, ne_eqb, if◌then◌else◌}
+use Rattle.std.proofs.Common.{◌≡◌, ◌≢◌, ℕ, ◌<◌, Bool, false, List, [], ◌∷◌, sym, refl, ap, ◌∙◌, subst, inl, inr, ⊎_elim, arith, eq-eqb, ne_eqb, if◌then◌else◌}
+use Rattle.std.proofs.lemmas.Bool.{or_parts, or_from}
 use mathlib.Core.Logic.{dite}
 use native.Mathlib.Decide.{ℕ_discrete}
 use Rattle.machine_code.specs.declared.permit.Permit.{Permit}
 use Rattle.machine_code.specs.Permits.{may_write, may_read, Apart}
 use Rattle.shared_store.specs.declared.view.Lent.{Lent}
 use Rattle.shared_store.specs.Loans.{Has, Differ, lent_out, seen_by, fresh, without}
-use Rattle.shared_store.proofs.Touched.{not_both}
-
-or_left : (a b : Bool) → (a || b) ≡ false → a ≡ false
-or_left true b e = e
-or_left false b e = refl
-
-pub or_rest : (a b : Bool) → (a || b) ≡ false → b ≡ false
-or_rest true b e = absurd (not_both true refl e)
-or_rest false b e = e
-
-or_false : (a b : Bool) → a ≡ false → b ≡ false → (a || b) ≡ false
-or_false true b e f = e
-or_false false b e f = f
 
 pub lent_out_none : (ls : List Lent) (l : Lent) (w : ℕ) → Has ls l → lent_out ls w ≡ false → may_write l.permit w ≡ false
 lent_out_none [] l w h e = absurd h
-lent_out_none (x ∷ xs) l w h e = ⊎_elim (λ (s : x ≡ l). subst (λ (z : Lent). may_write z.permit w ≡ false) s (or_left (may_write x.permit w) (lent_out xs w) e))
-    (λ (s : Has xs l). lent_out_none xs l w s (or_rest (may_write x.permit w) (lent_out xs w) e)) h
+lent_out_none (x ∷ xs) l w h e = ⊎_elim (λ (s : x ≡ l). subst (λ (z : Lent). may_write z.permit w ≡ false) s (or_parts (may_write x.permit w) (lent_out xs w) e).0)
+    (λ (s : Has xs l). lent_out_none xs l w s (or_parts (may_write x.permit w) (lent_out xs w) e).1) h
 
 pub lent_out_all : (ls : List Lent) (w : ℕ) → ((l : Lent) → Has ls l → may_write l.permit w ≡ false) → lent_out ls w ≡ false
 lent_out_all [] w h = refl
-lent_out_all (x ∷ xs) w h = or_false (may_write x.permit w) (lent_out xs w) (h x (inl refl)) (lent_out_all xs w (λ l s. h l (inr s)))
+lent_out_all (x ∷ xs) w h = or_from (may_write x.permit w) (lent_out xs w) (h x (inl refl)) (lent_out_all xs w (λ l s. h l (inr s)))
 
 pub seen_by_none : (ls : List Lent) (l : Lent) (w : ℕ) → Has ls l → seen_by ls w ≡ false → may_read l.permit w ≡ false
 seen_by_none [] l w h e = absurd h
-seen_by_none (x ∷ xs) l w h e = ⊎_elim (λ (s : x ≡ l). subst (λ (z : Lent). may_read z.permit w ≡ false) s (or_left (may_read x.permit w) (seen_by xs w) e))
-    (λ (s : Has xs l). seen_by_none xs l w s (or_rest (may_read x.permit w) (seen_by xs w) e)) h
+seen_by_none (x ∷ xs) l w h e = ⊎_elim (λ (s : x ≡ l). subst (λ (z : Lent). may_read z.permit w ≡ false) s (or_parts (may_read x.permit w) (seen_by xs w) e).0)
+    (λ (s : Has xs l). seen_by_none xs l w s (or_parts (may_read x.permit w) (seen_by xs w) e).1) h
 
 pub seen_by_all : (ls : List Lent) (w : ℕ) → ((l : Lent) → Has ls l → may_read l.permit w ≡ false) → seen_by ls w ≡ false
 seen_by_all [] w h = refl
-seen_by_all (x ∷ xs) w h = or_false (may_read x.permit w) (seen_by xs w) (h x (inl refl)) (seen_by_all xs w (λ l s. h l (inr s)))
+seen_by_all (x ∷ xs) w h = or_from (may_read x.permit w) (seen_by xs w) (h x (inl refl)) (seen_by_all xs w (λ l s. h l (inr s)))
 
 pub fresh_above : (ls : List Lent) (l : Lent) → Has ls l → l.number < fresh ls
 fresh_above [] l h = absurd h

@@ -1,26 +1,19 @@
 -- The permits that the tests lend.
-use Rattle.std.proofs.Common.{◌≡◌, ◌≢◌, ◌⊎◌, ℕ, ◌+◌, ◌*◌, Bool, true, false, ◌||◌, List, [], length, refl, sym, ap, ◌∙◌, subst, inl, inr, ⊎_elim, arith, lit<}
+use Rattle.std.proofs.Common.{◌≡◌, ◌≢◌, ◌⊎◌, ℕ, ◌+◌, ◌*◌, true, false, ◌||◌, List, [], length, sym, ap, ◌∙◌, subst, inl, inr, ⊎_elim, arith, lit<}
+use Rattle.std.proofs.lemmas.Bool.{cases_Bool, or_cases, or_left}
 use Rattle.job_types.specs.declared.job.JobStart.{JobStart}
 use Rattle.machine_code.specs.declared.permit.Permit.{Permit}
 use Rattle.machine_code.specs.Permits.{spans, may_write, may_read, Apart}
 use Rattle.machine_code.proofs.Spanned.{spans_in, spans_out}
-use Rattle.machine_code.proofs.Touched.{length-stored}
+use Rattle.job_types.proofs.Touched.{length-stored}
 use Rattle.shared_store.specs.declared.view.Lent.{Lent}
 use Rattle.shared_store.specs.declared.view.Top.{Top}
 use Rattle.shared_store.specs.declared.view.Hold.{Hold}
 use Rattle.shared_store.specs.Loans.{Has, lent, lender, taken_back, FitsBeside}
 use Rattle.shared_store.specs.Seats.{StoreId, RootView}
 use Rattle.shared_store.specs.TestPermits.{alone, adding, reading, AllReading}
-use Rattle.shared_store.proofs.Touched.{either_way, written_touched}
+use Rattle.shared_store.proofs.Touched.{written_touched}
 use Rattle.shared_store.proofs.Loaned.{kept_out}
-
-or_either : (a b : Bool) → (a || b) ≡ true → (a ≡ true) ⊎ (b ≡ true)
-or_either true b e = inl refl
-or_either false b e = inr e
-
-or_first : (a b : Bool) → a ≡ true → (a || b) ≡ true
-or_first true b e = refl
-or_first false b e = let n : false ≡ true = e in cc
 
 no-false : false ≡ true → ⊥
 no-false e = cc
@@ -33,29 +26,29 @@ alone_out w u e = let o = spans_out (alone w) u e in omega (arith, o.1, o.2)
 
 -- the last of a list of spans
 one_out : (w u : ℕ) → (spans (alone w) u || false) ≡ true → w ≡ u
-one_out w u e = ⊎_elim (λ (h : spans (alone w) u ≡ true). alone_out w u h) (λ (h : false ≡ true). absurd (no-false h)) (or_either (spans (alone w) u) false e)
+one_out w u e = ⊎_elim (λ (h : spans (alone w) u ≡ true). alone_out w u h) (λ (h : false ≡ true). absurd (no-false h)) (or_cases (spans (alone w) u) false e)
 
 adding_writes : (step own u : ℕ) → may_write (adding step own) u ≡ true → own ≡ u
 adding_writes step own u e = one_out own u e
 
 adding_reads : (step own u : ℕ) → may_read (adding step own) u ≡ true → (step ≡ u) ⊎ (own ≡ u)
-adding_reads step own u e = ⊎_elim (λ h. inl (one_out step u h)) (λ h. inr (one_out own u h)) (or_either (spans (alone step) u || false) (may_write (adding step own) u) e)
+adding_reads step own u e = ⊎_elim (λ h. inl (one_out step u h)) (λ h. inr (one_out own u h)) (or_cases (spans (alone step) u || false) (may_write (adding step own) u) e)
 
 pub adding_own : (p : Permit) (step own : ℕ) → p ≡ adding step own → may_write p own ≡ true
-adding_own p step own e = subst (λ (q : Permit). may_write q own ≡ true) (sym e) (or_first (spans (alone own) own) false (alone_in own))
+adding_own p step own e = subst (λ (q : Permit). may_write q own ≡ true) (sym e) (or_left (spans (alone own) own) false (alone_in own))
 
 pub adding_own_read : (p : Permit) (step own : ℕ) → p ≡ adding step own → may_read p own ≡ true
 adding_own_read p step own e = written_touched p own (adding_own p step own e)
 
 pub adding_step : (p : Permit) (step own : ℕ) → p ≡ adding step own → may_read p step ≡ true
-adding_step p step own e = subst (λ (q : Permit). may_read q step ≡ true) (sym e) (or_first (spans (alone step) step || false) _ (or_first (spans (alone step) step) false (alone_in step)))
+adding_step p step own e = subst (λ (q : Permit). may_read q step ≡ true) (sym e) (or_left (spans (alone step) step || false) _ (or_left (spans (alone step) step) false (alone_in step)))
 
 pub reading_reads : (p : Permit) (w : ℕ) → p ≡ reading w → may_read p w ≡ true
-reading_reads p w e = subst (λ (q : Permit). may_read q w ≡ true) (sym e) (or_first (spans (alone w) w || false) _ (or_first (spans (alone w) w) false (alone_in w)))
+reading_reads p w e = subst (λ (q : Permit). may_read q w ≡ true) (sym e) (or_left (spans (alone w) w || false) _ (or_left (spans (alone w) w) false (alone_in w)))
 
 keeps_off : (step own other : ℕ) → own ≢ step → own ≢ other → (u : ℕ) → may_write (adding step own) u ≡ true → may_read (adding step other) u ≡ false
 keeps_off step own other s o u e = let is = adding_writes step own u e in
-    ⊎_elim (λ (t : may_read (adding step other) u ≡ true). absurd (⊎_elim (λ (d : step ≡ u). s (is ∙ sym d)) (λ (d : other ≡ u). o (is ∙ sym d)) (adding_reads step other u t))) (λ f. f) (either_way (may_read (adding step other) u))
+    ⊎_elim (λ (t : may_read (adding step other) u ≡ true). absurd (⊎_elim (λ (d : step ≡ u). s (is ∙ sym d)) (λ (d : other ≡ u). o (is ∙ sym d)) (adding_reads step other u t))) (λ f. f) (cases_Bool (may_read (adding step other) u))
 
 -- two jobs that add one word to different ones do not meet
 pub adding_apart : (p q : Permit) (step own other : ℕ) → p ≡ adding step own → q ≡ adding step other → own ≢ step → other ≢ step → own ≢ other → Apart p q

@@ -1,23 +1,17 @@
 -- What a list of touches leaves in the words.
-use Rattle.std.proofs.Common.{◌≡◌, ◌⊎◌, ℕ, zero, suc, ◌<◌, ◌^◌, Bool, true, false, ◌||◌, List, [], ◌∷◌, ◌++◌, length, get_or, set, sym, refl, ◌∙◌, subst, inl, inr, arith, length-set, get_or-set_other}
+use Rattle.std.proofs.Common.{◌≡◌, ℕ, zero, suc, ◌<◌, ◌^◌, Bool, true, false, List, [], ◌∷◌, ◌++◌, length, get_or, set, sym, refl, ◌∙◌, subst, arith, length-set, get_or-set_other}
+use Rattle.std.proofs.lemmas.Bool.{or_right, true≢false}
 use Rattle.machine_code.specs.declared.permit.Permit.{Permit}
-use Rattle.machine_code.specs.declared.permit.Touch.{Touch}
-use Rattle.machine_code.specs.declared.permit.Touch.TheVariants.{Load, Store}
+use Rattle.job_types.specs.declared.touch.Touch.{Touch}
+use Rattle.job_types.specs.declared.touch.Touch.TheVariants.{Load, Store}
 use Rattle.machine_code.specs.Permits.{may_write, may_read}
 use Rattle.shared_store.specs.Sound.{Sound}
-use Rattle.machine_code.specs.Touches.{stored}
-use Rattle.machine_code.proofs.Touched.{stored-append}
+use Rattle.job_types.specs.Touches.{stored}
+use Rattle.job_types.proofs.Touched.{stored-append}
 
-pub either_way : (b : Bool) → (b ≡ true) ⊎ (b ≡ false)
-either_way true = inl refl
-either_way false = inr refl
-
+-- a test does not answer both
 pub not_both : (b : Bool) → b ≡ true → b ≡ false → ⊥
-not_both b t f = let e : true ≡ false = sym t ∙ f in cc
-
-or_right : (a b : Bool) → b ≡ true → (a || b) ≡ true
-or_right true b e = refl
-or_right false b e = e
+not_both b t f = true≢false (sym t ∙ f)
 
 pub written_touched : (p : Permit) (w : ℕ) → may_write p w ≡ true → may_read p w ≡ true
 written_touched p w e = or_right _ (may_write p w) e

@@ -2,12 +2,12 @@
 --
 -- A loan is told from the others by its number. The root has the newest loan first, which nobody relies on. What
 -- a seat sees is a list of values again, so that a run over the seat starts from one and ends in one.
-use Rattle.std.specs.Prelude.{◌≡◌, ◌≢◌, ◌⊎◌, ℕ, suc, ◌+◌, Bool, false, ◌==◌, ◌||◌, if◌then◌else◌, List, [], ◌∷◌, ◌++◌}
+use Rattle.std.specs.Prelude.{◌≡◌, ◌≢◌, ◌⊎◌, ℕ, suc, ◌+◌, Bool, false, ◌==◌, ◌||◌, if◌then◌else◌, List, [], ◌∷◌, ◌++◌, slice_set}
 use Rattle.job_types.specs.declared.job.JobStart.{JobStart}
 use Rattle.machine_code.specs.declared.permit.Permit.{Permit}
-use Rattle.machine_code.specs.declared.permit.Touch.{Touch}
+use Rattle.job_types.specs.declared.touch.Touch.{Touch}
 use Rattle.machine_code.specs.Permits.{may_write, may_read, Apart}
-use Rattle.machine_code.specs.Touches.{stored}
+use Rattle.job_types.specs.Touches.{stored}
 use Rattle.shared_store.specs.declared.view.Lent.{Lent}
 use Rattle.shared_store.specs.declared.view.Top.{Top}
 use Rattle.shared_store.specs.declared.view.Hold.{Hold}
@@ -48,7 +48,12 @@ unlent values = record { values = values; loans = [] }
 
 -- a new loan of this start and permit; its base values are the root's
 abbrev pub lent : Top → JobStart → Permit → Lent
-lent t start permit = record { number = fresh t.loans; start = start; permit = permit; base = t.values }
+lent t start permit = record {
+  number = fresh t.loans;
+  start = start;
+  permit = permit;
+  base = t.values;
+}
 
 -- the root after that loan
 abbrev pub lender : JobStart → Permit → Top → Top
@@ -68,7 +73,14 @@ touched h t = record h { touches = h.touches ++ t ∷ [] }
 
 -- the root after the loan has come back: it has the last stored values, and that loan no more
 abbrev pub taken_back : Top → Hold → Top
-taken_back t h = record { values = stored t.values h.touches; loans = without h.lent.number t.loans }
+taken_back t h = record {
+  values = stored t.values h.touches;
+  loans = without h.lent.number t.loans;
+}
+
+-- the root after it gave a word this value
+abbrev pub with_value : Top → ℕ → ℕ → Top
+with_value t w v = record t { values = slice_set t.values w v }
 
 -- no word that a loan of the list may write is in the permit, and none that the permit lets be written is in a loan's
 abbrev pub FitsBeside : List Lent → Permit → Type 0

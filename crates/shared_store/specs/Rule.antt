@@ -3,13 +3,13 @@
 -- The words are a table of one word more than there are cells: the cell w is the table's word w + 1. The rule is
 -- in three parts: of the root's list alone, of the list and the seats, and of the words. A seat that was joined
 -- into the root is `Spent`, and the rule says nothing of it.
-use Rattle.std.specs.Prelude.{◌≡◌, ◌≢◌, ℕ, ◌+◌, ◌<◌, ◌^◌, true, false, List, length, slice_index, slice_set}
+use Rattle.std.specs.Prelude.{◌≡◌, ◌≢◌, ℕ, ◌+◌, ◌<◌, ◌^◌, true, false, List, length, slice_index}
 use mathlib.Core.Option.{some}
 use lib.ListN.{get_elem?}
 use Rattle.atomic_table.specs.Table.{State, Me, Step}
 use Rattle.job_types.specs.declared.job.JobStart.{JobStart}
 use Rattle.machine_code.specs.declared.permit.Permit.{Permit}
-use Rattle.machine_code.specs.declared.permit.Touch.TheVariants.{Load, Store}
+use Rattle.job_types.specs.declared.touch.Touch.TheVariants.{Load, Store}
 use Rattle.machine_code.specs.Permits.{may_write, may_read, Apart}
 use Rattle.shared_store.specs.declared.view.Lent.{Lent}
 use Rattle.shared_store.specs.declared.view.Top.{Top}
@@ -17,7 +17,7 @@ use Rattle.shared_store.specs.declared.view.Hold.{Hold}
 use Rattle.shared_store.specs.declared.view.View.{View}
 use Rattle.shared_store.specs.declared.view.View.TheVariants.{Root, Loan, Spent}
 use Rattle.shared_store.specs.Sound.{Sound}
-use Rattle.shared_store.specs.Loans.{Has, Differ, lent_out, lender, borrower, current, touched, taken_back}
+use Rattle.shared_store.specs.Loans.{Has, Differ, lent_out, lender, borrower, current, touched, taken_back, with_value}
 
 -- a table as the rule sees it: its words and the views of its seats
 abbrev pub St : Type 0
@@ -36,9 +36,11 @@ Holds views j h = get_elem? views j ≡ some (Loan h)
 pub record Listing (t : Top) : Type 0 where
   pub differ : Differ t.loans
   pub distinct : (a b : Lent) → Has t.loans a → Has t.loans b → a.number ≡ b.number → a ≡ b
-  pub apart : (a b : Lent) → Has t.loans a → Has t.loans b → a.number ≢ b.number → Apart a.permit b.permit
+  pub apart : (a b : Lent) → Has t.loans a → Has t.loans b → a.number ≢ b.number
+      → Apart a.permit b.permit
   pub long : (a : Lent) → Has t.loans a → length a.base ≡ length t.values
-  pub based : (a : Lent) → Has t.loans a → (w : ℕ) → may_read a.permit w ≡ true → slice_index a.base w ≡ slice_index t.values w
+  pub based : (a : Lent) → Has t.loans a → (w : ℕ) → may_read a.permit w ≡ true
+      → slice_index a.base w ≡ slice_index t.values w
   pub small : (w : ℕ) → slice_index t.values w < 2 ^ 32
   pub small_base : (a : Lent) → Has t.loans a → (w : ℕ) → slice_index a.base w < 2 ^ 32
 
@@ -49,7 +51,8 @@ pub record Seats (t : Top) (views : List View) : Type 0 where
   pub at_root : get_elem? views root ≡ some (Root t)
   pub one_root : (j : ℕ) (u : Top) → get_elem? views j ≡ some (Root u) → j ≡ root
   pub listed : (j : ℕ) (h : Hold) → Holds views j h → Has t.loans h.lent
-  pub alone : (j k : ℕ) (h i : Hold) → Holds views j h → Holds views k i → h.lent.number ≡ i.lent.number → j ≡ k
+  pub alone : (j k : ℕ) (h i : Hold) → Holds views j h → Holds views k i
+      → h.lent.number ≡ i.lent.number → j ≡ k
   pub live : (a : Lent) → Has t.loans a → (j : ℕ) × (h : Hold) × Holds views j h × (h.lent ≡ a)
   pub sound : (j : ℕ) (h : Hold) → Holds views j h → Sound h.lent.permit h.lent.base h.touches
 
@@ -59,8 +62,10 @@ pub record Words (t : Top) (views : List View) (words : List ℕ) : Type 0 where
   pub wide : length words ≡ length t.values + 1
   pub first : slice_index words 0 ≡ 0
   pub fit : (i : ℕ) → slice_index words i < 2 ^ 32
-  pub mine : (j : ℕ) (h : Hold) → Holds views j h → (w : ℕ) → may_write h.lent.permit w ≡ true → w < length t.values → slice_index words (w + 1) ≡ slice_index (current h) w
-  pub others : (w : ℕ) → lent_out t.loans w ≡ false → w < length t.values → slice_index words (w + 1) ≡ slice_index t.values w
+  pub mine : (j : ℕ) (h : Hold) → Holds views j h → (w : ℕ) → may_write h.lent.permit w ≡ true
+      → w < length t.values → slice_index words (w + 1) ≡ slice_index (current h) w
+  pub others : (w : ℕ) → lent_out t.loans w ≡ false → w < length t.values
+      → slice_index words (w + 1) ≡ slice_index t.values w
 
 -- the rule
 pub record Lending (s : St) : Type 0 where
@@ -76,15 +81,18 @@ looked st m n m' = (h : Hold) (w : ℕ) → m.0 ≡ Loan h → st.word ≡ w + 1
 
 -- a loan's store: the seat has one store more
 abbrev pub put : Step (Unit {0}) → Sat → ℕ → Sat → Type 0
-put st m n m' = (h : Hold) (w : ℕ) → m.0 ≡ Loan h → st.word ≡ w + 1 → m' ≡ (Loan (touched h (Store w n)), m.1)
+put st m n m' = (h : Hold) (w : ℕ) → m.0 ≡ Loan h → st.word ≡ w + 1
+    → m' ≡ (Loan (touched h (Store w n)), m.1)
 
 -- the root's load: nothing changes
 abbrev pub root_looked : Step (Unit {0}) → Sat → ℕ → Sat → Type 0
-root_looked st m n m' = (t : Top) (w : ℕ) → m.0 ≡ Root t → st.word ≡ w + 1 → (m' ≡ m) × (n ≡ slice_index t.values w) × (n < 2 ^ 32)
+root_looked st m n m' = (t : Top) (w : ℕ) → m.0 ≡ Root t → st.word ≡ w + 1
+    → (m' ≡ m) × (n ≡ slice_index t.values w) × (n < 2 ^ 32)
 
 -- the root's store: that word alone changes
 abbrev pub root_put : Step (Unit {0}) → Sat → ℕ → Sat → Type 0
-root_put st m n m' = (t : Top) (w : ℕ) → m.0 ≡ Root t → st.word ≡ w + 1 → m' ≡ (Root (record t { values = slice_set t.values w n }), m.1)
+root_put st m n m' = (t : Top) (w : ℕ) → m.0 ≡ Root t → st.word ≡ w + 1
+    → m' ≡ (Root (with_value t w n), m.1)
 
 -- how a loan cuts the root's view in two: what stays with the root, and what the new seat has
 abbrev pub cut_left : JobStart → Permit → View → View

@@ -11,11 +11,14 @@ pub fn a_new_loan_has_a_number_of_its_own()
 
 /// Taking a loan back takes that number from the list, and nothing else.
 pub fn one_loan_ends_alone()
-    ensures { (n : ℕ) (ls : List Lent) (l : Lent) → Has (without n ls) l ↔ (Has ls l × (l.number ≢ n)) }
+    ensures { (n : ℕ) (ls : List Lent) (l : Lent) →
+        Has (without n ls) l ↔ (Has ls l × (l.number ≢ n)) }
 {}
 
 /// The root may read a word exactly where no loan's permit lets it be written, and store it exactly where none lets it be read or written.
 pub fn the_root_may_touch_what_no_loan_may()
-    ensures read { (ls : List Lent) (w : ℕ) → (lent_out ls w ≡ false) ↔ ((l : Lent) → Has ls l → may_write l.permit w ≡ false) }
-    ensures store { (ls : List Lent) (w : ℕ) → (seen_by ls w ≡ false) ↔ ((l : Lent) → Has ls l → may_read l.permit w ≡ false) }
+    ensures read { (ls : List Lent) (w : ℕ) →
+        (lent_out ls w ≡ false) ↔ ((l : Lent) → Has ls l → may_write l.permit w ≡ false) }
+    ensures store { (ls : List Lent) (w : ℕ) →
+        (seen_by ls w ≡ false) ↔ ((l : Lent) → Has ls l → may_read l.permit w ≡ false) }
 {}

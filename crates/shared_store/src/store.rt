@@ -1,7 +1,7 @@
-ghost use Rattle.std.specs.Prelude.{◌≡◌, ℕ, ◌<◌, ◌^◌, true, false, ◌∷◌, length, slice_index, slice_set, IfOk};
+ghost use Rattle.std.specs.Prelude.{◌≡◌, ℕ, ◌<◌, ◌^◌, true, false, ◌∷◌, length, slice_index, IfOk};
 ghost use Rattle.machine_code.specs.Permits.{may_read, may_write};
-ghost use Rattle.machine_code.specs.declared.permit.Touch.TheVariants.{Load, Store};
-ghost use Rattle.shared_store.specs.Loans.{current, touched, lender, borrower, taken_back, lent_out, seen_by, FitsBeside, unlent};
+ghost use Rattle.job_types.specs.declared.touch.Touch.TheVariants.{Load, Store};
+ghost use Rattle.shared_store.specs.Loans.{current, touched, lender, borrower, taken_back, lent_out, seen_by, FitsBeside, unlent, with_value};
 
 use crate::rule::{Cut, Look, Put, Rejoin, RootLook, RootPut, Rule, Terms};
 use crate::seat::{JobSeat, RootSeat};
@@ -120,7 +120,7 @@ impl SharedStore {
         requires store { root.old.0 ≡ self.now }
         requires cell { word < length root.old.1.values }
         requires free { seen_by root.old.1.loans word ≡ false }
-        ensures { root.new ≡ (root.old.0, record root.old.1 { values = slice_set root.old.1.values word value }) }
+        ensures { root.new ≡ (root.old.0, with_value root.old.1 word value) }
     {
         self.table
             .shared
@@ -143,10 +143,10 @@ fn table_row(alloc: Global, words: &[u32]) -> Result<Vec<u64>, AllocError>
     ensures items { IfOk result (λ row. row.items ≡ 0 ∷ words.now) }
     ensures fit { IfOk result (λ row. (k : ℕ) → slice_index words.now k < 2 ^ 32) }
 {
-    let mut row = Vec::new(alloc);
-    row.push(0)?;
+    let mut row = Vec::with_capacity(alloc, words.len() + 1)?;
+    row.push_reserved(0);
     for word in words {
-        row.push(*word as u64)?;
+        row.push_reserved(*word as u64);
     }
     Ok(row)
 }

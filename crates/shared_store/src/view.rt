@@ -1,6 +1,6 @@
 // What a seat knows, as contracts see it. No value of these types is ever made.
-use job_types::JobStart;
-use machine_code::{Permit, Touch};
+use job_types::{JobStart, Touch};
+use machine_code::Permit;
 use plex_num::Seq;
 
 /// A loan, as the root lists it: its number, the start and permit that it was made for, and the root's values when it was made.

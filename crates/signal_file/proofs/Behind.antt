@@ -203,3 +203,6 @@ decides x before (one ∷ front) rest line list f right wrong =
 
 pub first_faulty : (x : Exchange) (front rest : List (List ℕ)) (line : List ℕ) (list : List Line) (f : SignalFault) → lines_behind x [] front ≡ Ok list → added x (before_of front) line ≡ Err f → lines_behind x [] (front ++ line ∷ rest) ≡ Err f
 first_faulty x front rest line list f right wrong = decides x [] front rest line list f right wrong
+
+-- for `search`
+pub ruleset file_read = (read_begin, read_skip, read_more, read_stop, read_end, read_few)

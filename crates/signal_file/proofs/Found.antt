@@ -1,27 +1,23 @@
 -- Signals by their names.
-use Rattle.std.proofs.Common.{◌≡◌, ℕ, zero, suc, ◌≤◌, List, [], ◌∷◌, position, slice_get, Option, Some, None, refl, ap, subst}
+use Rattle.std.proofs.Common.{◌≡◌, ℕ, ◌≤◌, List, position, length, slice_get, Option, Some, None, refl, ap, subst, arith}
 use Rattle.std.specs.List.{AllByRecursion}
+use Rattle.std.proofs.lemmas.List.{length-map}
 use Rattle.std.specs.Str.{bytes_eq}
+use Rattle.plex_limits.specs.declared.limits.TheConstants.{MOST_VALUES}
+use Rattle.plex_num.proofs.Lists.{all_at}
+use Rattle.exchange_model.specs.declared.block.Block.{Block}
 use Rattle.exchange_model.specs.declared.exchange.Exchange.{Exchange}
 use Rattle.exchange_model.specs.declared.signal.SignalKind.{SignalKind}
 use Rattle.exchange_model.specs.declared.signal.SignalKind.TheVariants.{Answer, Buffered, Combined, Direct, Outside}
-use Rattle.exchange_model.specs.Kept.{IsExchange, signal_count}
+use Rattle.exchange_model.specs.Kept.{IsExchange, signal_count, signal_name}
 use Rattle.signal_file.specs.declared.directory.Signal.{Signal}
 use Rattle.signal_file.specs.Form.{with}
 use Rattle.signal_file.specs.Rules.{IsDirectory, block_names, if_buffered, signal_names}
 
-pub at_place : (P : SignalKind → Type 0) (xs : List SignalKind) (i : ℕ) (x : SignalKind) → AllByRecursion P xs → slice_get xs i ≡ Some x → P x
-at_place P [] i x all there = cc
-at_place P (y ∷ xs) zero x all there = subst P (some_same y x there) all.0
-  where
-    some_same : (a b : SignalKind) → Some a ≡ Some b → a ≡ b
-    some_same a b e = cc
-at_place P (y ∷ xs) (suc i) x all there = at_place P xs i x all.1 there
-
-few_values : (xs : List SignalKind) (number : ℕ) (found : Option SignalKind) (signal : Signal) → AllByRecursion (λ s. signal_count s ≤ 8) xs → slice_get xs number ≡ found → if_buffered number found ≡ Some signal → signal.count ≤ 8
+few_values : (xs : List SignalKind) (number : ℕ) (found : Option SignalKind) (signal : Signal) → AllByRecursion (λ s. signal_count s ≤ MOST_VALUES) xs → slice_get xs number ≡ found → if_buffered number found ≡ Some signal → signal.count ≤ MOST_VALUES
 few_values xs number None signal few at is = cc
 few_values xs number (Some (Buffered name level count)) signal few at is =
-    subst (λ (n : ℕ). n ≤ 8) (ap (λ (o : Option Signal). count_in o) is) (at_place (λ s. signal_count s ≤ 8) xs number (Buffered name level count) few at)
+    subst (λ (n : ℕ). n ≤ MOST_VALUES) (ap (λ (o : Option Signal). count_in o) is) (all_at (λ s. signal_count s ≤ MOST_VALUES) xs number (Buffered name level count) few at)
   where
     count_in : Option Signal → ℕ
     count_in None = 0
@@ -31,7 +27,7 @@ few_values xs number (Some (Combined name count answer)) signal few at is = cc
 few_values xs number (Some (Answer name count combined)) signal few at is = cc
 few_values xs number (Some (Outside name count)) signal few at is = cc
 
-few_of : (xs : List SignalKind) (place : Option ℕ) (signal : Signal) → AllByRecursion (λ s. signal_count s ≤ 8) xs → with place (λ number. if_buffered number (slice_get xs number)) ≡ Some signal → signal.count ≤ 8
+few_of : (xs : List SignalKind) (place : Option ℕ) (signal : Signal) → AllByRecursion (λ s. signal_count s ≤ MOST_VALUES) xs → with place (λ number. if_buffered number (slice_get xs number)) ≡ Some signal → signal.count ≤ MOST_VALUES
 few_of xs None signal few is = cc
 few_of xs (Some number) signal few is = few_values xs number (slice_get xs number) signal few refl is
 
@@ -40,4 +36,6 @@ directory x signal_list block_list kept signals blocks = record {
   signals = signals;
   blocks = blocks;
   few = λ name signal is. few_of x.signals (position (bytes_eq name) (signal_names x)) signal kept.signals.values is;
+  few_signals = omega (arith, ap length signals, length-map x.signals signal_name, kept.signals.few);
+  few_blocks = omega (arith, ap length blocks, length-map x.blocks (λ (k : Block). k.name), kept.blocks.few);
 }

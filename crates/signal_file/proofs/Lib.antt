@@ -3,7 +3,6 @@ mod Found
 mod Lined
 mod Meant
 mod Named
-mod Sample
 mod Splits
 mod Tails
 mod Worded

@@ -3,6 +3,7 @@ use Rattle.std.proofs.Common.{◌≡◌, ◌≢◌, ℕ, ◌<◌, ◌≤◌, nat
 use Rattle.std.specs.Prelude.{nat_le}
 use Rattle.std.proofs.lemmas.List.{take_all}
 use Rattle.std.proofs.lemmas.Bool.Decides.{nat_tests}
+use Rattle.plex_limits.specs.declared.limits.TheConstants.{MOST_VALUES}
 use Rattle.exchange_model.specs.declared.exchange.Exchange.{Exchange}
 use Rattle.signal_file.specs.declared.before.Before.{Before}
 use Rattle.signal_file.specs.declared.directory.Directory.{Directory}
@@ -11,7 +12,7 @@ use Rattle.signal_file.specs.declared.fault.SignalFault.{SignalFault}
 use Rattle.signal_file.specs.declared.fault.SignalFault.TheVariants.{BadAs, FallingCount, UnknownBlock, UnknownSignal, WrongData}
 use Rattle.signal_file.specs.declared.form.Said.{Said}
 use Rattle.signal_file.specs.declared.line.Line.{Line}
-use Rattle.signal_file.specs.Form.{IsRead, Saying, most_kept}
+use Rattle.signal_file.specs.Form.{IsRead, Saying}
 use Rattle.signal_file.specs.Rules.{IsDirectory, entry_of, has_origin, meaning, need, need_that, next_number, signal_of}
 
 -- the rules that follow the one on the signal, and so on
@@ -94,8 +95,11 @@ no_origin x b said s signal entry number r n some there same less none =
 -- it keeps all rules
 pub right : (x : Exchange) (d : Directory) (b : Before) (said : Said) (s : Saying) (signal : Signal) (entry number : ℕ) (values : List ℕ) → IsDirectory x d → IsRead s said → number ≡ next_number b → Some signal ≡ signal_of x said.signal.now → Some entry ≡ entry_of x signal.number said.block.now → said.count ≡ signal.count → b.last ≤ said.after → true ≡ has_origin b said.kind → values ≡ said.values → Ok (record { number = number; after = said.after; entry = entry; values = values; kind = said.kind }) ≡ meaning x b s
 right x d b said s signal entry number values dir r n some there same less origin copied =
-    let few : signal.count ≤ 8 = dir.few said.signal.now signal (sym some) in
+    let few : signal.count ≤ MOST_VALUES = dir.few said.signal.now signal (sym some) in
     let counted = r.values.counted in
-    let all : values ≡ s.values = copied ∙ r.values.first ∙ take_all most_kept s.values (omega (arith, few, counted, same)) in
+    let all : values ≡ s.values = copied ∙ r.values.first ∙ take_all MOST_VALUES s.values (omega (arith, few, counted, same)) in
     (λ i. Ok (record { number = n i; after = r.after i; entry = entry; values = all i; kind = r.kind i }))
     ∙ sym (with_count x b said s signal entry r some there same less ∙ ap (λ t. need_that (BadAs (next_number b)) t (after_as x b s entry)) (ap (has_origin b) (sym r.kind) ∙ sym origin))
+
+-- for `search`
+pub ruleset line_meant = (no_signal, no_block, wrong_data, falling, no_origin, right)

@@ -1,9 +1,10 @@
 -- The values at the end of a line, one after the other.
 use Rattle.std.proofs.Common.{◌≡◌, ℕ, ◌+◌, ◌<◌, ◌≤◌, List, [], ◌∷◌, ◌++◌, length, Option, Some, None, refl, sym, ap, subst, ◌∙◌, append_assoc, append-nil, length-append, arith}
 use Rattle.std.proofs.lemmas.List.{take-append-le, take_all}
+use Rattle.plex_limits.specs.declared.limits.TheConstants.{MOST_VALUES}
 use Rattle.plex_num.specs.Number.{number_of}
 use Rattle.signal_file.specs.declared.line.LineKind.{LineKind}
-use Rattle.signal_file.specs.Form.{Closing, IsTail, Keeps, closing, end_or_value, ending, most_kept, one_more, with}
+use Rattle.signal_file.specs.Form.{Closing, IsTail, Keeps, closing, end_or_value, ending, one_more, with}
 
 -- these values stand before the others
 abbrev behind : List ℕ → Option Closing → Option Closing
@@ -62,26 +63,29 @@ unfolding closing
 tail_none ws rest count kept g none = g.so ∙ ap (λ r. behind g.done (closing r)) none
 
 -- one more value is kept where there is room
-pub keep_room : (all kept : List ℕ) (count : ℕ) → Keeps all kept count → count < 8 → kept ≡ all
-keep_room all kept count k room = let n = k.counted in k.first ∙ take_all most_kept all (omega (arith, n))
+pub keep_room : (all kept : List ℕ) (count : ℕ) → Keeps all kept count → count < MOST_VALUES → kept ≡ all
+keep_room all kept count k room = let n = k.counted in k.first ∙ take_all MOST_VALUES all (omega (arith, n))
 
-pub tail_room : (ws rest : List (List ℕ)) (kept : List ℕ) (count : ℕ) → Goes ws rest kept count → count < 8 → length kept < 8
+pub tail_room : (ws rest : List (List ℕ)) (kept : List ℕ) (count : ℕ) → Goes ws rest kept count → count < MOST_VALUES → length kept < MOST_VALUES
 tail_room ws rest kept count g room = let n = g.keeps.counted in let e : length kept ≡ length g.done = ap length (keep_room g.done kept count g.keeps room) in omega (arith, n, e)
 
 one_longer : (all : List ℕ) (v : ℕ) → length (all ++ v ∷ []) ≡ length all + 1
 one_longer all v = length-append all (v ∷ [])
 
-pub keep_pushed : (all kept new : List ℕ) (count v : ℕ) → count < 8 → Keeps all kept count → new ≡ kept ++ v ∷ [] → Keeps (all ++ v ∷ []) new (count + 1)
+pub keep_pushed : (all kept new : List ℕ) (count v : ℕ) → count < MOST_VALUES → Keeps all kept count → new ≡ kept ++ v ∷ [] → Keeps (all ++ v ∷ []) new (count + 1)
 keep_pushed all kept new count v room k pushed =
     let n = k.counted in
     let longer = one_longer all v in
     record {
-      first = pushed ∙ ap (λ (l : List ℕ). l ++ v ∷ []) (keep_room all kept count k room) ∙ sym (take_all most_kept (all ++ v ∷ []) (omega (arith, n, longer)));
+      first = pushed ∙ ap (λ (l : List ℕ). l ++ v ∷ []) (keep_room all kept count k room) ∙ sym (take_all MOST_VALUES (all ++ v ∷ []) (omega (arith, n, longer)));
       counted = omega (arith, n, longer);
     }
 
-pub keep_full : (all kept new : List ℕ) (count v : ℕ) → 8 ≤ count → Keeps all kept count → new ≡ kept → Keeps (all ++ v ∷ []) new (count + 1)
+pub keep_full : (all kept new : List ℕ) (count v : ℕ) → MOST_VALUES ≤ count → Keeps all kept count → new ≡ kept → Keeps (all ++ v ∷ []) new (count + 1)
 keep_full all kept new count v full k same =
     let n = k.counted in
     let longer = one_longer all v in
-    record { first = same ∙ k.first ∙ sym (take-append-le most_kept all (v ∷ []) (omega (arith, n))); counted = omega (arith, n, longer) }
+    record { first = same ∙ k.first ∙ sym (take-append-le MOST_VALUES all (v ∷ []) (omega (arith, n))); counted = omega (arith, n, longer) }
+
+-- for `search`
+pub ruleset tail_read = (tail_begin, tail_more, tail_ended, tail_strange, tail_none, tail_room)

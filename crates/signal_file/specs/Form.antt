@@ -5,6 +5,7 @@
 use Rattle.std.specs.Prelude.{◌≡◌, ◌==◌, ℕ, nat_eq, Bool, true, false, ◌||◌, List, [], ◌∷◌, take, length, filter, Option, Some, None, if◌then◌else◌, codes}
 use Rattle.std.specs.Str.{bytes_eq}
 use Rattle.std.specs.List.{slice_split}
+use Rattle.plex_limits.specs.declared.limits.TheConstants.{MOST_VALUES}
 use Rattle.plex_num.specs.Number.{number_of}
 use Rattle.signal_file.specs.declared.form.Said.{Said}
 use Rattle.signal_file.specs.declared.form.Tail.{Tail}
@@ -91,13 +92,9 @@ said_in (first ∷ count ∷ signal ∷ block ∷ rest) =
     else None)
 said_in _ = None
 
--- no signal has more values than are kept
-abbrev pub most_kept : ℕ
-most_kept = 8
-
--- the first of these values are kept, and all are counted
+-- the first of these values are kept, as many as a signal may have, and all are counted
 pub record Keeps (all kept : List ℕ) (count : ℕ) : Type 0 where
-  pub first : kept ≡ take most_kept all
+  pub first : kept ≡ take MOST_VALUES all
   pub counted : count ≡ length all
 
 -- this is the end of a line as it is read

@@ -1,4 +1,3 @@
 pub mod Form
 pub mod Lines
-pub mod OneEnter
 pub mod Rules

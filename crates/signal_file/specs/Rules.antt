@@ -1,13 +1,14 @@
 -- What a signal line means in an exchange, and its first fault.
 --
 -- A line is looked at with what counts of the lines before it. Its faults are looked for in a fixed order, and the first decides.
-use Rattle.std.specs.Prelude.{◌≡◌, ℕ, ◌+◌, ◌-◌, ◌≤◌, nat_eq, nat_le, Bool, true, false, ◌&&◌, List, length, map, fold, position, slice_get, Option, Some, None, Result, Ok, Err, if◌then◌else◌}
+use Rattle.std.specs.Prelude.{◌≡◌, ℕ, ◌+◌, ◌-◌, ◌≤◌, nat_eq, nat_le, Bool, true, false, List, length, map, fold, position, slice_get, Option, Some, None, Result, Ok, Err, if◌then◌else◌}
 use Rattle.std.specs.Str.{bytes_eq}
+use Rattle.plex_limits.specs.declared.limits.TheConstants.{MOST_VALUES, MOST_SIGNALS, MOST_BLOCKS}
 use Rattle.exchange_model.specs.declared.exchange.Exchange.{Exchange}
-use Rattle.exchange_model.specs.declared.entry.Entry.{Entry}
 use Rattle.exchange_model.specs.declared.block.Block.{Block}
 use Rattle.exchange_model.specs.declared.signal.SignalKind.{SignalKind}
 use Rattle.exchange_model.specs.declared.signal.SignalKind.TheVariants.{Buffered}
+use Rattle.exchange_model.specs.Index.{is_entry}
 use Rattle.exchange_model.specs.Kept.{signal_name}
 use Rattle.signal_file.specs.declared.before.Before.{Before}
 use Rattle.signal_file.specs.declared.directory.Directory.{Directory}
@@ -35,9 +36,6 @@ if_buffered number _ = None
 -- the single buffered signal of this name
 abbrev pub signal_of : Exchange → List ℕ → Option Signal
 signal_of x name = with (position (bytes_eq name) (signal_names x)) (λ number. if_buffered number (slice_get x.signals number))
-
-abbrev pub is_entry : ℕ → ℕ → Entry → Bool
-is_entry block signal e = nat_eq e.block block && nat_eq e.signal signal
 
 -- the entry of a signal at the block of this name, which is there exactly where the block receives the signal
 abbrev pub entry_of : Exchange → ℕ → List ℕ → Option ℕ
@@ -127,4 +125,6 @@ added x b line = (if is_skipped line then Ok None else told x b (said_in (words 
 pub record IsDirectory (x : Exchange) (d : Directory) : Type 0 where
   pub signals : d.signals ≡ signal_names x
   pub blocks : d.blocks ≡ block_names x
-  pub few : (name : List ℕ) (signal : Signal) → signal_of x name ≡ Some signal → signal.count ≤ 8
+  pub few : (name : List ℕ) (signal : Signal) → signal_of x name ≡ Some signal → signal.count ≤ MOST_VALUES
+  pub few_signals : length d.signals ≤ MOST_SIGNALS
+  pub few_blocks : length d.blocks ≤ MOST_BLOCKS

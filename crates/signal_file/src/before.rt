@@ -47,14 +47,20 @@ impl Before {
 
     /// Adds a line that is skipped.
     pub fn skip(&mut self) -> Result<(), Memory>
-        ensures { OnOk result (self.new ≡ record { last = self.old.last; origins = self.old.origins ++ false ∷ [] }) }
+        ensures { OnOk result (self.new ≡ record {
+          last = self.old.last;
+          origins = self.old.origins ++ false ∷ [];
+        }) }
     {
         self.origins.push(false)
     }
 
     /// Adds a signal line.
     pub fn note(&mut self, line: &Line) -> Result<(), Memory>
-        ensures { OnOk result (self.new ≡ record { last = line.now.after; origins = self.old.origins ++ gives line.now.kind ∷ [] }) }
+        ensures { OnOk result (self.new ≡ record {
+          last = line.now.after;
+          origins = self.old.origins ++ gives line.now.kind ∷ [];
+        }) }
     {
         self.last = line.after;
         self.origins.push(gives_forlopp(line.kind))

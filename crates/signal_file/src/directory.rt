@@ -1,13 +1,12 @@
 // Signals and entries by their names.
-ghost use Rattle.std.specs.Prelude.{◌≡◌, ◌<◌, IfOk, IfSome, position};
+ghost use Rattle.std.specs.Prelude.{◌≡◌, IfOk};
 ghost use Rattle.std.specs.Str.{bytes_eq};
 ghost use Rattle.std.specs.List.{IsDistinct};
-ghost use Rattle.exchange_model.specs.Kept.{signal_name};
-ghost use Rattle.signal_file.specs.Rules.{IsDirectory, block_names, entry_of, is_entry, signal_names, signal_of};
+ghost use Rattle.signal_file.specs.Rules.{IsDirectory, block_names, entry_of, signal_names, signal_of};
 
 use crate::names::Names;
-use exchange_model::{Exchange, MOST_ENTRIES, SignalKind};
-use plex_num::{Memory, Name};
+use exchange_model::{Exchange, SignalKind};
+use plex_num::Memory;
 use std::alloc::Global;
 
 /// The names of an exchange's signals and blocks, in the order of their numbers.
@@ -20,7 +19,7 @@ pub struct Directory {
 /// A single buffered signal: its number, and how many values it has.
 #[derive(Clone, Copy)]
 pub struct Signal {
-    pub number: usize,
+    pub number: u32,
     pub count: u8,
 }
 
@@ -42,7 +41,7 @@ fn signal_names(alloc: Global, exchange: &Exchange) -> Result<Names, Memory>
 {
     let mut names = Names::new(alloc);
     for signal in exchange.signals.as_slice() {
-        names.add(alloc, name_of(signal).as_slice())?;
+        names.add(alloc, signal.name().as_slice())?;
     }
     Ok(names)
 }
@@ -59,18 +58,6 @@ fn block_names(alloc: Global, exchange: &Exchange) -> Result<Names, Memory>
     Ok(names)
 }
 
-fn name_of(signal: &SignalKind) -> &Name
-    ensures { result.now ≡ signal_name signal.now }
-{
-    match signal {
-        SignalKind::Buffered { name, .. }
-        | SignalKind::Direct { name, .. }
-        | SignalKind::Combined { name, .. }
-        | SignalKind::Answer { name, .. }
-        | SignalKind::Outside { name, .. } => name,
-    }
-}
-
 /// The single buffered signal of this name.
 pub fn signal_of(exchange: &Exchange, directory: &Directory, name: &[u8]) -> Option<Signal>
     requires { IsDirectory exchange.now directory.now }
@@ -81,7 +68,7 @@ pub fn signal_of(exchange: &Exchange, directory: &Directory, name: &[u8]) -> Opt
     };
     match exchange.signals.get(number) {
         Some(SignalKind::Buffered { count, .. }) => Some(Signal {
-            number,
+            number: number as u32,
             count: *count,
         }),
         _ => None,
@@ -92,7 +79,7 @@ pub fn signal_of(exchange: &Exchange, directory: &Directory, name: &[u8]) -> Opt
 pub fn entry_of(
     exchange: &Exchange,
     directory: &Directory,
-    signal: usize,
+    signal: u32,
     block: &[u8],
 ) -> Option<u32>
     requires { IsDirectory exchange.now directory.now }
@@ -101,16 +88,5 @@ pub fn entry_of(
     let Some(block) = directory.blocks.place(block) else {
         return None;
     };
-    match place_of_entry(exchange, block, signal) {
-        Some(place) => Some(place as u32),
-        None => None,
-    }
-}
-
-fn place_of_entry(exchange: &Exchange, block: usize, signal: usize) -> Option<usize>
-    ensures place { result ≡ position (is_entry block signal) exchange.now.entries }
-    ensures within { IfSome result (λ place. place < MOST_ENTRIES) }
-{
-    exchange.entries().iter().position(|entry| entry.block as usize == block
-        && entry.signal as usize == signal)
+    exchange.entry_of(block as u32, signal)
 }

@@ -1,9 +1,11 @@
 // The form of a line: what its words say, whatever their names mean.
 ghost use Rattle.std.specs.Prelude.{◌≡◌, ◌+◌, ◌<◌, ◌∷◌, ◌++◌, [], List, ℕ, MatchOption, None, length};
+ghost use Rattle.plex_limits.specs.declared.limits.TheConstants.{MOST_VALUES};
 ghost use Rattle.signal_file.specs.Form.{IsSaid, IsTail, Keeps, bare_ending, closing, ending, is_comment, is_skipped, said_in, same_ending, words};
 
 use crate::line::LineKind;
 use crate::words::{is_word, next_word};
+use plex_limits::MOST_VALUES;
 use plex_num::{Values, read_number};
 
 /// What a signal line says, with the names of its signal and its block. The first eight values are kept, and all are counted.
@@ -47,7 +49,9 @@ fn is_comment(line: &[u8]) -> bool
 /// What a line says; `None` where it is no signal line.
 #[tactic(auto, unfolding(crate::specs::Form::said_in))]
 pub fn said_of(line: &[u8]) -> Option<Said<'_>>
-    ensures { MatchOption result (said_in (words line.now) ≡ None) (λ said. IsSaid (said_in (words line.now)) said) }
+    ensures { MatchOption result
+        (said_in (words line.now) ≡ None)
+        (λ said. IsSaid (said_in (words line.now)) said) }
 {
     let Some((first, rest)) = next_word(line) else {
         return None;
@@ -81,9 +85,11 @@ pub fn said_of(line: &[u8]) -> Option<Said<'_>>
 }
 
 /// The values, and the end of the line; `None` where a word before the end is no number, or there is no end.
-#[tactic(auto, using(crate::proofs::Tails::tail_begin, crate::proofs::Tails::tail_more, crate::proofs::Tails::tail_ended, crate::proofs::Tails::tail_strange, crate::proofs::Tails::tail_none, crate::proofs::Tails::tail_room))]
+#[tactic(auto, using(crate::proofs::Tails::tail_read))]
 fn tail_of(line: &[u8]) -> Option<Tail>
-    ensures { MatchOption result (closing (words line.now) ≡ None) (λ t. IsTail (closing (words line.now)) t) }
+    ensures { MatchOption result
+        (closing (words line.now) ≡ None)
+        (λ t. IsTail (closing (words line.now)) t) }
 {
     let mut values = Values::new();
     let mut count = 0;
@@ -109,10 +115,11 @@ fn tail_of(line: &[u8]) -> Option<Tail>
 /// Keeps a value behind so many others, if there is room.
 #[tactic(auto, using(crate::proofs::Tails::keep_pushed, crate::proofs::Tails::keep_full))]
 fn keep(values: &mut Values, count: usize, value: u32)
-    requires { count < 8 → length values.old < 8 }
-    ensures { (all : List ℕ) → Keeps all values.old count → Keeps (all ++ value ∷ []) values.new (count + 1) }
+    requires { count < MOST_VALUES → length values.old < MOST_VALUES }
+    ensures { (all : List ℕ) → Keeps all values.old count
+        → Keeps (all ++ value ∷ []) values.new (count + 1) }
 {
-    if count < 8 {
+    if count < MOST_VALUES {
         values.push(value);
     }
 }

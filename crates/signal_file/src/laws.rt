@@ -8,5 +8,7 @@ ghost use Rattle.signal_file.specs.Rules.{added, before_of};
 
 /// The first faulty line decides: where the lines before it are right, its first fault is that of the file, whatever stands behind it.
 pub fn first_faulty_line_decides()
-    ensures { (x : Exchange) (front rest : List (List ℕ)) (line : List ℕ) (list : List Line) (f : SignalFault) → lines_behind x [] front ≡ Ok list → added x (before_of front) line ≡ Err f → lines_behind x [] (front ++ line ∷ rest) ≡ Err f }
+    ensures { (x : Exchange) (front rest : List (List ℕ)) (line : List ℕ) (list : List Line) (f : SignalFault)
+        → lines_behind x [] front ≡ Ok list → added x (before_of front) line ≡ Err f
+        → lines_behind x [] (front ++ line ∷ rest) ≡ Err f }
 {}

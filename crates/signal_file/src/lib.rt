@@ -14,8 +14,6 @@ mod line;
 mod meaning;
 mod names;
 mod read;
-#[cfg(test)]
-mod tests;
 mod words;
 
 pub use fault::SignalFault;

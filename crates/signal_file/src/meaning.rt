@@ -37,7 +37,7 @@ pub fn added(
 }
 
 /// What a signal line means, or its first fault.
-#[tactic(auto, using(crate::proofs::Meant::no_signal, crate::proofs::Meant::no_block, crate::proofs::Meant::wrong_data, crate::proofs::Meant::falling, crate::proofs::Meant::no_origin, crate::proofs::Meant::right))]
+#[tactic(auto, using(crate::proofs::Meant::line_meant))]
 fn meaning(
     exchange: &Exchange,
     directory: &Directory,

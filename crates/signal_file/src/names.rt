@@ -1,5 +1,5 @@
 // Names in the order in which they were added, looked up by hash.
-ghost use Rattle.std.specs.Prelude.{◌≡◌, ◌++◌, ◌∷◌, [], OnOk, false, position};
+ghost use Rattle.std.specs.Prelude.{◌≡◌, ◌<◌, ◌++◌, ◌∷◌, [], IfSome, OnOk, false, length, position};
 ghost use Rattle.std.specs.Str.{bytes_eq};
 ghost use Rattle.std.specs.List.{list_any};
 
@@ -58,7 +58,8 @@ impl Names {
     /// The place of a name.
     #[tactic(auto, using(crate::proofs::Named::position_map))]
     pub fn place(&self, name: &[u8]) -> Option<usize>
-        ensures { result ≡ position (bytes_eq name.now) self.now }
+        ensures place { result ≡ position (bytes_eq name.now) self.now }
+        ensures within { IfSome result (λ place. place < length self.now) }
     {
         self.names.get_index_of(name)
     }

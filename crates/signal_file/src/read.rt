@@ -13,7 +13,7 @@ use plex_num::Seq;
 use std::alloc::Global;
 
 /// The signal lines of a text of at most 16 MiB, in order; or the first fault of its first faulty line.
-#[tactic(auto, using(crate::proofs::Behind::read_begin, crate::proofs::Behind::read_skip, crate::proofs::Behind::read_more, crate::proofs::Behind::read_stop, crate::proofs::Behind::read_end, crate::proofs::Behind::read_few))]
+#[tactic(auto, using(crate::proofs::Behind::file_read))]
 pub fn read_signals(
     alloc: Global,
     exchange: &Exchange,

@@ -7,7 +7,9 @@ ghost use Rattle.signal_file.specs.Form.{is_blank, is_line_end, words};
 /// The first line without its end, and what stands after it.
 #[tactic(auto, using(crate::proofs::Lined::line_none, crate::proofs::Lined::line_last, crate::proofs::Lined::line_ended))]
 pub fn next_line(text: &[u8]) -> Option<(&[u8], &[u8])>
-    ensures cases { MatchOption result (lines text.now ≡ []) (λ p. lines text.now ≡ p.0.now ∷ lines p.1.now) }
+    ensures cases { MatchOption result
+        (lines text.now ≡ [])
+        (λ p. lines text.now ≡ p.0.now ∷ lines p.1.now) }
     ensures shorter { IfSome result (λ p. length p.1.now < length text.now) }
 {
     if text.is_empty() {
@@ -40,7 +42,9 @@ fn without_return(line: &[u8]) -> &[u8]
 /// The first word of a line, and what stands after it.
 #[tactic(auto, using(crate::proofs::Worded::word_blank, crate::proofs::Worded::word_ended, crate::proofs::Worded::word_last, crate::proofs::Worded::word_none))]
 pub fn next_word(line: &[u8]) -> Option<(&[u8], &[u8])>
-    ensures cases { MatchOption result (words line.now ≡ []) (λ p. words line.now ≡ p.0.now ∷ words p.1.now) }
+    ensures cases { MatchOption result
+        (words line.now ≡ [])
+        (λ p. words line.now ≡ p.0.now ∷ words p.1.now) }
     ensures shorter { IfSome result (λ p. length p.1.now < length line.now) }
 {
     let mut rest = line;

@@ -1,7 +1,6 @@
 -- The signals that a text declares, with their answers: a signal's number is its place in the list. A combined signal's answer takes
 -- the next number.
-use Rattle.std.specs.Prelude.{ℕ, ◌+◌, ◌≤◌, List, [], ◌∷◌, ◌++◌, length}
-use Rattle.std.specs.List.{AllByRecursion}
+use Rattle.std.specs.Prelude.{ℕ, ◌+◌, List, [], ◌∷◌, ◌++◌, length}
 use Rattle.exchange_model.specs.declared.signal.SignalKind.{SignalKind}
 use Rattle.exchange_model.specs.declared.signal.SignalKind.TheVariants as signal
 use Rattle.plex_ast.specs.declared.tree.ShapeKind.{ShapeKind}
@@ -27,14 +26,3 @@ signals_from number (s ∷ rest) = kinds_of number s ++ signals_from (number + l
 
 abbrev pub signals_of : Tree → List SignalKind
 signals_of t = signals_from 0 t.signals
-
--- a signal and its answer carry at most eight values each
-abbrev pub HasFewValues : ShapeKind → Type 0
-HasFewValues (Buffered level values) = values.value ≤ 8
-HasFewValues (Direct values) = values.value ≤ 8
-HasFewValues (Combined values answer answer_values) = (values.value ≤ 8) × (answer_values.value ≤ 8)
-HasFewValues (Outside values) = values.value ≤ 8
-
--- so do all of these
-pub record HaveFewValues (signals : List Signal) : Type 0 where
-  pub each : AllByRecursion (λ s. HasFewValues s.shape.kind) signals

@@ -1,19 +1,18 @@
 // The signals that come out.
-ghost use Rattle.std.specs.Prelude.{◌≡◌, ◌≤◌, ◌+◌, ◌++◌, ◌∷◌, [], length, IfOk, OnOk};
+ghost use Rattle.std.specs.Prelude.{◌≡◌, ◌+◌, ◌++◌, ◌∷◌, [], length, IfOk, OnOk};
 ghost use Rattle.exchange_model.specs.declared.signal.SignalKind.TheVariants as signal;
-ghost use Rattle.signal_types.specs.Signals.{shape_kinds, signals_from, HasFewValues, HaveFewValues};
+ghost use Rattle.signal_types.specs.Signals.{shape_kinds, signals_from};
 
 use exchange_model::SignalKind;
 use plex_ast::{Named, Numbered, ShapeKind, Signal};
 use plex_num::{Memory, Name, Seq};
 use std::alloc::Global;
 
-/// How many values a signal carries, which the rules keep to eight.
-fn count_of(values: &Numbered) -> u8
-    requires { values.now.value ≤ 8 }
-    ensures { result ≡ values.now.value }
+/// How many values a signal carries, which the rules keep to eight. Memory where 8 bits have no such number.
+fn count_of(values: &Numbered) -> Result<u8, Memory>
+    ensures { IfOk result (λ count. count ≡ values.now.value) }
 {
-    values.value as u8
+    u8::try_from(values.value).map_err(|_| Memory)
 }
 
 /// The number of the next signal.
@@ -28,10 +27,9 @@ fn next_number(list: &Seq<SignalKind>) -> Result<u32, Memory>
 
 /// A combined signal of this number.
 fn combined(name: &Name, values: &Numbered, number: u32) -> Result<SignalKind, Memory>
-    requires { values.now.value ≤ 8 }
     ensures { IfOk result (λ kind. kind ≡ signal.Combined name.now values.now.value (number + 1)) }
 {
-    let count = count_of(values);
+    let count = count_of(values)?;
     let Some(answer) = number.checked_add(1) else {
         return Err(Memory);
     };
@@ -43,26 +41,25 @@ fn combined(name: &Name, values: &Numbered, number: u32) -> Result<SignalKind, M
 }
 
 /// The answer of the combined signal of this number.
-fn answer_of(name: &Named, values: &Numbered, number: u32) -> SignalKind
-    requires { values.now.value ≤ 8 }
-    ensures { result ≡ signal.Answer name.now.name values.now.value number }
+fn answer_of(name: &Named, values: &Numbered, number: u32) -> Result<SignalKind, Memory>
+    ensures { IfOk result (λ kind. kind ≡ signal.Answer name.now.name values.now.value number) }
 {
-    SignalKind::Answer {
+    let count = count_of(values)?;
+    Ok(SignalKind::Answer {
         name: name.name.copy(),
-        count: count_of(values),
+        count,
         of: number,
-    }
+    })
 }
 
 /// Appends a signal of this name, and its answer.
 #[tactic(auto, using(crate::proofs::Numbering::combined_more))]
 fn add_kinds(list: &mut Seq<SignalKind>, name: &Name, kind: &ShapeKind) -> Result<(), Memory>
-    requires { HasFewValues kind.now }
     ensures { OnOk result (list.new ≡ list.old ++ shape_kinds (length list.old) name.now kind.now) }
 {
     match kind {
         ShapeKind::Buffered { level, data } => {
-            let count = count_of(data);
+            let count = count_of(data)?;
             list.push(SignalKind::Buffered {
                 name: name.copy(),
                 level: level.level,
@@ -71,7 +68,7 @@ fn add_kinds(list: &mut Seq<SignalKind>, name: &Name, kind: &ShapeKind) -> Resul
             Ok(())
         }
         ShapeKind::Direct { data } => {
-            let count = count_of(data);
+            let count = count_of(data)?;
             list.push(SignalKind::Direct {
                 name: name.copy(),
                 count,
@@ -85,11 +82,11 @@ fn add_kinds(list: &mut Seq<SignalKind>, name: &Name, kind: &ShapeKind) -> Resul
         } => {
             let number = next_number(list)?;
             list.push(combined(name, data, number)?)?;
-            list.push(answer_of(answer, answer_data, number))?;
+            list.push(answer_of(answer, answer_data, number)?)?;
             Ok(())
         }
         ShapeKind::Outside { data } => {
-            let count = count_of(data);
+            let count = count_of(data)?;
             list.push(SignalKind::Outside {
                 name: name.copy(),
                 count,
@@ -99,10 +96,10 @@ fn add_kinds(list: &mut Seq<SignalKind>, name: &Name, kind: &ShapeKind) -> Resul
     }
 }
 
-/// The signals with their answers, in order. Memory is refused also where there are 2^32 of them or more.
-#[tactic(auto, using(crate::proofs::Few::few_at, crate::proofs::Numbering::kinds_begin, crate::proofs::Numbering::kinds_step, crate::proofs::Numbering::kinds_end))]
+/// The signals with their answers, in order. Memory is refused also where there are 2^32 of them or more, and
+/// where one carries more than 255 values.
+#[tactic(auto, using(crate::proofs::Numbering::kinds_begin, crate::proofs::Numbering::kinds_step, crate::proofs::Numbering::kinds_end))]
 pub fn kinds_of_signals(alloc: Global, signals: &[Signal]) -> Result<Seq<SignalKind>, Memory>
-    requires { HaveFewValues signals.now }
     ensures { IfOk result (λ list. list ≡ signals_from 0 signals.now) }
 {
     let mut list = Seq::new(alloc);

@@ -8,9 +8,7 @@ pub mod Last
 pub mod Turning
 pub mod Sending
 pub mod Searching
-pub mod Budget
-pub mod Chained
+pub mod Counting
 pub mod Performing
 pub mod Stepping
 pub mod Ending
-pub mod Sample

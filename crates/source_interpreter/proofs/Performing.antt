@@ -1,87 +1,123 @@
 -- What a statement has inside it, and how it is done by its kind.
-use Rattle.std.proofs.Common.{◌≡◌, ℕ, zero, suc, ◌≤◌, Bool, ◌⊎◌, inl, inr, refl, List, [], ◌∷◌, length, Option, Some, None, slice_get, ap, sym, ◌∙◌, subst, arith}
+use Rattle.std.proofs.Common.{◌≡◌, ℕ, ◌≤◌, Bool, ◌⊎◌, inl, inr, refl, List, [], ◌∷◌, length, Option, Some, None, slice_get, ap, sym, ◌∙◌, subst, arith}
 use Rattle.std.specs.List.{AllByRecursion}
+use Rattle.plex_limits.specs.declared.limits.TheConstants.{MOST_BLOCKS, MOST_VALUES}
+use Rattle.plex_num.proofs.Lists.{all_at}
 use Rattle.exchange_model.specs.declared.expr.Cond.{Cond}
 use Rattle.exchange_model.specs.declared.expr.Expr.{Expr}
+use Rattle.exchange_model.specs.declared.expr.Rel.{Rel}
 use Rattle.exchange_model.specs.declared.signal.SignalKind.{SignalKind}
 use Rattle.exchange_model.specs.declared.signal.SignalKind.TheVariants.{Buffered, Direct, Combined, Answer as Answers, Outside}
+use Rattle.exchange_model.specs.declared.stmt.Receiver.{Receiver}
 use Rattle.exchange_model.specs.declared.stmt.Stmt.{Stmt}
 use Rattle.exchange_model.specs.declared.stmt.When.{When, out-When}
 use Rattle.exchange_model.specs.declared.stmt.StmtKind.{StmtKind, StmtKind-F, out-StmtKind}
 use Rattle.exchange_model.specs.declared.stmt.StmtKind.TheOpen as stmt
 use Rattle.exchange_model.specs.declared.stmt.StmtKind.TheVariants as kind
-use Rattle.exchange_model.specs.Fits.{Scope, SendFits, AnswerFits, LayerFits}
+use Rattle.exchange_model.specs.Fits.{Scope, ExprFits, SendFits, AnswerFits, LayerFits}
+use Rattle.exchange_model.specs.Inside.{own_exprs}
 use Rattle.exchange_model.specs.Kept.{SignalsKept, signal_count}
-use Rattle.exchange_model.specs.Layers.{StmtsFit, PartsFit, stmt_fits-out, stmt_fits-parts}
+use Rattle.exchange_model.specs.PartFits.{StmtsFit, PartsFit}
+use Rattle.exchange_model.proofs.Layers.{stmt_fits-out, stmt_fits-parts}
 use Rattle.source_meaning.specs.Config.{Config}
-use Rattle.source_meaning.specs.Step.{does, ends}
+use Rattle.source_meaning.specs.Step.{does}
+use Rattle.source_meaning.specs.Changes.{ends}
 use Rattle.source_interpreter.specs.Running.{Running}
 use Rattle.source_interpreter.specs.Leaves.{Leaves, Follows, Does}
-use Rattle.source_interpreter.specs.Kept.{IsOfText, AreOfText, AreWhensOfText}
+use Rattle.source_interpreter.specs.Kept.{IsExprOfText, AreExprsOfText, IsCondOfText, IsOfText, AreOfText, AreWhensOfText}
 use Rattle.source_interpreter.proofs.Follow.{Answer, start_of}
-use Rattle.source_interpreter.proofs.Texts.{of_scope}
+use Rattle.source_interpreter.proofs.Texts.{all_of, of_scope, cond_of}
 
 -- the lists in a statement
 
 parts : (s : Stmt) (k : StmtKind) (l : StmtKind-F StmtKind Stmt When) (h : IsOfText s) → s.kind ≡ k → out-StmtKind k ≡ l → PartsFit h.scope l
 parts s k l h is outs = subst (λ m. PartsFit h.scope m) (ap out-StmtKind is ∙ outs) (stmt_fits-parts h.scope s.kind h.fits)
 
-of_whens : (s : Scope) → SignalsKept s.signals → (ws : List When) → AllByRecursion (λ w. StmtsFit s (out-When w).body) ws → AreWhensOfText ws
-of_whens s kept [] h = tt
-of_whens s kept (w ∷ ws) h = (of_scope s kept (out-When w).body h.0, of_whens s kept ws h.1)
+of_whens : (s : Scope) → SignalsKept s.signals → length s.blocks ≤ MOST_BLOCKS → (ws : List When) → AllByRecursion (λ w. StmtsFit s (out-When w).body) ws → AreWhensOfText ws
+of_whens s kept few [] h = tt
+of_whens s kept few (w ∷ ws) h = (of_scope s kept few (out-When w).body h.0, of_whens s kept few ws h.1)
 
 module _ (s : Stmt) (cond : Cond) (first other : List Stmt) (h : IsOfText s) (is : s.kind ≡ kind.If cond first other) where
   pub if_first_kept : AreOfText first
-  if_first_kept = of_scope h.scope h.signals first (parts s (kind.If cond first other) (stmt.If cond first other) h is (kind.outs-If cond first other)).0
+  if_first_kept = of_scope h.scope h.signals h.few first (parts s (kind.If cond first other) (stmt.If cond first other) h is (kind.outs-If cond first other)).0
 
   pub if_other_kept : AreOfText other
-  if_other_kept = of_scope h.scope h.signals other (parts s (kind.If cond first other) (stmt.If cond first other) h is (kind.outs-If cond first other)).1
+  if_other_kept = of_scope h.scope h.signals h.few other (parts s (kind.If cond first other) (stmt.If cond first other) h is (kind.outs-If cond first other)).1
 
 module _ (s : Stmt) (e : Expr) (whens : List When) (otherwise : List Stmt) (h : IsOfText s) (is : s.kind ≡ kind.Case e whens otherwise) where
   pub whens_kept : AreWhensOfText whens
-  whens_kept = of_whens h.scope h.signals whens (parts s (kind.Case e whens otherwise) (stmt.Case e whens otherwise) h is (kind.outs-Case e whens otherwise)).0
+  whens_kept = of_whens h.scope h.signals h.few whens (parts s (kind.Case e whens otherwise) (stmt.Case e whens otherwise) h is (kind.outs-Case e whens otherwise)).0
 
   pub otherwise_kept : AreOfText otherwise
-  otherwise_kept = of_scope h.scope h.signals otherwise (parts s (kind.Case e whens otherwise) (stmt.Case e whens otherwise) h is (kind.outs-Case e whens otherwise)).1
+  otherwise_kept = of_scope h.scope h.signals h.few otherwise (parts s (kind.Case e whens otherwise) (stmt.Case e whens otherwise) h is (kind.outs-Case e whens otherwise)).1
 
 pub body_kept : (s : Stmt) (temp : ℕ) (from upto : Expr) (body : List Stmt) → IsOfText s → s.kind ≡ kind.On temp from upto body → AreOfText body
-body_kept s temp from upto body h is = of_scope h.scope h.signals body (parts s (kind.On temp from upto body) (stmt.On temp from upto body) h is (kind.outs-On temp from upto body))
+body_kept s temp from upto body h is = of_scope h.scope h.signals h.few body (parts s (kind.On temp from upto body) (stmt.On temp from upto body) h is (kind.outs-On temp from upto body))
 
--- at most eight values
+-- at most as many values as a signal may have
 
 own : (s : Stmt) (k : StmtKind) (l : StmtKind-F StmtKind Stmt When) (h : IsOfText s) → s.kind ≡ k → out-StmtKind k ≡ l → LayerFits h.scope l
 own s k l h is outs = subst (λ m. LayerFits h.scope m) (ap out-StmtKind is ∙ outs) (stmt_fits-out h.scope s.kind h.fits)
 
-few_at : (ks : List SignalKind) (n : ℕ) (k : SignalKind) → AllByRecursion (λ s. signal_count s ≤ 8) ks → slice_get ks n ≡ Some k → signal_count k ≤ 8
-few_at [] n k all is = cc
-few_at (one ∷ ks) zero k all is = subst (λ (o : Option SignalKind). few_in o) is all.0
-  where
-    few_in : Option SignalKind → Type 0
-    few_in None = Unit {0}
-    few_in (Some q) = signal_count q ≤ 8
-few_at (one ∷ ks) (suc n) k all is = few_at ks n k all.1 is
+few_sent_by : (s : Scope) (found : Option SignalKind) (signal : ℕ) (to : Option Receiver) (n : ℕ) (fresh : Bool) → ((k : SignalKind) → found ≡ Some k → signal_count k ≤ MOST_VALUES) → SendFits s found signal to n fresh → n ≤ MOST_VALUES
+few_sent_by s None signal to n fresh few fits = absurd fits
+few_sent_by s (Some (Buffered name level count)) signal to n fresh few fits = let k = few (Buffered name level count) refl in omega (arith, k, fits.0)
+few_sent_by s (Some (Direct name count)) signal to n fresh few fits = let k = few (Direct name count) refl in omega (arith, k, fits.0)
+few_sent_by s (Some (Combined name count answer)) signal to n fresh few fits = let k = few (Combined name count answer) refl in omega (arith, k, fits.0)
+few_sent_by s (Some (Answers name count combined)) signal to n fresh few fits = absurd fits
+few_sent_by s (Some (Outside name count)) signal to n fresh few fits = let k = few (Outside name count) refl in omega (arith, k, fits.0)
 
-few_sent_by : (s : Scope) (found : Option SignalKind) (signal : ℕ) (block : Option ℕ) (n : ℕ) (fresh : Bool) → ((k : SignalKind) → found ≡ Some k → signal_count k ≤ 8) → SendFits s found signal block n fresh → n ≤ 8
-few_sent_by s None signal block n fresh few fits = absurd fits
-few_sent_by s (Some (Buffered name level count)) signal block n fresh few fits = let k = few (Buffered name level count) refl in omega (arith, k, fits.0)
-few_sent_by s (Some (Direct name count)) signal block n fresh few fits = let k = few (Direct name count) refl in omega (arith, k, fits.0)
-few_sent_by s (Some (Combined name count answer)) signal block n fresh few fits = let k = few (Combined name count answer) refl in omega (arith, k, fits.0)
-few_sent_by s (Some (Answers name count combined)) signal block n fresh few fits = absurd fits
-few_sent_by s (Some (Outside name count)) signal block n fresh few fits = let k = few (Outside name count) refl in omega (arith, k, fits.0)
+pub few_sent : (s : Stmt) (signal : ℕ) (to : Option Receiver) (es : List Expr) (fresh : Bool) → IsOfText s → s.kind ≡ kind.Send signal to es fresh → length es ≤ MOST_VALUES
+few_sent s signal to es fresh h is =
+    few_sent_by h.scope (slice_get h.scope.signals signal) signal to (length es) fresh (λ k there. all_at (λ s. signal_count s ≤ MOST_VALUES) h.scope.signals signal k h.signals.values there)
+    (own s (kind.Send signal to es fresh) (stmt.Send signal to es fresh) h is (kind.outs-Send signal to es fresh)).names
 
-pub few_sent : (s : Stmt) (signal : ℕ) (block : Option ℕ) (es : List Expr) (fresh : Bool) → IsOfText s → s.kind ≡ kind.Send signal block es fresh → length es ≤ 8
-few_sent s signal block es fresh h is =
-    few_sent_by h.scope (slice_get h.scope.signals signal) signal block (length es) fresh (λ k there. few_at h.scope.signals signal k h.signals.values there)
-    (own s (kind.Send signal block es fresh) (stmt.Send signal block es fresh) h is (kind.outs-Send signal block es fresh)).names
-
-few_answered : (found : Option SignalKind) (n : ℕ) → ((k : SignalKind) → found ≡ Some k → signal_count k ≤ 8) → AnswerFits found n → n ≤ 8
+few_answered : (found : Option SignalKind) (n : ℕ) → ((k : SignalKind) → found ≡ Some k → signal_count k ≤ MOST_VALUES) → AnswerFits found n → n ≤ MOST_VALUES
 few_answered (Some (Answers name count combined)) n few fits = let k = few (Answers name count combined) refl in omega (arith, k, fits)
 few_answered _ n few fits = absurd fits
 
-pub few_returned : (s : Stmt) (answer : ℕ) (es : List Expr) → IsOfText s → s.kind ≡ kind.Return answer es → length es ≤ 8
+pub few_returned : (s : Stmt) (answer : ℕ) (es : List Expr) → IsOfText s → s.kind ≡ kind.Return answer es → length es ≤ MOST_VALUES
 few_returned s answer es h is =
-    few_answered (slice_get h.scope.signals answer) (length es) (λ k there. few_at h.scope.signals answer k h.signals.values there)
+    few_answered (slice_get h.scope.signals answer) (length es) (λ k there. all_at (λ s. signal_count s ≤ MOST_VALUES) h.scope.signals answer k h.signals.values there)
     (own s (kind.Return answer es) (stmt.Return answer es) h is (kind.outs-Return answer es)).names
+
+-- its expressions
+
+exprs : (s : Stmt) (k : StmtKind) (l : StmtKind-F StmtKind Stmt When) (h : IsOfText s) → s.kind ≡ k → out-StmtKind k ≡ l → AreExprsOfText (own_exprs l)
+exprs s k l h is outs = all_of ExprFits h.scope h.signals h.few (own_exprs l) (own s k l h is outs).exprs.each
+
+pub of_temp : (s : Stmt) (temp : ℕ) (e : Expr) → IsOfText s → s.kind ≡ kind.SetTemp temp e → IsExprOfText e
+of_temp s temp e h is = (exprs s (kind.SetTemp temp e) (stmt.SetTemp temp e) h is (kind.outs-SetTemp temp e)).0
+
+pub of_variable : (s : Stmt) (variable : ℕ) (e : Expr) → IsOfText s → s.kind ≡ kind.SetVariable variable e → IsExprOfText e
+of_variable s variable e h is = (exprs s (kind.SetVariable variable e) (stmt.SetVariable variable e) h is (kind.outs-SetVariable variable e)).0
+
+pub of_field : (s : Stmt) (file field pointer : ℕ) (e : Expr) → IsOfText s → s.kind ≡ kind.SetField file field pointer e → IsExprOfText e
+of_field s file field pointer e h is = (exprs s (kind.SetField file field pointer e) (stmt.SetField file field pointer e) h is (kind.outs-SetField file field pointer e)).0
+
+pub of_if_goto : (s : Stmt) (cond : Cond) (label : ℕ) → IsOfText s → s.kind ≡ kind.IfGoto cond label → IsCondOfText cond
+of_if_goto s cond label h is = cond_of cond (exprs s (kind.IfGoto cond label) (stmt.IfGoto cond label) h is (kind.outs-IfGoto cond label))
+
+pub of_if : (s : Stmt) (cond : Cond) (first other : List Stmt) → IsOfText s → s.kind ≡ kind.If cond first other → IsCondOfText cond
+of_if s cond first other h is = cond_of cond (exprs s (kind.If cond first other) (stmt.If cond first other) h is (kind.outs-If cond first other))
+
+pub of_case : (s : Stmt) (e : Expr) (whens : List When) (otherwise : List Stmt) → IsOfText s → s.kind ≡ kind.Case e whens otherwise → IsExprOfText e
+of_case s e whens otherwise h is = (exprs s (kind.Case e whens otherwise) (stmt.Case e whens otherwise) h is (kind.outs-Case e whens otherwise)).0
+
+pub of_from : (s : Stmt) (temp : ℕ) (from upto : Expr) (body : List Stmt) → IsOfText s → s.kind ≡ kind.On temp from upto body → IsExprOfText from
+of_from s temp from upto body h is = (exprs s (kind.On temp from upto body) (stmt.On temp from upto body) h is (kind.outs-On temp from upto body)).0
+
+pub of_upto : (s : Stmt) (temp : ℕ) (from upto : Expr) (body : List Stmt) → IsOfText s → s.kind ≡ kind.On temp from upto body → IsExprOfText upto
+of_upto s temp from upto body h is = (exprs s (kind.On temp from upto body) (stmt.On temp from upto body) h is (kind.outs-On temp from upto body)).1.0
+
+pub of_first : (s : Stmt) (temp file field : ℕ) (rel : Rel) (e : Expr) (label : ℕ) → IsOfText s → s.kind ≡ kind.ForFirst temp file field rel e label → IsExprOfText e
+of_first s temp file field rel e label h is = (exprs s (kind.ForFirst temp file field rel e label) (stmt.ForFirst temp file field rel e label) h is (kind.outs-ForFirst temp file field rel e label)).0
+
+pub of_send : (s : Stmt) (signal : ℕ) (to : Option Receiver) (es : List Expr) (fresh : Bool) → IsOfText s → s.kind ≡ kind.Send signal to es fresh → AreExprsOfText es
+of_send s signal to es fresh h is = exprs s (kind.Send signal to es fresh) (stmt.Send signal to es fresh) h is (kind.outs-Send signal to es fresh)
+
+pub of_return : (s : Stmt) (answer : ℕ) (es : List Expr) → IsOfText s → s.kind ≡ kind.Return answer es → AreExprsOfText es
+of_return s answer es h is = exprs s (kind.Return answer es) (stmt.Return answer es) h is (kind.outs-Return answer es)
 
 -- a statement is done by its kind
 
@@ -96,10 +132,13 @@ ended s k l r w o is outs same follows =
     by_kind s k l r r w w o is outs (record {
       leaves = λ trace todo.
           let c : Config = start_of r w trace todo in
-          let P : Config → Type 0 = λ d. Leaves r.exchange d o r w in
+          let P : Config → Type 0 = λ d. Leaves r.exchange w d o r w in
           subst P (sym (same c)) ((follows w).leaves trace todo);
     })
 
 pub exits : (s : Stmt) (r : Running) (w : List ℕ) (o : Answer) → (s.kind ≡ kind.Exit) ⊎ (s.kind ≡ kind.Finish) → ((v : List ℕ) → Follows (ends r.callers) r v o r v) → Does (out-StmtKind s.kind) r w o r w
 exits s r w o (inl is) follows = ended s kind.Exit stmt.Exit r w o is kind.outs-Exit (λ c. refl) follows
 exits s r w o (inr is) follows = ended s kind.Finish stmt.Finish r w o is kind.outs-Finish (λ c. refl) follows
+
+-- what a statement has inside it
+pub ruleset inside = (if_first_kept, if_other_kept, whens_kept, otherwise_kept, body_kept, few_sent, few_returned, of_temp, of_variable, of_field, of_if_goto, of_if, of_case, of_from, of_upto, of_first, of_send, of_return)

@@ -1,7 +1,7 @@
 -- The files of an exchange, and where their cells end.
 use Rattle.std.proofs.Common.{◌≡◌, ℕ, ◌+◌, ◌*◌, ◌<◌, ◌≤◌, Some, None, slice_get, sym, arith}
 use Rattle.std.proofs.Math.Nat.{mul-le-mul_right}
-use Rattle.exchange_model.specs.declared.limits.TheConstants.{MOST_CELLS}
+use Rattle.plex_limits.specs.declared.limits.TheConstants.{MOST_CELLS}
 use Rattle.exchange_model.specs.Cells.{Placed, placed_files, file_cells, cell_count}
 use Rattle.exchange_model.specs.Kept.{IsExchange}
 use Rattle.exchange_model.specs.Parts.{Parts}

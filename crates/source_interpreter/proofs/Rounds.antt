@@ -1,13 +1,14 @@
 -- One more term or factor, and one more relation.
 use Rattle.std.proofs.Common.{◌≡◌, ℕ, suc, ◌+◌, ◌<◌, List, [], ◌∷◌, length, drop, map, get_or, Result, Ok, Err, Bool, true, false, refl, sym, ap, ◌∙◌, add-one, drop-cons}
 use Rattle.job_types.specs.declared.fault.Fault.{Fault}
-use Rattle.source_meaning.specs.Value.{Got, Gives, Fails, Sight, Eval, after_loads, with_value, summed, joined, expr_value, term_value, factor_value, sum_value, product_value, summand_of, multiplier_of, answer_of, field_value, relation_value, all_value, any_value, one_if, is_set, stands}
+use Rattle.source_meaning.specs.Value.{Got, Gives, Fails, Sight, Eval, after_loads, with_value, summed, joined, expr_value, term_value, factor_value, sum_value, product_value, summand_of, multiplier_of, answer_of, field_value, relation_value, all_value, any_value, stands}
+use Rattle.job_types.specs.Truth.{one_if, is_set}
 use Rattle.exchange_model.specs.declared.expr.Expr.{Expr, out-Expr}
 use Rattle.exchange_model.specs.declared.expr.Term.{Term, out-Term}
 use Rattle.exchange_model.specs.declared.expr.Joined.{Joined}
 use Rattle.exchange_model.specs.declared.expr.Factor.{Factor}
 use Rattle.exchange_model.specs.declared.expr.Factor.TheVariants as factor
-use Rattle.source_meaning.proofs.Layers.{expr_value-out, term_value-out, factor_value-Number, factor_value-Variable, factor_value-Temporary, factor_value-Field, factor_value-Bracket}
+use Rattle.source_meaning.proofs.Layers.{expr_value-out, term_value-out, factor_value-Number, factor_value-Variable, factor_value-Temporary, factor_value-Field, factor_value-Bracket, factor_value-Reference}
 use Rattle.std.specs.Prelude.{slice_get, slice_index, ◌&&◌, ◌||◌}
 use Rattle.exchange_model.specs.declared.expr.Relation.{Relation}
 
@@ -68,6 +69,9 @@ factor_field f file field pointer s r is got = got ∙ sym (ap (λ g. answer_of 
 pub factor_bracket : (f : Factor) (e : Expr) (s : Sight) (r : Result ℕ Fault) → f ≡ factor.Bracket e → r ≡ answer_of (expr_value e s) → r ≡ answer_of (factor_value f s)
 factor_bracket f e s r is got = got ∙ sym (ap (λ g. answer_of (factor_value g s)) is ∙ ap answer_of (factor_value-Bracket e s))
 
+pub factor_reference : (f : Factor) (b n : ℕ) (s : Sight) → f ≡ factor.Reference b → n ≡ b + 1 → Ok n ≡ answer_of (factor_value f s)
+factor_reference f b n s is one = ap Ok one ∙ sym (ap (λ g. answer_of (factor_value g s)) is ∙ ap answer_of (factor_value-Reference b s))
+
 -- a test is what its number says
 set_is : (b : Bool) → is_set (one_if b) ≡ b
 set_is true = refl
@@ -107,3 +111,9 @@ pub right_fails : (r : Relation) (s : Sight) (a : ℕ) (f : Fault) → Ok a ≡ 
 right_fails r s a f left right =
     answer_fails (expr_value r.right s) (λ b. Gives [] (one_if (stands r.rel a b))) f right
     ∙ answer_gives (expr_value r.left s) (λ a. with_value (expr_value r.right s) (λ b. Gives [] (one_if (stands r.rel a b)))) a left
+
+-- what a factor answers
+pub ruleset factors = (factor_number, factor_variable, factor_temporary, factor_field, factor_bracket, factor_reference)
+
+-- a sum, from term to term
+pub ruleset terms = (terms_begin, terms_gives, terms_fails)

@@ -6,25 +6,27 @@ use Rattle.std.proofs.lemmas.Bool.{ltb-true, ltb-false}
 use Rattle.std.proofs.lemmas.List.Folds.{find_at}
 use Rattle.std.proofs.lemmas.List.FromFn.{length-range_with_len}
 use Rattle.std.proofs.lemmas.Option.{slice_get_past}
+use Rattle.plex_limits.specs.declared.limits.TheConstants.{MOST_HELD}
 use Rattle.job_types.specs.declared.fault.Fault.{Fault}
 use Rattle.job_types.specs.declared.fault.Fault.TheVariants as fault
-use Rattle.machine_code.specs.declared.permit.Touch.{Touch}
+use Rattle.job_types.specs.declared.touch.Touch.{Touch}
 use Rattle.exchange_model.specs.declared.block.Variable.{Variable}
 use Rattle.exchange_model.specs.declared.expr.Expr.{Expr}
 use Rattle.exchange_model.specs.declared.expr.Rel.{Rel}
 use Rattle.exchange_model.specs.declared.stmt.StmtKind.TheOpen as stmt
 use Rattle.exchange_model.specs.Cells.{Placed, field_cell, mark_cell}
-use Rattle.source_meaning.specs.Own.{World}
+use Rattle.job_types.specs.Own.{World}
 use Rattle.source_meaning.specs.Value.{answer_of, expr_value, stands as stand, pointer_fault, unless}
-use Rattle.source_meaning.specs.Config.{Config, Item, files_of, from_place, label_of}
-use Rattle.source_meaning.specs.Step.{does, goes, fails, least_record, looked_at, record_loads, on_record, at_found, for_first, at_free, joins_chain, seizes, frees, opens_fields, opens_record, without, sets_temp, sets_cell}
+use Rattle.source_meaning.specs.Config.{Config, Item, files_of}
+use Rattle.source_meaning.specs.Step.{does}
+use Rattle.source_meaning.specs.Changes.{goes, fails, least_record, looked_at, record_loads, on_record, at_found, for_first, at_free, joins_chain, seizes, at_record, frees, opens_fields, opens_record, sets_temp, sets_cell}
 use Rattle.source_interpreter.specs.Opened.{fields_opened, opened}
-use Rattle.source_interpreter.specs.Running.{Running, sight_of}
+use Rattle.source_interpreter.specs.Running.{Running, sight_of, with_temp, at_label, holding, left}
 use Rattle.source_interpreter.specs.Leaves.{Leaves, Does}
 use Rattle.source_interpreter.specs.declared.stop.Stop.{Stop}
 use Rattle.source_interpreter.specs.declared.stop.Stop.TheVariants as stop
 use Rattle.source_interpreter.proofs.Rounds.{opens}
-use Rattle.source_interpreter.proofs.Follow.{Answer, start_of, value_goes, value_stops, unless_goes, unless_stops, checked, test_goes, test_stops, fails_is_over, stands, stands_with, as_fault}
+use Rattle.source_interpreter.proofs.Follow.{Answer, start_of, value_goes, value_stops, unless_goes, unless_stops, checked, test_goes, test_stops, fails_is_over, stands, stands_with, as_fault, as_memory}
 
 -- the least number at which a test holds, looked for from 0 on
 
@@ -77,12 +79,6 @@ record_is p number store trace = ap (λ l. slice_set l (mark_cell p number) 0) (
 
 -- FOR FIRST
 
-abbrev at_label : ℕ → Running → Running
-at_label label r = record r { todo = from_place r.exchange r.block (label_of r.exchange r.block label) }
-
-abbrev with_temp : ℕ → ℕ → Running → Running
-with_temp temp v r = record r { temps = slice_set r.temps temp v }
-
 abbrev after_first : Running → ℕ → ℕ → ℕ → Rel → ℕ → ℕ → Config → Config
 after_first r temp file field rel label v d = for_first r.exchange (slice_get (files_of r.exchange) file) temp field rel v label r.todo d
 
@@ -90,12 +86,12 @@ abbrev first_of : List ℕ → Placed → ℕ → Rel → ℕ → Option ℕ
 first_of s p field rel v = least_record (λ n. stand rel (slice_index s (field_cell p n field)) v) p.file.size
 
 -- the value and the file are there
-in_file : (r : Running) (s : List ℕ) (temp file field label v : ℕ) (rel : Rel) (e : Expr) (p : Placed) (found : Option ℕ) (o : Answer) (r' : Running) (trace : List Touch) (todo : List Item) → Ok v ≡ answer_of (expr_value e (sight_of r s)) → Some p ≡ slice_get (files_of r.exchange) file → found ≡ first_of s p field rel v → ((t : List Touch) → Leaves r.exchange (at_found r.exchange temp label r.todo found (start_of r s t todo)) o r' s) → Leaves r.exchange (does r.exchange r.own.point (stmt.ForFirst temp file field rel e label) r.todo (start_of r s trace todo)) o r' s
+in_file : (r : Running) (s : List ℕ) (temp file field label v : ℕ) (rel : Rel) (e : Expr) (p : Placed) (found : Option ℕ) (o : Answer) (r' : Running) (trace : List Touch) (todo : List Item) → Ok v ≡ answer_of (expr_value e (sight_of r s)) → Some p ≡ slice_get (files_of r.exchange) file → found ≡ first_of s p field rel v → ((t : List Touch) → Leaves r.exchange s (at_found r.exchange temp label r.todo found (start_of r s t todo)) o r' s) → Leaves r.exchange s (does r.exchange r.own.point (stmt.ForFirst temp file field rel e label) r.todo (start_of r s trace todo)) o r' s
 in_file r s temp file field label v rel e p found o r' trace todo value there is more =
     value_goes (expr_value e (sight_of r s)) v (after_first r temp file field rel label) r.exchange r s trace todo o r' s value (λ t.
-    let P : Option Placed → Type 0 = λ q. Leaves r.exchange (for_first r.exchange q temp field rel v label r.todo (start_of r s t todo)) o r' s in
+    let P : Option Placed → Type 0 = λ q. Leaves r.exchange s (for_first r.exchange q temp field rel v label r.todo (start_of r s t todo)) o r' s in
     let loads : List Touch = record_loads (λ n. field_cell p n field) (looked_at (first_of s p field rel v) p.file.size) s in
-    let Q : Option ℕ → Type 0 = λ q. Leaves r.exchange (at_found r.exchange temp label r.todo q (start_of r s (t ++ loads) todo)) o r' s in
+    let Q : Option ℕ → Type 0 = λ q. Leaves r.exchange s (at_found r.exchange temp label r.todo q (start_of r s (t ++ loads) todo)) o r' s in
     subst P there (subst Q is (more (t ++ loads))))
 
 pub first_found : (r r1 r' : Running) (s : List ℕ) (temp file field label v n : ℕ) (rel : Rel) (e : Expr) (p : Placed) → Ok v ≡ answer_of (expr_value e (sight_of r s)) → Some p ≡ slice_get (files_of r.exchange) file → Some n ≡ least_record (λ k. stand rel (slice_index s (field_cell p k field)) v) p.file.size → r1 ≡ with_temp temp n r → r' ≡ at_label label r1 → Does (stmt.ForFirst temp file field rel e label) r s (Ok tt) r' s
@@ -111,7 +107,7 @@ first_none r s temp file field label v rel e p value there found = record {
 pub first_nowhere : (r : Running) (s : List ℕ) (temp file field label v : ℕ) (rel : Rel) (e : Expr) → Ok v ≡ answer_of (expr_value e (sight_of r s)) → None ≡ slice_get (files_of r.exchange) file → Does (stmt.ForFirst temp file field rel e label) r s (Ok tt) r s
 first_nowhere r s temp file field label v rel e value none = record {
   leaves = λ trace todo. value_goes (expr_value e (sight_of r s)) v (after_first r temp file field rel label) r.exchange r s trace todo (Ok tt) r s value (λ t.
-      let P : Option Placed → Type 0 = λ q. Leaves r.exchange (for_first r.exchange q temp field rel v label r.todo (start_of r s t todo)) (Ok tt) r s in
+      let P : Option Placed → Type 0 = λ q. Leaves r.exchange s (for_first r.exchange q temp field rel v label r.todo (start_of r s t todo)) (Ok tt) r s in
       subst P none (stands r.exchange r r s t refl refl));
 }
 
@@ -123,9 +119,6 @@ first_stops r s temp file field label rel e f o value is =
 
 abbrev free_of : List ℕ → Placed → Option ℕ
 free_of s p = least_record (λ n. nat_eq (slice_index s (mark_cell p n)) 0) p.file.size
-
-abbrev holding : ℕ → ℕ → Running → Running
-holding file number r = record r { own = record r.own { chain = r.own.chain ++ record { file = file; number = number } ∷ [] } }
 
 is_zero : (b : Bool) → true ≡ not b → b ≡ false
 is_zero true e = cc
@@ -140,27 +133,27 @@ in_forlopp none r p file temp label c =
     if none then fails fault.NoForlopp c else on_record (mark_cell p) (λ mark. nat_eq mark 0) p.file.size c (at_free r.exchange p file temp label r.todo)
 
 -- the file is there, and the job stands in a forlopp
-in_marks : (r : Running) (s s' : List ℕ) (temp file label : ℕ) (p : Placed) (h : Bool) (found : Option ℕ) (o : Answer) (r' : Running) (trace : List Touch) (todo : List Item) → Some p ≡ slice_get (files_of r.exchange) file → h ≡ not (nat_eq r.own.forlopp 0) → h ≡ true → found ≡ free_of s p → ((t : List Touch) → Leaves r.exchange (at_free r.exchange p file temp label r.todo found (start_of r s t todo)) o r' s') → Leaves r.exchange (does r.exchange r.own.point (stmt.Seize temp file label) r.todo (start_of r s trace todo)) o r' s'
+in_marks : (r : Running) (s s' : List ℕ) (temp file label : ℕ) (p : Placed) (h : Bool) (found : Option ℕ) (o : Answer) (r' : Running) (trace : List Touch) (todo : List Item) → Some p ≡ slice_get (files_of r.exchange) file → h ≡ not (nat_eq r.own.forlopp 0) → h ≡ true → found ≡ free_of s p → ((t : List Touch) → Leaves r.exchange s (at_free r.exchange p file temp label r.todo found (start_of r s t todo)) o r' s') → Leaves r.exchange s (does r.exchange r.own.point (stmt.Seize temp file label) r.todo (start_of r s trace todo)) o r' s'
 in_marks r s s' temp file label p h found o r' trace todo there some yes_is is more =
-    let P : Option Placed → Type 0 = λ q. Leaves r.exchange (seizes r.exchange q file temp label r.todo (start_of r s trace todo)) o r' s' in
-    let R : Bool → Type 0 = λ q. Leaves r.exchange (in_forlopp q r p file temp label (start_of r s trace todo)) o r' s' in
+    let P : Option Placed → Type 0 = λ q. Leaves r.exchange s (seizes r.exchange q file temp label r.todo (start_of r s trace todo)) o r' s' in
+    let R : Bool → Type 0 = λ q. Leaves r.exchange s (in_forlopp q r p file temp label (start_of r s trace todo)) o r' s' in
     let loads : List Touch = record_loads (mark_cell p) (looked_at (free_of s p) p.file.size) s in
-    let Q : Option ℕ → Type 0 = λ q. Leaves r.exchange (at_free r.exchange p file temp label r.todo q (start_of r s (trace ++ loads) todo)) o r' s' in
+    let Q : Option ℕ → Type 0 = λ q. Leaves r.exchange s (at_free r.exchange p file temp label r.todo q (start_of r s (trace ++ loads) todo)) o r' s' in
     subst P there (subst R (sym (is_zero (nat_eq r.own.forlopp 0) (sym yes_is ∙ some))) (subst Q is (more (trace ++ loads))))
 
-pub seize_goes : (r r1 r' : Running) (s s' : List ℕ) (temp file label n : ℕ) (p : Placed) (h : Bool) → Some p ≡ slice_get (files_of r.exchange) file → h ≡ not (nat_eq r.own.forlopp 0) → h ≡ true → Some n ≡ least_record (λ k. nat_eq (slice_index s (mark_cell p k)) 0) p.file.size → Ok tt ≡ checked (nat_lt (length r.own.chain) 64) fault.Chain → r1 ≡ holding file n r → s' ≡ slice_set s (mark_cell p n) 1 → r' ≡ with_temp temp n r1 → Does (stmt.Seize temp file label) r s (Ok tt) r' s'
+pub seize_goes : (r r1 r' : Running) (s s' : List ℕ) (temp file label n : ℕ) (p : Placed) (h : Bool) → Some p ≡ slice_get (files_of r.exchange) file → h ≡ not (nat_eq r.own.forlopp 0) → h ≡ true → Some n ≡ least_record (λ k. nat_eq (slice_index s (mark_cell p k)) 0) p.file.size → Ok tt ≡ checked (nat_lt (length r.own.chain) MOST_HELD) fault.Chain → r1 ≡ holding file n r → s' ≡ slice_set s (mark_cell p n) 1 → r' ≡ with_temp temp n r1 → Does (stmt.Seize temp file label) r s (Ok tt) r' s'
 seize_goes r r1 r' s s' temp file label n p h there some yes_is found room held wrote set = record {
   leaves = λ trace todo. in_marks r s s' temp file label p h (Some n) (Ok tt) r' trace todo there some yes_is found (λ t.
-      test_goes (nat_lt (length r.own.chain) 64) fault.Chain (goes r.todo (sets_temp temp n (sets_cell (mark_cell p n) 1 (start_of (holding file n r) s t todo)))) (fails fault.Chain (start_of r s t todo)) r.exchange (Ok tt) r' s' room
+      test_goes (nat_lt (length r.own.chain) MOST_HELD) fault.Chain (goes r.todo (sets_temp temp n (sets_cell (mark_cell p n) 1 (start_of (holding file n r) s t todo)))) (fails fault.Chain (start_of r s t todo)) r.exchange s (Ok tt) r' s' room
       (stands_with r.exchange (with_temp temp n (holding file n r)) r' (slice_set s (mark_cell p n) 1) s' _ refl (set ∙ ap (with_temp temp n) held) wrote));
 }
 
-pub seize_full : (r r1 : Running) (s : List ℕ) (temp file label n : ℕ) (p : Placed) (h : Bool) (f : Fault) (o : Stop) → Some p ≡ slice_get (files_of r.exchange) file → h ≡ not (nat_eq r.own.forlopp 0) → h ≡ true → Some n ≡ least_record (λ k. nat_eq (slice_index s (mark_cell p k)) 0) p.file.size → Err f ≡ checked (nat_lt (length r.own.chain) 64) fault.Chain → r1 ≡ r → o ≡ stop.Fault f → Does (stmt.Seize temp file label) r s (Err o) r1 s
+pub seize_full : (r r1 : Running) (s : List ℕ) (temp file label n : ℕ) (p : Placed) (h : Bool) (f : Fault) (o : Stop) → Some p ≡ slice_get (files_of r.exchange) file → h ≡ not (nat_eq r.own.forlopp 0) → h ≡ true → Some n ≡ least_record (λ k. nat_eq (slice_index s (mark_cell p k)) 0) p.file.size → Err f ≡ checked (nat_lt (length r.own.chain) MOST_HELD) fault.Chain → r1 ≡ r → o ≡ stop.Fault f → Does (stmt.Seize temp file label) r s (Err o) r1 s
 seize_full r r1 s temp file label n p h f o there some yes_is found full same is =
     as_fault (does r.exchange r.own.point (stmt.Seize temp file label) r.todo) r s f o r1 s is (λ trace todo.
     in_marks r s s temp file label p h (Some n) (Err (stop.Fault f)) r1 trace todo there some yes_is found (λ t.
-    let P : Running → Type 0 = λ q. Leaves r.exchange (joins_chain p file temp n r.todo (start_of r s t todo)) (Err (stop.Fault f)) q s in
-    subst P (sym same) (test_stops (nat_lt (length r.own.chain) 64) fault.Chain f (goes r.todo (sets_temp temp n (sets_cell (mark_cell p n) 1 (start_of (holding file n r) s t todo)))) r.exchange r s t todo full)))
+    let P : Running → Type 0 = λ q. Leaves r.exchange s (joins_chain p file temp n r.todo (start_of r s t todo)) (Err (stop.Fault f)) q s in
+    subst P (sym same) (test_stops (nat_lt (length r.own.chain) MOST_HELD) fault.Chain f (goes r.todo (sets_temp temp n (sets_cell (mark_cell p n) 1 (start_of (holding file n r) s t todo)))) r.exchange r s t todo full)))
 
 pub seize_none : (r r' : Running) (s : List ℕ) (temp file label : ℕ) (p : Placed) (h : Bool) → Some p ≡ slice_get (files_of r.exchange) file → h ≡ not (nat_eq r.own.forlopp 0) → h ≡ true → None ≡ least_record (λ k. nat_eq (slice_index s (mark_cell p k)) 0) p.file.size → r' ≡ at_label label r → Does (stmt.Seize temp file label) r s (Ok tt) r' s
 seize_none r r' s temp file label p h there some yes_is found is = record {
@@ -170,39 +163,33 @@ seize_none r r' s temp file label p h there some yes_is found is = record {
 pub seize_outside : (r : Running) (s : List ℕ) (temp file label : ℕ) (p : Placed) (h : Bool) → Some p ≡ slice_get (files_of r.exchange) file → h ≡ not (nat_eq r.own.forlopp 0) → h ≡ false → Does (stmt.Seize temp file label) r s (Err (stop.Fault fault.NoForlopp)) r s
 seize_outside r s temp file label p h there none no_is = record {
   leaves = λ trace todo.
-      let P : Option Placed → Type 0 = λ q. Leaves r.exchange (seizes r.exchange q file temp label r.todo (start_of r s trace todo)) (Err (stop.Fault fault.NoForlopp)) r s in
-      let R : Bool → Type 0 = λ q. Leaves r.exchange (in_forlopp q r p file temp label (start_of r s trace todo)) (Err (stop.Fault fault.NoForlopp)) r s in
+      let P : Option Placed → Type 0 = λ q. Leaves r.exchange s (seizes r.exchange q file temp label r.todo (start_of r s trace todo)) (Err (stop.Fault fault.NoForlopp)) r s in
+      let R : Bool → Type 0 = λ q. Leaves r.exchange s (in_forlopp q r p file temp label (start_of r s trace todo)) (Err (stop.Fault fault.NoForlopp)) r s in
       subst P there (subst R (sym (is_none (nat_eq r.own.forlopp 0) (sym no_is ∙ none))) (fails_is_over fault.NoForlopp r s trace todo));
 }
 
 pub seize_nowhere : (r : Running) (s : List ℕ) (temp file label : ℕ) → None ≡ slice_get (files_of r.exchange) file → Does (stmt.Seize temp file label) r s (Ok tt) r s
 seize_nowhere r s temp file label none = record {
   leaves = λ trace todo.
-      let P : Option Placed → Type 0 = λ q. Leaves r.exchange (seizes r.exchange q file temp label r.todo (start_of r s trace todo)) (Ok tt) r s in
+      let P : Option Placed → Type 0 = λ q. Leaves r.exchange s (seizes r.exchange q file temp label r.todo (start_of r s trace todo)) (Ok tt) r s in
       subst P none (stands r.exchange r r s trace refl refl);
 }
 
 -- FREE
 
-abbrev free_again : Placed → ℕ → ℕ → List Item → Config → Config
-free_again p file number rest d = goes rest (record d { world = opens_record p number d.world; own = record d.own { chain = without d.own.chain file number } })
-
-abbrev left : ℕ → ℕ → Running → Running
-left file number r = record r { own = record r.own { chain = without r.own.chain file number } }
-
-at_file : (r : Running) (s s' : List ℕ) (temp file : ℕ) (found : Option Placed) (o : Answer) (r' : Running) (trace : List Touch) (todo : List Item) → found ≡ slice_get (files_of r.exchange) file → Leaves r.exchange (frees found file (slice_index r.temps temp) r.todo (start_of r s trace todo)) o r' s' → Leaves r.exchange (does r.exchange r.own.point (stmt.Free temp file) r.todo (start_of r s trace todo)) o r' s'
+at_file : (r : Running) (s s' : List ℕ) (temp file : ℕ) (found : Option Placed) (o : Answer) (r' : Running) (trace : List Touch) (todo : List Item) → found ≡ slice_get (files_of r.exchange) file → Leaves r.exchange s (at_record found file (slice_index r.temps temp) (start_of r s trace r.todo) (frees file (slice_index r.temps temp))) o r' s' → Leaves r.exchange s (does r.exchange r.own.point (stmt.Free temp file) r.todo (start_of r s trace todo)) o r' s'
 at_file r s s' temp file found o r' trace todo is more =
-    let P : Option Placed → Type 0 = λ q. Leaves r.exchange (frees q file (slice_index r.temps temp) r.todo (start_of r s trace todo)) o r' s' in
+    let P : Option Placed → Type 0 = λ q. Leaves r.exchange s (at_record q file (slice_index r.temps temp) (start_of r s trace r.todo) (frees file (slice_index r.temps temp))) o r' s' in
     subst P is more
 
 pub free_goes : (r r' : Running) (s s' : List ℕ) (temp file number : ℕ) (p : Placed) → Some p ≡ slice_get (files_of r.exchange) file → number ≡ slice_index r.temps temp → Ok tt ≡ unless (pointer_fault r.own.chain file p number) → s' ≡ opened p number s → r' ≡ left file number r → Does (stmt.Free temp file) r s (Ok tt) r' s'
 free_goes r r' s s' temp file number p there at right wrote is = record {
   leaves = λ trace todo.
       let w : World = opens_record p number (record { store = s; trace = trace }) in
-      let P : ℕ → Type 0 = λ n. Leaves r.exchange (frees (Some p) file n r.todo (start_of r s trace todo)) (Ok tt) r' s' in
+      let P : ℕ → Type 0 = λ n. Leaves r.exchange s (at_record (Some p) file n (start_of r s trace r.todo) (frees file n)) (Ok tt) r' s' in
       at_file r s s' temp file (Some p) (Ok tt) r' trace todo there (
       subst P at (
-      unless_goes (pointer_fault r.own.chain file p number) (free_again p file number r.todo) r.exchange (start_of r s trace todo) (Ok tt) r' s' right
+      unless_goes (pointer_fault r.own.chain file p number) (frees file number p) r.exchange s (start_of r s trace r.todo) (Ok tt) r' s' right
       (stands_with r.exchange (left file number r) r' w.store s' w.trace refl is (wrote ∙ sym (record_is p number s trace)))));
 }
 
@@ -210,9 +197,18 @@ pub free_wrong : (r : Running) (s : List ℕ) (temp file : ℕ) (p : Placed) (f 
 free_wrong r s temp file p f o there wrong is =
     let number : ℕ = slice_index r.temps temp in
     as_fault (does r.exchange r.own.point (stmt.Free temp file) r.todo) r s f o r s is (λ trace todo.
-    at_file r s s temp file (Some p) (Err (stop.Fault f)) r trace todo there (unless_stops (pointer_fault r.own.chain file p number) f (free_again p file number r.todo) r.exchange r s trace todo wrong))
+    at_file r s s temp file (Some p) (Err (stop.Fault f)) r trace todo there (unless_stops (pointer_fault r.own.chain file p number) f (frees file number p) r.exchange r s trace r.todo wrong))
 
 pub free_nowhere : (r : Running) (s : List ℕ) (temp file : ℕ) → None ≡ slice_get (files_of r.exchange) file → Does (stmt.Free temp file) r s (Ok tt) r s
 free_nowhere r s temp file none = record {
   leaves = λ trace todo. at_file r s s temp file None (Ok tt) r trace todo none (stands r.exchange r r s trace refl refl);
 }
+
+-- a search, from record to record
+pub ruleset finds = (find_begin, find_more, find_here, find_none)
+
+-- how a FOR FIRST may leave the job
+pub ruleset firsts = (first_found, first_none, first_nowhere, first_stops, as_memory)
+
+-- how a SEIZE may
+pub ruleset seizures = (seize_goes, seize_none, seize_full, seize_outside, seize_nowhere, as_memory)

@@ -3,12 +3,13 @@ use Rattle.std.proofs.Common.{◌≡◌, Bool, true, false, List, [], ◌∷◌,
 use Rattle.std.specs.Prelude.{nat_lt, not, if◌then◌else◌}
 use Rattle.std.proofs.lemmas.List.{append-nil}
 use Rattle.std.proofs.lemmas.Bool.Decides.{nat_tests}
+use Rattle.plex_num.proofs.Lists.{all_append, all_left, all_right}
 use Rattle.exchange_model.specs.declared.stmt.StmtKind.{out-StmtKind}
-use Rattle.source_meaning.specs.Config.{Item, Do, Turns, is_enter, settle}
+use Rattle.source_meaning.specs.Config.{Item, Do, Turns, is_enter, next_counted}
 use Rattle.std.specs.Option.{option_to_list}
 use Rattle.exchange_model.specs.declared.stmt.Stmt.{Stmt}
 use Rattle.source_interpreter.specs.Work.{items_of, taken_items, todo_of}
-use Rattle.source_interpreter.specs.Kept.{AreKept, AreOfText}
+use Rattle.source_interpreter.specs.Kept.{AreKept, AreOfText, IsKept}
 use Rattle.source_interpreter.specs.Taken.{item_of, before, is_counted}
 use Rattle.source_interpreter.specs.declared.work.Part.{Part}
 use Rattle.source_interpreter.specs.declared.work.Next.{Next}
@@ -27,27 +28,14 @@ todo_pop all ps (Some p) is = ap todo_of is ∙ todo_push ps p
 pub todo_none : (all ps : List Part) (o : Option Part) → all ≡ ps ++ option_to_list o → o ≡ None → ps ≡ [] → todo_of all ≡ []
 todo_none all ps o is none gone = ap todo_of (is ∙ ap (λ p. ps ++ option_to_list p) none ∙ append-nil ps ∙ gone)
 
--- what is kept of two lists is kept of both
-kept_both : (xs ys : List Item) → AreKept xs → AreKept ys → AreKept (xs ++ ys)
-kept_both [] ys h k = k
-kept_both (x ∷ xs) ys h k = (h.0, kept_both xs ys h.1 k)
-
-kept_front : (xs ys : List Item) → AreKept (xs ++ ys) → AreKept xs
-kept_front [] ys h = tt
-kept_front (x ∷ xs) ys h = (h.0, kept_front xs ys h.1)
-
-kept_back : (xs ys : List Item) → AreKept (xs ++ ys) → AreKept ys
-kept_back [] ys h = h
-kept_back (x ∷ xs) ys h = kept_back xs ys h.1
-
 pub kept_push : (ps : List Part) (p : Part) → AreKept (items_of p) → AreKept (todo_of ps) → AreKept (todo_of (ps ++ p ∷ []))
-kept_push ps p h k = subst AreKept (sym (todo_push ps p)) (kept_both (items_of p) (todo_of ps) h k)
+kept_push ps p h k = subst AreKept (sym (todo_push ps p)) (all_append IsKept (items_of p) (todo_of ps) h k)
 
 pub kept_pop : (all ps : List Part) (o : Option Part) → all ≡ ps ++ option_to_list o → AreKept (todo_of all) → AreKept (todo_of ps)
-kept_pop all ps o is h = kept_back (taken_items o) (todo_of ps) (subst AreKept (todo_pop all ps o is) h)
+kept_pop all ps o is h = all_right IsKept (taken_items o) (todo_of ps) (subst AreKept (todo_pop all ps o is) h)
 
 pub kept_part : (all ps : List Part) (o : Option Part) → all ≡ ps ++ option_to_list o → AreKept (todo_of all) → AreKept (taken_items o)
-kept_part all ps o is h = kept_front (taken_items o) (todo_of ps) (subst AreKept (todo_pop all ps o is) h)
+kept_part all ps o is h = all_left IsKept (taken_items o) (todo_of ps) (subst AreKept (todo_pop all ps o is) h)
 
 -- statements of a text are items of it
 pub kept_statements : (ss : List Stmt) → AreOfText ss → AreKept (map Do ss)
@@ -67,30 +55,30 @@ not_false true e = refl
 not_false false e = sym e
 
 -- an item that counts stays
-stays : (n : Next) (rest : List Item) → is_counted n ≡ true → settle (item_of n ∷ rest) ≡ item_of n ∷ rest
-unfolding settle
-stays (next.Do s) rest e = ap (λ b. if b then settle rest else (Do s.now ∷ rest)) (not_true (is_enter (out-StmtKind s.now.kind)) e)
+stays : (n : Next) (rest : List Item) → is_counted n ≡ true → next_counted (item_of n ∷ rest) ≡ item_of n ∷ rest
+unfolding next_counted
+stays (next.Do s) rest e = ap (λ b. if b then next_counted rest else (Do s.now ∷ rest)) (not_true (is_enter (out-StmtKind s.now.kind)) e)
 stays (next.Start s) rest e = refl
 stays (next.Turn p t this end body) rest e =
     let past : nat_lt end this ≡ false = grind (arith, nat_tests) in
-    ap (λ b. if b then settle rest else (Turns p t this end body.now ∷ rest)) past
+    ap (λ b. if b then next_counted rest else (Turns p t this end body.now ∷ rest)) past
 
 -- another is passed over
-goes : (n : Next) (rest : List Item) → is_counted n ≡ false → settle (item_of n ∷ rest) ≡ settle rest
-unfolding settle
-goes (next.Do s) rest e = ap (λ b. if b then settle rest else (Do s.now ∷ rest)) (not_false (is_enter (out-StmtKind s.now.kind)) e)
+goes : (n : Next) (rest : List Item) → is_counted n ≡ false → next_counted (item_of n ∷ rest) ≡ next_counted rest
+unfolding next_counted
+goes (next.Do s) rest e = ap (λ b. if b then next_counted rest else (Do s.now ∷ rest)) (not_false (is_enter (out-StmtKind s.now.kind)) e)
 goes (next.Start s) rest e = cc
 goes (next.Turn p t this end body) rest e =
     let past : nat_lt end this ≡ true = grind (arith, nat_tests) in
-    ap (λ b. if b then settle rest else (Turns p t this end body.now ∷ rest)) past
+    ap (λ b. if b then next_counted rest else (Turns p t this end body.now ∷ rest)) past
 
 -- the loop that takes an item that counts
-pub nothing : (all rest o : List Item) (found : Option Next) → found ≡ None → all ≡ before found rest → settle all ≡ o → o ≡ []
-unfolding settle
-nothing all rest o found none is inv = sym inv ∙ ap settle (is ∙ ap (λ f. before f rest) none)
+pub nothing : (all rest o : List Item) (found : Option Next) → found ≡ None → all ≡ before found rest → next_counted all ≡ o → o ≡ []
+unfolding next_counted
+nothing all rest o found none is inv = sym inv ∙ ap next_counted (is ∙ ap (λ f. before f rest) none)
 
-pub reached : (all rest o : List Item) (found : Option Next) (n : Next) → found ≡ Some n → all ≡ before found rest → is_counted n ≡ true → settle all ≡ o → o ≡ item_of n ∷ rest
-reached all rest o found n some is e inv = sym inv ∙ ap settle (is ∙ ap (λ f. before f rest) some) ∙ stays n rest e
+pub reached : (all rest o : List Item) (found : Option Next) (n : Next) → found ≡ Some n → all ≡ before found rest → is_counted n ≡ true → next_counted all ≡ o → o ≡ item_of n ∷ rest
+reached all rest o found n some is e inv = sym inv ∙ ap next_counted (is ∙ ap (λ f. before f rest) some) ∙ stays n rest e
 
-pub passed : (all rest o : List Item) (found : Option Next) (n : Next) → found ≡ Some n → all ≡ before found rest → is_counted n ≡ false → settle all ≡ o → settle rest ≡ o
-passed all rest o found n some is e inv = sym (ap settle (is ∙ ap (λ f. before f rest) some) ∙ goes n rest e) ∙ inv
+pub passed : (all rest o : List Item) (found : Option Next) (n : Next) → found ≡ Some n → all ≡ before found rest → is_counted n ≡ false → next_counted all ≡ o → next_counted rest ≡ o
+passed all rest o found n some is e inv = sym (ap next_counted (is ∙ ap (λ f. before f rest) some) ∙ goes n rest e) ∙ inv

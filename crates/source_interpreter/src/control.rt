@@ -1,10 +1,11 @@
 // Statements that choose what comes next.
-ghost use Rattle.std.specs.Prelude.{◌≡◌, ℕ, ◌≤◌, List};
+ghost use Rattle.std.specs.Prelude.{◌≡◌, ◌≤◌};
 ghost use Rattle.exchange_model.specs.declared.stmt.StmtKind.{out-StmtKind};
 ghost use Rattle.exchange_model.specs.declared.stmt.StmtKind.TheOpen as stmt;
-ghost use Rattle.source_meaning.specs.Step.{ends, starts, chosen as statements_chosen};
-ghost use Rattle.source_interpreter.specs.Leaves.{Does, Follows, turn};
-ghost use Rattle.source_interpreter.specs.Kept.{AreOfText, AreWhensOfText};
+ghost use Rattle.source_meaning.specs.Step.{starts};
+ghost use Rattle.source_meaning.specs.Changes.{ends, chosen as statements_chosen};
+ghost use Rattle.source_interpreter.specs.Leaves.{Does, Leads, turn};
+ghost use Rattle.source_interpreter.specs.Kept.{AreOfText, AreWhensOfText, IsCondOfText, IsExprOfText};
 
 use crate::run::Run;
 use crate::stop::Stop;
@@ -23,8 +24,9 @@ impl<'a> Run<'a> {
     }
 
     /// GOTO where a condition holds.
-    #[tactic(auto, using(crate::proofs::Turning::if_goto_jumps, crate::proofs::Turning::if_goto_passes, crate::proofs::Turning::if_goto_stops, crate::proofs::Follow::as_memory))]
+    #[tactic(auto, using(crate::proofs::Turning::if_gotos))]
     pub fn jump_if(&mut self, store: &Seq<u32>, cond: &Cond, label: u32) -> Result<(), Stop>
+        requires { IsCondOfText cond.now }
         ensures { Does (stmt.IfGoto cond.now label) self.old store.now result self.new store.now }
     {
         if self.holds(cond, store)? {
@@ -36,7 +38,7 @@ impl<'a> Run<'a> {
     }
 
     /// One of two branches, by whether a condition holds.
-    #[tactic(auto, using(crate::proofs::Turning::if_first, crate::proofs::Turning::if_other, crate::proofs::Turning::if_stops, crate::proofs::Follow::as_memory))]
+    #[tactic(auto, using(crate::proofs::Turning::ifs))]
     pub fn choose(
         &mut self,
         store: &Seq<u32>,
@@ -44,9 +46,11 @@ impl<'a> Run<'a> {
         first: &'a [Stmt],
         other: &'a [Stmt],
     ) -> Result<(), Stop>
+        requires cond { IsCondOfText cond.now }
         requires first { AreOfText first.now }
         requires other { AreOfText other.now }
-        ensures { Does (stmt.If cond.now first.now other.now) self.old store.now result self.new store.now }
+        ensures { Does (stmt.If cond.now first.now other.now)
+            self.old store.now result self.new store.now }
     {
         if self.holds(cond, store)? {
             self.push_statements(first)?;
@@ -66,9 +70,11 @@ impl<'a> Run<'a> {
         whens: &'a [When],
         otherwise: &'a [Stmt],
     ) -> Result<(), Stop>
+        requires value { IsExprOfText value.now }
         requires whens { AreWhensOfText whens.now }
         requires otherwise { AreOfText otherwise.now }
-        ensures { Does (stmt.Case value.now whens.now otherwise.now) self.old store.now result self.new store.now }
+        ensures { Does (stmt.Case value.now whens.now otherwise.now)
+            self.old store.now result self.new store.now }
     {
         let number = self.value(value, store)?;
         self.push_statements(chosen(whens, number, otherwise))?;
@@ -76,7 +82,7 @@ impl<'a> Run<'a> {
     }
 
     /// The turns of a loop remain to be done, from the first number to the last.
-    #[tactic(auto, using(crate::proofs::Turning::on_goes, crate::proofs::Turning::on_from_stops, crate::proofs::Turning::on_upto_stops, crate::proofs::Follow::as_memory))]
+    #[tactic(auto, using(crate::proofs::Turning::loops))]
     pub fn begin_turns(
         &mut self,
         store: &Seq<u32>,
@@ -85,8 +91,11 @@ impl<'a> Run<'a> {
         upto: &Expr,
         body: &'a [Stmt],
     ) -> Result<(), Stop>
-        requires { AreOfText body.now }
-        ensures { Does (stmt.On temp from.now upto.now body.now) self.old store.now result self.new store.now }
+        requires from { IsExprOfText from.now }
+        requires upto { IsExprOfText upto.now }
+        requires body { AreOfText body.now }
+        ensures { Does (stmt.On temp from.now upto.now body.now)
+            self.old store.now result self.new store.now }
     {
         let first = self.value(from, store)?;
         let last = self.value(upto, store)?;
@@ -94,7 +103,8 @@ impl<'a> Run<'a> {
         Ok(())
     }
 
-    /// One turn of a loop: the temporary gets the number, the statements are done, and the turns after it remain.
+    /// One turn of a loop: the temporary gets the number, the statements are done, and the turns
+    /// after it remain.
     #[tactic(auto, using(crate::proofs::Turning::turn_goes, crate::proofs::Follow::as_memory))]
     pub fn take_turn(
         &mut self,
@@ -105,7 +115,8 @@ impl<'a> Run<'a> {
     ) -> Result<(), Stop>
         requires within { this ≤ last }
         requires body { AreOfText body.now }
-        ensures { (store : List ℕ) → Follows (turn self.old.own.point temp this last body.now self.old.todo) self.old store result self.new store }
+        ensures { Leads (turn self.old.own.point temp this last body.now self.old.todo)
+            self.old result self.new }
     {
         self.set_temp(temp, this as u32);
         self.push_turns(temp, this + 1, last, body)?;
@@ -116,7 +127,7 @@ impl<'a> Run<'a> {
     /// The ENTER of the signal that began the activation: the temporaries get its values.
     #[tactic(auto, using(crate::proofs::Turning::starts_enter, crate::proofs::Turning::starts_other))]
     pub fn enter(&mut self, kind: &StmtKind) -> Result<(), Stop>
-        ensures { (store : List ℕ) → Follows (starts (out-StmtKind kind.now) self.old.todo) self.old store result self.new store }
+        ensures { Leads (starts (out-StmtKind kind.now) self.old.todo) self.old result self.new }
     {
         match kind {
             StmtKind::Enter { temps, .. } => {
@@ -130,7 +141,7 @@ impl<'a> Run<'a> {
     /// The job ends, unless a caller waits.
     #[tactic(auto, using(crate::proofs::Turning::ends_alone, crate::proofs::Turning::ends_wrong))]
     pub fn end(&self) -> Result<(), Stop>
-        ensures { (store : List ℕ) → Follows (ends self.now.callers) self.now store result self.now store }
+        ensures { Leads (ends self.now.callers) self.now result self.now }
     {
         if self.callers() == 0 {
             Err(Stop::Ended)

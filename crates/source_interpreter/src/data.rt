@@ -2,6 +2,7 @@
 ghost use Rattle.std.specs.Prelude.{◌≡◌};
 ghost use Rattle.exchange_model.specs.declared.stmt.StmtKind.TheOpen as stmt;
 ghost use Rattle.source_meaning.specs.Value.{range_check};
+ghost use Rattle.source_interpreter.specs.Kept.{IsExprOfText};
 ghost use Rattle.source_interpreter.specs.Leaves.{Does};
 
 use crate::place::place_of;
@@ -16,6 +17,7 @@ impl<'a> Run<'a> {
     /// The temporary gets the value.
     #[tactic(auto, using(crate::proofs::Puts::set_temp_goes, crate::proofs::Puts::set_temp_stops))]
     pub fn assign_temp(&mut self, store: &Seq<u32>, temp: u8, value: &Expr) -> Result<(), Stop>
+        requires { IsExprOfText value.now }
         ensures { Does (stmt.SetTemp temp value.now) self.old store.now result self.new store.now }
     {
         let value = self.value(value, store)?;
@@ -31,7 +33,9 @@ impl<'a> Run<'a> {
         variable: u32,
         value: &Expr,
     ) -> Result<(), Stop>
-        ensures { Does (stmt.SetVariable variable value.now) self.old store.old result self.new store.new }
+        requires { IsExprOfText value.now }
+        ensures { Does (stmt.SetVariable variable value.now)
+            self.old store.old result self.new store.new }
     {
         let value = self.value(value, store)?;
         check_width(value, self.variable_width(variable))?;
@@ -40,7 +44,7 @@ impl<'a> Run<'a> {
     }
 
     /// The field of a record gets the value, unless the pointer is wrong or the value too wide.
-    #[tactic(auto, using(crate::proofs::Puts::set_field_goes, crate::proofs::Puts::set_field_stops, crate::proofs::Puts::set_field_wrong, crate::proofs::Puts::set_field_wide, crate::proofs::Puts::set_field_nowhere))]
+    #[tactic(auto, using(crate::proofs::Puts::set_fields))]
     pub fn assign_field(
         &mut self,
         store: &mut Seq<u32>,
@@ -49,7 +53,9 @@ impl<'a> Run<'a> {
         pointer: u8,
         value: &Expr,
     ) -> Result<(), Stop>
-        ensures { Does (stmt.SetField file field pointer value.now) self.old store.old result self.new store.new }
+        requires { IsExprOfText value.now }
+        ensures { Does (stmt.SetField file field pointer value.now)
+            self.old store.old result self.new store.new }
     {
         let value = self.value(value, store)?;
         let Some(place) = place_of(self.exchange(), file) else {

@@ -3,6 +3,7 @@ ghost use Rattle.std.specs.Prelude.{◌≡◌, ◌∷◌, ◌++◌, [], length, 
 ghost use Rattle.std.specs.Option.{option_to_list};
 
 use crate::work::Work;
+use plex_limits::{MOST_TEMPORARIES, MOST_VALUES};
 use plex_num::Memory;
 use std::alloc::Global;
 use std::marker::Model;
@@ -12,8 +13,8 @@ use std::marker::Model;
 pub struct Frame<'a> {
     pub block: u32,
     pub work: Work<'a>,
-    pub temps: [u32; 24],
-    pub given: [u32; 8],
+    pub temps: [u32; MOST_TEMPORARIES],
+    pub given: [u32; MOST_VALUES],
     /// The answer that it waits for, a signal by its number.
     pub awaits: u32,
 }
@@ -27,7 +28,13 @@ impl<'a> Model for Frame<'a> {
 
     ghost coded = { Prim.hlevel (codes, kind.the_row.coded) };
 
-    ghost view = { λ f. record { block = f.block; todo = f.work; temps = f.temps; given = f.given; awaits = f.awaits } };
+    ghost view = { λ f. record {
+      block = f.block;
+      todo = f.work;
+      temps = f.temps;
+      given = f.given;
+      awaits = f.awaits;
+    } };
 }
 
 /// The senders that wait, which contracts see as a list, the last one first.

@@ -1,7 +1,8 @@
 // A job, from its start to its end.
-ghost use Rattle.std.specs.Prelude.{◌≡◌, OnOk, IfOk, Some};
-ghost use Rattle.source_meaning.specs.Job.{job};
-ghost use Rattle.source_interpreter.specs.Leaves.{RunsTo};
+ghost use Rattle.std.specs.Prelude.{◌≡◌, [], OnOk, OnErr, IfOk, Some};
+ghost use Rattle.source_meaning.specs.Job.{begins, job};
+ghost use Rattle.source_interpreter.specs.Leaves.{IsReached, RunsTo};
+ghost use Rattle.source_interpreter.specs.Running.{config_of};
 
 use crate::run::Run;
 use crate::stop::Stop;
@@ -12,19 +13,25 @@ use std::alloc::Global;
 
 /// Runs one job of an exchange by what its statements mean, over stored words.
 ///
-/// It takes every exchange, start and store; the words of the store and what the job leaves are those of the definition.
-/// `Memory` comes where there is no room for what remains to be done; the store then has the writes made so far.
-#[tactic(auto, using(crate::proofs::Ending::job_ends))]
+/// It takes every exchange, start and store; the words of the store and what the job leaves are
+/// those of the definition. `Memory` comes where there is no room for what remains to be done. The
+/// store then has the writes made so far: it is that of the job after a number of steps.
+#[tactic(auto, using(crate::proofs::Ending::job_ends, crate::proofs::Ending::job_not_begun, crate::proofs::Ending::job_stops))]
 pub fn plain_job(
     alloc: Global,
     exchange: &Exchange,
     store: &mut Seq<u32>,
     start: &JobStart,
 ) -> Result<JobDone, Memory>
-    ensures outcome { IfOk result (λ done. (job exchange.now start.now store.old).over ≡ Some done.outcome) }
-    ensures sends { IfOk result (λ done. (job exchange.now start.now store.old).own.sends ≡ done.sends) }
-    ensures chain { IfOk result (λ done. (job exchange.now start.now store.old).own.chain ≡ done.chain) }
+    ensures outcome { IfOk result (λ done.
+        (job exchange.now start.now store.old).over ≡ Some done.outcome) }
+    ensures sends { IfOk result (λ done.
+        (job exchange.now start.now store.old).own.sends ≡ done.sends) }
+    ensures chain { IfOk result (λ done.
+        (job exchange.now start.now store.old).own.chain ≡ done.chain) }
     ensures store { OnOk result (store.new ≡ (job exchange.now start.now store.old).world.store) }
+    ensures memory { OnErr result
+        (IsReached exchange.now (begins exchange.now start.now store.old) store.new) }
 {
     let mut run = Run::begin(alloc, exchange, start)?;
     let outcome = run.finish(store)?;
@@ -33,9 +40,11 @@ pub fn plain_job(
 
 impl<'a> Run<'a> {
     // Makes step after step until the job is over, and says how it ended.
-    #[tactic(auto, using(crate::proofs::Ending::step_smaller, crate::proofs::Ending::later_begin, crate::proofs::Ending::later_step, crate::proofs::Ending::later_ended, crate::proofs::Ending::later_faulted))]
+    #[tactic(auto, using(crate::proofs::Ending::laters))]
     fn finish(&mut self, store: &mut Seq<u32>) -> Result<Outcome, Memory>
-        ensures { IfOk result (λ o. RunsTo self.old store.old o self.new store.new) }
+        ensures over { IfOk result (λ o. RunsTo self.old store.old o self.new store.new) }
+        ensures memory { OnErr result
+            (IsReached self.old.exchange (config_of self.old store.old []) store.new) }
     {
         loop {
             match self.step(store) {

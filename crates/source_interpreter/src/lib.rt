@@ -1,8 +1,9 @@
 // The source interpreter: one job, run by what its statements mean.
 //
-// What goes in: an exchange, stored words, and the start of a job. What comes out: the job's end, with what it sent and
-// which records it holds, and the words as they stand then. What remains to be done is kept as places in the exchange's own
-// lists, so that no statement is copied. It knows no address and no instruction.
+// What goes in: an exchange, stored words, and the start of a job. What comes out: the job's end,
+// with what it sent and which records it holds, and the words as they stand then. What remains to
+// be done is kept as places in the exchange's own lists, so that no statement is copied. It knows
+// no address and no instruction.
 #![tactic(auto)]
 
 mod control;
@@ -15,8 +16,6 @@ mod run;
 mod signals;
 mod step;
 mod stop;
-#[cfg(test)]
-mod tests;
 mod text;
 mod value;
 mod view;

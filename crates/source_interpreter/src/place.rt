@@ -1,15 +1,17 @@
 // The files of an exchange, and the cells of their records.
 ghost use Rattle.std.specs.Prelude.{◌≡◌, ◌+◌, ◌*◌, ◌<◌, ◌≤◌, length, nat_eq, IfSome, slice_get, slice_index};
 ghost use Rattle.exchange_model.specs.Cells.{record_cells, field_cell, mark_cell};
-ghost use Rattle.source_meaning.specs.Value.{pointer_fault, unless, holds as has_record, stands as stand};
+ghost use Rattle.source_meaning.specs.Value.{pointer_fault, unless, stands as stand};
+ghost use Rattle.job_types.specs.Chain.{holds as has_record};
 ghost use Rattle.source_meaning.specs.Config.{files_of};
-ghost use Rattle.source_meaning.specs.Step.{field_width, least_record};
+ghost use Rattle.source_meaning.specs.Changes.{field_width, least_record};
 ghost use Rattle.source_interpreter.specs.Opened.{opened};
 
 use crate::value::stands;
-use crate::words::{number_at, put_cell};
-use exchange_model::{Exchange, File, FilePlace, MOST_CELLS, Rel};
+use crate::words::{put_cell, value_at};
+use exchange_model::{Exchange, File, FilePlace, Rel};
 use job_types::{Fault, Held};
+use plex_limits::MOST_CELLS;
 use plex_num::Seq;
 use std::marker::Model;
 
@@ -23,7 +25,7 @@ pub struct Place<'a> {
 
 impl<'a> Model for Place<'a> {
     ghost use Rattle.std.specs.Prelude.{◌+◌, ◌≤◌};
-    ghost use Rattle.exchange_model.specs.declared.limits.TheConstants.{MOST_CELLS};
+    ghost use Rattle.plex_limits.specs.declared.limits.TheConstants.{MOST_CELLS};
     ghost use Rattle.exchange_model.specs.Cells.{Placed, file_cells};
 
     ghost Value = { Placed };
@@ -72,13 +74,15 @@ impl<'a> Place<'a> {
     }
 
     /// The least record whose field stands so to a value.
-    #[tactic(auto, using(crate::proofs::Searching::find_begin, crate::proofs::Searching::find_more, crate::proofs::Searching::find_here, crate::proofs::Searching::find_none))]
+    #[tactic(auto, using(crate::proofs::Searching::finds))]
     pub fn first_where(&self, store: &[u32], field: u32, rel: Rel, value: u32) -> Option<u32>
-        ensures first { result ≡ least_record (λ n. stand rel (slice_index store.now (field_cell self.now n field)) value) self.now.file.size }
+        ensures first { result ≡ least_record
+            (λ n. stand rel (slice_index store.now (field_cell self.now n field)) value)
+            self.now.file.size }
         ensures within { IfSome result (λ n. n < self.now.file.size) }
     {
         for number in 0..self.file.size {
-            if stands(rel, number_at(store, self.field_cell(number, field)), value) {
+            if stands(rel, value_at(store, self.field_cell(number, field)), value) {
                 return Some(number);
             }
         }
@@ -86,13 +90,15 @@ impl<'a> Place<'a> {
     }
 
     /// The least record whose mark says that it is free.
-    #[tactic(auto, using(crate::proofs::Searching::find_begin, crate::proofs::Searching::find_more, crate::proofs::Searching::find_here, crate::proofs::Searching::find_none))]
+    #[tactic(auto, using(crate::proofs::Searching::finds))]
     pub fn first_free(&self, store: &[u32]) -> Option<u32>
-        ensures first { result ≡ least_record (λ n. nat_eq (slice_index store.now (mark_cell self.now n)) 0) self.now.file.size }
+        ensures first { result ≡ least_record
+            (λ n. nat_eq (slice_index store.now (mark_cell self.now n)) 0)
+            self.now.file.size }
         ensures within { IfSome result (λ n. n < self.now.file.size) }
     {
         for number in 0..self.file.size {
-            if number_at(store, self.mark_cell(number)) == 0 {
+            if value_at(store, self.mark_cell(number)) == 0 {
                 return Some(number);
             }
         }

@@ -1,6 +1,7 @@
 // Statements on the records of files.
 ghost use Rattle.std.specs.Prelude.{◌≡◌};
 ghost use Rattle.exchange_model.specs.declared.stmt.StmtKind.TheOpen as stmt;
+ghost use Rattle.source_interpreter.specs.Kept.{IsExprOfText};
 ghost use Rattle.source_interpreter.specs.Leaves.{Does};
 
 use crate::place::place_of;
@@ -12,9 +13,9 @@ use job_types::Fault;
 use plex_num::Seq;
 
 impl<'a> Run<'a> {
-    /// FOR FIRST: the temporary gets the least record whose field stands so to the value, and the job goes on at the
-    /// label; where there is none, it goes on here.
-    #[tactic(auto, using(crate::proofs::Searching::first_found, crate::proofs::Searching::first_none, crate::proofs::Searching::first_nowhere, crate::proofs::Searching::first_stops, crate::proofs::Follow::as_memory))]
+    /// FOR FIRST: the temporary gets the least record whose field stands so to the value, and the
+    /// job goes on at the label; where there is none, it goes on here.
+    #[tactic(auto, using(crate::proofs::Searching::firsts))]
     pub fn go_to_first(
         &mut self,
         store: &Seq<u32>,
@@ -25,7 +26,9 @@ impl<'a> Run<'a> {
         value: &Expr,
         label: u32,
     ) -> Result<(), Stop>
-        ensures { Does (stmt.ForFirst temp file field rel value.now label) self.old store.now result self.new store.now }
+        requires { IsExprOfText value.now }
+        ensures { Does (stmt.ForFirst temp file field rel value.now label)
+            self.old store.now result self.new store.now }
     {
         let value = self.value(value, store)?;
         let Some(place) = place_of(self.exchange(), file) else {
@@ -41,9 +44,9 @@ impl<'a> Run<'a> {
         }
     }
 
-    /// SEIZE: the least free record joins the chain and is marked, and the temporary gets its number; where there is none,
-    /// the job goes on at the label.
-    #[tactic(auto, using(crate::proofs::Searching::seize_goes, crate::proofs::Searching::seize_none, crate::proofs::Searching::seize_full, crate::proofs::Searching::seize_outside, crate::proofs::Searching::seize_nowhere, crate::proofs::Follow::as_memory))]
+    /// SEIZE: the least free record joins the chain and is marked, and the temporary gets its
+    /// number; where there is none, the job goes on at the label.
+    #[tactic(auto, using(crate::proofs::Searching::seizures))]
     pub fn seize(
         &mut self,
         store: &mut Seq<u32>,
@@ -73,7 +76,8 @@ impl<'a> Run<'a> {
         }
     }
 
-    /// FREE: the fields of a record get their INIT values, and it is marked free and leaves the chain.
+    /// FREE: the fields of a record get their INIT values, and it is marked free and leaves the
+    /// chain.
     #[tactic(auto, using(crate::proofs::Searching::free_goes, crate::proofs::Searching::free_wrong, crate::proofs::Searching::free_nowhere))]
     pub fn free(&mut self, store: &mut Seq<u32>, temp: u8, file: u32) -> Result<(), Stop>
         ensures { Does (stmt.Free temp file) self.old store.old result self.new store.new }

@@ -1,38 +1,32 @@
 // A job as it runs.
-ghost use Rattle.std.specs.Prelude.{◌≡◌, ◌+◌, ◌≤◌, ◌∷◌, ◌++◌, [], List, map, length, nat_lt, nat_eq, not, true, ◌&&◌, position, IfSome, IfNone, MatchOption, OnOk, OnErr, IfOk, None, Some, slice_get, take, slice_index, slice_set, if◌then◌else◌, Ok, Err};
+ghost use Rattle.std.specs.Prelude.{◌≡◌, ◌+◌, ◌≤◌, ◌++◌, [], length, nat_lt, nat_eq, not, true, ◌&&◌, position, IfSome, IfNone, MatchOption, OnOk, OnErr, IfOk, None, Some, slice_get, take, slice_index, if◌then◌else◌, Ok, Err};
 ghost use Rattle.std.specs.Option.{option_to_list};
+ghost use Rattle.plex_limits.specs.declared.limits.TheConstants.{MOST_HELD, MOST_SENT, MOST_VALUES};
 ghost use Rattle.job_types.specs.declared.chain.Held.{Held};
-ghost use Rattle.exchange_model.specs.Cells.{Placed};
-ghost use Rattle.source_meaning.specs.Own.{budget, counted};
+ghost use Rattle.job_types.specs.Own.{budget, eight as eight_of};
 ghost use Rattle.source_meaning.specs.Value.{answer_of, bit_of, expr_value, cond_value, values_of, pointer_fault, unless};
-ghost use Rattle.source_meaning.specs.Config.{Do, Turns, base_of, from_place, from_signal, label_of, blank, eight as eight_of, settle};
-ghost use Rattle.source_meaning.specs.Step.{takes, variable_width as width_of_variable, without as chain_without};
-ghost use Rattle.source_interpreter.specs.Running.{Running, sight_of, at_start};
-ghost use Rattle.source_interpreter.specs.Kept.{AreOfText, IsKept};
+ghost use Rattle.source_meaning.specs.Config.{base_of, next_counted};
+ghost use Rattle.source_meaning.specs.Changes.{takes, variable_width as width_of_variable};
+ghost use Rattle.job_types.specs.Chain.{without as chain_without};
+ghost use Rattle.source_interpreter.specs.Reached.{reached};
+ghost use Rattle.source_interpreter.specs.Running.{Running, sight_of, at_start, with_count, with_point, with_temp, with_temps, with_turns, before_rest, at_label, activated, waiting, resumed, posted, holding, left};
+ghost use Rattle.source_interpreter.specs.Kept.{AreExprsOfText, AreOfText, IsCondOfText, IsExprOfText, IsKept};
 ghost use Rattle.source_interpreter.specs.Taken.{before, item_of, is_counted};
 
 use crate::frame::{Callers, Frame};
 use crate::place::{Place, check_pointer};
-use crate::text::{body, enter_place, first_cell, from, label_place, variable_width};
+use crate::text::{body, enter_place, first_cell, from, label_place, receiver_of, variable_width};
 use crate::value::{cond_of, value_of};
 use crate::view::View;
-use crate::words::{number_at, put};
+use crate::words::{put, value_at};
 use crate::work::{Next, Work};
-use exchange_model::{Cond, Exchange, Expr, SignalKind, Stmt};
+use exchange_model::{Cond, Exchange, Expr, Receiver, SignalKind, Stmt};
 use job_types::{Chain, Fault, Held, JobDone, JobStart, Outbox, Outcome, SendTo, Sent};
+use plex_limits::{MOST_COUNTED, MOST_HELD, MOST_SENT, MOST_TEMPORARIES, MOST_VALUES};
 use plex_num::{Memory, Seq, Values};
 use std::alloc::Global;
 use std::marker::Model;
 use std::mem;
-
-/// The most statements that one job may make.
-const BUDGET: u32 = 1_000_000;
-/// The most senders that may wait.
-pub const MOST_CALLERS: usize = 8;
-/// The most records that a chain holds.
-const MOST_HELD: usize = 64;
-/// The most signals that a job may send.
-const MOST_SENT: usize = 255;
 
 /// A job between two steps, with the memory that it uses again.
 #[derive(Drop)]
@@ -43,11 +37,11 @@ pub struct Run<'a> {
     // the cell of the block's first variable
     first: u32,
     work: Work<'a>,
-    temps: [u32; 24],
+    temps: [u32; MOST_TEMPORARIES],
     callers: Callers<'a>,
     spare: Vec<Work<'a>>,
-    given: [u32; 8],
-    answers: [u32; 8],
+    given: [u32; MOST_VALUES],
+    answers: [u32; MOST_VALUES],
     sends: Outbox,
     chain: Chain,
     forlopp: u64,
@@ -72,7 +66,15 @@ impl<'a> Model for Run<'a> {
       todo = r.work;
       temps = r.temps;
       callers = r.callers;
-      own = record { given = r.given; answers = r.answers; sends = r.sends; chain = r.chain; forlopp = r.forlopp; count = r.count; point = r.point };
+      own = record {
+        given = r.given;
+        answers = r.answers;
+        sends = r.sends;
+        chain = r.chain;
+        forlopp = r.forlopp;
+        count = r.count;
+        point = r.point;
+      };
     } };
 
     ghost invariant = { λ r. r.first ≡ base_of r.exchange.now r.block };
@@ -90,11 +92,11 @@ impl<'a> Run<'a> {
             block: 0,
             first: first_cell(exchange, 0),
             work: Work::new(alloc),
-            temps: [0; 24],
+            temps: [0; MOST_TEMPORARIES],
             callers: Callers::new(alloc),
             spare: Vec::new(alloc),
             given: eight(values),
-            answers: [0; 8],
+            answers: [0; MOST_VALUES],
             sends: Outbox::new(),
             chain: start.chain.copy(),
             forlopp: start.job.forlopp,
@@ -130,6 +132,7 @@ impl<'a> Run<'a> {
 
     /// The value of an expression, or the fault that comes in its place.
     pub fn value(&self, e: &Expr, store: &Seq<u32>) -> Result<u32, Fault>
+        requires { IsExprOfText e.now }
         ensures { result ≡ answer_of (expr_value e.now (sight_of self.now store.now)) }
     {
         value_of(e, &self.view(store))
@@ -137,6 +140,7 @@ impl<'a> Run<'a> {
 
     /// Whether a condition holds, or the fault that comes in its place.
     pub fn holds(&self, cond: &Cond, store: &Seq<u32>) -> Result<bool, Fault>
+        requires { IsCondOfText cond.now }
         ensures { bit_of result ≡ answer_of (cond_value cond.now (sight_of self.now store.now)) }
     {
         cond_of(cond, &self.view(store))
@@ -157,7 +161,8 @@ impl<'a> Run<'a> {
 
     /// The values of expressions, or the first fault.
     pub fn values(&self, exprs: &[Expr], store: &Seq<u32>) -> Result<Values, Fault>
-        requires { length exprs.now ≤ 8 }
+        requires few { length exprs.now ≤ MOST_VALUES }
+        requires exprs { AreExprsOfText exprs.now }
         ensures { result ≡ values_of exprs.now [] (sight_of self.now store.now) }
     {
         let mut values = Values::new();
@@ -165,6 +170,26 @@ impl<'a> Run<'a> {
             values.push(self.value(e, store)?);
         }
         Ok(values)
+    }
+
+    /// The block to which a signal goes, or POINTER where a reference is held that names no
+    /// receiver of it.
+    pub fn receiver(
+        &self,
+        signal: u32,
+        to: Option<Receiver>,
+        store: &Seq<u32>,
+    ) -> Result<u32, Fault>
+        ensures { result ≡ reached self.now.exchange signal to (sight_of self.now store.now) }
+    {
+        match to {
+            None => Ok(0),
+            Some(Receiver::Block(block)) => Ok(block),
+            Some(Receiver::Held(holder)) => {
+                let reference = self.view(store).holder(holder);
+                receiver_of(self.exchange, signal, reference).ok_or(Fault::Pointer)
+            }
+        }
     }
 
     /// The exchange.
@@ -176,7 +201,9 @@ impl<'a> Run<'a> {
 
     /// A signal by its number.
     pub fn signal(&self, signal: u32) -> Option<&'a SignalKind>
-        ensures { MatchOption result (slice_get self.now.exchange.signals signal ≡ None) (λ k. slice_get self.now.exchange.signals signal ≡ Some k.now) }
+        ensures { MatchOption result
+            (slice_get self.now.exchange.signals signal ≡ None)
+            (λ k. slice_get self.now.exchange.signals signal ≡ Some k.now) }
     {
         let exchange = self.exchange;
         exchange.signals.get(signal as usize)
@@ -221,39 +248,40 @@ impl<'a> Run<'a> {
     pub fn temp(&self, temp: u8) -> u32
         ensures { result ≡ slice_index self.now.temps temp }
     {
-        number_at(&self.temps, temp as usize)
+        value_at(&self.temps, temp as usize)
     }
 
     /// Gives a temporary a value.
     pub fn set_temp(&mut self, temp: u8, value: u32)
-        ensures { self.new ≡ record self.old { temps = slice_set self.old.temps temp value } }
+        ensures { self.new ≡ with_temp temp value self.old }
     {
         put(&mut self.temps, temp as usize, value);
     }
 
     /// The temporaries get the entry values.
     pub fn take_given(&mut self, temps: &[u8])
-        ensures { self.new ≡ record self.old { temps = takes 0 temps.now self.old.own.given self.old.temps } }
+        ensures { self.new ≡ with_temps temps.now self.old.own.given self.old }
     {
         take_values(&mut self.temps, temps, &self.given);
     }
 
     /// The temporaries get the values of the last answer.
     pub fn take_answers(&mut self, temps: &[u8])
-        ensures { self.new ≡ record self.old { temps = takes 0 temps.now self.old.own.answers self.old.temps } }
+        ensures { self.new ≡ with_temps temps.now self.old.own.answers self.old }
     {
         take_values(&mut self.temps, temps, &self.answers);
     }
 
     /// Counts a statement, at its point, unless so many were counted as a job may make.
-    #[tactic(auto, unfolding(source_meaning::specs::Own::budget))]
+    #[tactic(auto, unfolding(job_types::specs::Own::budget))]
     pub fn count(&mut self, point: u32) -> Result<(), Fault>
-        ensures room { result ≡ (if nat_lt self.old.own.count budget then Ok tt else Err Fault.Budget) }
-        ensures counted { OnOk result (self.new ≡ record self.old { own = counted point self.old.own }) }
-        ensures full { OnErr result (self.new ≡ record self.old { own = record self.old.own { point = point } }) }
+        ensures room { result ≡ (if nat_lt self.old.own.count budget
+            then Ok tt else Err Fault.Budget) }
+        ensures counted { OnOk result (self.new ≡ with_count point self.old) }
+        ensures full { OnErr result (self.new ≡ with_point point self.old) }
     {
         self.point = point;
-        if self.count >= BUDGET {
+        if self.count as usize >= MOST_COUNTED {
             return Err(Fault::Budget);
         }
         self.count += 1;
@@ -262,7 +290,8 @@ impl<'a> Run<'a> {
 
     /// Takes the next item that counts, and drops those before it.
     pub fn take_next(&mut self) -> Result<Option<Next<'a>>, Memory>
-        ensures item { IfOk result (λ next. settle self.old.todo ≡ before next self.new.todo) }
+        ensures item { IfOk result (λ next.
+            next_counted self.old.todo ≡ before next self.new.todo) }
         ensures others { OnOk result (self.new ≡ record self.old { todo = self.new.todo }) }
         ensures counts { IfOk result (λ next. IfSome next (λ n. is_counted n ≡ true)) }
         ensures kept { IfOk result (λ next. IfSome next (λ n. IsKept (item_of n))) }
@@ -273,7 +302,7 @@ impl<'a> Run<'a> {
     /// Puts statements before what remains.
     pub fn push_statements(&mut self, statements: &'a [Stmt]) -> Result<(), Memory>
         requires { AreOfText statements.now }
-        ensures { OnOk result (self.new ≡ record self.old { todo = map Do statements.now ++ self.old.todo }) }
+        ensures { OnOk result (self.new ≡ before_rest statements.now self.old) }
     {
         self.work.push_statements(statements)
     }
@@ -287,14 +316,14 @@ impl<'a> Run<'a> {
         body: &'a [Stmt],
     ) -> Result<(), Memory>
         requires { AreOfText body.now }
-        ensures { OnOk result (self.new ≡ record self.old { todo = Turns self.old.own.point temp this last body.now ∷ self.old.todo }) }
+        ensures { OnOk result (self.new ≡ with_turns temp this last body.now self.old) }
     {
         self.work.push_turns(self.point, temp, this, last, body)
     }
 
     /// Goes on at a label.
     pub fn go_to(&mut self, label: u32) -> Result<(), Memory>
-        ensures { OnOk result (self.new ≡ record self.old { todo = from_place self.old.exchange self.old.block (label_of self.old.exchange self.old.block label) }) }
+        ensures { OnOk result (self.new ≡ at_label label self.old) }
     {
         let place = label_place(self.exchange, self.block, label);
         self.work.clear();
@@ -304,12 +333,12 @@ impl<'a> Run<'a> {
 
     /// Begins an activation in a block, with these entry values.
     pub fn activate(&mut self, block: u32, signal: u32, values: &[u32]) -> Result<(), Memory>
-        requires { length values.now ≤ 8 }
-        ensures { OnOk result (self.new ≡ record self.old { block = block; todo = from_signal self.old.exchange block signal; temps = blank; own = record self.old.own { given = eight_of values.now } }) }
+        requires { length values.now ≤ MOST_VALUES }
+        ensures { OnOk result (self.new ≡ activated block signal values.now self.old) }
     {
         self.block = block;
         self.first = first_cell(self.exchange, block);
-        self.temps = [0; 24];
+        self.temps = [0; MOST_TEMPORARIES];
         self.given = eight(values);
         let place = enter_place(self.exchange, block, signal);
         self.work.start(from(body(self.exchange, block), place))
@@ -317,7 +346,8 @@ impl<'a> Run<'a> {
 
     /// Begins an activation in a block, with the first so many of its own entry values.
     pub fn pass_on(&mut self, block: u32, signal: u32, count: u8) -> Result<(), Memory>
-        ensures { OnOk result (self.new ≡ record self.old { block = block; todo = from_signal self.old.exchange block signal; temps = blank; own = record self.old.own { given = eight_of (take count self.old.own.given) } }) }
+        ensures { OnOk result
+            (self.new ≡ activated block signal (take count self.old.own.given) self.old) }
     {
         let given = self.given;
         self.activate(block, signal, front(&given, count))
@@ -325,7 +355,7 @@ impl<'a> Run<'a> {
 
     /// Waits for an answer.
     pub fn wait(&mut self, answer: u32) -> Result<(), Memory>
-        ensures { OnOk result (self.new ≡ record self.old { todo = []; callers = record { block = self.old.block; todo = self.old.todo; temps = self.old.temps; given = self.old.own.given; awaits = answer } ∷ self.old.callers }) }
+        ensures { OnOk result (self.new ≡ waiting answer self.old) }
     {
         let fresh = self.fresh();
         let work = mem::replace(&mut self.work, fresh);
@@ -363,8 +393,8 @@ impl<'a> Run<'a> {
 
     /// Goes on at a sender that waited, with the values of its answer.
     pub fn resume(&mut self, frame: Frame<'a>, values: &[u32])
-        requires { length values.now ≤ 8 }
-        ensures { self.new ≡ record self.old { block = frame.entry.block; todo = frame.entry.todo; temps = frame.entry.temps; own = record self.old.own { given = frame.entry.given; answers = eight_of values.now } } }
+        requires { length values.now ≤ MOST_VALUES }
+        ensures { self.new ≡ resumed frame.entry values.now self.old }
     {
         let Frame {
             block,
@@ -384,8 +414,9 @@ impl<'a> Run<'a> {
 
     /// Puts a signal in the outbox, unless that is full.
     pub fn post(&mut self, to: SendTo, values: Values) -> Result<(), Fault>
-        ensures room { result ≡ (if nat_lt (length self.old.own.sends) 255 then Ok tt else Err Fault.Sends) }
-        ensures posted { OnOk result (self.new ≡ record self.old { own = record self.old.own { sends = self.old.own.sends ++ record { to = to; values = values } ∷ [] } }) }
+        ensures room { result ≡ (if nat_lt (length self.old.own.sends) MOST_SENT
+            then Ok tt else Err Fault.Sends) }
+        ensures posted { OnOk result (self.new ≡ posted to values self.old) }
         ensures full { OnErr result (self.new ≡ self.old) }
     {
         if self.sends.as_slice().len() >= MOST_SENT {
@@ -397,8 +428,9 @@ impl<'a> Run<'a> {
 
     /// Puts a record in the chain, unless that is full.
     pub fn hold(&mut self, file: u32, number: u32) -> Result<(), Fault>
-        ensures room { result ≡ (if nat_lt (length self.old.own.chain) 64 then Ok tt else Err Fault.Chain) }
-        ensures held { OnOk result (self.new ≡ record self.old { own = record self.old.own { chain = self.old.own.chain ++ record { file = file; number = number } ∷ [] } }) }
+        ensures room { result ≡ (if nat_lt (length self.old.own.chain) MOST_HELD
+            then Ok tt else Err Fault.Chain) }
+        ensures held { OnOk result (self.new ≡ holding file number self.old) }
         ensures full { OnErr result (self.new ≡ self.old) }
     {
         if self.chain.as_slice().len() >= MOST_HELD {
@@ -410,7 +442,7 @@ impl<'a> Run<'a> {
 
     /// Takes a record out of the chain.
     pub fn let_go(&mut self, file: u32, number: u32)
-        ensures { self.new ≡ record self.old { own = record self.old.own { chain = chain_without self.old.own.chain file number } } }
+        ensures { self.new ≡ left file number self.old }
     {
         remove_record(&mut self.chain, file, number);
     }
@@ -418,7 +450,8 @@ impl<'a> Run<'a> {
 
 // The place of a record in a chain.
 fn place_of(chain: &Chain, file: u32, number: u32) -> Option<usize>
-    ensures { result ≡ position (λ (h : Held). nat_eq h.file file && nat_eq h.number number) chain.now }
+    ensures { result ≡ position
+        (λ (h : Held). nat_eq h.file file && nat_eq h.number number) chain.now }
 {
     chain
         .as_slice()
@@ -427,7 +460,7 @@ fn place_of(chain: &Chain, file: u32, number: u32) -> Option<usize>
 }
 
 // Takes a record out of a chain, if it is there.
-#[tactic(auto, using(crate::proofs::Chained::without_found, crate::proofs::Chained::without_none))]
+#[tactic(auto, using(job_types::proofs::Chained::without_found, job_types::proofs::Chained::without_none))]
 fn remove_record(chain: &mut Chain, file: u32, number: u32)
     ensures { chain.new ≡ chain_without chain.old file number }
 {
@@ -442,16 +475,16 @@ fn take_values(temps: &mut [u32], names: &[u8], values: &[u32])
     ensures { temps.new ≡ takes 0 names.now values.now temps.old }
 {
     for (place, name) in names.iter().enumerate() {
-        put(temps, *name as usize, number_at(values, place));
+        put(temps, *name as usize, value_at(values, place));
     }
 }
 
 // The first so many of eight numbers.
-fn front(numbers: &[u32; 8], count: u8) -> &[u32]
+fn front(numbers: &[u32; MOST_VALUES], count: u8) -> &[u32]
     ensures first { result.now ≡ take count numbers.now }
-    ensures few { length result.now ≤ 8 }
+    ensures few { length result.now ≤ MOST_VALUES }
 {
-    if count < 8 {
+    if (count as usize) < MOST_VALUES {
         &numbers[..count as usize]
     } else {
         numbers
@@ -459,11 +492,11 @@ fn front(numbers: &[u32; 8], count: u8) -> &[u32]
 }
 
 // Eight values, 0 beyond these.
-fn eight(values: &[u32]) -> [u32; 8]
-    requires { length values.now ≤ 8 }
+fn eight(values: &[u32]) -> [u32; MOST_VALUES]
+    requires { length values.now ≤ MOST_VALUES }
     ensures { result ≡ eight_of values.now }
 {
-    let mut eight = [0; 8];
+    let mut eight = [0; MOST_VALUES];
     for (place, value) in values.iter().enumerate() {
         eight[place] = *value;
     }

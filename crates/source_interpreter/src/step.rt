@@ -11,8 +11,9 @@ use exchange_model::{Stmt, StmtKind};
 use plex_num::Seq;
 
 impl<'a> Run<'a> {
-    /// One step: the next statement, or the next turn of a loop, is counted and done. Where nothing remains, the job ends.
-    #[tactic(auto, using(crate::proofs::Stepping::nothing_left, crate::proofs::Stepping::statement_done, crate::proofs::Stepping::statement_full, crate::proofs::Stepping::start_done, crate::proofs::Stepping::start_full, crate::proofs::Stepping::turn_done, crate::proofs::Stepping::turn_full, crate::proofs::Stepping::no_memory, crate::proofs::Stepping::taken_statement, crate::proofs::Stepping::taken_body, crate::proofs::Stepping::taken_within))]
+    /// One step: the next statement, or the next turn of a loop, is counted and done. Where nothing
+    /// remains, the job ends.
+    #[tactic(auto, using(crate::proofs::Stepping::stepped))]
     pub fn step(&mut self, store: &mut Seq<u32>) -> Result<(), Stop>
         ensures { Steps self.old store.old result self.new store.new }
     {
@@ -42,10 +43,11 @@ impl<'a> Run<'a> {
     }
 
     // What a statement does, once it was counted and taken from what remains.
-    #[tactic(auto, using(crate::proofs::Performing::if_first_kept, crate::proofs::Performing::if_other_kept, crate::proofs::Performing::whens_kept, crate::proofs::Performing::otherwise_kept, crate::proofs::Performing::body_kept, crate::proofs::Performing::few_sent, crate::proofs::Performing::few_returned))]
+    #[tactic(auto, using(crate::proofs::Performing::inside))]
     fn perform(&mut self, store: &mut Seq<u32>, statement: &'a Stmt) -> Result<(), Stop>
         requires { IsOfText statement.now }
-        ensures { Does (out-StmtKind statement.now.kind) self.old store.old result self.new store.new }
+        ensures { Does (out-StmtKind statement.now.kind)
+            self.old store.old result self.new store.new }
     {
         match &statement.kind {
             StmtKind::Enter { .. } => Ok(()),
@@ -85,13 +87,13 @@ impl<'a> Run<'a> {
             } => self.go_to_first(store, *temp, *file, *field, *rel, value, *label),
             StmtKind::Send {
                 signal,
-                block,
+                to,
                 values,
                 fresh,
-            } => self.send(store, *signal, *block, values.as_slice(), *fresh),
+            } => self.send(store, *signal, *to, values.as_slice(), *fresh),
             StmtKind::Retrieve { answer, temps } => self.retrieve(store, *answer, temps.as_slice()),
             StmtKind::Return { answer, values } => self.answer(store, *answer, values.as_slice()),
-            StmtKind::Transfer { signal, block } => self.transfer(store, *signal, *block),
+            StmtKind::Transfer { signal, to } => self.transfer(store, *signal, *to),
             StmtKind::Seize { temp, file, label } => self.seize(store, *temp, *file, *label),
             StmtKind::Free { temp, file } => self.free(store, *temp, *file),
             StmtKind::Exit | StmtKind::Finish => self.end(),

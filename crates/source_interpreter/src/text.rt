@@ -1,11 +1,12 @@
-// What the exchange says of its blocks, signals and entries. Past their last each answer is that of the definitions.
-ghost use Rattle.std.specs.Prelude.{◌≡◌, ◌<◌, IfSome, drop, length, position};
-ghost use Rattle.source_meaning.specs.Config.{base_of, body_of, label_of, enter_place as place_of_enter, entry_number as number_of_entry, row_place as place_of_row, is_entry};
-ghost use Rattle.source_meaning.specs.Step.{variable_width as width_of_variable, value_count as count_of_values};
+// What the exchange says of its blocks, signals and entries. Past their last each answer is that of
+// the definitions.
+ghost use Rattle.std.specs.Prelude.{◌≡◌, false, drop, slice_get};
+ghost use Rattle.std.specs.Option.{option_map_or};
+ghost use Rattle.source_meaning.specs.Config.{base_of, body_of, label_of, is_receiver, receiver_of, enter_place as place_of_enter, entry_number as number_of_entry};
+ghost use Rattle.source_meaning.specs.Changes.{variable_width as width_of_variable, value_count as count_of_values};
 ghost use Rattle.source_interpreter.specs.Kept.{AreOfText};
-ghost use Rattle.exchange_model.specs.Kept.{signal_count as count_of_signal};
 
-use exchange_model::{Enter, Entry, Exchange, SignalKind, Stmt};
+use exchange_model::{Exchange, Stmt};
 
 /// The statements of a block, and none of a block that is not there.
 #[tactic(auto, using(crate::proofs::Texts::text_of, crate::proofs::Texts::no_text))]
@@ -54,25 +55,11 @@ pub fn label_place(exchange: &Exchange, block: u32, label: u32) -> u32
 }
 
 /// The place of the ENTER of a signal.
+#[tactic(auto, using(crate::proofs::Texts::enter_is))]
 pub fn enter_place(exchange: &Exchange, block: u32, signal: u32) -> u32
     ensures { result ≡ place_of_enter exchange.now block signal }
 {
-    exchange
-        .blocks
-        .get(block as usize)
-        .map_or(0, |block| row_place(block.enters.as_slice(), signal))
-}
-
-// The place in the row of a signal.
-fn row_place(rows: &[Enter], signal: u32) -> u32
-    ensures { result ≡ place_of_row rows.now signal }
-{
-    for row in rows {
-        if row.signal == signal {
-            return row.place;
-        }
-    }
-    0
+    exchange.enter_of(block, signal).unwrap_or(0)
 }
 
 /// The width of a variable.
@@ -90,20 +77,29 @@ pub fn variable_width(exchange: &Exchange, block: u32, variable: u32) -> u8
 pub fn entry_number(exchange: &Exchange, block: u32, signal: u32) -> u32
     ensures { result ≡ number_of_entry exchange.now block signal }
 {
-    match entry_place(exchange.entries(), block, signal) {
-        Some(place) => place as u32,
-        None => 0,
+    exchange.entry_of(block, signal).unwrap_or(0)
+}
+
+/// The block that a reference names, where it receives the signal. A reference is 1 plus a block's
+/// number.
+pub fn receiver_of(exchange: &Exchange, signal: u32, reference: u32) -> Option<u32>
+    ensures { result ≡ receiver_of exchange.now signal reference }
+{
+    let block = reference.checked_sub(1)?;
+    if receives(exchange, block, signal) {
+        Some(block)
+    } else {
+        None
     }
 }
 
-// The place of the entry of a signal at a block.
-fn entry_place(entries: &[Entry], block: u32, signal: u32) -> Option<usize>
-    ensures place { result ≡ position (is_entry block signal) entries.now }
-    ensures within { IfSome result (λ i. i < length entries.now) }
+// Whether a block receives a signal.
+#[tactic(auto, using(crate::proofs::Texts::receives_is))]
+fn receives(exchange: &Exchange, block: u32, signal: u32) -> bool
+    ensures { result ≡ option_map_or (is_receiver signal)
+        (slice_get exchange.now.blocks block) false }
 {
-    entries
-        .iter()
-        .position(|entry| entry.block == block && entry.signal == signal)
+    exchange.enter_of(block, signal).is_some()
 }
 
 /// How many values a signal has.
@@ -113,17 +109,5 @@ pub fn value_count(exchange: &Exchange, signal: u32) -> u8
     exchange
         .signals
         .get(signal as usize)
-        .map_or(0, |signal| signal_count(signal))
-}
-
-fn signal_count(signal: &SignalKind) -> u8
-    ensures { result ≡ count_of_signal signal.now }
-{
-    match signal {
-        SignalKind::Buffered { count, .. }
-        | SignalKind::Direct { count, .. }
-        | SignalKind::Combined { count, .. }
-        | SignalKind::Answer { count, .. }
-        | SignalKind::Outside { count, .. } => *count,
-    }
+        .map_or(0, |signal| signal.count())
 }

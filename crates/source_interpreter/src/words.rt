@@ -3,8 +3,8 @@ ghost use Rattle.std.specs.Prelude.{◌≡◌, slice_index, slice_set};
 
 use plex_num::Seq;
 
-/// The number at a place, and 0 past the end.
-pub fn number_at(numbers: &[u32], i: usize) -> u32
+/// The value at a place, and 0 past the end.
+pub fn value_at(numbers: &[u32], i: usize) -> u32
     ensures { result ≡ slice_index numbers.now i }
 {
     if i < numbers.len() { numbers[i] } else { 0 }

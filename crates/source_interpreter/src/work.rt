@@ -1,7 +1,7 @@
 // What remains to be done, as places in the exchange's own lists: no statement is copied.
 ghost use Rattle.std.specs.Prelude.{◌≡◌, ◌∷◌, ◌++◌, [], List, map, true, OnOk, IfOk, IfSome, IfNone};
 ghost use Rattle.exchange_model.specs.declared.stmt.StmtKind.{out-StmtKind};
-ghost use Rattle.source_meaning.specs.Config.{Item, Do, Start, Turns, settle, starting, is_enter as enters};
+ghost use Rattle.source_meaning.specs.Config.{Item, Do, Start, Turns, starting, is_enter as enters, next_counted};
 ghost use Rattle.source_interpreter.specs.Work.{items_of, taken_items, todo_of};
 ghost use Rattle.source_interpreter.specs.Kept.{AreOfText, AreKept, IsKept};
 ghost use Rattle.source_interpreter.specs.Taken.{item_of, before, is_counted};
@@ -11,8 +11,8 @@ use plex_num::Memory;
 use std::alloc::Global;
 use std::marker::Model;
 
-/// One part of what remains: statements, the ENTER of the signal that began the activation, or the turns of a loop from
-/// a number on.
+/// One part of what remains: statements, the ENTER of the signal that began the activation, or the
+/// turns of a loop from a number on.
 #[derive(Clone, Copy, Drop)]
 pub enum Part<'a> {
     Rest {
@@ -126,7 +126,8 @@ impl<'a> Work<'a> {
         )
     }
 
-    /// What an activation does that begins with these statements: the ENTER of its signal, and what follows it.
+    /// What an activation does that begins with these statements: the ENTER of its signal, and what
+    /// follows it.
     #[tactic(auto, using(crate::proofs::Todo::kept_statements))]
     pub fn start(&mut self, statements: &'a [Stmt]) -> Result<(), Memory>
         requires { AreOfText statements.now }
@@ -144,7 +145,7 @@ impl<'a> Work<'a> {
 
     /// Takes the next item that counts, and drops those before it.
     pub fn take_next(&mut self) -> Result<Option<Next<'a>>, Memory>
-        ensures item { IfOk result (λ next. settle self.old ≡ before next self.new) }
+        ensures item { IfOk result (λ next. next_counted self.old ≡ before next self.new) }
         ensures counts { IfOk result (λ next. IfSome next (λ n. is_counted n ≡ true)) }
         ensures kept { IfOk result (λ next. IfSome next (λ n. IsKept (item_of n))) }
     {
@@ -193,7 +194,8 @@ impl<'a> Work<'a> {
 fn push<'a>(parts: &mut Vec<Part<'a>>, part: Part<'a>) -> Result<(), Memory>
     requires part { AreKept (items_of part) }
     requires kept { AreKept (todo_of parts.old.items) }
-    ensures todo { OnOk result (todo_of parts.new.items ≡ items_of part.entry ++ todo_of parts.old.items) }
+    ensures todo { OnOk result
+        (todo_of parts.new.items ≡ items_of part.entry ++ todo_of parts.old.items) }
     ensures kept { AreKept (todo_of parts.new.items) }
 {
     match parts.push(part) {

@@ -64,3 +64,6 @@ factor_value-Field file field pointer s = ap (λ (e : Eval). e s) (factor_value-
 
 pub factor_value-Bracket : (e : Expr) (s : Sight) → factor_value (factor.Bracket e) s ≡ expr_value e s
 factor_value-Bracket e s = ap (λ (v : Eval). v s) (factor_value-out (factor.Bracket e) ∙ ap opened (factor.outs-Bracket e))
+
+pub factor_value-Reference : (b : ℕ) (s : Sight) → factor_value (factor.Reference b) s ≡ Gives [] (b + 1)
+factor_value-Reference b s = ap (λ (v : Eval). v s) (factor_value-out (factor.Reference b) ∙ ap opened (factor.outs-Reference b))

@@ -6,22 +6,19 @@ use Rattle.job_types.specs.declared.job.JobStart.{JobStart}
 use Rattle.job_types.specs.declared.outcome.Outcome.{Outcome}
 use Rattle.exchange_model.specs.declared.exchange.Exchange.{Exchange}
 use Rattle.exchange_model.specs.declared.entry.Entry.{Entry}
-use Rattle.source_meaning.specs.Own.{Own, budget}
-use Rattle.source_meaning.specs.Config.{Config, Item, from_signal, eight, blank}
+use Rattle.job_types.specs.Own.{budget, own_of, untouched}
+use Rattle.source_meaning.specs.Config.{Config, Item, from_signal, blank}
 use Rattle.source_meaning.specs.Step.{step}
 
--- at most so many steps
+-- goes on unless the job is over
 abbrev pub unless_over : Option Outcome → Config → Config → Config
 unless_over None c d = d
 unless_over (Some o) c d = c
 
-unfoldable pub run : ℕ → Exchange → Config → Config
-run zero x c = c
-run (suc n) x c = unless_over c.over c (run n x (step x c))
-
--- what a job has at its start
-abbrev pub own_of : JobStart → Own
-own_of start = record { given = eight start.job.values; answers = eight []; sends = []; chain = start.chain; forlopp = start.job.forlopp; count = 0; point = 0 }
+-- after at most so many steps
+unfoldable pub after_steps : ℕ → Exchange → Config → Config
+after_steps zero x c = c
+after_steps (suc n) x c = unless_over c.over c (after_steps n x (step x c))
 
 -- a job at its start, over these stored words; past the last entry nothing remains to be done
 abbrev pub place_of : Option Entry → ℕ
@@ -39,10 +36,10 @@ begins x start store = record {
   temps = blank;
   callers = [];
   own = own_of start;
-  world = record { store = store; trace = [] };
+  world = untouched store;
   over = None;
 }
 
 -- the meaning of a job: its store, its trace, its sends, its chain and its outcome are those of the end
 unfoldable pub job : Exchange → JobStart → List ℕ → Config
-job x start store = run (budget + 1) x (begins x start store)
+job x start store = after_steps (budget + 1) x (begins x start store)

@@ -1,222 +1,19 @@
 -- The statement step: one statement, or one turn of a loop, is counted and done.
 --
 -- Every step counts exactly one, since what is not counted is passed over first. A statement is counted before it has any
--- effect, so that a fault of the budget leaves none. Of a record, POINTER is looked for before NOTOWN, and RANGE after both.
-use Rattle.std.specs.Prelude.{ℕ, zero, suc, ◌+◌, ◌^◌, Bool, nat_lt, nat_eq, ◌&&◌, List, [], ◌∷◌, ◌++◌, length, map, take, position, slice_get, slice_index, slice_set, Option, Some, None, if◌then◌else◌}
-use Rattle.std.specs.List.{range_with_len}
-use Rattle.job_types.specs.declared.chain.Held.{Held}
-use Rattle.job_types.specs.declared.fault.Fault.{Fault}
+-- effect, so that a fault of the budget leaves none.
+use Rattle.std.specs.Prelude.{ℕ, ◌+◌, nat_lt, List, [], ◌∷◌, ◌++◌, map, take, slice_get, slice_index, if◌then◌else◌}
 use Rattle.job_types.specs.declared.fault.Fault.TheVariants as fault
-use Rattle.job_types.specs.declared.outbox.SendTo.{SendTo}
-use Rattle.job_types.specs.declared.outbox.SendTo.TheVariants as sent_to
-use Rattle.job_types.specs.declared.outcome.Outcome.TheVariants.{Ended, Faulted}
-use Rattle.machine_code.specs.declared.permit.Touch.{Touch}
 use Rattle.exchange_model.specs.declared.exchange.Exchange.{Exchange}
-use Rattle.exchange_model.specs.declared.signal.SignalKind.{SignalKind}
-use Rattle.exchange_model.specs.declared.signal.SignalKind.TheVariants.{Buffered, Direct, Combined, Outside}
-use Rattle.exchange_model.specs.declared.block.Block.{Block}
-use Rattle.exchange_model.specs.declared.block.Variable.{Variable}
-use Rattle.exchange_model.specs.declared.expr.Expr.{Expr}
-use Rattle.exchange_model.specs.declared.expr.Rel.{Rel}
 use Rattle.exchange_model.specs.declared.stmt.Stmt.{Stmt}
-use Rattle.exchange_model.specs.declared.stmt.When.{When, out-When}
+use Rattle.exchange_model.specs.declared.stmt.When.{When}
 use Rattle.exchange_model.specs.declared.stmt.StmtKind.{StmtKind, StmtKind-F, out-StmtKind}
 use Rattle.exchange_model.specs.declared.stmt.StmtKind.TheOpen as stmt
-use Rattle.exchange_model.specs.Cells.{Placed, field_cell, mark_cell}
-use Rattle.exchange_model.specs.Kept.{signal_count}
-use Rattle.source_meaning.specs.Own.{World, counted, seen, writes, budget}
-use Rattle.source_meaning.specs.Value.{Got, Gives, Fails, expr_value, cond_value, stands, pointer_fault, load_of}
-use Rattle.source_meaning.specs.Config.{Item, Do, Start, Turns, Caller, Config, found, base_of, files_of, label_of, from_place, from_signal, entry_number, sight, eight, blank, settle}
-
--- ends
-
--- the job ends by a fault at the point of its statement
-abbrev pub fails : Fault → Config → Config
-fails f c = record c { over = Some (Faulted f c.own.point) }
-
--- the job ends, unless a caller waits
-abbrev pub ends : List Caller → Config → Config
-ends [] c = record c { over = Some Ended }
-ends (k ∷ ks) c = fails fault.BadEnd c
-
--- values
-
--- goes on with a value, after its loads
-abbrev pub on_value : Got → Config → (ℕ → Config → Config) → Config
-on_value (Gives loads v) c go = go v (record c { world = seen loads c.world })
-on_value (Fails loads f) c go = fails f (record c { world = seen loads c.world })
-
--- goes on with values, from left to right
-abbrev pub on_values : Exchange → List Expr → List ℕ → Config → (List ℕ → Config → Config) → Config
-on_values x [] vs c go = go vs c
-on_values x (e ∷ es) vs c go = on_value (expr_value e (sight x c)) c (λ v d. on_values x es (vs ++ v ∷ []) d go)
-
--- goes on unless there is a fault
-abbrev pub unless_fault : Option Fault → Config → (Config → Config) → Config
-unless_fault None c go = go c
-unless_fault (Some f) c go = fails f c
-
--- goes on where the value fits so many bits
-abbrev pub where_fits : ℕ → ℕ → Config → (Config → Config) → Config
-where_fits v width c go = (if nat_lt v (2 ^ width) then go c else fails fault.Range c)
-
--- small changes
-
-abbrev pub goes : List Item → Config → Config
-goes todo c = record c { todo = todo }
-
-abbrev pub to_label : Exchange → ℕ → Config → Config
-to_label x l c = goes (from_place x c.block (label_of x c.block l)) c
-
-abbrev pub sets_temp : ℕ → ℕ → Config → Config
-sets_temp t v c = record c { temps = slice_set c.temps t v }
-
-abbrev pub sets_cell : ℕ → ℕ → Config → Config
-sets_cell cell v c = record c { world = writes cell v c.world }
-
--- the temporaries get the values from the k-th on, which are 0 past the end
-abbrev pub takes : ℕ → List ℕ → List ℕ → List ℕ → List ℕ
-takes k [] values temps = temps
-takes k (t ∷ ts) values temps = takes (k + 1) ts values (slice_set temps t (slice_index values k))
-
--- one of two, by whether the number is 0
-abbrev pub at_zero : {A : Type 0} → ℕ → A → A → A
-at_zero zero a b = a
-at_zero (suc n) a b = b
-
--- stored data
-
-abbrev pub variable_width : Exchange → ℕ → ℕ → ℕ
-variable_width x b v = found (slice_get x.blocks b) 0 (λ (k : Block). found (slice_get k.variables v) 0 (λ (e : Variable). e.width))
-
-abbrev pub field_width : Placed → ℕ → ℕ
-field_width p field = found (slice_get p.file.fields field) 0 (λ (e : Variable). e.width)
-
--- a field of a record gets a value
-abbrev pub sets_field : Option Placed → ℕ → ℕ → ℕ → ℕ → Config → Config
-sets_field None file field number v c = c
-sets_field (Some p) file field number v c =
-    unless_fault (pointer_fault c.own.chain file p number) c (λ d. where_fits v (field_width p field) d (sets_cell (field_cell p number field) v))
-
--- searches: the records of a file are looked at from 0 on, up to the one that is found, or all
-
--- the least record, of so many, at which the test holds
-abbrev pub least_record : (ℕ → Bool) → ℕ → Option ℕ
-least_record test size = position test (range_with_len 0 size)
-
--- how many records were looked at
-abbrev pub looked_at : Option ℕ → ℕ → ℕ
-looked_at None size = size
-looked_at (Some number) size = number + 1
-
--- the loads of one cell in each of the first so many records
-abbrev pub record_loads : (ℕ → ℕ) → ℕ → List ℕ → List Touch
-record_loads cell_of count store = map (λ number. load_of store (cell_of number)) (range_with_len 0 count)
-
--- goes on with the record that was found, or without one, after the loads
-abbrev pub on_record : (ℕ → ℕ) → (ℕ → Bool) → ℕ → Config → (Option ℕ → Config → Config) → Config
-on_record cell_of test size c go =
-    let number = least_record (λ n. test (slice_index c.world.store (cell_of n))) size in
-    go number (record c { world = seen (record_loads cell_of (looked_at number size) c.world.store) c.world })
-
--- to the label with the record in the temporary, or on where there is none
-abbrev pub at_found : Exchange → ℕ → ℕ → List Item → Option ℕ → Config → Config
-at_found x temp label rest None c = goes rest c
-at_found x temp label rest (Some number) c = to_label x label (sets_temp temp number c)
-
-abbrev pub for_first : Exchange → Option Placed → ℕ → ℕ → Rel → ℕ → ℕ → List Item → Config → Config
-for_first x None temp field rel v label rest c = goes rest c
-for_first x (Some p) temp field rel v label rest c =
-    on_record (λ n. field_cell p n field) (λ w. stands rel w v) p.file.size c (at_found x temp label rest)
-
--- records of a forlopp
-
--- the record joins the chain, unless that is full
-abbrev pub joins_chain : Placed → ℕ → ℕ → ℕ → List Item → Config → Config
-joins_chain p file temp number rest c =
-    (if nat_lt (length c.own.chain) 64
-    then goes rest (sets_temp temp number (sets_cell (mark_cell p number) 1 (record c { own = record c.own { chain = c.own.chain ++ record { file = file; number = number } ∷ [] } })))
-    else fails fault.Chain c)
-
--- the free record joins the chain, or to the label where there is none
-abbrev pub at_free : Exchange → Placed → ℕ → ℕ → ℕ → List Item → Option ℕ → Config → Config
-at_free x p file temp label rest None c = to_label x label c
-at_free x p file temp label rest (Some number) c = joins_chain p file temp number rest c
-
-abbrev pub seizes : Exchange → Option Placed → ℕ → ℕ → ℕ → List Item → Config → Config
-seizes x None file temp label rest c = goes rest c
-seizes x (Some p) file temp label rest c =
-    (if nat_eq c.own.forlopp 0 then fails fault.NoForlopp c
-    else on_record (mark_cell p) (λ mark. nat_eq mark 0) p.file.size c (at_free x p file temp label rest))
-
--- the chain without a record
-abbrev pub without : List Held → ℕ → ℕ → List Held
-without [] file number = []
-without (h ∷ rest) file number = (if nat_eq h.file file && nat_eq h.number number then rest else h ∷ without rest file number)
-
--- the fields of a record, from this one on, get their INIT values
-abbrev pub opens_fields : Placed → ℕ → ℕ → List Variable → World → World
-opens_fields p number field [] w = w
-opens_fields p number field (v ∷ rest) w = opens_fields p number (field + 1) rest (writes (field_cell p number field) v.init w)
-
--- a record gets its INIT values, and is marked free
-abbrev pub opens_record : Placed → ℕ → World → World
-opens_record p number w = writes (mark_cell p number) 0 (opens_fields p number 0 p.file.fields w)
-
-abbrev pub frees : Option Placed → ℕ → ℕ → List Item → Config → Config
-frees None file number rest c = goes rest c
-frees (Some p) file number rest c =
-    unless_fault (pointer_fault c.own.chain file p number) c (λ d.
-    goes rest (record d { world = opens_record p number d.world; own = record d.own { chain = without d.own.chain file number } }))
-
--- signals
-
--- an activation in a block, with its entry values
-abbrev pub activates : Exchange → ℕ → ℕ → List ℕ → Config → Config
-activates x b signal vs c = record c { block = b; todo = from_signal x b signal; temps = blank; own = record c.own { given = eight vs } }
-
--- the sender waits, unless eight do
-abbrev pub asks : Exchange → ℕ → ℕ → ℕ → List Item → List ℕ → Config → Config
-asks x b signal answer rest vs c =
-    (if nat_lt (length c.callers) 8
-    then activates x b signal vs (record c { callers = record { block = c.block; todo = rest; temps = c.temps; given = c.own.given; awaits = answer } ∷ c.callers })
-    else fails fault.Depth c)
-
--- a signal joins the outbox, unless that is full
-abbrev pub posts : SendTo → List Item → List ℕ → Config → Config
-posts to rest vs c =
-    (if nat_lt (length c.own.sends) 255
-    then goes rest (record c { own = record c.own { sends = c.own.sends ++ record { to = to; values = vs } ∷ [] } })
-    else fails fault.Sends c)
-
--- a signal is sent to a block, by its kind
-abbrev pub sends : Exchange → Option SignalKind → ℕ → ℕ → Bool → List Item → List ℕ → Config → Config
-sends x (Some (Buffered name level count)) signal b fresh rest vs c = posts (sent_to.Queue (entry_number x b signal) level fresh) rest vs c
-sends x (Some (Direct name count)) signal b fresh rest vs c = activates x b signal vs c
-sends x (Some (Combined name count answer)) signal b fresh rest vs c = asks x b signal answer rest vs c
-sends x (Some (Outside name count)) signal b fresh rest vs c = posts (sent_to.Outside signal) rest vs c
-sends x _ signal b fresh rest vs c = goes rest c
-
--- back to the caller that waits for this answer
-abbrev pub returns : List Caller → ℕ → List ℕ → Config → Config
-returns [] answer vs c = fails fault.BadEnd c
-returns (k ∷ ks) answer vs c =
-    (if nat_eq k.awaits answer
-    then record c { block = k.block; todo = k.todo; temps = k.temps; callers = ks; own = record c.own { given = k.given; answers = eight vs } }
-    else fails fault.BadEnd c)
-
--- how many values a signal has
-abbrev pub value_count : Exchange → ℕ → ℕ
-value_count x signal = found (slice_get x.signals signal) 0 signal_count
-
--- no block is block 0, which no exchange asks for
-abbrev pub block_or : Option ℕ → ℕ
-block_or block = found block 0 (λ b. b)
-
--- the choice of the number, or else the other one
-abbrev pub chosen : List When → ℕ → List Stmt → List Stmt
-chosen [] v otherwise = otherwise
-chosen (w ∷ rest) v otherwise = (if nat_eq (out-When w).number v then (out-When w).body else chosen rest v otherwise)
+use Rattle.job_types.specs.Own.{counted, budget}
+use Rattle.job_types.specs.Truth.{at_zero}
+use Rattle.source_meaning.specs.Value.{expr_value, cond_value}
+use Rattle.source_meaning.specs.Config.{Item, Do, Start, Turns, Config, base_of, files_of, sight, next_counted}
+use Rattle.source_meaning.specs.Changes.{fails, ends, on_value, on_values, where_fits, goes, to_label, sets_temp, sets_cell, takes, variable_width, at_record, sets_field, for_first, seizes, frees, activates, sends, returns, value_count, to_receiver, chosen}
 
 -- statements
 
@@ -227,7 +24,8 @@ does x p (stmt.SetTemp temp e) rest c = on_value (expr_value e (sight x c)) c (�
 does x p (stmt.SetVariable variable e) rest c =
     on_value (expr_value e (sight x c)) c (λ v d. where_fits v (variable_width x c.block variable) d (λ d. goes rest (sets_cell (base_of x c.block + variable) v d)))
 does x p (stmt.SetField file field pointer e) rest c =
-    on_value (expr_value e (sight x c)) c (λ v d. sets_field (slice_get (files_of x) file) file field (slice_index d.temps pointer) v (goes rest d))
+    on_value (expr_value e (sight x c)) c (λ v d.
+    at_record (slice_get (files_of x) file) file (slice_index d.temps pointer) (goes rest d) (sets_field (slice_index d.temps pointer) field v))
 does x p (stmt.Goto label) rest c = to_label x label c
 does x p (stmt.IfGoto cond label) rest c = on_value (cond_value cond (sight x c)) c (λ v d. at_zero v (goes rest d) (to_label x label d))
 does x p (stmt.If cond yes_part no_part) rest c =
@@ -237,12 +35,14 @@ does x p (stmt.On temp from upto body) rest c =
     on_value (expr_value from (sight x c)) c (λ a d. on_value (expr_value upto (sight x d)) d (λ b e. goes (Turns p temp a b body ∷ rest) e))
 does x p (stmt.ForFirst temp file field rel e label) rest c =
     on_value (expr_value e (sight x c)) c (λ v d. for_first x (slice_get (files_of x) file) temp field rel v label rest d)
-does x p (stmt.Send signal block values fresh) rest c = on_values x values [] c (sends x (slice_get x.signals signal) signal (block_or block) fresh rest)
+does x p (stmt.Send signal to values fresh) rest c =
+    to_receiver x signal to c (λ b d. on_values x values [] d (sends x (slice_get x.signals signal) signal b fresh rest))
 does x p (stmt.Retrieve answer temps) rest c = record c { todo = rest; temps = takes 0 temps c.own.answers c.temps }
 does x p (stmt.Return answer values) rest c = on_values x values [] c (λ vs d. returns d.callers answer vs d)
-does x p (stmt.Transfer signal block) rest c = activates x (block_or block) signal (take (value_count x signal) c.own.given) c
+does x p (stmt.Transfer signal to) rest c = to_receiver x signal to c (λ b d. activates x b signal (take (value_count x signal) d.own.given) d)
 does x p (stmt.Seize temp file label) rest c = seizes x (slice_get (files_of x) file) file temp label rest c
-does x p (stmt.Free temp file) rest c = frees (slice_get (files_of x) file) file (slice_index c.temps temp) rest c
+does x p (stmt.Free temp file) rest c =
+    at_record (slice_get (files_of x) file) file (slice_index c.temps temp) (goes rest c) (frees file (slice_index c.temps temp))
 does x p stmt.Exit rest c = ends c.callers c
 does x p stmt.Finish rest c = ends c.callers c
 
@@ -266,4 +66,4 @@ does_first x (Turns p temp this end body ∷ rest) c =
 
 -- one step
 unfoldable pub step : Exchange → Config → Config
-step x c = does_first x (settle c.todo) c
+step x c = does_first x (next_counted c.todo) c

@@ -3,25 +3,28 @@
 -- Numbers are modulo 2^32. A sum begins with 0 and a product with 1, so that the first term and the first factor are no
 -- cases of their own. In a condition every relation is evaluated, and AND and OR join the results afterwards. Past the
 -- last temporary, cell or file each look-up gives 0, so that no definition needs a premise.
-use Rattle.std.specs.Prelude.{ℕ, zero, suc, ◌+◌, ◌-◌, ◌*◌, ◌/◌, ◌%◌, ◌^◌, Bool, true, false, nat_lt, nat_le, nat_eq, not, ◌&&◌, ◌||◌, List, [], ◌∷◌, ◌++◌, map, slice_get, slice_index, Option, Some, None, Result, Ok, Err, if◌then◌else◌}
-use Rattle.std.specs.List.{list_any}
+use Rattle.std.specs.Prelude.{ℕ, zero, suc, ◌+◌, ◌-◌, ◌*◌, ◌/◌, ◌%◌, ◌^◌, Bool, nat_lt, nat_le, nat_eq, not, ◌&&◌, ◌||◌, List, [], ◌∷◌, ◌++◌, map, slice_get, slice_index, Option, Some, None, Result, Ok, Err, if◌then◌else◌}
 use Rattle.job_types.specs.declared.chain.Held.{Held}
 use Rattle.job_types.specs.declared.fault.Fault.{Fault}
 use Rattle.job_types.specs.declared.fault.Fault.TheVariants as fault
-use Rattle.machine_code.specs.declared.permit.Touch.{Touch}
-use Rattle.machine_code.specs.declared.permit.Touch.TheVariants.{Load}
+use Rattle.job_types.specs.declared.touch.Touch.{Touch}
+use Rattle.job_types.specs.declared.touch.Touch.TheVariants.{Load}
 use Rattle.exchange_model.specs.declared.expr.Expr.{Expr, fold-Expr}
 use Rattle.exchange_model.specs.declared.expr.Term.{Term, out-Term}
 use Rattle.exchange_model.specs.declared.expr.Joined.{Joined}
 use Rattle.exchange_model.specs.declared.expr.Factor.{Factor, fold-Factor}
-use Rattle.exchange_model.specs.declared.expr.Factor.TheOpen.{Factor-F, Expr-F, Joined-F, Term-F, Number, Variable, Temporary, Field, Bracket}
+use Rattle.exchange_model.specs.declared.expr.Factor.TheOpen.{Factor-F, Expr-F, Joined-F, Term-F, Number, Variable, Temporary, Field, Bracket, Reference}
 use Rattle.exchange_model.specs.declared.expr.FactorOp.{FactorOp}
 use Rattle.exchange_model.specs.declared.expr.FactorOp.TheVariants.{Times, Divide, Modulo}
 use Rattle.exchange_model.specs.declared.expr.Cond.{Cond}
 use Rattle.exchange_model.specs.declared.expr.Relation.{Relation}
 use Rattle.exchange_model.specs.declared.expr.Rel.{Rel}
 use Rattle.exchange_model.specs.declared.expr.Rel.TheVariants.{Equal, Unequal, Below, AtMost, Above, AtLeast}
+use Rattle.exchange_model.specs.declared.stmt.Holder.{Holder}
+use Rattle.exchange_model.specs.declared.stmt.Holder.TheVariants as holder
 use Rattle.exchange_model.specs.Cells.{Placed, field_cell}
+use Rattle.job_types.specs.Chain.{holds}
+use Rattle.job_types.specs.Truth.{is_set, one_if}
 
 -- a value, or the fault that came in its place, with the loads made
 pub data Got : Type 0 where
@@ -59,10 +62,6 @@ load_of store cell = Load cell (slice_index store cell)
 -- the value of a cell, which is loaded
 abbrev pub cell_value : ℕ → Sight → Got
 cell_value cell s = Gives (load_of s.store cell ∷ []) (slice_index s.store cell)
-
--- the chain has the record of the file
-abbrev pub holds : List Held → ℕ → ℕ → Bool
-holds chain file number = list_any (λ (h : Held). nat_eq h.file file && nat_eq h.number number) chain
 
 -- a job may use a record of a forlopp file where its chain has it, and any record of another file
 abbrev pub may_use : List Held → ℕ → Placed → ℕ → Bool
@@ -107,6 +106,7 @@ factor_layer (Variable v) s = cell_value (s.first + v) s
 factor_layer (Temporary t) s = Gives [] (slice_index s.temps t)
 factor_layer (Field file field pointer) s = field_value (slice_get s.files file) file field (slice_index s.temps pointer) s
 factor_layer (Bracket e) s = e s
+factor_layer (Reference b) s = Gives [] (b + 1)
 
 -- a product so far, joined with a factor
 abbrev pub joined : FactorOp → ℕ → ℕ → Got
@@ -157,6 +157,11 @@ term_value t = product_value (map multiplier_of (out-Term t).factors) 1
 abbrev pub summand_of : Term → Summand
 summand_of t = record { minus = (out-Term t).minus; value = term_value t }
 
+-- the value of a holder
+abbrev pub holder_value : Holder → Eval
+holder_value (holder.Temporary t) s = Gives [] (slice_index s.temps t)
+holder_value (holder.Variable v) s = cell_value (s.first + v) s
+
 -- done where the value fits so many bits
 abbrev pub range_check : ℕ → ℕ → Result (Unit {0}) Fault
 range_check v width = (if nat_lt v (2 ^ width) then Ok tt else Err fault.Range)
@@ -178,15 +183,6 @@ stands Below a b = nat_lt a b
 stands AtMost a b = nat_le a b
 stands Above a b = nat_lt b a
 stands AtLeast a b = nat_le b a
-
--- 1 where it is so, else 0
-abbrev pub one_if : Bool → ℕ
-one_if true = 1
-one_if false = 0
-
-abbrev pub is_set : ℕ → Bool
-is_set zero = false
-is_set (suc n) = true
 
 -- a test as a number, or the fault
 abbrev pub bit_of : Result Bool Fault → Result ℕ Fault

@@ -3,8 +3,8 @@
 -- `At` says it of any list of items, and `Ready` of one whose first item is counted. A jump that ends a branch, an ENTER
 -- that is reached from above and the end of a loop lead from the one to the other. With d loops open, their numbers and
 -- last numbers stand in the locals from 24 up to 24 + 2 d, and nowhere else does what remains depend on the locals.
-use Rattle.std.proofs.Common.{◌≡◌, ℕ, suc, ◌+◌, ◌*◌, ◌^◌, ◌<◌, ◌≤◌, true, false, List, [], ◌∷◌, ◌++◌, length, map, Some, refl, ap, ◌∙◌, subst, arith, length-append}
-use Rattle.std.specs.Prelude.{slice_get, slice_index, nat_lt}
+use Rattle.std.proofs.Common.{◌≡◌, ℕ, suc, ◌+◌, ◌*◌, ◌^◌, ◌<◌, ◌≤◌, true, false, List, [], ◌∷◌, ◌++◌, length, map, refl, ap, ◌∙◌, subst, arith, length-append}
+use Rattle.std.specs.Prelude.{slice_index, nat_lt}
 use Rattle.std.specs.List.{AllByRecursion}
 use Rattle.machine_code.specs.declared.op.Op.TheVariants as op
 use Rattle.exchange_model.specs.declared.stmt.Stmt.{Stmt}
@@ -12,10 +12,12 @@ use Rattle.exchange_model.specs.declared.stmt.When.{When}
 use Rattle.exchange_model.specs.declared.stmt.StmtKind.{StmtKind, StmtKind-F, out-StmtKind}
 use Rattle.exchange_model.specs.declared.stmt.StmtKind.TheOpen as stmt
 use Rattle.source_meaning.specs.Config.{Item, Do, Start, Turns, is_enter}
-use Rattle.expr_code.specs.Runs.{HasAt}
+use Rattle.expr_code.specs.Runs.{HasOp, HasAt}
 use Rattle.expr_code.proofs.Places.{has_front, has_back}
+use Rattle.stmt_code.specs.declared.lengths.TheConstants.{TURN_LENGTH, NEXT_LENGTH}
 use Rattle.stmt_code.specs.StmtCode.{takes_code, turn, last, turns_code, stmt_code, opened, kind_code-out, stmt_code-kind}
-use Rattle.stmt_code.proofs.Setting.{Setting, places, list_code, ListIn, LayerIn, first_in, others_in}
+use Rattle.stmt_code.specs.Within.{ListIn, LayerIn}
+use Rattle.stmt_code.proofs.Setting.{Setting, places, list_code, first_in, others_in}
 
 -- both have the same locals for d loops
 abbrev pub SameLoops : ℕ → List ℕ → List ℕ → Type 0
@@ -23,24 +25,24 @@ SameLoops d k l = (i : ℕ) → 24 ≤ i → i < 24 + 2 * d → slice_index k i 
 
 -- a loop stands at its head
 pub record Loop (g : Setting) (b d p t : ℕ) (body : List Stmt) (head : ℕ) : Type 0 where
-  pub has : HasAt g.code head (turns_code p t d head (list_code g b body (suc d) (head + 3)))
+  pub has : HasAt g.code head (turns_code p t d head (list_code g b body (suc d) (head + TURN_LENGTH)))
   pub fits : ListIn g.exchange b (suc d) body
   pub temp : t < 24
   pub depth : d < 12
 
 -- where a turn ends, and where the loop does
 abbrev pub again_of : Setting → ℕ → ℕ → List Stmt → ℕ → ℕ
-again_of g b d body head = head + 3 + length (list_code g b body (suc d) (head + 3))
+again_of g b d body head = head + TURN_LENGTH + length (list_code g b body (suc d) (head + TURN_LENGTH))
 
 abbrev pub exit_of : Setting → ℕ → ℕ → List Stmt → ℕ → ℕ
-exit_of g b d body head = head + 3 + length (list_code g b body (suc d) (head + 3)) + 8
+exit_of g b d body head = head + TURN_LENGTH + length (list_code g b body (suc d) (head + TURN_LENGTH)) + NEXT_LENGTH
 
 mutual
   -- these items of a block stand at an address, with d loops open
   pub data At (g : Setting) (b : ℕ) (locals : List ℕ) : ℕ → List Item → ℕ → Type 0 where
     ready : {d : ℕ} {todo : List Item} {a : ℕ} → Ready g b locals d todo a → At g b locals d todo a
     -- the end of a branch
-    jumps : {d : ℕ} {todo : List Item} {a : ℕ} (to : ℕ) → slice_get g.code a ≡ Some (op.Jmp to) → At g b locals d todo to → At g b locals d todo a
+    jumps : {d : ℕ} {todo : List Item} {a : ℕ} (to : ℕ) → HasOp g.code a (op.Jmp to) → At g b locals d todo to → At g b locals d todo a
     -- an ENTER from above
     skips : {d : ℕ} {s : Stmt} {rest : List Item} {a : ℕ} → is_enter (out-StmtKind s.kind) ≡ true → At g b locals d rest a → At g b locals d (Do s ∷ rest) a
     -- a loop with no turn left
@@ -51,7 +53,7 @@ mutual
 
   -- the first item is one that counts
   pub data Ready (g : Setting) (b : ℕ) (locals : List ℕ) : ℕ → List Item → ℕ → Type 0 where
-    nothing : {d a : ℕ} → slice_get g.code a ≡ Some op.End → Ready g b locals d [] a
+    nothing : {d a : ℕ} → HasOp g.code a op.End → Ready g b locals d [] a
     does : {d : ℕ} {s : Stmt} {rest : List Item} {a : ℕ} (l : StmtKind-F StmtKind Stmt When) → out-StmtKind s.kind ≡ l → is_enter l ≡ false → HasAt g.code a (opened l (places g b) s.point d a) → LayerIn g.exchange b d l
         → At g b locals d rest (a + length (opened l (places g b) s.point d a)) → Ready g b locals d (Do s ∷ rest) a
     starts : {s : Stmt} {rest : List Item} {a : ℕ} (signal : ℕ) (temps : List ℕ) → out-StmtKind s.kind ≡ stmt.Enter signal temps → HasAt g.code a (op.Stmt s.point ∷ takes_code 0 temps) → AllByRecursion (λ t. t < 24) temps

@@ -1,27 +1,28 @@
 -- CASE: the choices are tried one after the other.
-use Rattle.std.proofs.Common.{◌≡◌, ◌≢◌, ℕ, ◌+◌, ◌≤◌, Bool, List, [], ◌∷◌, ◌++◌, length, map, refl, sym, ap, ◌∙◌, subst, arith, length-append, if◌then◌else◌}
+use Rattle.std.proofs.Common.{◌≡◌, ℕ, ◌+◌, ◌≤◌, Bool, List, [], ◌∷◌, ◌++◌, length, map, refl, sym, ap, ◌∙◌, subst, arith, length-append, if◌then◌else◌}
 use mathlib.Core.Path.{fun_ext}
-use Rattle.std.specs.Prelude.{nat_eq, ◌==◌}
 use Rattle.machine_code.specs.declared.op.Op.{Op}
 use Rattle.machine_code.specs.declared.op.Op.TheVariants as op
 use Rattle.exchange_model.specs.declared.expr.Expr.{Expr}
 use Rattle.exchange_model.specs.declared.stmt.Stmt.{Stmt}
 use Rattle.exchange_model.specs.declared.stmt.When.{When, out-When}
 use Rattle.exchange_model.specs.declared.stmt.StmtKind.TheOpen.{Case as CaseOf}
-use Rattle.source_meaning.specs.Value.{one_if}
 use Rattle.source_meaning.specs.Config.{Item, Do, Config}
-use Rattle.source_meaning.specs.Step.{goes, chosen, does}
+use Rattle.source_meaning.specs.Step.{does}
+use Rattle.source_meaning.specs.Changes.{goes, chosen}
 use Rattle.register_machine.specs.Machine.{Machine, reg}
 use Rattle.expr_code.specs.Code.{expr_code}
 use Rattle.expr_code.specs.Runs.{HasAt}
 use Rattle.expr_code.proofs.Places.{has_front, has_back}
-use Rattle.stmt_code.specs.StmtCode.{Choice, choices_code, stmt_code, when_code, when_code-out}
-use Rattle.stmt_code.proofs.Setting.{Setting, places, list_code, few_loops, ListIn, ChoicesIn, choices_in, otherwise_in}
-use Rattle.stmt_code.proofs.At.{At, jumps, list_at}
+use Rattle.stmt_code.specs.declared.lengths.TheConstants.{COMPARE_LENGTH}
+use Rattle.stmt_code.specs.StmtCode.{Choice, compare_code, choices_code, stmt_code, when_code, when_code-out}
+use Rattle.stmt_code.specs.Within.{ListIn, ChoicesIn}
+use Rattle.stmt_code.proofs.Setting.{Setting, places, list_code, few_loops, choices_in, otherwise_in}
+use Rattle.stmt_code.proofs.At.{At, jumps, at_moves, list_at}
 use Rattle.stmt_code.proofs.Same.{Same, Follows}
-use Rattle.stmt_code.proofs.Instr.{ldi, eq, jz_test}
+use Rattle.stmt_code.proofs.Compares.{compare_sim}
 use Rattle.stmt_code.proofs.Values.{expr_in, count_sim, value_sim}
-use Rattle.stmt_code.proofs.Kind.{Case, at_kept, at_gave, at_valued, goes_on_at}
+use Rattle.stmt_code.proofs.Kind.{Case, at_kept, at_valued, goes_on_at}
 
 -- a choice as what its code needs
 abbrev choice_of : When → Choice
@@ -41,24 +42,20 @@ module _ {g : Setting} where
   choose_sim (w ∷ ws) otherwise v c m d a rest le fits other s at is has r =
       let number = (out-When w).number in
       let body = (out-When w).body in
-      let cb = list_code g c.block body d (a + 3) in
-      let next = a + 3 + length cb + 1 in
+      let body_at = a + COMPARE_LENGTH in
+      let cb = list_code g c.block body d body_at in
+      let next = body_at + length cb + 1 in
       let more = choices_at g c.block ws otherwise d next in
       let end = next + length more in
-      let place : a + 1 + 1 + 1 ≡ a + 3 = omega arith in
-      let h = subst (λ i. HasAt g.code i (cb ++ (op.Jmp end ∷ more))) place has.1.1.1 in
-      let h' = has_back g.code (a + 3) cb (op.Jmp end ∷ more) h in
+      let tail = cb ++ (op.Jmp end ∷ more) in
+      let h = has_back g.code a (compare_code number next) tail has in
+      let h' = has_back g.code body_at cb (op.Jmp end ∷ more) h in
       let len : a + length (choices_at g c.block (w ∷ ws) otherwise d a) ≡ end = omega (arith, length-append cb (op.Jmp end ∷ more)) in
       let result : Bool → Config = λ b. goes (map Do (if b then body else chosen ws v otherwise) ++ rest) c in
       let r0 = subst (At g c.block m.run.locals d rest) len r in
-      ldi s at has.0 (omega arith) (λ n1 s1 at1 q1.
-      eq s1 at1 has.1.0 (omega arith) (λ n2 s2 at2 q2.
-      let ne : ◌≢◌ {A = ℕ} 0 1 = omega arith in
-      let test : reg n2.run 1 ≡ one_if (nat_eq number v) = q2.is ∙ ap (λ k. one_if (k == reg n1.run 0)) q1.is ∙ ap (λ k. one_if (number == k)) (q1.others 0 ne ∙ is) in
-      let r2 = at_gave le q2 (at_gave le q1 r0) in
-      jz_test (nat_eq number v) s2 at2 has.1.1.0 test
-      (λ e n3 s3 at3 q3. subst (λ b. Follows g (result b) n3) (sym e) (choose_sim ws otherwise v c n3 d next rest le fits.1 other s3 at3 (q3.regs 0 ∙ q2.others 0 ne ∙ q1.others 0 ne ∙ is) h'.1 (at_kept le q3 r2)))
-      (λ e n3 s3 at3 q3. subst (λ b. Follows g (result b) n3) (sym e) (goes_on_at (map Do body ++ rest) s3 (at3 ∙ place) (list_at g c.block d (a + 3) n3.run.locals rest body (has_front g.code (a + 3) cb (op.Jmp end ∷ more) h) fits.0 (jumps end h'.0 (at_kept le q3 r2)))))))
+      compare_sim number v s at is (has_front g.code a (compare_code number next) tail has)
+      (λ e n s1 at1 q. subst (λ b. Follows g (result b) n) (sym e) (choose_sim ws otherwise v c n d next rest le fits.1 other s1 at1 (q.value ∙ is) h'.1 (at_moves n.run.locals le q.loops r0)))
+      (λ e n s1 at1 q. subst (λ b. Follows g (result b) n) (sym e) (goes_on_at (map Do body ++ rest) s1 at1 (list_at g c.block d body_at n.run.locals rest body (has_front g.code body_at cb (op.Jmp end ∷ more) h) fits.0 (jumps end h'.0 (at_moves n.run.locals le q.loops r0)))))
 
   pub case_of : (e : Expr) (whens : List When) (otherwise : List Stmt) → Case g (CaseOf e whens otherwise)
   case_of e whens otherwise c m p d a rest s at has fits r =

@@ -1,18 +1,20 @@
 -- What is to be shown of a kind of statement, and what all kinds need.
-use Rattle.std.proofs.Common.{◌≡◌, ℕ, zero, suc, ◌+◌, ◌≤◌, List, [], ◌∷◌, length, Some, refl, sym, ap, subst}
-use Rattle.std.specs.Prelude.{slice_get}
+use Rattle.std.proofs.Common.{◌≡◌, ℕ, zero, suc, ◌+◌, ◌≤◌, List, [], ◌∷◌, length, refl, sym, ap, subst}
 use Rattle.job_types.specs.declared.fault.Fault.TheVariants.{BadEnd}
 use Rattle.machine_code.specs.declared.op.Op.TheVariants as op
 use Rattle.exchange_model.specs.declared.stmt.Stmt.{Stmt}
 use Rattle.exchange_model.specs.declared.stmt.When.{When}
 use Rattle.exchange_model.specs.declared.stmt.StmtKind.{StmtKind, StmtKind-F}
 use Rattle.source_meaning.specs.Config.{Item, Caller, Config, from_place, label_of}
-use Rattle.source_meaning.specs.Step.{ends, goes, to_label, at_zero, does, count}
+use Rattle.source_meaning.specs.Step.{does, count}
+use Rattle.source_meaning.specs.Changes.{ends, goes, to_label}
+use Rattle.job_types.specs.Truth.{at_zero}
 use Rattle.register_machine.specs.declared.frames.Frame.{Frame}
 use Rattle.register_machine.specs.Machine.{Machine, made_one, reg, ends as m_ends}
-use Rattle.expr_code.specs.Runs.{HasAt}
+use Rattle.expr_code.specs.Runs.{HasOp, HasAt}
 use Rattle.stmt_code.specs.StmtCode.{opened}
-use Rattle.stmt_code.proofs.Setting.{Setting, places, LayerIn}
+use Rattle.stmt_code.specs.Within.{LayerIn}
+use Rattle.stmt_code.proofs.Setting.{Setting, places}
 use Rattle.stmt_code.proofs.At.{At, at_moves}
 use Rattle.stmt_code.proofs.Same.{Same, Waits, Follows, by_step, stays, is_over, faults}
 use Rattle.stmt_code.proofs.Instr.{Kept, Gave, jz_zero, jz_other}
@@ -47,7 +49,7 @@ module _ {g : Setting} where
   label_sim {c = c} {m = m} laid l s e = goes_on_at (from_place g.exchange c.block (label_of g.exchange c.block l)) s e (laid.texts c.block l m.run.locals)
 
   -- one of two, by whether a register is 0
-  pub zero_sim : {c : Config} {m : Machine} {r a to : ℕ} (v : ℕ) (zeros others : Config) → Same g [] c m → m.run.pc ≡ a → slice_get g.code a ≡ Some (op.Jz r to) → reg m.run r ≡ v
+  pub zero_sim : {c : Config} {m : Machine} {r a to : ℕ} (v : ℕ) (zeros others : Config) → Same g [] c m → m.run.pc ≡ a → HasOp g.code a (op.Jz r to) → reg m.run r ≡ v
       → ((n : Machine) → Same g [] c n → n.run.pc ≡ to → Kept m n → Follows g zeros n)
       → ((n : Machine) → Same g [] c n → n.run.pc ≡ a + 1 → Kept m n → Follows g others n)
       → Follows g (at_zero v zeros others) m
@@ -55,13 +57,13 @@ module _ {g : Setting} where
   zero_sim (suc v) zeros others s at has is j k = jz_other s at has is k
 
   -- the end of an activation, where nobody or a caller waits
-  ends_cases : (ks : List Caller) (fs : List Frame) (c : Config) (m : Machine) (a : ℕ) → Waits g ks fs → m.run.frames ≡ fs → Same g [] c m → m.run.pc ≡ a → slice_get g.code a ≡ Some op.End → Follows g (ends ks c) m
+  ends_cases : (ks : List Caller) (fs : List Frame) (c : Config) (m : Machine) (a : ℕ) → Waits g ks fs → m.run.frames ≡ fs → Same g [] c m → m.run.pc ≡ a → HasOp g.code a op.End → Follows g (ends ks c) m
   ends_cases [] [] c m a w e s at has = by_step op.End _ s.runs at has tt (ap (λ f. record { run = m_ends f (made_one m.run); world = m.world }) e) (is_over refl refl s.own s.world)
   ends_cases [] (f ∷ fs) c m a w e s at has = absurd w
   ends_cases (k ∷ ks) [] c m a w e s at has = absurd w
   ends_cases (k ∷ ks) (f ∷ fs) c m a w e s at has = faults op.End BadEnd s at has tt (ap (λ f. record { run = m_ends f (made_one m.run); world = m.world }) e)
 
-  pub ends_sim : {c : Config} {m : Machine} {a : ℕ} → Same g [] c m → m.run.pc ≡ a → slice_get g.code a ≡ Some op.End → Follows g (ends c.callers c) m
+  pub ends_sim : {c : Config} {m : Machine} {a : ℕ} → Same g [] c m → m.run.pc ≡ a → HasOp g.code a op.End → Follows g (ends c.callers c) m
   ends_sim {c = c} {m = m} {a = a} s at has = ends_cases c.callers m.run.frames c m a s.callers refl s at has
 
   pub exit : (c : Config) (m : Machine) (p a : ℕ) → Same g [] c m → m.run.pc ≡ a → HasAt g.code a (op.Stmt p ∷ op.End ∷ []) → Follows g (count p c (λ d. ends d.callers d)) m

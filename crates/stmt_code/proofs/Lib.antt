@@ -2,6 +2,7 @@ pub mod Setting
 pub mod At
 pub mod Same
 pub mod Instr
+pub mod Compares
 pub mod Values
 pub mod Kind
 pub mod Plain
@@ -9,6 +10,7 @@ pub mod Choices
 pub mod Loops
 pub mod Records
 pub mod Takes
+pub mod Receivers
 pub mod Signals
 pub mod Pointers
 pub mod Searches
@@ -16,10 +18,8 @@ pub mod Seizes
 pub mod Frees
 pub mod KindRuns
 pub mod Steps
-pub mod Ends
 pub mod JobRuns
 pub mod Texts
-pub mod Words
 pub mod States
 pub mod WholeRuns
 pub mod Sizes

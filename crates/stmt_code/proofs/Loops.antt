@@ -10,14 +10,17 @@ use Rattle.machine_code.specs.declared.op.Op.TheVariants as op
 use Rattle.exchange_model.specs.declared.expr.Expr.{Expr}
 use Rattle.exchange_model.specs.declared.stmt.Stmt.{Stmt}
 use Rattle.exchange_model.specs.declared.stmt.StmtKind.TheOpen.{On}
-use Rattle.source_meaning.specs.Value.{expr_value, one_if}
+use Rattle.source_meaning.specs.Value.{expr_value}
+use Rattle.job_types.specs.Truth.{one_if}
 use Rattle.source_meaning.specs.Config.{Item, Do, Turns, Config, sight}
-use Rattle.source_meaning.specs.Step.{goes, sets_temp, on_value, does, count}
+use Rattle.source_meaning.specs.Step.{does, count}
+use Rattle.source_meaning.specs.Changes.{goes, sets_temp, on_value}
 use Rattle.register_machine.specs.Machine.{Machine, reg}
 use Rattle.expr_code.specs.Code.{expr_code}
 use Rattle.expr_code.specs.Runs.{HasAt}
 use Rattle.expr_code.proofs.Places.{has_front, has_back}
-use Rattle.stmt_code.specs.StmtCode.{turn, last, turns_code}
+use Rattle.stmt_code.specs.declared.lengths.TheConstants.{TURN_LENGTH, NEXT_LENGTH, BOUNDS_LENGTH}
+use Rattle.stmt_code.specs.StmtCode.{turn, last, next_code, turns_code, bounds_code}
 use Rattle.stmt_code.proofs.Setting.{Setting, places, list_code, few_loops, body_in}
 use Rattle.stmt_code.proofs.At.{SameLoops, Loop, exit_of, again_of, At, Ready, ready, over, turns, again, at_keeps, list_at}
 use Rattle.stmt_code.proofs.Same.{Same, Comes, Follows}
@@ -58,7 +61,7 @@ low_sum v w lt h = let below : v < w = ltb-true v w h in omega arith
 module _ {g : Setting} where
   -- the bounds are kept, and the first turn is begun or the loop is left
   enter_loop : (c : Config) (m : Machine) (d a p t va vb head : ℕ) (body : List Stmt) (rest : List Item) (tail : List Op) → Same g [] c m → m.run.pc ≡ a → reg m.run 0 ≡ va → reg m.run 1 ≡ vb → vb < 2 ^ 32
-      → HasAt g.code a (op.Stt (turn d) 0 ∷ op.Stt (last d) 1 ∷ op.Gt 0 1 ∷ op.Jz 0 head ∷ op.Jmp (exit_of g c.block d body head) ∷ tail) → Loop g c.block d p t body head → At g c.block m.run.locals d rest (exit_of g c.block d body head)
+      → HasAt g.code a (bounds_code d head (exit_of g c.block d body head) ++ tail) → Loop g c.block d p t body head → At g c.block m.run.locals d rest (exit_of g c.block d body head)
       → Follows g (goes (Turns p t va vb body ∷ rest) c) m
   enter_loop c m d a p t va vb head body rest tail s at is0 is1 small has stands r =
       stl va s at has.0 (omega arith) is0 (λ n1 s1 at1 q1.
@@ -86,18 +89,18 @@ module _ {g : Setting} where
       let cf = expr_code from site 0 in
       let cu = expr_code upto site 1 in
       let at_set = a + 1 + length cf + length cu in
-      let head = at_set + 5 in
-      let cb = list_code g c.block body (suc d) (head + 3) in
+      let head = at_set + BOUNDS_LENGTH in
+      let cb = list_code g c.block body (suc d) (head + TURN_LENGTH) in
       let ct = turns_code p t d head cb in
       let end = exit_of g c.block d body head in
-      let tail = op.Stt (turn d) 0 ∷ op.Stt (last d) 1 ∷ op.Gt 0 1 ∷ op.Jz 0 head ∷ op.Jmp (head + length ct) ∷ ct in
+      let tail = bounds_code d head (head + length ct) ++ ct in
       let h1 = has_back g.code (a + 1) cf (cu ++ tail) has.1 in
       let h2 = has_back g.code (a + 1 + length cf) cu tail h1 in
-      let len_ct : head + length ct ≡ end = omega (arith, length-append cb (op.Ldt 0 (turn d) ∷ op.Ldt 1 (last d) ∷ op.Gt 1 0 ∷ op.Jz 1 (head + 3 + length cb + 8) ∷ op.Ldi 1 1 ∷ op.Add 0 1 ∷ op.Stt (turn d) 0 ∷ op.Jmp head ∷ [])) in
+      let len_ct : head + length ct ≡ end = omega (arith, length-append cb (next_code d head (head + TURN_LENGTH + length cb + NEXT_LENGTH))) in
       let len : a + length (op.Stmt p ∷ (cf ++ (cu ++ tail))) ≡ end = omega (arith, len_ct, length-append cf (cu ++ tail), length-append cu tail) in
       let five : at_set + 1 + 1 + 1 + 1 + 1 ≡ head = omega arith in
-      let stands : Loop g c.block d p t body head = record { has = subst (λ i. HasAt g.code i ct) five h2.1.1.1.1.1; fits = body_in fits; temp = omega (arith, fits.fits.names, fits.few); depth = omega (arith, (body_in fits).shallow) } in
-      let h3 = subst (λ i. HasAt g.code at_set (op.Stt (turn d) 0 ∷ op.Stt (last d) 1 ∷ op.Gt 0 1 ∷ op.Jz 0 head ∷ op.Jmp i ∷ ct)) len_ct h2 in
+      let stands : Loop g c.block d p t body head = record { has = subst (λ i. HasAt g.code i ct) five h2.1.1.1.1.1; fits = body_in fits; temp = omega (arith, fits.fits.names, fits.limited.temporaries); depth = omega (arith, (body_in fits).shallow) } in
+      let h3 = subst (λ i. HasAt g.code at_set (bounds_code d head i ++ ct)) len_ct h2 in
       let le = few_loops fits in
       count_sim (does g.exchange p (On t from upto body) rest) s at has.0 (λ n1 s1 at1 q1.
       value_sim 0 from (λ v e. on_value (expr_value upto (sight g.exchange e)) e (λ w f. goes (Turns p t v w body ∷ rest) f)) (omega arith) (expr_in from (upto ∷ []) refl fits) s1 at1 (has_front g.code (a + 1) cf (cu ++ tail) has.1) (λ n2 va loads s2 at2 q2.
@@ -110,10 +113,10 @@ module _ {g : Setting} where
       → At g c.block m.run.locals d rest (exit_of g c.block d body head) → this < 2 ^ 32 → Follows g (count p c (λ e. goes (map Do body ++ (Turns p t (this + 1) end body ∷ rest)) (sets_temp t this e))) m
   turn_sim c m d p t this end head body rest s at stands small this_is last_is r this_small =
       let b = c.block in
-      let cb = list_code g b body (suc d) (head + 3) in
+      let cb = list_code g b body (suc d) (head + TURN_LENGTH) in
       let le : d ≤ 12 = omega (arith, stands.depth) in
       let todo = map Do body ++ (Turns p t (this + 1) end body ∷ rest) in
-      let place : head + 1 + 1 + 1 ≡ head + 3 = omega arith in
+      let place : head + 1 + 1 + 1 ≡ head + TURN_LENGTH = omega arith in
       count_sim (λ e. goes todo (sets_temp t this e)) s at stands.has.0 (λ n1 s1 at1 q1.
       ldt s1 at1 stands.has.1.0 (omega arith) (λ n2 s2 at2 q2.
       let value : reg n2.run 0 ≡ this = q2.is ∙ q1.loops (turn d) (omega arith) (omega (arith, stands.depth)) ∙ this_is in
@@ -124,7 +127,7 @@ module _ {g : Setting} where
       let r3 = at_kept le q3 (at_gave le q2 (at_kept le q1 r)) in
       let back = again head stands small (ap (λ i. i + 1) this3) last3 r3 in
       let has_body = subst (λ i. HasAt g.code i cb) place (has_front g.code (head + 1 + 1 + 1) cb _ stands.has.1.1.1) in
-      goes_on_at todo s3 (at3 ∙ place) (list_at g b (suc d) (head + 3) n3.run.locals (Turns p t (this + 1) end body ∷ rest) body has_body stands.fits back))))
+      goes_on_at todo s3 (at3 ∙ place) (list_at g b (suc d) (head + TURN_LENGTH) n3.run.locals (Turns p t (this + 1) end body ∷ rest) body has_body stands.fits back))))
 
   -- after a turn: the next one, or the end of the loop
   pub next_turn : {P : Machine → Type 0} (c : Config) (m : Machine) (d p t this end head : ℕ) (body : List Stmt) (rest : List Item) → Same g [] c m → m.run.pc ≡ again_of g c.block d body head → Loop g c.block d p t body head → end < 2 ^ 32
@@ -134,9 +137,9 @@ module _ {g : Setting} where
       → Comes g P m
   next_turn c m d p t this end head body rest s at stands small this_is last_is r leave begin =
       let b = c.block in
-      let cb = list_code g b body (suc d) (head + 3) in
+      let cb = list_code g b body (suc d) (head + TURN_LENGTH) in
       let exit = exit_of g b d body head in
-      let tail = op.Ldt 0 (turn d) ∷ op.Ldt 1 (last d) ∷ op.Gt 1 0 ∷ op.Jz 1 exit ∷ op.Ldi 1 1 ∷ op.Add 0 1 ∷ op.Stt (turn d) 0 ∷ op.Jmp head ∷ [] in
+      let tail = next_code d head exit in
       let place : head + 1 + 1 + 1 + length cb ≡ again_of g b d body head = omega arith in
       let has = subst (λ i. HasAt g.code i tail) place (has_back g.code (head + 1 + 1 + 1) cb tail stands.has.1.1.1) in
       let v = slice_index m.run.locals (turn d) in

@@ -18,17 +18,16 @@ use Rattle.exchange_model.specs.Fits.{ExprFits, ExprsFit}
 use Rattle.exchange_model.specs.Kept.{IsExchange, VariableFits, signal_count, scope_of}
 use Rattle.exchange_model.proofs.Places.{file_below, block_below}
 use Rattle.exchange_model.proofs.Facts.{cells_few, variable_kept, file_kept, field_kept}
-use Rattle.source_meaning.specs.Config.{files_of, base_of, found}
-use Rattle.source_meaning.specs.Step.{variable_width, field_width}
+use Rattle.source_meaning.specs.Config.{files_of, base_of}
+use Rattle.std.specs.Option.{option_map_or}
+use Rattle.source_meaning.specs.Changes.{variable_width, field_width}
 use Rattle.expr_code.specs.Code.{expr_code, cond_code, own_code, pointer_code, rel_op}
-use Rattle.expr_code.specs.Sites.{IsSite, IsPlace}
-use Rattle.expr_code.proofs.Each.{all_append}
+use Rattle.expr_code.specs.Sites.{IsLimited, IsSite, IsPlace}
+use Rattle.plex_num.proofs.Lists.{all_append, all_at, some_at}
 use Rattle.expr_code.proofs.Operands.{expr_ops_fit, cond_ops_fit}
 use Rattle.stmt_code.specs.Numbers.{AreNumbers}
 use Rattle.stmt_code.specs.StmtCode.{values_code}
 use Rattle.stmt_code.specs.Whole.{Table, places_of}
-use Rattle.stmt_code.proofs.Records.{all_at}
-use Rattle.stmt_code.proofs.Words.{some_at}
 
 -- the operands that are no numbers of 32 bits are in their ranges
 abbrev pub Narrow : Op → Type 0
@@ -79,32 +78,32 @@ module _ (x : Exchange) (kept : IsExchange x) (few_files : length (files_of x) �
       first_record first zero cells some lt = absurd (omega arith)
       first_record first (suc n) cells some lt = omega (arith, lt)
 
-  pub site_is : (t : Table) (b : ℕ) (k : Block) → slice_get x.blocks b ≡ Some k → length k.temporaries ≤ 24 → IsSite (scope_of x b k) (places_of x t b).site
+  pub site_is : (t : Table) (b : ℕ) (k : Block) → slice_get x.blocks b ≡ Some k → IsLimited (scope_of x b k) → IsSite (scope_of x b k) (places_of x t b).site
   unfolding files_of base_of
   site_is t b k there few = record {
     files = refl;
     variables = omega (arith, block_below x.blocks b k there, cells_few x kept);
-    temporaries = few;
+    limited = few;
     few = few_files;
     each = place_is;
   }
 
   -- the code of an expression in one of the first two registers, and of a condition
-  pub expr_narrow : (t : Table) (b r : ℕ) (k : Block) (e : Expr) → slice_get x.blocks b ≡ Some k → length k.temporaries ≤ 24 → r ≤ 1 → ExprFits (scope_of x b k) e → bracket_depth e ≤ 6 → AllNarrow (expr_code e (places_of x t b).site r)
+  pub expr_narrow : (t : Table) (b r : ℕ) (k : Block) (e : Expr) → slice_get x.blocks b ≡ Some k → IsLimited (scope_of x b k) → r ≤ 1 → ExprFits (scope_of x b k) e → bracket_depth e ≤ 6 → AllNarrow (expr_code e (places_of x t b).site r)
   expr_narrow t b r k e there few le fits shallow =
       let site = (places_of x t b).site in
       fit_narrow (expr_code e site r) (expr_ops_fit (scope_of x b k) site (site_is t b k there few) e r fits (omega (arith, le, shallow)))
 
-  pub cond_narrow : (t : Table) (b : ℕ) (k : Block) (c : Cond) → slice_get x.blocks b ≡ Some k → length k.temporaries ≤ 24 → ExprsFit (scope_of x b k) (cond_exprs c) → AllNarrow (cond_code c (places_of x t b).site)
+  pub cond_narrow : (t : Table) (b : ℕ) (k : Block) (c : Cond) → slice_get x.blocks b ≡ Some k → IsLimited (scope_of x b k) → ExprsFit (scope_of x b k) (cond_exprs c) → AllNarrow (cond_code c (places_of x t b).site)
   cond_narrow t b k c there few fits =
       let site = (places_of x t b).site in
       fit_narrow (cond_code c site) (cond_ops_fit (scope_of x b k) site (site_is t b k there few) c fits)
 
-  pub values_narrow : (t : Table) (b : ℕ) (k : Block) (es : List Expr) → slice_get x.blocks b ≡ Some k → length k.temporaries ≤ 24 → AllByRecursion (ExprFits (scope_of x b k)) es → AllByRecursion (λ e. bracket_depth e ≤ 6) es → AllNarrow (values_code es (places_of x t b).site)
-  values_narrow t b k [] there few fits shallow = tt
-  values_narrow t b k (e ∷ es) there few fits shallow =
+  pub values_narrow : (t : Table) (b r : ℕ) (k : Block) (es : List Expr) → slice_get x.blocks b ≡ Some k → IsLimited (scope_of x b k) → r ≤ 1 → AllByRecursion (ExprFits (scope_of x b k)) es → AllByRecursion (λ e. bracket_depth e ≤ 6) es → AllNarrow (values_code es (places_of x t b).site r)
+  values_narrow t b r k [] there few le fits shallow = tt
+  values_narrow t b r k (e ∷ es) there few le fits shallow =
       let site = (places_of x t b).site in
-      narrow_on (expr_code e site 0) _ (expr_narrow t b 0 k e there few (omega arith) fits.0 shallow.0) (λ n. omega arith, values_narrow t b k es there few fits.1 shallow.1)
+      narrow_on (expr_code e site r) _ (expr_narrow t b r k e there few le fits.0 shallow.0) (λ n. omega arith, values_narrow t b r k es there few le fits.1 shallow.1)
 
   -- widths of variables and fields
   width_of : (v : Variable) → VariableFits v → IsWidth v.width
@@ -113,14 +112,14 @@ module _ (x : Exchange) (kept : IsExchange x) (few_files : length (files_of x) �
   pub variable_width_fits : (b v : ℕ) (k : Block) → slice_get x.blocks b ≡ Some k → v < length k.variables → IsWidth (variable_width x b v)
   variable_width_fits b v k there lt =
       let w = some_at k.variables v lt in
-      let inner : IsWidth (found (slice_get k.variables v) 0 (λ (e : Variable). e.width)) = subst (λ o. IsWidth (found o 0 (λ (e : Variable). e.width))) (sym w.1) (width_of w.0 (variable_kept x kept b v k w.0 there w.1)) in
-      subst (λ o. IsWidth (found o 0 (λ (k : Block). found (slice_get k.variables v) 0 (λ (e : Variable). e.width)))) (sym there) inner
+      let inner : IsWidth (option_map_or (λ (e : Variable). e.width) (slice_get k.variables v) 0) = subst (λ o. IsWidth (option_map_or (λ (e : Variable). e.width) o 0)) (sym w.1) (width_of w.0 (variable_kept x kept b v k w.0 there w.1)) in
+      subst (λ o. IsWidth (option_map_or (λ (k : Block). option_map_or (λ (e : Variable). e.width) (slice_get k.variables v) 0) o 0)) (sym there) inner
 
   pub field_width_fits : (file field : ℕ) (p : Placed) → slice_get (files_of x) file ≡ Some p → field < length p.file.fields → IsWidth (field_width p field)
   unfolding files_of
   field_width_fits file field p there lt =
       let w = some_at p.file.fields field lt in
-      subst (λ o. IsWidth (found o 0 (λ (e : Variable). e.width))) (sym w.1) (width_of w.0 (field_kept x kept file field p w.0 there w.1))
+      subst (λ o. IsWidth (option_map_or (λ (e : Variable). e.width) o 0)) (sym w.1) (width_of w.0 (field_kept x kept file field p w.0 there w.1))
 
   -- no signal has more than eight values
   pub signal_few : (signal : ℕ) (k : SignalKind) → slice_get x.signals signal ≡ Some k → signal_count k ≤ 8

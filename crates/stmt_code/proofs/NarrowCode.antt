@@ -13,7 +13,8 @@ use Rattle.source_meaning.specs.Config.{files_of, body_of}
 use Rattle.stmt_code.specs.Numbers.{AreNumbers}
 use Rattle.stmt_code.specs.StmtCode.{codes, opened, stmt_code, kind_code-out, stmt_code-kind, when_code-out}
 use Rattle.stmt_code.specs.Whole.{Table, places_of, code_upto, table_of, whole_code}
-use Rattle.stmt_code.proofs.Setting.{ListIn, LayerIn, first_in, others_in}
+use Rattle.stmt_code.specs.Within.{ListIn, LayerIn}
+use Rattle.stmt_code.proofs.Setting.{first_in, others_in}
 use Rattle.stmt_code.proofs.Texts.{from_in}
 use Rattle.stmt_code.proofs.Narrow.{Narrow, AllNarrow, narrow_on}
 use Rattle.stmt_code.proofs.NarrowKinds.{LayerNarrow, KindNarrow, StmtNarrow, WhenNarrow, list_narrow, layer_narrow}

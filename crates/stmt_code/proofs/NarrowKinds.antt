@@ -13,22 +13,29 @@ use Rattle.exchange_model.specs.declared.block.Variable.{Variable}
 use Rattle.exchange_model.specs.declared.expr.Expr.{Expr}
 use Rattle.exchange_model.specs.declared.expr.Cond.{Cond}
 use Rattle.exchange_model.specs.declared.expr.Rel.{Rel}
+use Rattle.exchange_model.specs.declared.stmt.Holder.{Holder}
+use Rattle.exchange_model.specs.declared.stmt.Holder.TheVariants as holder
+use Rattle.exchange_model.specs.declared.stmt.Receiver.{Receiver}
+use Rattle.exchange_model.specs.declared.stmt.Receiver.TheVariants as receiver
 use Rattle.exchange_model.specs.declared.stmt.Stmt.{Stmt}
 use Rattle.exchange_model.specs.declared.stmt.When.{When, out-When}
 use Rattle.exchange_model.specs.declared.stmt.StmtKind.{StmtKind, StmtKind-F, out-StmtKind, map-StmtKind}
 use Rattle.exchange_model.specs.declared.stmt.StmtKind.TheOpen as stmt
 use Rattle.exchange_model.specs.Cells.{Placed}
 use Rattle.exchange_model.specs.Inside.{bracket_depth}
-use Rattle.exchange_model.specs.Fits.{EnterFits, IsField, ExprFits}
+use Rattle.exchange_model.specs.Fits.{EnterFits, IsField, ExprFits, ExprsFit}
 use Rattle.exchange_model.specs.Kept.{IsExchange, signal_count, scope_of}
 use Rattle.source_meaning.specs.Config.{files_of}
-use Rattle.source_meaning.specs.Step.{block_or}
-use Rattle.expr_code.specs.Code.{expr_code, cond_code, pointer_code}
-use Rattle.stmt_code.specs.StmtCode.{Places, codes, takes_code, retrieve_code, values_code, field_store, choices_code, turns_code, for_first_code, seize_code, inits_code, free_code, level_number, queue_number, send_code, opened, stmt_code, kind_code, when_code}
+use Rattle.expr_code.specs.Code.{Site, expr_code, cond_code, pointer_code}
+use Rattle.expr_code.specs.Sites.{IsLimited}
+use Rattle.stmt_code.specs.declared.lengths.TheConstants.{COMPARE_LENGTH, TURN_LENGTH, BOUNDS_LENGTH}
+use Rattle.stmt_code.specs.StmtCode.{Places, codes, takes_code, retrieve_code, values_code, field_store, choices_code, turns_code, for_first_code, seize_code, inits_code, free_code, level_number, queue_number, send_code, holder_code, each_receiver, look_first, receiver_code, opened, stmt_code, kind_code, when_code}
 use Rattle.stmt_code.specs.Whole.{Table, places_of}
-use Rattle.stmt_code.proofs.Setting.{ListIn, LayerIn, ChoicesIn, first_in, others_in, yes_in, no_in, body_in, otherwise_in, choices_in}
+use Rattle.stmt_code.specs.Within.{ListIn, LayerIn, ChoicesIn}
+use Rattle.stmt_code.proofs.Setting.{first_in, others_in, yes_in, no_in, body_in, otherwise_in, choices_in}
 use Rattle.stmt_code.proofs.Takes.{AreTemps, are_temps}
-use Rattle.stmt_code.proofs.Signals.{answer_few}
+use Rattle.stmt_code.proofs.Receivers.{IsHeld}
+use Rattle.stmt_code.proofs.Signals.{answer_few, send_held, transfer_held}
 use Rattle.stmt_code.proofs.Narrow.{AllNarrow, narrow_on, pointer_narrow, rel_narrow, expr_narrow, cond_narrow, values_narrow, variable_width_fits, field_width_fits, signal_few}
 
 -- temporaries take values
@@ -41,7 +48,7 @@ retrieve_narrow : (k : ℕ) (ts : List ℕ) → AreTemps ts → k + length ts �
 retrieve_narrow k [] temps le = tt
 retrieve_narrow k (t ∷ ts) temps le = (λ n. (omega arith, omega arith), (λ n. (omega (arith, temps.0), omega arith), retrieve_narrow (k + 1) ts temps.1 (omega arith)))
 
-enter_few : (o : Option SignalKind) (n : ℕ) → EnterFits o n → ((k : SignalKind) → o ≡ Some k → signal_count k ≤ 8) → n ≤ 8
+pub enter_few : (o : Option SignalKind) (n : ℕ) → EnterFits o n → ((k : SignalKind) → o ≡ Some k → signal_count k ≤ 8) → n ≤ 8
 enter_few None n fits few = absurd fits
 enter_few (Some (Buffered name level count)) n fits few = omega (arith, fits, few (Buffered name level count) refl)
 enter_few (Some (Direct name count)) n fits few = omega (arith, fits, few (Direct name count) refl)
@@ -68,6 +75,20 @@ send_narrow (Some (Direct name count)) signal b fresh pl = (λ n. n, tt)
 send_narrow (Some (Combined name count answer)) signal b fresh pl = (λ n. n, tt)
 send_narrow (Some (Answer name count combined)) signal b fresh pl = tt
 send_narrow (Some (Outside name count)) signal b fresh pl = (λ n. (omega arith, n, omega arith), tt)
+
+-- receivers
+
+holder_narrow : (h : Holder) (site : Site) → IsHeld (Some (receiver.Held h)) → AllNarrow (holder_code h site)
+holder_narrow (holder.Temporary t) site lt = (λ n. (omega arith, omega (arith, lt)), tt)
+holder_narrow (holder.Variable v) site lt = (λ n. (omega arith, n), tt)
+
+each_narrow : (bs : List ℕ) (arm : ℕ → List Op) (a : ℕ) → ((b : ℕ) → AllNarrow (arm b)) → AllNarrow (each_receiver bs arm a)
+each_narrow [] arm a each = (λ n. (omega arith, n), tt)
+each_narrow (b ∷ bs) arm a each = (λ n. (omega arith, n), (λ n. (omega arith, omega arith), (λ n. (omega arith, n), narrow_on (arm b) _ (each b) (λ n. n, each_narrow bs arm _ each))))
+
+first_narrow : (bs : List ℕ) (values : List Expr) (a : ℕ) → AllNarrow (look_first bs values a)
+first_narrow bs [] a = tt
+first_narrow bs (e ∷ es) a = each_narrow bs (λ b. []) a (λ b. tt)
 
 -- records
 
@@ -108,7 +129,7 @@ module _ (x : Exchange) (kept : IsExchange x) (few_files : length (files_of x) �
 
   -- an expression of a statement that has it first
   value_narrow : (t : Table) (b d r : ℕ) {l : StmtKind-F StmtKind Stmt When} (h : LayerIn x b d l) (e : Expr) → r ≤ 1 → ExprFits (scope_of x b h.block) e → bracket_depth e ≤ 6 → AllNarrow (expr_code e (places_of x t b).site r)
-  value_narrow t b d r h e le fits shallow = expr_narrow x kept few_files t b r h.block e h.there h.few le fits shallow
+  value_narrow t b d r h e le fits shallow = expr_narrow x kept few_files t b r h.block e h.there h.limited le fits shallow
 
   field_narrow : (o : Option Placed) (file field pointer : ℕ) → slice_get (files_of x) file ≡ o → ((p : Placed) → o ≡ Some p → field < length p.file.fields) → pointer < 24 → AllNarrow (field_store o file field pointer)
   field_narrow None file field pointer there within lt = tt
@@ -134,7 +155,7 @@ module _ (x : Exchange) (kept : IsExchange x) (few_files : length (files_of x) �
       → AllNarrow (choices_code (map when_code (map (λ e. e.0) ws)) (map stmt_code (map (λ e. e.0) ss)) (places_of x t b) d a)
   choices_narrow [] ss t b d a hw hs = list_narrow ss t b d a hs
   choices_narrow (w ∷ ws) ss t b d a hw hs =
-      let body = codes (when_code w.0).body (places_of x t b) d (a + 3) in (λ n. (omega arith, n), (λ n. (omega arith, omega arith), (λ n. (omega arith, n), narrow_on body _ (w.1 t b d (a + 3) hw.0) (λ n. n, choices_narrow ws ss t b d (a + 3 + length body + 1) hw.1 hs))))
+      let body = codes (when_code w.0).body (places_of x t b) d (a + COMPARE_LENGTH) in (λ n. (omega arith, n), (λ n. (omega arith, omega arith), (λ n. (omega arith, n), narrow_on body _ (w.1 t b d (a + COMPARE_LENGTH) hw.0) (λ n. n, choices_narrow ws ss t b d (a + COMPARE_LENGTH + length body + 1) hw.1 hs))))
 
   turns_narrow : (p t d head : ℕ) (body : List Op) → t < 24 → d ≤ 12 → AllNarrow body → AllNarrow (turns_code p t d head body)
   turns_narrow p t d head body lt le narrow = (λ n. n, (λ n. (omega arith, omega arith), (λ n. (omega arith, omega arith), narrow_on body _ narrow (λ n. (omega arith, omega arith), (λ n. (omega arith, omega arith), (λ n. (omega arith, omega arith), (λ n. (omega arith, n), (λ n. (omega arith, n), (λ n. (omega arith, omega arith), (λ n. (omega arith, omega arith), (λ n. n, tt)))))))))))
@@ -142,12 +163,12 @@ module _ (x : Exchange) (kept : IsExchange x) (few_files : length (files_of x) �
   enter_narrow : (signal : ℕ) (temps : List ℕ) → LayerNarrow (stmt.Enter signal temps)
   enter_narrow signal temps t b p d a h =
       let few = enter_few (slice_get x.signals signal) (length temps) h.fits.names.0 (signal_few x kept few_files signal) in
-      (λ n. n, (λ n. n, takes_narrow 0 temps (are_temps (scope_of x b h.block) temps h.few h.fits.names.1) (omega (arith, few))))
+      (λ n. n, (λ n. n, takes_narrow 0 temps (are_temps (scope_of x b h.block) temps h.limited.temporaries h.fits.names.1) (omega (arith, few))))
 
   set_temp_narrow : (temp : ℕ) (e : Expr) → LayerNarrow (stmt.SetTemp temp e)
   set_temp_narrow temp e t b p d a h =
       let value = value_narrow t b d 0 h e (omega arith) h.fits.exprs.each.0 h.fits.exprs.shallow.0 in
-      (λ n. n, narrow_on (expr_code e (places_of x t b).site 0) _ value (λ n. (omega (arith, h.fits.names, h.few), omega arith), tt))
+      (λ n. n, narrow_on (expr_code e (places_of x t b).site 0) _ value (λ n. (omega (arith, h.fits.names, h.limited.temporaries), omega arith), tt))
 
   set_variable_narrow : (v : ℕ) (e : Expr) → LayerNarrow (stmt.SetVariable v e)
   set_variable_narrow v e t b p d a h =
@@ -158,42 +179,59 @@ module _ (x : Exchange) (kept : IsExchange x) (few_files : length (files_of x) �
   set_field_narrow : (file field pointer : ℕ) (e : Expr) → LayerNarrow (stmt.SetField file field pointer e)
   set_field_narrow file field pointer e t b p d a h =
       let value = value_narrow t b d 0 h e (omega arith) h.fits.exprs.each.0 h.fits.exprs.shallow.0 in
-      let store = field_narrow (slice_get (files_of x) file) file field pointer refl (field_within b file field h.block h.fits.names.0) (omega (arith, h.fits.names.1, h.few)) in
+      let store = field_narrow (slice_get (files_of x) file) file field pointer refl (field_within b file field h.block h.fits.names.0) (omega (arith, h.fits.names.1, h.limited.temporaries)) in
       (λ n. n, narrow_on (expr_code e (places_of x t b).site 0) _ value store)
 
   if_goto_narrow : (c : Cond) (label : ℕ) → LayerNarrow (stmt.IfGoto c label)
   if_goto_narrow c label t b p d a h =
-      let test = cond_narrow x kept few_files t b h.block c h.there h.few h.fits.exprs in
+      let test = cond_narrow x kept few_files t b h.block c h.there h.limited h.fits.exprs in
       (λ n. n, narrow_on (cond_code c (places_of x t b).site) _ test (λ n. (omega arith, n), (λ n. n, tt)))
 
   for_first_narrow : (temp file field : ℕ) (rel : Rel) (e : Expr) (label : ℕ) → LayerNarrow (stmt.ForFirst temp file field rel e label)
   for_first_narrow temp file field rel e label t b p d a h =
       let code = expr_code e (places_of x t b).site 0 in
       let value = value_narrow t b d 0 h e (omega arith) h.fits.exprs.each.0 h.fits.exprs.shallow.0 in
-      let found = search_narrow (slice_get (files_of x) file) temp field rel (t.label b label) (a + 1 + length code) (omega (arith, h.fits.names.0, h.few)) in
+      let found = search_narrow (slice_get (files_of x) file) temp field rel (t.label b label) (a + 1 + length code) (omega (arith, h.fits.names.0, h.limited.temporaries)) in
       (λ n. n, narrow_on code _ value found)
 
-  send_narrow_of : (signal : ℕ) (block : Option ℕ) (values : List Expr) (fresh : Bool) → LayerNarrow (stmt.Send signal block values fresh)
-  send_narrow_of signal block values fresh t b p d a h =
+  -- values that go to a receiver
+  receiver_narrow : (t : Table) (b : ℕ) (k : Block) (to : Option Receiver) (bs : List ℕ) (values : List Expr) (arm : ℕ → List Op) (a : ℕ) → slice_get x.blocks b ≡ Some k → IsLimited (scope_of x b k) → ExprsFit (scope_of x b k) values → IsHeld to → ((b : ℕ) → AllNarrow (arm b)) → AllNarrow (receiver_code to bs (places_of x t b).site values arm a)
+  receiver_narrow t b k None bs values arm a there few fits held each =
+      narrow_on (values_code values (places_of x t b).site 0) _ (values_narrow x kept few_files t b 0 k values there few (omega arith) fits.each fits.shallow) (each 0)
+  receiver_narrow t b k (Some (receiver.Block to)) bs values arm a there few fits held each =
+      narrow_on (values_code values (places_of x t b).site 0) _ (values_narrow x kept few_files t b 0 k values there few (omega arith) fits.each fits.shallow) (each to)
+  receiver_narrow t b k (Some (receiver.Held h)) bs values arm a there few fits held each =
+      let site = (places_of x t b).site in
+      narrow_on (holder_code h site) _ (holder_narrow h site held)
+      (narrow_on (look_first bs values (a + 1)) _ (first_narrow bs values (a + 1))
+      (narrow_on (values_code values site 1) _ (values_narrow x kept few_files t b 1 k values there few (omega arith) fits.each fits.shallow) (each_narrow bs arm _ each)))
+
+  send_narrow_of : (signal : ℕ) (to : Option Receiver) (values : List Expr) (fresh : Bool) → LayerNarrow (stmt.Send signal to values fresh)
+  send_narrow_of signal to values fresh t b p d a h =
       let pl = places_of x t b in
-      let them = values_narrow x kept few_files t b h.block values h.there h.few h.fits.exprs.each h.fits.exprs.shallow in
-      (λ n. n, narrow_on (values_code values pl.site) _ them (send_narrow (slice_get x.signals signal) signal (block_or block) fresh pl))
+      let held = send_held (slice_get x.signals signal) (scope_of x b h.block) to (length values) signal fresh h.fits.names h.limited.temporaries in
+      (λ n. n, receiver_narrow t b h.block to (pl.receivers signal) values _ (a + 1) h.there h.limited h.fits.exprs held (λ b. send_narrow (slice_get x.signals signal) signal b fresh pl))
+
+  transfer_narrow_of : (signal : ℕ) (to : Option Receiver) → LayerNarrow (stmt.Transfer signal to)
+  transfer_narrow_of signal to t b p d a h =
+      let held = transfer_held (slice_get x.signals signal) (scope_of x b h.block) to signal h.fits.names h.limited.temporaries in
+      (λ n. n, receiver_narrow t b h.block to ((places_of x t b).receivers signal) [] _ (a + 1) h.there h.limited h.fits.exprs held (λ b. (λ n. n, tt)))
 
   retrieve_narrow_of : (answer : ℕ) (temps : List ℕ) → LayerNarrow (stmt.Retrieve answer temps)
   retrieve_narrow_of answer temps t b p d a h =
       let few = answer_few (slice_get x.signals answer) (length temps) h.fits.names.0 (signal_few x kept few_files answer) in
-      (λ n. n, retrieve_narrow 0 temps (are_temps (scope_of x b h.block) temps h.few h.fits.names.1) (omega (arith, few)))
+      (λ n. n, retrieve_narrow 0 temps (are_temps (scope_of x b h.block) temps h.limited.temporaries h.fits.names.1) (omega (arith, few)))
 
   return_narrow : (answer : ℕ) (values : List Expr) → LayerNarrow (stmt.Return answer values)
   return_narrow answer values t b p d a h =
-      let them = values_narrow x kept few_files t b h.block values h.there h.few h.fits.exprs.each h.fits.exprs.shallow in
-      (λ n. n, narrow_on (values_code values (places_of x t b).site) _ them (λ n. n, tt))
+      let them = values_narrow x kept few_files t b 0 h.block values h.there h.limited (omega arith) h.fits.exprs.each h.fits.exprs.shallow in
+      (λ n. n, narrow_on (values_code values (places_of x t b).site 0) _ them (λ n. n, tt))
 
   seize_narrow_of : (temp file label : ℕ) → LayerNarrow (stmt.Seize temp file label)
-  seize_narrow_of temp file label t b p d a h = (λ n. n, seize_narrow (slice_get (files_of x) file) file temp (t.label b label) (a + 1) (omega (arith, h.fits.names.0, h.few)))
+  seize_narrow_of temp file label t b p d a h = (λ n. n, seize_narrow (slice_get (files_of x) file) file temp (t.label b label) (a + 1) (omega (arith, h.fits.names.0, h.limited.temporaries)))
 
   free_narrow_of : (temp file : ℕ) → LayerNarrow (stmt.Free temp file)
-  free_narrow_of temp file t b p d a h = (λ n. n, free_narrow (slice_get (files_of x) file) file temp (omega (arith, h.fits.names.0, h.few)))
+  free_narrow_of temp file t b p d a h = (λ n. n, free_narrow (slice_get (files_of x) file) file temp (omega (arith, h.fits.names.0, h.limited.temporaries)))
 
   -- the kinds that hold statements, from what is shown of these
 
@@ -203,7 +241,7 @@ module _ (x : Exchange) (kept : IsExchange x) (few_files : length (files_of x) �
       let test = cond_code c pl.site in
       let yes_at = a + 1 + length test + 1 in
       let first_part = codes (map stmt_code (map (λ e. e.0) yes_part)) pl d yes_at in
-      let narrow = cond_narrow x kept few_files t b h.block c h.there h.few h.fits.exprs in
+      let narrow = cond_narrow x kept few_files t b h.block c h.there h.limited h.fits.exprs in
       (λ n. n, narrow_on test _ narrow (λ n. (omega arith, n), narrow_on first_part _ (list_narrow yes_part t b d yes_at (yes_in h)) (λ n. n, list_narrow no_part t b d (yes_at + length first_part + 1) (no_in h))))
 
   case_narrow : (e : Expr) (whens : List ((w : When) × WhenNarrow w)) (otherwise : List ((s : Stmt) × StmtNarrow s)) → LayerNarrow (stmt.Case e (map (λ e. e.0) whens) (map (λ e. e.0) otherwise))
@@ -217,12 +255,12 @@ module _ (x : Exchange) (kept : IsExchange x) (few_files : length (files_of x) �
       let site = (places_of x t b).site in
       let cf = expr_code from site 0 in
       let cu = expr_code upto site 1 in
-      let head = a + 1 + length cf + length cu + 5 in
-      let inner = codes (map stmt_code (map (λ e. e.0) body)) (places_of x t b) (suc d) (head + 3) in
+      let head = a + 1 + length cf + length cu + BOUNDS_LENGTH in
+      let inner = codes (map stmt_code (map (λ e. e.0) body)) (places_of x t b) (suc d) (head + TURN_LENGTH) in
       let le : d ≤ 11 = omega (arith, h.shallow) in
       let first_value = value_narrow t b d 0 h from (omega arith) h.fits.exprs.each.0 h.fits.exprs.shallow.0 in
       let last_value = value_narrow t b d 1 h upto (omega arith) h.fits.exprs.each.1.0 h.fits.exprs.shallow.1.0 in
-      let turns = turns_narrow p temp d head inner (omega (arith, h.fits.names, h.few)) (omega arith) (list_narrow body t b (suc d) (head + 3) (body_in h)) in
+      let turns = turns_narrow p temp d head inner (omega (arith, h.fits.names, h.limited.temporaries)) (omega arith) (list_narrow body t b (suc d) (head + TURN_LENGTH) (body_in h)) in
       (λ n. n, narrow_on cf _ first_value (narrow_on cu _ last_value (λ n. (omega arith, omega arith), (λ n. (omega arith, omega arith), (λ n. (omega arith, omega arith), (λ n. (omega arith, n), (λ n. n, turns)))))))
 
   -- one line a kind
@@ -237,10 +275,10 @@ module _ (x : Exchange) (kept : IsExchange x) (few_files : length (files_of x) �
   layer_narrow (stmt.Case e whens otherwise) = case_narrow e whens otherwise
   layer_narrow (stmt.On temp from upto body) = on_narrow temp from upto body
   layer_narrow (stmt.ForFirst temp file field rel e label) = for_first_narrow temp file field rel e label
-  layer_narrow (stmt.Send signal block values fresh) = send_narrow_of signal block values fresh
+  layer_narrow (stmt.Send signal to values fresh) = send_narrow_of signal to values fresh
   layer_narrow (stmt.Retrieve answer temps) = retrieve_narrow_of answer temps
   layer_narrow (stmt.Return answer values) = return_narrow answer values
-  layer_narrow (stmt.Transfer signal block) = λ t b p d a h. (λ n. n, (λ n. n, tt))
+  layer_narrow (stmt.Transfer signal to) = transfer_narrow_of signal to
   layer_narrow (stmt.Seize temp file label) = seize_narrow_of temp file label
   layer_narrow (stmt.Free temp file) = free_narrow_of temp file
   layer_narrow stmt.Exit = λ t b p d a h. (λ n. n, (λ n. tt, tt))

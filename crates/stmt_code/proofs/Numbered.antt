@@ -11,8 +11,7 @@ use Rattle.exchange_model.proofs.Places.{stands}
 use Rattle.exchange_model.proofs.Facts.{file_number}
 use Rattle.source_meaning.specs.Config.{files_of}
 use Rattle.stmt_code.specs.Numbers.{AreBelow, IsBelow}
-use Rattle.stmt_code.proofs.Records.{all_at}
-use Rattle.stmt_code.proofs.Words.{some_at}
+use Rattle.plex_num.proofs.Lists.{all_at, some_at}
 
 number_below : (x : Exchange) (n i : ℕ) (p : Placed) → All (AreBelow n) x.blocks → slice_get (files_of x) i ≡ Some p → p.file.number < n
 unfolding files_of

@@ -8,7 +8,9 @@ use Rattle.exchange_model.specs.declared.expr.Cond.{Cond}
 use Rattle.exchange_model.specs.declared.stmt.Stmt.{Stmt}
 use Rattle.exchange_model.specs.declared.stmt.StmtKind.TheOpen.{SetTemp, SetVariable, Goto, IfGoto, If}
 use Rattle.source_meaning.specs.Config.{Do, base_of}
-use Rattle.source_meaning.specs.Step.{goes, sets_temp, sets_cell, where_fits, variable_width, to_label, at_zero, does}
+use Rattle.source_meaning.specs.Step.{does}
+use Rattle.source_meaning.specs.Changes.{goes, sets_temp, sets_cell, where_fits, variable_width, to_label}
+use Rattle.job_types.specs.Truth.{at_zero}
 use Rattle.register_machine.specs.Machine.{made_one, checks}
 use Rattle.expr_code.specs.Code.{expr_code, cond_code}
 use Rattle.expr_code.proofs.Places.{has_front, has_back}
@@ -29,7 +31,7 @@ module _ {g : Setting} where
       let le = few_loops fits in
       count_sim (does g.exchange p (SetTemp t e) rest) s at has.0 (λ n1 s1 at1 q1.
       value_sim 0 e (λ v d. goes rest (sets_temp t v d)) (omega arith) (expr_in e [] refl fits) s1 at1 (has_front g.code (a + 1) ce tail has.1) (λ n2 v loads s2 at2 q2.
-      stt v s2 at2 h.0 (omega (arith, fits.fits.names, fits.few)) q2.is q2.small (λ n3 s3 at3 q3.
+      stt v s2 at2 h.0 (omega (arith, fits.fits.names, fits.limited.temporaries)) q2.is q2.small (λ n3 s3 at3 q3.
       goes_on_at rest s3 (at3 ∙ len) (at_kept le q3 (at_valued le q2 (at_kept le q1 r))))))
 
   pub set_variable : (i : ℕ) (e : Expr) → Case g (SetVariable i e)

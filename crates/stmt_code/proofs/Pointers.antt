@@ -7,9 +7,11 @@ use Rattle.machine_code.specs.declared.op.Op.TheVariants as op
 use Rattle.exchange_model.specs.declared.expr.Expr.{Expr}
 use Rattle.exchange_model.specs.declared.stmt.StmtKind.TheOpen.{SetField}
 use Rattle.exchange_model.specs.Cells.{Placed, field_cell, record_cells}
-use Rattle.source_meaning.specs.Value.{holds, may_use, pointer_fault}
+use Rattle.source_meaning.specs.Value.{may_use, pointer_fault}
+use Rattle.job_types.specs.Chain.{holds}
 use Rattle.source_meaning.specs.Config.{Item, Config, files_of}
-use Rattle.source_meaning.specs.Step.{fails as c_fails, goes, unless_fault, where_fits, field_width, sets_cell, sets_field, does}
+use Rattle.source_meaning.specs.Step.{does}
+use Rattle.source_meaning.specs.Changes.{fails as c_fails, goes, unless_fault, where_fits, field_width, sets_cell, at_record, sets_field}
 use Rattle.register_machine.specs.Machine.{Machine, made_one, reg, checks}
 use Rattle.expr_code.specs.Code.{expr_code, own_code, pointer_code}
 use Rattle.expr_code.specs.Runs.{HasAt}
@@ -62,7 +64,7 @@ module _ {g : Setting} where
 
   -- the value goes into a field, where nothing is wrong with the pointer and it fits
   field_sim : {c : Config} {m : Machine} {a : ℕ} (o : Option Placed) (file field pointer v d : ℕ) (rest : List Item) → d ≤ 12 → pointer < 24 → reg m.run 0 ≡ v → v < 2 ^ 32 → Same g [] c m → m.run.pc ≡ a → HasAt g.code a (field_store o file field pointer)
-      → At g c.block m.run.locals d rest (a + length (field_store o file field pointer)) → Follows g (sets_field o file field (slice_index c.temps pointer) v (goes rest c)) m
+      → At g c.block m.run.locals d rest (a + length (field_store o file field pointer)) → Follows g (at_record o file (slice_index c.temps pointer) (goes rest c) (sets_field (slice_index c.temps pointer) field v)) m
   field_sim {c = c} {m = m} {a = a} None file field pointer v d rest le lt is small s at has r = goes_on_at rest s at (subst (At g c.block m.run.locals d rest) (omega arith) r)
   field_sim {c = c} {m = m} {a = a} (Some p) file field pointer v d rest le lt is small s at has r =
       let number = slice_index c.temps pointer in
@@ -91,6 +93,6 @@ module _ {g : Setting} where
       let len : a + length (op.Stmt p ∷ (ce ++ tail)) ≡ a + 1 + length ce + length tail = omega (arith, length-append ce tail) in
       let le = few_loops fits in
       count_sim (does g.exchange p (SetField file field pointer e) rest) s at has.0 (λ n1 s1 at1 q1.
-      value_sim 0 e (λ v d. sets_field o file field (slice_index d.temps pointer) v (goes rest d)) (omega arith) (expr_in e [] refl fits) s1 at1 (has_front g.code (a + 1) ce tail has.1) (λ n2 v loads s2 at2 q2.
+      value_sim 0 e (λ v d. at_record o file (slice_index d.temps pointer) (goes rest d) (sets_field (slice_index d.temps pointer) field v)) (omega arith) (expr_in e [] refl fits) s1 at1 (has_front g.code (a + 1) ce tail has.1) (λ n2 v loads s2 at2 q2.
       let r2 = subst (At g c.block n2.run.locals d rest) len (at_valued le q2 (at_kept le q1 r)) in
-      field_sim o file field pointer v d rest le (omega (arith, fits.fits.names.1, fits.few)) q2.is q2.small s2 at2 h r2))
+      field_sim o file field pointer v d rest le (omega (arith, fits.fits.names.1, fits.limited.temporaries)) q2.is q2.small s2 at2 h r2))

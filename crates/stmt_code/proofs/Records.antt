@@ -1,50 +1,22 @@
 -- Files of an exchange keep their limits, and a search is told record by record.
-use Rattle.std.proofs.Common.{◌≡◌, ℕ, zero, suc, ◌+◌, Bool, true, false, not, List, [], ◌∷◌, ◌++◌, length, map, Option, Some, None, refl, sym, ap, ◌∙◌, subst, arith, cond, if◌then◌else◌}
+use Rattle.std.proofs.Common.{◌≡◌, ℕ, zero, suc, ◌+◌, Bool, true, false, not, List, [], ◌∷◌, length, map, Option, Some, None, refl, sym, ap, ◌∙◌, arith, cond, if◌then◌else◌}
 use Rattle.std.specs.Prelude.{slice_get, nat_lt}
-use Rattle.std.specs.List.{AllByRecursion, prefix_len, range_with_len}
+use Rattle.std.specs.List.{prefix_len, range_with_len}
 use Rattle.std.proofs.Math.Dec.{leb-suc-suc}
 use Rattle.std.proofs.lemmas.Bool.{lt-ltb}
-use Rattle.machine_code.specs.declared.permit.Touch.{Touch}
+use Rattle.job_types.specs.declared.touch.Touch.{Touch}
 use Rattle.exchange_model.specs.declared.exchange.Exchange.{Exchange}
-use Rattle.exchange_model.specs.declared.block.Block.{Block}
-use Rattle.exchange_model.specs.declared.block.File.{File}
-use Rattle.exchange_model.specs.Cells.{Placed, placed_in, placed_from, placed_files, file_cells, block_cells}
+use Rattle.exchange_model.specs.Cells.{Placed}
 use Rattle.exchange_model.specs.Kept.{IsExchange, FileFits}
+use Rattle.exchange_model.proofs.Facts.{file_kept}
 use Rattle.source_meaning.specs.Value.{load_of}
 use Rattle.source_meaning.specs.Config.{files_of}
-use Rattle.source_meaning.specs.Step.{least_record, looked_at, record_loads}
-
--- what holds of all of a list holds at each place, and the other way round
-pub all_at : {A : Type 0} (P : A → Type 0) (xs : List A) (i : ℕ) (x : A) → AllByRecursion P xs → slice_get xs i ≡ Some x → P x
-all_at P [] i x all e = cc
-all_at P (y ∷ xs) zero x all e = let same : y ≡ x = grind arith in subst P same all.0
-all_at P (y ∷ xs) (suc i) x all e = all_at P xs i x all.1 e
-
-all_from : {A : Type 0} (P : A → Type 0) (xs : List A) → ((i : ℕ) (x : A) → slice_get xs i ≡ Some x → P x) → AllByRecursion P xs
-all_from P [] h = tt
-all_from P (x ∷ xs) h = (h 0 x refl, all_from P xs (λ i y e. h (suc i) y e))
-
-all_append : {A : Type 0} (P : A → Type 0) (xs ys : List A) → AllByRecursion P xs → AllByRecursion P ys → AllByRecursion P (xs ++ ys)
-all_append P [] ys h k = k
-all_append P (x ∷ xs) ys h k = (h.0, all_append P xs ys h.1 k)
-
-abbrev PlacedFits : Placed → Type 0
-PlacedFits p = FileFits p.file
-
-placed_in_fit : (b cell : ℕ) (fs : List File) → AllByRecursion FileFits fs → AllByRecursion PlacedFits (placed_in b cell fs)
-placed_in_fit b cell [] h = tt
-placed_in_fit b cell (f ∷ fs) h = (h.0, placed_in_fit b (cell + file_cells f) fs h.1)
-
-placed_from_fit : (b cell : ℕ) (ks : List Block) → AllByRecursion (λ (k : Block). AllByRecursion FileFits k.files) ks → AllByRecursion PlacedFits (placed_from b cell ks)
-placed_from_fit b cell [] h = tt
-placed_from_fit b cell (k ∷ ks) h =
-    all_append PlacedFits (placed_in b (cell + length k.variables) k.files) (placed_from (b + 1) (cell + block_cells k) ks) (placed_in_fit b (cell + length k.variables) k.files h.0) (placed_from_fit (b + 1) (cell + block_cells k) ks h.1)
+use Rattle.source_meaning.specs.Changes.{least_record, looked_at, record_loads}
 
 -- a file of the exchange keeps the limits of files
 pub placed_fits : (x : Exchange) (file : ℕ) (p : Placed) → IsExchange x → slice_get (files_of x) file ≡ Some p → FileFits p.file
-unfolding files_of placed_files
-placed_fits x file p kept e =
-    all_at PlacedFits (placed_from 0 0 x.blocks) file p (placed_from_fit 0 0 x.blocks (all_from (λ (k : Block). AllByRecursion FileFits k.files) x.blocks (λ b k there. (kept.blocks.each b k there).files))) e
+unfolding files_of
+placed_fits x file p kept there = file_kept x kept file p there
 
 -- the first of k records from i on at which the test holds
 abbrev pub found_from : (ℕ → Bool) → ℕ → ℕ → Option ℕ

@@ -9,10 +9,11 @@ use Rattle.job_types.specs.declared.outcome.Outcome.{Outcome}
 use Rattle.job_types.specs.declared.outcome.Outcome.TheVariants.{Faulted}
 use Rattle.machine_code.specs.declared.op.Op.{Op}
 use Rattle.source_meaning.specs.Config.{Caller, Config}
-use Rattle.source_meaning.specs.Step.{fails as c_fails}
+use Rattle.source_meaning.specs.Changes.{fails as c_fails}
 use Rattle.register_machine.specs.declared.frames.Frame.{Frame}
-use Rattle.register_machine.specs.Machine.{Machine, Goes, here, by_op, Allowed, machine_step, made_one, fails}
+use Rattle.register_machine.specs.Machine.{Machine, Goes, here, by_op, HasRoom, machine_step, made_one, fails}
 use Rattle.expr_code.proofs.Runs.{goes_on}
+use Rattle.expr_code.specs.Runs.{HasOp}
 use Rattle.stmt_code.proofs.Setting.{Setting}
 use Rattle.stmt_code.proofs.At.{At}
 
@@ -75,23 +76,19 @@ pub by_way : {g : Setting} {P : Machine → Type 0} {m n : Machine} → Goes g.c
 by_way way f = record { end = f.end; goes = goes_on way f.goes; is = f.is }
 
 -- one instruction
-pub by_step : {g : Setting} {P : Machine → Type 0} {m : Machine} {a : ℕ} (i : Op) (n : Machine) → m.run.over ≡ None → m.run.pc ≡ a → slice_get g.code a ≡ Some i → Allowed i m.run → machine_step i m ≡ n → Comes g P n → Comes g P m
-by_step {g = g} i n runs at has allowed e f = by_way (by_op i runs (ap (slice_get g.code) at ∙ has) allowed (subst (λ k. Goes g.code k n) (sym e) here)) f
+pub by_step : {g : Setting} {P : Machine → Type 0} {m : Machine} {a : ℕ} (i : Op) (n : Machine) → m.run.over ≡ None → m.run.pc ≡ a → HasOp g.code a i → HasRoom i m.run → machine_step i m ≡ n → Comes g P n → Comes g P m
+by_step {g = g} i n runs at has room e f = by_way (by_op i runs (ap (slice_get g.code) at ∙ has.is) (has.fits, room) (subst (λ k. Goes g.code k n) (sym e) here)) f
 
 pub stays : {g : Setting} {c : Config} {m : Machine} {d : ℕ} → Same g [] c m → At g c.block m.run.locals d c.todo m.run.pc → Follows g c m
 stays same at = record { end = _; goes = here; is = alive same at }
-
--- the same address under another name
-pub stays_at : {g : Setting} {c : Config} {m : Machine} {d a : ℕ} → Same g [] c m → m.run.pc ≡ a → At g c.block m.run.locals d c.todo a → Follows g c m
-stays_at {g = g} {c = c} {m = m} {d = d} same e at = stays same (subst (At g c.block m.run.locals d c.todo) (sym e) at)
 
 pub is_over : {g : Setting} {c : Config} {m : Machine} {o : Outcome} → c.over ≡ Some o → m.run.over ≡ Some o → m.run.own ≡ c.own → m.world ≡ c.world → Follows g c m
 is_over e f w v = record { end = _; goes = here; is = ended e f w v }
 
 -- an instruction that ends the job by a fault
-pub faults : {g : Setting} {vs : List ℕ} {c : Config} {m : Machine} {a : ℕ} (i : Op) (f : Fault) → Same g vs c m → m.run.pc ≡ a → slice_get g.code a ≡ Some i → Allowed i m.run → machine_step i m ≡ record { run = fails f (made_one m.run); world = m.world } → Follows g (c_fails f c) m
-faults {m = m} i f s at has allowed e =
-    by_step i (record { run = fails f (made_one m.run); world = m.world }) s.runs at has allowed e
+pub faults : {g : Setting} {vs : List ℕ} {c : Config} {m : Machine} {a : ℕ} (i : Op) (f : Fault) → Same g vs c m → m.run.pc ≡ a → HasOp g.code a i → HasRoom i m.run → machine_step i m ≡ record { run = fails f (made_one m.run); world = m.world } → Follows g (c_fails f c) m
+faults {m = m} i f s at has room e =
+    by_step i (record { run = fails f (made_one m.run); world = m.world }) s.runs at has room e
     (is_over refl (ap (λ o. Some (Faulted f o.point)) s.own) s.own s.world)
 
 -- a write keeps the values below a bound

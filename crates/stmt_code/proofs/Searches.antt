@@ -3,21 +3,25 @@ use Rattle.std.proofs.Common.{◌≡◌, ◌≢◌, ℕ, zero, suc, ◌+◌, ◌
 use Rattle.std.specs.Prelude.{slice_get, slice_index, nat_lt}
 use Rattle.std.proofs.lemmas.Bool.{lt-ltb, le-ltb}
 use Rattle.machine_code.specs.declared.op.Op.TheVariants as op
-use Rattle.machine_code.specs.declared.permit.Touch.{Touch}
+use Rattle.job_types.specs.declared.touch.Touch.{Touch}
+use Rattle.exchange_model.specs.declared.block.File.{File}
 use Rattle.exchange_model.specs.declared.expr.Expr.{Expr}
 use Rattle.exchange_model.specs.declared.expr.Rel.{Rel}
 use Rattle.exchange_model.specs.declared.stmt.StmtKind.TheOpen.{ForFirst}
 use Rattle.exchange_model.specs.Cells.{Placed, field_cell, record_cells}
-use Rattle.source_meaning.specs.Own.{World, seen}
-use Rattle.source_meaning.specs.Value.{load_of, stands, one_if}
+use Rattle.job_types.specs.Own.{World, seen}
+use Rattle.source_meaning.specs.Value.{load_of, stands}
+use Rattle.job_types.specs.Truth.{one_if}
 use Rattle.source_meaning.specs.Config.{Item, Config, files_of}
-use Rattle.source_meaning.specs.Step.{least_record, looked_at, record_loads, on_record, at_found, for_first, does}
+use Rattle.source_meaning.specs.Step.{does}
+use Rattle.source_meaning.specs.Changes.{least_record, looked_at, record_loads, on_record, at_found, for_first}
 use Rattle.register_machine.specs.Machine.{Machine, reg}
 use Rattle.expr_code.specs.Code.{expr_code}
 use Rattle.expr_code.specs.Runs.{HasAt}
 use Rattle.expr_code.proofs.Places.{has_front, has_back}
 use Rattle.expr_code.proofs.Runs.{seen_append, seen_none}
-use Rattle.stmt_code.specs.StmtCode.{for_first_code}
+use Rattle.stmt_code.specs.declared.lengths.TheConstants.{LOOK_LENGTH, FOUND_LENGTH, AGAIN_LENGTH}
+use Rattle.stmt_code.specs.StmtCode.{look_code, again_code, for_first_code}
 use Rattle.stmt_code.proofs.Setting.{Setting, places, few_loops}
 use Rattle.stmt_code.proofs.At.{SameLoops, At, at_moves}
 use Rattle.stmt_code.proofs.Same.{Same, Comes, Follows}
@@ -28,16 +32,15 @@ use Rattle.stmt_code.proofs.Pointers.{cell_is}
 use Rattle.stmt_code.proofs.Kind.{Case, at_kept, at_valued, goes_on_at, label_sim}
 
 -- a search as it stands in the code: register 1 counts the records, and register 2 gets a word of each
-pub record Search (g : Setting) (cell_of : ℕ → ℕ) (size : ℕ) : Type 0 where
+pub record Search (g : Setting) (cell_of : ℕ → ℕ) (f : File) : Type 0 where
   pub head : ℕ
   pub none : ℕ
   pub next : ℕ
   pub word : ℕ
-  pub step : ℕ
-  pub begin : HasAt g.code head (op.Ldi 2 size ∷ op.Gt 2 1 ∷ op.Jz 2 none ∷ op.Ldx 2 word step 1 ∷ [])
-  pub again : HasAt g.code next (op.Ldi 2 1 ∷ op.Add 1 2 ∷ op.Jmp head ∷ [])
-  pub cells : (i : ℕ) → word + step * i ≡ cell_of i
-  pub small : size < 2 ^ 32
+  pub begin : HasAt g.code head (look_code f word none)
+  pub again : HasAt g.code next (again_code head)
+  pub cells : (i : ℕ) → word + record_cells f * i ≡ cell_of i
+  pub small : f.size < 2 ^ 32
 
 -- the first two registers and the locals of the loops are kept
 pub record Looked (m n : Machine) : Type 0 where
@@ -67,23 +70,23 @@ on_record_is cell_of test size c go =
     ∙ ap (λ l. go (found_from t 0 size) (record c { world = seen l c.world })) (record_loads_are t cell_of size store)
 
 -- how a record is looked at once its word is in register 2
-abbrev pub Looks : (g : Setting) (P : Machine → Type 0) {cell_of : ℕ → ℕ} {size : ℕ} → Search g cell_of size → (ℕ → Bool) → ℕ → ℕ → Type 0
+abbrev pub Looks : (g : Setting) (P : Machine → Type 0) {cell_of : ℕ → ℕ} {f : File} → Search g cell_of f → (ℕ → Bool) → ℕ → ℕ → Type 0
 Looks g P q test value found_at = (c : Config) (m : Machine) (v : ℕ) → Same g [] c m → m.run.pc ≡ q.head + 1 + 1 + 1 + 1 → reg m.run 2 ≡ v → reg m.run 0 ≡ value
     → (test v ≡ true → (n : Machine) → Same g [] c n → n.run.pc ≡ found_at → Looked m n → Comes g P n)
     → (test v ≡ false → (n : Machine) → Same g [] c n → n.run.pc ≡ q.next → Looked m n → Comes g P n)
     → Comes g P m
 
-module _ {g : Setting} {P : Machine → Type 0} {cell_of : ℕ → ℕ} {size : ℕ} (q : Search g cell_of size) (test : ℕ → Bool) (value found_at : ℕ) where
+module _ {g : Setting} {P : Machine → Type 0} {cell_of : ℕ → ℕ} {f : File} (q : Search g cell_of f) (test : ℕ → Bool) (value found_at : ℕ) where
   -- k records from i on are looked at
-  pub search_sim : Looks g P q test value found_at → (k i : ℕ) (c : Config) (m : Machine) → i + k ≡ size → Same g [] c m → m.run.pc ≡ q.head → reg m.run 1 ≡ i → reg m.run 0 ≡ value
-      → ((j : ℕ) → found_from (at_cell test cell_of c.world.store) i k ≡ Some j → j < size → (n : Machine) → Same g [] (after_search test cell_of i k c) n → n.run.pc ≡ found_at → reg n.run 1 ≡ j → SameLoops 12 n.run.locals m.run.locals → Comes g P n)
+  pub search_sim : Looks g P q test value found_at → (k i : ℕ) (c : Config) (m : Machine) → i + k ≡ f.size → Same g [] c m → m.run.pc ≡ q.head → reg m.run 1 ≡ i → reg m.run 0 ≡ value
+      → ((j : ℕ) → found_from (at_cell test cell_of c.world.store) i k ≡ Some j → j < f.size → (n : Machine) → Same g [] (after_search test cell_of i k c) n → n.run.pc ≡ found_at → reg n.run 1 ≡ j → SameLoops 12 n.run.locals m.run.locals → Comes g P n)
       → (found_from (at_cell test cell_of c.world.store) i k ≡ None → (n : Machine) → Same g [] (after_search test cell_of i k c) n → n.run.pc ≡ q.none → SameLoops 12 n.run.locals m.run.locals → Comes g P n)
       → Comes g P m
   search_sim look zero i c m e s at is val hit miss =
       ldi s at q.begin.0 (omega arith) (λ n1 s1 at1 q1.
       gt s1 at1 q.begin.1.0 (omega arith) (λ n2 s2 at2 q2.
       let ne : ◌≢◌ {A = ℕ} 1 2 = omega arith in
-      let past : nat_lt i size ≡ false = le-ltb i size (omega (arith, e)) in
+      let past : nat_lt i f.size ≡ false = le-ltb i f.size (omega (arith, e)) in
       let none : reg n2.run 2 ≡ 0 = q2.is ∙ ap (λ y. one_if (nat_lt y (reg n1.run 2))) (q1.others 1 ne ∙ is) ∙ ap (λ y. one_if (nat_lt i y)) q1.is ∙ ap one_if past in
       jz_zero s2 at2 q.begin.1.1.0 none (λ n3 s3 at3 q3.
       miss refl n3 (subst (λ w. Same g [] (record c { world = w }) n3) (seen_none c.world) s3) at3 (loops_on n3.run.locals n2.run.locals m.run.locals q3.loops (loops_on n2.run.locals n1.run.locals m.run.locals q2.loops q1.loops)))))
@@ -101,12 +104,12 @@ module _ {g : Setting} {P : Machine → Type 0} {cell_of : ℕ → ℕ} {size : 
       let ne21 : ◌≢◌ {A = ℕ} 2 1 = omega arith in
       ldi s at q.begin.0 (omega arith) (λ n1 s1 at1 q1.
       gt s1 at1 q.begin.1.0 (omega arith) (λ n2 s2 at2 q2.
-      let within : nat_lt i size ≡ true = lt-ltb i size (omega (arith, e)) in
+      let within : nat_lt i f.size ≡ true = lt-ltb i f.size (omega (arith, e)) in
       let some : reg n2.run 2 ≡ 1 = q2.is ∙ ap (λ y. one_if (nat_lt y (reg n1.run 2))) (q1.others 1 ne1 ∙ is) ∙ ap (λ y. one_if (nat_lt i y)) q1.is ∙ ap one_if within in
       jz_other {v = 0} s2 at2 q.begin.1.1.0 some (λ n3 s3 at3 q3.
       let is3 : reg n3.run 1 ≡ i = q3.regs 1 ∙ q2.others 1 ne1 ∙ q1.others 1 ne1 ∙ is in
       let val3 : reg n3.run 0 ≡ value = q3.regs 0 ∙ q2.others 0 ne0 ∙ q1.others 0 ne0 ∙ val in
-      ldx cell s3 at3 q.begin.1.1.1.0 (omega arith) (ap (λ y. q.word + q.step * y) is3 ∙ q.cells i) (λ n4 s4 at4 q4.
+      ldx cell s3 at3 q.begin.1.1.1.0 (omega arith) (ap (λ y. q.word + record_cells f * y) is3 ∙ q.cells i) (λ n4 s4 at4 q4.
       let loops4 : SameLoops 12 n4.run.locals m.run.locals = loops_on n4.run.locals n3.run.locals m.run.locals q4.loops (loops_on n3.run.locals n2.run.locals m.run.locals q3.loops (loops_on n2.run.locals n1.run.locals m.run.locals q2.loops q1.loops)) in
       let is4 : reg n4.run 1 ≡ i = q4.others 1 ne1 ∙ is3 in
       let val4 : reg n4.run 0 ≡ value = q4.others 0 ne0 ∙ val3 in
@@ -131,17 +134,16 @@ module _ {g : Setting} {P : Machine → Type 0} {cell_of : ℕ → ℕ} {size : 
 
 module _ {g : Setting} where
   -- the search of FOR FIRST
-  first_search : (p : Placed) (temp field label a : ℕ) (rel : Rel) → p.file.size < 2 ^ 32 → HasAt g.code a (for_first_code (Some p) temp field rel label a) → Search g (λ i. field_cell p i field) p.file.size
+  first_search : (p : Placed) (temp field label a : ℕ) (rel : Rel) → p.file.size < 2 ^ 32 → HasAt g.code a (for_first_code (Some p) temp field rel label a) → Search g (λ i. field_cell p i field) p.file
   first_search p temp field label a rel small has = record {
     head = a + 1;
-    none = a + 12;
-    next = a + 9;
+    none = a + 1 + LOOK_LENGTH + FOUND_LENGTH + AGAIN_LENGTH;
+    next = a + 1 + LOOK_LENGTH + FOUND_LENGTH;
     word = p.first + field;
-    step = record_cells p.file;
     begin = (has.1.0, (has.1.1.0, (has.1.1.1.0, (has.1.1.1.1.0, tt))));
     again =
-        let nine : a + 1 + 1 + 1 + 1 + 1 + 1 + 1 + 1 + 1 ≡ a + 9 = omega arith in
-        subst (λ i. HasAt g.code i (op.Ldi 2 1 ∷ op.Add 1 2 ∷ op.Jmp (a + 1) ∷ [])) nine has.1.1.1.1.1.1.1.1.1;
+        let place : a + 1 + 1 + 1 + 1 + 1 + 1 + 1 + 1 + 1 ≡ a + 1 + LOOK_LENGTH + FOUND_LENGTH = omega arith in
+        subst (λ i. HasAt g.code i (again_code (a + 1))) place has.1.1.1.1.1.1.1.1.1;
     cells = cell_is p field;
     small = small;
   }
@@ -192,4 +194,4 @@ module _ {g : Setting} where
       count_sim (does g.exchange p (ForFirst temp file field r e label) rest) s at has.0 (λ n1 s1 at1 q1.
       value_sim 0 e (λ v d. for_first g.exchange o temp field r v label rest d) (omega arith) (expr_in e [] refl fits) s1 at1 (has_front g.code (a + 1) ce tail has.1) (λ n2 v loads s2 at2 q2.
       let r2 = subst (At g c.block n2.run.locals d rest) len (at_valued le q2 (at_kept le q1 after)) in
-      first_sim o temp field label v d r rest laid limit le (omega (arith, fits.fits.names.0, fits.few)) q2.is s2 at2 h r2))
+      first_sim o temp field label v d r rest laid limit le (omega (arith, fits.fits.names.0, fits.limited.temporaries)) q2.is s2 at2 h r2))

@@ -3,16 +3,17 @@ use Rattle.std.proofs.Common.{◌≡◌, ◌≢◌, ℕ, zero, suc, ◌+◌, ◌
 use Rattle.std.specs.Prelude.{slice_get, nat_lt, nat_eq, not}
 use Rattle.std.proofs.Math.Dec.{eqb-suc-zero}
 use Rattle.job_types.specs.declared.fault.Fault.TheVariants.{NoForlopp, Chain}
-use Rattle.machine_code.specs.declared.op.Op.{Op}
 use Rattle.machine_code.specs.declared.op.Op.TheVariants as op
 use Rattle.exchange_model.specs.declared.stmt.StmtKind.TheOpen.{Seize}
 use Rattle.exchange_model.specs.Cells.{Placed, mark_cell, record_cells}
-use Rattle.source_meaning.specs.Own.{Own}
+use Rattle.job_types.specs.Own.{Own}
 use Rattle.source_meaning.specs.Config.{Item, Config, files_of}
-use Rattle.source_meaning.specs.Step.{fails as c_fails, joins_chain, at_free, on_record, seizes, does}
+use Rattle.source_meaning.specs.Step.{does}
+use Rattle.source_meaning.specs.Changes.{fails as c_fails, joins_chain, at_free, on_record, seizes}
 use Rattle.register_machine.specs.Machine.{Machine, made_one, reg, next, fails, checks}
-use Rattle.expr_code.specs.Runs.{HasAt}
-use Rattle.stmt_code.specs.StmtCode.{seize_code}
+use Rattle.expr_code.specs.Runs.{HasOp, HasAt}
+use Rattle.stmt_code.specs.declared.lengths.TheConstants.{LOOK_LENGTH, AGAIN_LENGTH}
+use Rattle.stmt_code.specs.StmtCode.{again_code, take_code, seize_code}
 use Rattle.stmt_code.proofs.Setting.{Setting, few_loops}
 use Rattle.stmt_code.proofs.At.{At, at_moves}
 use Rattle.stmt_code.proofs.Same.{Same, Follows, by_step, faults}
@@ -32,13 +33,13 @@ not_split false x y = refl
 abbrev joined : ℕ → ℕ → Own → Own
 joined file number o = record o { chain = o.chain ++ record { file = file; number = number } ∷ [] }
 
--- the code by which a free record is seized
-abbrev take_code : Placed → ℕ → ℕ → List Op
-take_code p file temp = op.Chn 1 file ∷ op.Ldi 2 1 ∷ op.Stx (p.first + length p.file.fields) (record_cells p.file) 1 2 ∷ op.Stt temp 1 ∷ []
+-- where a free record is seized
+abbrev free_at : ℕ → ℕ
+free_at a = a + 1 + 1 + LOOK_LENGTH + 1 + AGAIN_LENGTH
 
 module _ {g : Setting} where
   -- a record joins the chain, unless that is full
-  chain_cases : (room : Bool) (file number r : ℕ) (go c : Config) (m : Machine) (a : ℕ) → nat_lt (length c.own.chain) 64 ≡ room → reg m.run r ≡ number → Same g [] c m → m.run.pc ≡ a → slice_get g.code a ≡ Some (op.Chn r file)
+  chain_cases : (room : Bool) (file number r : ℕ) (go c : Config) (m : Machine) (a : ℕ) → nat_lt (length c.own.chain) 64 ≡ room → reg m.run r ≡ number → Same g [] c m → m.run.pc ≡ a → HasOp g.code a (op.Chn r file)
       → ((n : Machine) → Same g [] (record c { own = joined file number c.own }) n → n.run.pc ≡ a + 1 → Kept m n → Follows g go n)
       → Follows g (if room then go else c_fails Chain c) m
   chain_cases true file number r go c m a e is s at has k =
@@ -53,7 +54,7 @@ module _ {g : Setting} where
       faults (op.Chn r file) Chain s at has tt
       (ap (λ b. record { run = (if b then next (record (made_one m.run) { own = joined file (reg m.run r) m.run.own }) else fails Chain (made_one m.run)); world = m.world }) (ap (λ (o : Own). nat_lt (length o.chain) 64) s.own ∙ e))
 
-  take_free : {c : Config} {m : Machine} {a : ℕ} (p : Placed) (file temp number d : ℕ) (rest : List Item) → d ≤ 12 → temp < 24 → number < 2 ^ 32 → reg m.run 1 ≡ number → Same g [] c m → m.run.pc ≡ a → HasAt g.code a (take_code p file temp)
+  take_free : {c : Config} {m : Machine} {a : ℕ} (p : Placed) (file temp number d : ℕ) (rest : List Item) → d ≤ 12 → temp < 24 → number < 2 ^ 32 → reg m.run 1 ≡ number → Same g [] c m → m.run.pc ≡ a → HasAt g.code a (take_code p.file (p.first + length p.file.fields) file temp)
       → At g c.block m.run.locals d rest (a + 1 + 1 + 1 + 1) → Follows g (joins_chain p file temp number rest c) m
   take_free {c = c} {m = m} {a = a} p file temp number d rest le lt small is s at has r =
       let ne12 : ◌≢◌ {A = ℕ} 1 2 = omega arith in
@@ -65,32 +66,27 @@ module _ {g : Setting} where
       goes_on_at rest s4 at4 (at_kept le q4 (at_kept le q3 (at_gave le q2 (at_kept le q1 r))))))))
 
   -- the search of SEIZE
-  free_search : (p : Placed) (file temp label a : ℕ) → p.file.size < 2 ^ 32 → HasAt g.code a (seize_code (Some p) file temp label a) → Search g (mark_cell p) p.file.size
+  free_search : (p : Placed) (file temp label a : ℕ) → p.file.size < 2 ^ 32 → HasAt g.code a (seize_code (Some p) file temp label a) → Search g (mark_cell p) p.file
   free_search p file temp label a small has = record {
-    head = a + 2;
+    head = a + 1 + 1;
     none = label;
-    next = a + 7;
+    next = a + 1 + 1 + LOOK_LENGTH + 1;
     word = p.first + length p.file.fields;
-    step = record_cells p.file;
-    begin =
-        let two : a + 1 + 1 ≡ a + 2 = omega arith in
-        subst (λ i. HasAt g.code i (op.Ldi 2 p.file.size ∷ op.Gt 2 1 ∷ op.Jz 2 label ∷ op.Ldx 2 (p.first + length p.file.fields) (record_cells p.file) 1 ∷ [])) two (has.1.1.0, (has.1.1.1.0, (has.1.1.1.1.0, (has.1.1.1.1.1.0, tt))));
+    begin = (has.1.1.0, (has.1.1.1.0, (has.1.1.1.1.0, (has.1.1.1.1.1.0, tt))));
     again =
-        let seven : a + 1 + 1 + 1 + 1 + 1 + 1 + 1 ≡ a + 7 = omega arith in
-        subst (λ i. HasAt g.code i (op.Ldi 2 1 ∷ op.Add 1 2 ∷ op.Jmp (a + 2) ∷ [])) seven (has.1.1.1.1.1.1.1.0, (has.1.1.1.1.1.1.1.1.0, (has.1.1.1.1.1.1.1.1.1.0, tt)));
+        let place : a + 1 + 1 + 1 + 1 + 1 + 1 + 1 ≡ a + 1 + 1 + LOOK_LENGTH + 1 = omega arith in
+        subst (λ i. HasAt g.code i (again_code (a + 1 + 1))) place (has.1.1.1.1.1.1.1.0, (has.1.1.1.1.1.1.1.1.0, (has.1.1.1.1.1.1.1.1.1.0, tt)));
     cells = cell_is p (length p.file.fields);
     small = small;
   }
 
-  free_looks : {P : Machine → Type 0} (p : Placed) (file temp label a value : ℕ) (small : p.file.size < 2 ^ 32) (has : HasAt g.code a (seize_code (Some p) file temp label a)) → Looks g P (free_search p file temp label a small has) (λ mark. nat_eq mark 0) value (a + 10)
+  free_looks : {P : Machine → Type 0} (p : Placed) (file temp label a value : ℕ) (small : p.file.size < 2 ^ 32) (has : HasAt g.code a (seize_code (Some p) file temp label a)) → Looks g P (free_search p file temp label a small has) (λ mark. nat_eq mark 0) value (free_at a)
   unfolding free_search
   free_looks p file temp label a value small has c m zero s at is val some none =
-      let six : a + 2 + 1 + 1 + 1 + 1 ≡ a + 1 + 1 + 1 + 1 + 1 + 1 = omega arith in
-      jz_zero s (at ∙ six) has.1.1.1.1.1.1.0 is (λ n1 s1 at1 q1. some refl n1 s1 at1 record { regs = λ k lt. q1.regs k; loops = q1.loops })
+      jz_zero s at has.1.1.1.1.1.1.0 is (λ n1 s1 at1 q1. some refl n1 s1 at1 record { regs = λ k lt. q1.regs k; loops = q1.loops })
   free_looks p file temp label a value small has c m (suc v) s at is val some none =
-      let six : a + 2 + 1 + 1 + 1 + 1 ≡ a + 1 + 1 + 1 + 1 + 1 + 1 = omega arith in
-      let seven : a + 1 + 1 + 1 + 1 + 1 + 1 + 1 ≡ a + 7 = omega arith in
-      jz_other {v = v} s (at ∙ six) has.1.1.1.1.1.1.0 is (λ n1 s1 at1 q1. none (eqb-suc-zero v) n1 s1 (at1 ∙ seven) record { regs = λ k lt. q1.regs k; loops = q1.loops })
+      let seven : a + 1 + 1 + 1 + 1 + 1 + 1 + 1 ≡ a + 1 + 1 + LOOK_LENGTH + 1 = omega arith in
+      jz_other {v = v} s at has.1.1.1.1.1.1.0 is (λ n1 s1 at1 q1. none (eqb-suc-zero v) n1 s1 (at1 ∙ seven) record { regs = λ k lt. q1.regs k; loops = q1.loops })
 
   seize_sim : {c : Config} {m : Machine} {a : ℕ} (o : Option Placed) (file temp label d : ℕ) (rest : List Item) → Laid g → ((p : Placed) → o ≡ Some p → p.file.size < 2 ^ 32) → d ≤ 12 → temp < 24 → Same g [] c m → m.run.pc ≡ a
       → HasAt g.code a (seize_code o file temp (g.table.label c.block label) a) → At g c.block m.run.locals d rest (a + length (seize_code o file temp (g.table.label c.block label) a)) → Follows g (seizes g.exchange o file temp label rest c) m
@@ -106,16 +102,15 @@ module _ {g : Setting} where
       let done = after_search test (mark_cell p) 0 size c in
       let none = nat_eq c.own.forlopp 0 in
       let found = on_record (mark_cell p) test size c (at_free g.exchange p file temp label rest) in
-      let two : a + 1 + 1 ≡ a + 2 = omega arith in
-      let ten : a + 1 + 1 + 1 + 1 + 1 + 1 + 1 + 1 + 1 + 1 ≡ a + 10 = omega arith in
+      let place : a + 1 + 1 + 1 + 1 + 1 + 1 + 1 + 1 + 1 + 1 ≡ free_at a = omega arith in
       subst (λ e. Follows g e m) (not_split none found (c_fails NoForlopp c))
       (check (not none) op.Ckf NoForlopp found s at has.0 tt (ap (λ (o : Own). record { run = checks (not (nat_eq o.forlopp 0)) NoForlopp (made_one m.run); world = m.world }) s.own) (λ n1 s1 at1 q1.
       subst (λ e. Follows g e n1) (sym (on_record_is (mark_cell p) test size c (at_free g.exchange p file temp label rest)))
       (ldi s1 at1 has.1.0 (omega arith) (λ n2 s2 at2 q2.
-      search_sim q test (reg n2.run 0) (a + 10) (free_looks p file temp to a (reg n2.run 0) small has) size 0 c n2 (omega arith) s2 (at2 ∙ two) q2.is refl
+      search_sim q test (reg n2.run 0) (free_at a) (free_looks p file temp to a (reg n2.run 0) small has) size 0 c n2 (omega arith) s2 at2 q2.is refl
       (λ j there within n3 s3 at3 is3 loops3.
       subst (λ o. Follows g (at_free g.exchange p file temp label rest o done) n3) (sym there)
-      (take_free p file temp j d rest le lt (omega (arith, within, small)) is3 s3 at3 (subst (λ i. HasAt g.code i (take_code p file temp)) ten has.1.1.1.1.1.1.1.1.1.1)
+      (take_free p file temp j d rest le lt (omega (arith, within, small)) is3 s3 at3 (subst (λ i. HasAt g.code i (take_code p.file (p.first + length p.file.fields) file temp)) place has.1.1.1.1.1.1.1.1.1.1)
       (at_moves n3.run.locals le (loops_on n3.run.locals n2.run.locals m.run.locals loops3 (loops_on n2.run.locals n1.run.locals m.run.locals q2.loops q1.loops)) (subst (At g c.block m.run.locals d rest) (omega arith) r))))
       (λ there n3 s3 at3 loops3.
       subst (λ o. Follows g (at_free g.exchange p file temp label rest o done) n3) (sym there)
@@ -130,4 +125,4 @@ module _ {g : Setting} where
       let limit : (k : Placed) → o ≡ Some k → k.file.size < 2 ^ 32 = λ k there. omega (arith, (placed_fits g.exchange file k laid.kept there).few) in
       count_sim (does g.exchange p (Seize temp file label) rest) s at has.0 (λ n1 s1 at1 q1.
       let r1 = subst (At g c.block n1.run.locals d rest) len (at_kept le q1 r) in
-      seize_sim o file temp label d rest laid limit le (omega (arith, fits.fits.names.0, fits.few)) s1 at1 has.1 r1)
+      seize_sim o file temp label d rest laid limit le (omega (arith, fits.fits.names.0, fits.limited.temporaries)) s1 at1 has.1 r1)

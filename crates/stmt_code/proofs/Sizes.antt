@@ -6,14 +6,17 @@ use Rattle.machine_code.specs.declared.op.Op.TheVariants as op
 use Rattle.exchange_model.specs.declared.signal.SignalKind.{SignalKind}
 use Rattle.exchange_model.specs.declared.signal.SignalKind.TheVariants.{Buffered, Direct, Combined, Answer, Outside}
 use Rattle.exchange_model.specs.declared.expr.Rel.{Rel}
+use Rattle.exchange_model.specs.declared.stmt.Receiver.{Receiver}
+use Rattle.exchange_model.specs.declared.stmt.Receiver.TheVariants as receiver
+use Rattle.exchange_model.specs.declared.expr.Expr.{Expr}
 use Rattle.exchange_model.specs.declared.stmt.Stmt.{Stmt, roll-Stmt, map-Stmt}
 use Rattle.exchange_model.specs.declared.stmt.When.{When, roll-When, map-When, out-roll-When}
 use Rattle.exchange_model.specs.declared.stmt.StmtKind.{StmtKind, StmtKind-F, roll-StmtKind, ind-StmtKind, out-roll-StmtKind, map-StmtKind}
 use Rattle.exchange_model.specs.declared.stmt.StmtKind.TheOpen as stmt
 use Rattle.exchange_model.specs.Cells.{Placed}
-use Rattle.source_meaning.specs.Step.{block_or}
-use Rattle.expr_code.specs.Code.{expr_code, cond_code}
-use Rattle.stmt_code.specs.StmtCode.{Places, codes, choices_code, values_code, turn, last, if_code, on_code, turns_code, for_first_code, seize_code, send_code, opened, stmt_code, kind_code, when_code, kind_code-out, stmt_code-kind, when_code-out}
+use Rattle.expr_code.specs.Code.{Site, expr_code, cond_code}
+use Rattle.stmt_code.specs.declared.lengths.TheConstants.{COMPARE_LENGTH, TURN_LENGTH, NEXT_LENGTH, BOUNDS_LENGTH}
+use Rattle.stmt_code.specs.StmtCode.{Places, codes, compare_code, choices_code, values_code, if_code, next_code, turns_code, bounds_code, on_code, for_first_code, seize_code, send_code, holder_code, each_receiver, look_first, receiver_code, opened, stmt_code, kind_code, when_code, kind_code-out, stmt_code-kind, when_code-out}
 
 -- the addresses of labels, and of ENTERs by block and signal
 abbrev pub Addresses : Type 0
@@ -21,7 +24,7 @@ Addresses = (ℕ → ℕ) × (ℕ → ℕ → ℕ)
 
 -- the same places but for the addresses
 abbrev pub with_labels : Places → Addresses → Places
-with_labels pl l = record { site = pl.site; width = pl.width; label = l.0; enter = l.1; entry = pl.entry; signals = pl.signals }
+with_labels pl l = record { site = pl.site; width = pl.width; label = l.0; enter = l.1; entry = pl.entry; receivers = pl.receivers; signals = pl.signals }
 
 abbrev KindSame : StmtKind → Type 0
 KindSame k = (pl : Places) (l : Addresses) (p d a c : ℕ) → length (kind_code k pl p d a) ≡ length (kind_code k (with_labels pl l) p d c)
@@ -44,27 +47,27 @@ list_same (s ∷ ss) pl l d a c =
     omega (arith, length-append x (more pl d (a + length x)), length-append y (more (with_labels pl l) d (c + length y)), s.1 pl l d a c, list_same ss pl l d (a + length x) (c + length y))
 
 -- a choice: three instructions, its list, and the jump behind it
-choice_length : (n next : ℕ) (body : List Op) (j : Op) (rest : List Op) → length (op.Ldi 1 n ∷ op.Eq 1 0 ∷ op.Jz 1 next ∷ (body ++ (j ∷ rest))) ≡ 4 + length body + length rest
+pub choice_length : (n next : ℕ) (body : List Op) (j : Op) (rest : List Op) → length (compare_code n next ++ (body ++ (j ∷ rest))) ≡ 4 + length body + length rest
 choice_length n next body j rest = omega (arith, length-append body (j ∷ rest))
+
+sums : (x y u v : ℕ) → x ≡ y → u ≡ v → 4 + x + u ≡ 4 + y + v
+sums x y u v h g = omega arith
 
 choices_same : (ws : List ((w : When) × WhenSame w)) (ss : List ((s : Stmt) × StmtSame s)) (pl : Places) (l : Addresses) (d a c : ℕ) → length (choices_code (map when_code (map (λ e. e.0) ws)) (map stmt_code (map (λ e. e.0) ss)) pl d a) ≡ length (choices_code (map when_code (map (λ e. e.0) ws)) (map stmt_code (map (λ e. e.0) ss)) (with_labels pl l) d c)
 choices_same [] ss pl l d a c = list_same ss pl l d a c
 choices_same (w ∷ ws) ss pl l d a c =
     let n = (when_code w.0).number in
     let ql = with_labels pl l in
-    let x = codes (when_code w.0).body pl d (a + 3) in
-    let y = codes (when_code w.0).body ql d (c + 3) in
+    let x = codes (when_code w.0).body pl d (a + COMPARE_LENGTH) in
+    let y = codes (when_code w.0).body ql d (c + COMPARE_LENGTH) in
     let more = choices_code (map when_code (map (λ e. e.0) ws)) (map stmt_code (map (λ e. e.0) ss)) in
-    let u = more pl d (a + 3 + length x + 1) in
-    let v = more ql d (c + 3 + length y + 1) in
-    let h : length x ≡ length y = w.1 pl l d (a + 3) (c + 3) in
-    let g : length u ≡ length v = choices_same ws ss pl l d (a + 3 + length x + 1) (c + 3 + length y + 1) in
-    choice_length n (a + 3 + length x + 1) x (op.Jmp (a + 3 + length x + 1 + length u)) u
+    let u = more pl d (a + COMPARE_LENGTH + length x + 1) in
+    let v = more ql d (c + COMPARE_LENGTH + length y + 1) in
+    let h : length x ≡ length y = w.1 pl l d (a + COMPARE_LENGTH) (c + COMPARE_LENGTH) in
+    let g : length u ≡ length v = choices_same ws ss pl l d (a + COMPARE_LENGTH + length x + 1) (c + COMPARE_LENGTH + length y + 1) in
+    choice_length n (a + COMPARE_LENGTH + length x + 1) x (op.Jmp (a + COMPARE_LENGTH + length x + 1 + length u)) u
     ∙ sums (length x) (length y) (length u) (length v) h g
-    ∙ sym (choice_length n (c + 3 + length y + 1) y (op.Jmp (c + 3 + length y + 1 + length v)) v)
-  where
-    sums : (x y u v : ℕ) → x ≡ y → u ≡ v → 4 + x + u ≡ 4 + y + v
-    sums x y u v h g = omega arith
+    ∙ sym (choice_length n (c + COMPARE_LENGTH + length y + 1) y (op.Jmp (c + COMPARE_LENGTH + length y + 1 + length v)) v)
 
 pub if_length : (p a : ℕ) (test first : List Op) (else_at : ℕ → List Op) → length (if_code p a test first else_at) ≡ 3 + length test + length first + length (else_at (a + 1 + length test + 1 + length first + 1))
 if_length p a test first else_at =
@@ -72,17 +75,20 @@ if_length p a test first else_at =
     let c2 = else_at o in
     omega (arith, length-append test (op.Jz 0 o ∷ (first ++ (op.Jmp (o + length c2) ∷ c2))), length-append first (op.Jmp (o + length c2) ∷ c2))
 
-pub on_length : (p t d a : ℕ) (from upto : List Op) (body_at : ℕ → List Op) → length (on_code p t d a from upto body_at) ≡ 17 + length from + length upto + length (body_at (a + 1 + length from + length upto + 5 + 3))
+pub on_length : (p t d a : ℕ) (from upto : List Op) (body_at : ℕ → List Op) → length (on_code p t d a from upto body_at) ≡ 17 + length from + length upto + length (body_at (a + 1 + length from + length upto + BOUNDS_LENGTH + TURN_LENGTH))
 on_length p t d a from upto body_at =
-    let head = a + 1 + length from + length upto + 5 in
-    let cb = body_at (head + 3) in
+    let head = a + 1 + length from + length upto + BOUNDS_LENGTH in
+    let cb = body_at (head + TURN_LENGTH) in
     let ct = turns_code p t d head cb in
-    let tail = op.Stt (turn d) 0 ∷ op.Stt (last d) 1 ∷ op.Gt 0 1 ∷ op.Jz 0 head ∷ op.Jmp (head + length ct) ∷ ct in
-    omega (arith, length-append from (upto ++ tail), length-append upto tail, length-append cb (op.Ldt 0 (turn d) ∷ op.Ldt 1 (last d) ∷ op.Gt 1 0 ∷ op.Jz 1 (head + 3 + length cb + 8) ∷ op.Ldi 1 1 ∷ op.Add 0 1 ∷ op.Stt (turn d) 0 ∷ op.Jmp head ∷ []))
+    let tail = bounds_code d head (head + length ct) ++ ct in
+    omega (arith, length-append from (upto ++ tail), length-append upto tail, length-append cb (next_code d head (head + TURN_LENGTH + length cb + NEXT_LENGTH)))
 
 -- after the same instructions as many more
 tail_same : (l xs ys : List Op) → length xs ≡ length ys → length (l ++ xs) ≡ length (l ++ ys)
 tail_same l xs ys h = length-append l xs ∙ ap (λ n. length l + n) h ∙ sym (length-append l ys)
+
+both_same : (l m xs ys : List Op) → length l ≡ length m → length xs ≡ length ys → length (l ++ xs) ≡ length (m ++ ys)
+both_same l m xs ys h k = omega (arith, length-append l xs, length-append m ys, h, k)
 
 search_same : (o : Option Placed) (t field : ℕ) (rel : Rel) (i j a c : ℕ) → length (for_first_code o t field rel i a) ≡ length (for_first_code o t field rel j c)
 search_same None t field rel i j a c = refl
@@ -100,6 +106,36 @@ send_same (Some (Combined name count answer)) signal b fresh pl l = refl
 send_same (Some (Answer name count combined)) signal b fresh pl l = refl
 send_same (Some (Outside name count)) signal b fresh pl l = refl
 
+-- the code of receivers, where that of each is as long
+each_same : (bs : List ℕ) (f g : ℕ → List Op) → ((b : ℕ) → length (f b) ≡ length (g b)) → (a c : ℕ) → length (each_receiver bs f a) ≡ length (each_receiver bs g c)
+each_same [] f g h a c = refl
+each_same (b ∷ bs) f g h a c =
+    let next = a + COMPARE_LENGTH + length (f b) + 1 in
+    let other = c + COMPARE_LENGTH + length (g b) + 1 in
+    let u = each_receiver bs f next in
+    let v = each_receiver bs g other in
+    let more : length u ≡ length v = each_same bs f g h next other in
+    choice_length (b + 1) next (f b) (op.Jmp (next + length u)) u
+    ∙ sums (length (f b)) (length (g b)) (length u) (length v) (h b) more
+    ∙ sym (choice_length (b + 1) other (g b) (op.Jmp (other + length v)) v)
+
+first_same : (bs : List ℕ) (values : List Expr) (a c : ℕ) → length (look_first bs values a) ≡ length (look_first bs values c)
+first_same bs [] a c = refl
+first_same bs (e ∷ es) a c = each_same bs (λ b. []) (λ b. []) (λ b. refl) a c
+
+receiver_same : (to : Option Receiver) (bs : List ℕ) (site : Site) (values : List Expr) (f g : ℕ → List Op) → ((b : ℕ) → length (f b) ≡ length (g b)) → (a c : ℕ) → length (receiver_code to bs site values f a) ≡ length (receiver_code to bs site values g c)
+receiver_same None bs site values f g h a c = tail_same (values_code values site 0) _ _ (h 0)
+receiver_same (Some (receiver.Block b)) bs site values f g h a c = tail_same (values_code values site 0) _ _ (h b)
+receiver_same (Some (receiver.Held holder)) bs site values f g h a c =
+    let look = look_first bs values (a + 1) in
+    let other = look_first bs values (c + 1) in
+    let joins = values_code values site 1 in
+    let u = each_receiver bs f (a + 1 + length look + length joins) in
+    let v = each_receiver bs g (c + 1 + length other + length joins) in
+    tail_same (holder_code holder site) (look ++ (joins ++ u)) (other ++ (joins ++ v))
+    (both_same look other (joins ++ u) (joins ++ v) (first_same bs values (a + 1) (c + 1))
+    (tail_same joins u v (each_same bs f g h (a + 1 + length look + length joins) (c + 1 + length other + length joins))))
+
 layer_same : (y : StmtKind-F ((k : StmtKind) × KindSame k) ((s : Stmt) × StmtSame s) ((w : When) × WhenSame w)) → LayerSame (map-StmtKind _ _ _ _ _ _ (λ e. e.0) (λ e. e.0) (λ e. e.0) y)
 layer_same (stmt.Enter signal temps) pl l p d a c = refl
 layer_same (stmt.SetTemp t e) pl l p d a c = refl
@@ -115,10 +151,10 @@ layer_same (stmt.If cond yes_part no_part) pl l p d a c =
     let y = f (with_labels pl l) d (c + 1 + length test + 1) in
     let h1 = list_same yes_part pl l d (a + 1 + length test + 1) (c + 1 + length test + 1) in
     let h2 = list_same no_part pl l d (a + 1 + length test + 1 + length x + 1) (c + 1 + length test + 1 + length y + 1) in
-    if_length p a test x (o pl d) ∙ sums test x y _ _ h1 h2 ∙ sym (if_length p c test y (o (with_labels pl l) d))
+    if_length p a test x (o pl d) ∙ more test x y _ _ h1 h2 ∙ sym (if_length p c test y (o (with_labels pl l) d))
   where
-    sums : (test x y u v : List Op) → length x ≡ length y → length u ≡ length v → 3 + length test + length x + length u ≡ 3 + length test + length y + length v
-    sums test x y u v h1 h2 = omega arith
+    more : (test x y u v : List Op) → length x ≡ length y → length u ≡ length v → 3 + length test + length x + length u ≡ 3 + length test + length y + length v
+    more test x y u v h1 h2 = omega arith
 layer_same (stmt.Case e whens otherwise) pl l p d a c =
     let value = expr_code e pl.site 0 in
     ap suc (tail_same value _ _ (choices_same whens otherwise pl l d (a + 1 + length value) (c + 1 + length value)))
@@ -126,16 +162,16 @@ layer_same (stmt.On t from upto body) pl l p d a c =
     let cf = expr_code from pl.site 0 in
     let cu = expr_code upto pl.site 1 in
     let b = codes (map stmt_code (map (λ e. e.0) body)) in
-    let h = list_same body pl l (suc d) (a + 1 + length cf + length cu + 5 + 3) (c + 1 + length cf + length cu + 5 + 3) in
+    let h = list_same body pl l (suc d) (a + 1 + length cf + length cu + BOUNDS_LENGTH + TURN_LENGTH) (c + 1 + length cf + length cu + BOUNDS_LENGTH + TURN_LENGTH) in
     on_length p t d a cf cu (b pl (suc d)) ∙ ap (λ n. 17 + length cf + length cu + n) h ∙ sym (on_length p t d c cf cu (b (with_labels pl l) (suc d)))
 layer_same (stmt.ForFirst t file field rel e k) pl l p d a c =
     let value = expr_code e pl.site 0 in
     ap suc (tail_same value _ _ (search_same (slice_get pl.site.files file) t field rel (pl.label k) (l.0 k) (a + 1 + length value) (c + 1 + length value)))
-layer_same (stmt.Send signal block values fresh) pl l p d a c =
-    ap suc (tail_same (values_code values pl.site) _ _ (send_same (slice_get pl.signals signal) signal (block_or block) fresh pl l))
+layer_same (stmt.Send signal to values fresh) pl l p d a c =
+    ap suc (receiver_same to (pl.receivers signal) pl.site values _ _ (λ b. send_same (slice_get pl.signals signal) signal b fresh pl l) (a + 1) (c + 1))
 layer_same (stmt.Retrieve answer temps) pl l p d a c = refl
 layer_same (stmt.Return answer values) pl l p d a c = refl
-layer_same (stmt.Transfer signal block) pl l p d a c = refl
+layer_same (stmt.Transfer signal to) pl l p d a c = ap suc (receiver_same to (pl.receivers signal) pl.site [] _ _ (λ b. refl) (a + 1) (c + 1))
 layer_same (stmt.Seize t file k) pl l p d a c = ap suc (seize_same (slice_get pl.site.files file) file t (pl.label k) (l.0 k) (a + 1) (c + 1))
 layer_same (stmt.Free t file) pl l p d a c = refl
 layer_same stmt.Exit pl l p d a c = refl

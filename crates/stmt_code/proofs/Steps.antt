@@ -1,13 +1,13 @@
--- The machine follows a step of the source, and so a whole run.
+-- The machine follows a step of the source, and so a whole after_steps.
 use Rattle.std.proofs.Common.{◌≡◌, ℕ, zero, suc, ◌+◌, ◌^◌, ◌<◌, ◌≤◌, true, false, List, [], ◌∷◌, refl, sym, ap, ◌∙◌, subst, arith, if◌then◌else◌}
 use Rattle.std.specs.Prelude.{slice_index, nat_lt}
 use Rattle.std.proofs.lemmas.Bool.Decides.{nat_tests}
 use Rattle.exchange_model.specs.declared.stmt.Stmt.{Stmt}
 use Rattle.exchange_model.specs.declared.stmt.StmtKind.{out-StmtKind}
 use Rattle.exchange_model.specs.declared.stmt.StmtKind.TheOpen.{Enter}
-use Rattle.source_meaning.specs.Config.{Item, Do, Turns, Config, is_enter, settle}
+use Rattle.source_meaning.specs.Config.{Item, Do, Turns, Config, is_enter, next_counted}
 use Rattle.source_meaning.specs.Step.{does, starts as begins_with, count, does_first, step}
-use Rattle.source_meaning.specs.Job.{unless_over, run}
+use Rattle.source_meaning.specs.Job.{unless_over, after_steps}
 use Rattle.register_machine.specs.Machine.{Machine, here}
 use Rattle.stmt_code.specs.StmtCode.{turn, last}
 use Rattle.stmt_code.proofs.Setting.{Setting}
@@ -26,26 +26,26 @@ pub record ReadyAt (g : Setting) (c : Config) (todo : List Item) (m : Machine) :
   pub depth : ℕ
   pub at : Ready g c.block m.run.locals depth todo m.run.pc
 
-ready_settled : {g : Setting} {b d a : ℕ} {l : List ℕ} {todo : List Item} → Ready g b l d todo a → settle todo ≡ todo
-unfolding settle
+ready_settled : {g : Setting} {b d a : ℕ} {l : List ℕ} {todo : List Item} → Ready g b l d todo a → next_counted todo ≡ todo
+unfolding next_counted
 ready_settled (nothing e) = refl
-ready_settled (doing {s = s} {rest = rest} l is e has fits r) = ap (λ k. if is_enter k then settle rest else Do s ∷ rest) is ∙ ap (λ b. if b then settle rest else Do s ∷ rest) e
+ready_settled (doing {s = s} {rest = rest} l is e has fits r) = ap (λ k. if is_enter k then next_counted rest else Do s ∷ rest) is ∙ ap (λ b. if b then next_counted rest else Do s ∷ rest) e
 ready_settled (starts signal temps is has fits r) = refl
-ready_settled (turns {p = p} {t = t} {this = this} {end = end} {body = body} {rest = rest} loop small lt e f r) = ap (λ b. if b then settle rest else Turns p t this end body ∷ rest) lt
+ready_settled (turns {p = p} {t = t} {this = this} {end = end} {body = body} {rest = rest} loop small lt e f r) = ap (λ b. if b then next_counted rest else Turns p t this end body ∷ rest) lt
 
-skip_settles : (s : Stmt) (rest : List Item) → is_enter (out-StmtKind s.kind) ≡ true → settle (Do s ∷ rest) ≡ settle rest
-unfolding settle
-skip_settles s rest e = ap (λ b. if b then settle rest else Do s ∷ rest) e
+skip_settles : (s : Stmt) (rest : List Item) → is_enter (out-StmtKind s.kind) ≡ true → next_counted (Do s ∷ rest) ≡ next_counted rest
+unfolding next_counted
+skip_settles s rest e = ap (λ b. if b then next_counted rest else Do s ∷ rest) e
 
-over_settles : (p t this end : ℕ) (body : List Stmt) (rest : List Item) → nat_lt end this ≡ true → settle (Turns p t this end body ∷ rest) ≡ settle rest
-unfolding settle
-over_settles p t this end body rest e = ap (λ b. if b then settle rest else Turns p t this end body ∷ rest) e
+over_settles : (p t this end : ℕ) (body : List Stmt) (rest : List Item) → nat_lt end this ≡ true → next_counted (Turns p t this end body ∷ rest) ≡ next_counted rest
+unfolding next_counted
+over_settles p t this end body rest e = ap (λ b. if b then next_counted rest else Turns p t this end body ∷ rest) e
 
 not_above : (this end : ℕ) → end < 2 ^ 32 → nat_lt end this ≡ false → this < 2 ^ 32
 not_above this end lt e = let le : this ≤ end = grind (arith, nat_tests) in omega arith
 
 module _ {g : Setting} where
-  done : {c : Config} {m : Machine} {d a : ℕ} {todo : List Item} → Ready g c.block m.run.locals d todo a → Same g [] c m → m.run.pc ≡ a → Comes g (ReadyAt g c (settle todo)) m
+  done : {c : Config} {m : Machine} {d a : ℕ} {todo : List Item} → Ready g c.block m.run.locals d todo a → Same g [] c m → m.run.pc ≡ a → Comes g (ReadyAt g c (next_counted todo)) m
   done {c = c} {m = m} {d = d} {todo = todo} r s at =
       record {
         end = m;
@@ -54,7 +54,7 @@ module _ {g : Setting} where
       }
 
   -- what is not counted is passed over
-  pub settle_at : (c : Config) (locals : List ℕ) {d a : ℕ} {todo : List Item} → At g c.block locals d todo a → (m : Machine) → SameLoops d m.run.locals locals → Same g [] c m → m.run.pc ≡ a → Comes g (ReadyAt g c (settle todo)) m
+  pub settle_at : (c : Config) (locals : List ℕ) {d a : ℕ} {todo : List Item} → At g c.block locals d todo a → (m : Machine) → SameLoops d m.run.locals locals → Same g [] c m → m.run.pc ≡ a → Comes g (ReadyAt g c (next_counted todo)) m
   settle_at c locals (ready r) m h s at = done (ready_keeps m.run.locals h r) s at
   settle_at c locals (jumps to j r) m h s at = jmp_on s at j (λ n s1 at1 same. settle_at c locals r n (λ i low high. ap (λ l. slice_index l i) same ∙ h i low high) s1 at1)
   settle_at c locals (skips {s = stmt} {rest = rest} e r) m h s at = subst (λ l. Comes g (ReadyAt g c l) m) (sym (skip_settles stmt rest e)) (settle_at c locals r m h s at)
@@ -86,11 +86,11 @@ module _ {g : Setting} (laid : Laid g) where
       by_way f.goes (ready_sim c f.end f.is.same f.is.at)
 
   -- the machine follows any number of steps
-  pub run_sim : (n : ℕ) (c : Config) (m : Machine) → Sim g c m → Follows g (run n g.exchange c) m
-  unfolding run
+  pub run_sim : (n : ℕ) (c : Config) (m : Machine) → Sim g c m → Follows g (after_steps n g.exchange c) m
+  unfolding after_steps
   run_sim zero c m sim = record { end = m; goes = here; is = sim }
   run_sim (suc n) c m (alive s at) =
       let f = step_sim c m s at in
-      subst (λ o. Follows g (unless_over o c (run n g.exchange (step g.exchange c))) m) (sym s.going) (by_way f.goes (run_sim n (step g.exchange c) f.end f.is))
+      subst (λ o. Follows g (unless_over o c (after_steps n g.exchange (step g.exchange c))) m) (sym s.going) (by_way f.goes (run_sim n (step g.exchange c) f.end f.is))
   run_sim (suc n) c m (ended {o = o} e f own w) =
-      subst (λ v. Follows g (unless_over v c (run n g.exchange (step g.exchange c))) m) (sym e) (is_over e f own w)
+      subst (λ v. Follows g (unless_over v c (after_steps n g.exchange (step g.exchange c))) m) (sym e) (is_over e f own w)

@@ -6,7 +6,8 @@ use Rattle.exchange_model.specs.declared.stmt.StmtKind.TheOpen.{Retrieve}
 use Rattle.exchange_model.specs.Fits.{Scope, NamesFit}
 use Rattle.exchange_model.specs.Kept.{scope_of}
 use Rattle.source_meaning.specs.Config.{Item, Config}
-use Rattle.source_meaning.specs.Step.{takes, does}
+use Rattle.source_meaning.specs.Step.{does}
+use Rattle.source_meaning.specs.Changes.{takes}
 use Rattle.register_machine.specs.Machine.{Machine}
 use Rattle.expr_code.specs.Runs.{HasAt}
 use Rattle.stmt_code.specs.StmtCode.{takes_code, retrieve_code}
@@ -52,4 +53,4 @@ module _ {g : Setting} where
   retrieve answer temps c m p d a rest s at has fits r =
       let le = few_loops fits in
       count_sim (does g.exchange p (Retrieve answer temps) rest) s at has.0 (λ n1 s1 at1 q1.
-      retrieve_sim temps 0 _ n1 d (a + 1) rest le (are_temps (scope_of g.exchange c.block fits.block) temps fits.few fits.fits.names.1) s1 at1 has.1 (subst (At g c.block n1.run.locals d rest) (omega arith) (at_kept le q1 r)))
+      retrieve_sim temps 0 _ n1 d (a + 1) rest le (are_temps (scope_of g.exchange c.block fits.block) temps fits.limited.temporaries fits.fits.names.1) s1 at1 has.1 (subst (At g c.block n1.run.locals d rest) (omega arith) (at_kept le q1 r)))

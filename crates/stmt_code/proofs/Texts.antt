@@ -13,12 +13,14 @@ use Rattle.exchange_model.specs.declared.stmt.When.{When}
 use Rattle.exchange_model.specs.declared.stmt.StmtKind.{StmtKind, StmtKind-F, out-StmtKind}
 use Rattle.exchange_model.specs.declared.stmt.StmtKind.TheOpen.{Enter}
 use Rattle.exchange_model.specs.Kept.{IsExchange, scope_of}
-use Rattle.source_meaning.specs.Config.{Do, Start, found, body_of, label_of, enter_place, from_place, starting, is_enter}
-use Rattle.expr_code.specs.Runs.{HasAt}
+use Rattle.source_meaning.specs.Config.{Do, Start, body_of, label_of, enter_place, from_place, starting, is_enter}
+use Rattle.std.specs.Option.{option_map_or}
+use Rattle.expr_code.specs.Runs.{HasOp, HasAt}
 use Rattle.expr_code.proofs.Places.{has_front, has_back}
 use Rattle.stmt_code.specs.StmtCode.{takes_code, opened, stmt_code}
 use Rattle.stmt_code.specs.Whole.{table_of, whole_code, start_of, place_at, behind_enter}
-use Rattle.stmt_code.proofs.Setting.{Setting, places, list_code, ListIn, LayerIn, first_in, others_in}
+use Rattle.stmt_code.specs.Within.{ListIn, LayerIn}
+use Rattle.stmt_code.proofs.Setting.{Setting, places, list_code, first_in, others_in}
 use Rattle.stmt_code.proofs.At.{At, Ready, ready, nothing, starts, list_at, stmt_code-opened}
 use Rattle.stmt_code.proofs.Values.{Laid}
 use Rattle.stmt_code.proofs.Takes.{AreTemps, are_temps}
@@ -31,14 +33,14 @@ whole x = record { exchange = x; code = whole_code x; table = table_of x }
 -- is an end, and so there is behind all blocks
 pub record TextsAt (x : Exchange) : Type 0 where
   pub text : (b place : ℕ) → b < length x.blocks → HasAt (whole_code x) (place_at x b place) (list_code (whole x) b (drop place (body_of x b)) 0 (place_at x b place) ++ op.End ∷ [])
-  pub past : (b place : ℕ) → length x.blocks ≤ b → slice_get (whole_code x) (place_at x b place) ≡ Some op.End
-  pub end : slice_get (whole_code x) (start_of x (length x.blocks)) ≡ Some op.End
+  pub past : (b place : ℕ) → length x.blocks ≤ b → HasOp (whole_code x) (place_at x b place) op.End
+  pub end : HasOp (whole_code x) (start_of x (length x.blocks)) op.End
 
 -- the statements of a block, from a place on
 text_in : (x : Exchange) (b : ℕ) (k : Block) → IsExchange x → slice_get x.blocks b ≡ Some k → ListIn x b 0 k.body
 text_in x b k kept there =
     let h = kept.blocks.each b k there in
-    record { block = k; there = there; few = h.temporaries; fits = h.statements; shallow = omega (arith, h.shallow) }
+    record { block = k; there = there; limited = record { temporaries = h.temporaries; blocks = kept.blocks.few }; fits = h.statements; shallow = omega (arith, h.shallow) }
 
 drop_in : {x : Exchange} {b d : ℕ} (n : ℕ) (ss : List Stmt) → ListIn x b d ss → ListIn x b d (drop n ss)
 drop_in zero ss h = h
@@ -50,7 +52,7 @@ within_some [] i lt e = omega arith
 within_some (x ∷ xs) zero lt e = cc
 within_some (x ∷ xs) (suc i) lt e = within_some xs i (omega arith) e
 
-in_found : (x : Exchange) (b place : ℕ) (o : Option Block) → slice_get x.blocks b ≡ o → IsExchange x → b < length x.blocks → ListIn x b 0 (drop place (found o [] (λ k. k.body)))
+in_found : (x : Exchange) (b place : ℕ) (o : Option Block) → slice_get x.blocks b ≡ o → IsExchange x → b < length x.blocks → ListIn x b 0 (drop place (option_map_or (λ k. k.body) o []))
 in_found x b place None e kept lt = absurd (within_some x.blocks b lt e)
 in_found x b place (Some k) e kept lt = drop_in place k.body (text_in x b k kept e)
 
@@ -72,7 +74,7 @@ module _ (x : Exchange) (kept : IsExchange x) (stands : TextsAt x) where
       subst (λ todo. At (whole x) b locals 0 todo a) (append-nil (map Do ss))
       (list_at (whole x) b 0 a locals [] ss (has_front code a c (op.End ∷ []) h) (from_in x b place kept lt) (ready (nothing (has_back code a c (op.End ∷ []) h).0))))
       (λ (le : length x.blocks ≤ b).
-      let none : from_place x b place ≡ [] = ap (λ o. map Do (drop place (found o [] (λ (k : Block). k.body)))) (slice_get_past x.blocks b le) ∙ ap (map Do) (drop-nil place) in
+      let none : from_place x b place ≡ [] = ap (λ o. map Do (drop place (option_map_or (λ (k : Block). k.body) o []))) (slice_get_past x.blocks b le) ∙ ap (map Do) (drop-nil place) in
       subst (λ todo. At (whole x) b locals 0 todo (place_at x b place)) (sym none) (ready (nothing (stands.past b place le))))
       (cases_lt b (length x.blocks))
 
@@ -82,12 +84,12 @@ module _ (x : Exchange) (kept : IsExchange x) (stands : TextsAt x) where
       ⊎_elim
       (λ (lt : b < length x.blocks). lt)
       (λ (le : length x.blocks ≤ b).
-      let none : drop place (body_of x b) ≡ [] = ap (λ o. drop place (found o [] (λ (k : Block). k.body))) (slice_get_past x.blocks b le) ∙ drop-nil place in
+      let none : drop place (body_of x b) ≡ [] = ap (λ o. drop place (option_map_or (λ (k : Block). k.body) o [])) (slice_get_past x.blocks b le) ∙ drop-nil place in
       cc)
       (cases_lt b (length x.blocks))
 
   enter_temps : {b d signal : ℕ} {temps : List ℕ} → LayerIn x b d (Enter signal temps) → AreTemps temps
-  enter_temps {b = b} {temps = temps} h = are_temps (scope_of x b h.block) temps h.few h.fits.names.1
+  enter_temps {b = b} {temps = temps} h = are_temps (scope_of x b h.block) temps h.limited.temporaries h.fits.names.1
 
   enter_ready : (b place : ℕ) (locals : List ℕ) (s : Stmt) (ss : List Stmt) → drop place (body_of x b) ≡ s ∷ ss → (l : StmtKind-F StmtKind Stmt When) → out-StmtKind s.kind ≡ l → is_enter l ≡ true → Ready (whole x) b locals 0 (Start s ∷ map Do ss) (place_at x b place + 1)
   enter_ready b place locals s ss there (Enter signal temps) enter is =

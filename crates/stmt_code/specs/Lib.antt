@@ -1,3 +1,4 @@
 pub mod Numbers
 pub mod StmtCode
 pub mod Whole
+pub mod Within

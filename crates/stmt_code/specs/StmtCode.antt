@@ -5,32 +5,42 @@
 -- locals of its own, so that a jump out of it has nothing to put right; it compares before it adds, so that the number
 -- never passes 2^32.
 use Rattle.std.specs.Prelude.{◌≡◌, ℕ, suc, ◌+◌, ◌*◌, Bool, true, false, List, [], ◌∷◌, ◌++◌, length, map, slice_get, Option, Some, None}
+use Rattle.std.specs.Option.{option_map_or}
 use Rattle.plex_num.specs.declared.level.Level.{Level}
 use Rattle.plex_num.specs.declared.level.Level.TheVariants.{A, B, C, D}
 use Rattle.machine_code.specs.declared.op.Op.{Op}
 use Rattle.machine_code.specs.declared.op.Op.TheVariants as op
 use Rattle.exchange_model.specs.declared.signal.SignalKind.{SignalKind}
-use Rattle.exchange_model.specs.declared.signal.SignalKind.TheVariants.{Buffered, Direct, Combined, Answer, Outside}
+use Rattle.exchange_model.specs.declared.signal.SignalKind.TheVariants.{Buffered, Direct, Combined, Outside}
+use Rattle.exchange_model.specs.declared.block.File.{File}
 use Rattle.exchange_model.specs.declared.block.Variable.{Variable}
 use Rattle.exchange_model.specs.declared.expr.Expr.{Expr}
 use Rattle.exchange_model.specs.declared.expr.Rel.{Rel}
+use Rattle.exchange_model.specs.declared.stmt.Holder.{Holder}
+use Rattle.exchange_model.specs.declared.stmt.Holder.TheVariants as holder
+use Rattle.exchange_model.specs.declared.stmt.Receiver.{Receiver}
+use Rattle.exchange_model.specs.declared.stmt.Receiver.TheVariants as receiver
 use Rattle.exchange_model.specs.declared.stmt.Stmt.{Stmt, fold-Stmt, fold_out-Stmt}
 use Rattle.exchange_model.specs.declared.stmt.When.{When, fold-When, fold_out-When, out-When}
 use Rattle.exchange_model.specs.declared.stmt.StmtKind.{StmtKind, StmtKind-F, out-StmtKind, map-StmtKind, fold-StmtKind, fold_out-StmtKind}
 use Rattle.exchange_model.specs.declared.stmt.StmtKind.TheOpen as stmt
 use Rattle.exchange_model.specs.declared.stmt.StmtKind.TheOpen.{Stmt-F, When-F}
 use Rattle.exchange_model.specs.Cells.{Placed, record_cells}
-use Rattle.source_meaning.specs.Step.{block_or, field_width}
+use Rattle.exchange_model.specs.Kept.{signal_count}
+use Rattle.source_meaning.specs.Changes.{field_width}
 use Rattle.expr_code.specs.Code.{Site, expr_code, cond_code, pointer_code, rel_op}
+use Rattle.stmt_code.specs.declared.lengths.TheConstants.{FIRST_LOOP_LOCAL, COMPARE_LENGTH, TURN_LENGTH, NEXT_LENGTH, BOUNDS_LENGTH, LOOK_LENGTH, FOUND_LENGTH, AGAIN_LENGTH}
 
 -- what the code of a block's statements needs to know: where stored words are, the widths of its variables, the addresses
--- of its labels, those at which a block's signals enter, the numbers of entries, and the signals
+-- of its labels, those at which a block's signals enter, the numbers of entries, the blocks that receive a signal, in their
+-- order, and the signals
 pub record Places : Type 0 where
   pub site : Site
   pub width : ℕ → ℕ
   pub label : ℕ → ℕ
   pub enter : ℕ → ℕ → ℕ
   pub entry : ℕ → ℕ → ℕ
+  pub receivers : ℕ → List ℕ
   pub signals : List SignalKind
 
 -- from the places, the point, the number of loops around it, and the address
@@ -60,17 +70,17 @@ abbrev pub retrieve_code : ℕ → List ℕ → List Op
 retrieve_code k [] = []
 retrieve_code k (t ∷ ts) = op.Lda 0 k ∷ op.Stt t 0 ∷ retrieve_code (k + 1) ts
 
--- values join the outgoing ones
-abbrev pub values_code : List Expr → Site → List Op
-values_code [] site = []
-values_code (e ∷ es) site = expr_code e site 0 ++ (op.Arg 0 ∷ values_code es site)
+-- values join the outgoing ones, by way of the register
+abbrev pub values_code : List Expr → Site → ℕ → List Op
+values_code [] site r = []
+values_code (e ∷ es) site r = expr_code e site r ++ (op.Arg r ∷ values_code es site r)
 
 -- the locals of a loop's number and of its last number
 abbrev pub turn : ℕ → ℕ
-turn d = 24 + 2 * d
+turn d = FIRST_LOOP_LOCAL + 2 * d
 
 abbrev pub last : ℕ → ℕ
-last d = 25 + 2 * d
+last d = FIRST_LOOP_LOCAL + 1 + 2 * d
 
 -- the value in register 0 goes into a field
 abbrev pub field_store : Option Placed → ℕ → ℕ → ℕ → List Op
@@ -84,44 +94,80 @@ if_code p a test yes_part no_at =
     let other = a + 1 + length test + 1 + length yes_part + 1 in
     op.Stmt p ∷ (test ++ (op.Jz 0 other ∷ (yes_part ++ (op.Jmp (other + length (no_at other)) ∷ no_at other))))
 
+-- on at an address, unless register 0 has the number
+abbrev pub compare_code : ℕ → ℕ → List Op
+compare_code number other = op.Ldi 1 number ∷ op.Eq 1 0 ∷ op.Jz 1 other ∷ []
+
 -- the choices, where register 0 has the value, and at last the other list
 abbrev pub choices_code : List Choice → List StmtCode → StmtCode
 choices_code [] otherwise pl d a = codes otherwise pl d a
 choices_code (w ∷ ws) otherwise pl d a =
-    let body = codes w.body pl d (a + 3) in
-    let next = a + 3 + length body + 1 in
+    let body = codes w.body pl d (a + COMPARE_LENGTH) in
+    let next = a + COMPARE_LENGTH + length body + 1 in
     let rest = choices_code ws otherwise pl d next in
-    op.Ldi 1 w.number ∷ op.Eq 1 0 ∷ op.Jz 1 next ∷ (body ++ (op.Jmp (next + length rest) ∷ rest))
+    compare_code w.number next ++ (body ++ (op.Jmp (next + length rest) ∷ rest))
+
+-- a turn begins: it is counted, and the temporary gets the loop's number
+abbrev pub turn_code : ℕ → ℕ → ℕ → List Op
+turn_code p t d = op.Stmt p ∷ op.Ldt 0 (turn d) ∷ op.Stt t 0 ∷ []
+
+-- after a turn: out of the loop where it was the last one, and else one is added, and it goes on at the head
+abbrev pub next_code : ℕ → ℕ → ℕ → List Op
+next_code d head exit =
+    op.Ldt 0 (turn d) ∷ op.Ldt 1 (last d) ∷ op.Gt 1 0 ∷ op.Jz 1 exit ∷ op.Ldi 1 1 ∷ op.Add 0 1 ∷ op.Stt (turn d) 0 ∷ op.Jmp head ∷ []
 
 -- the turns of a loop, from its head on
 abbrev pub turns_code : ℕ → ℕ → ℕ → ℕ → List Op → List Op
-turns_code p t d head body =
-    op.Stmt p ∷ op.Ldt 0 (turn d) ∷ op.Stt t 0 ∷ (body ++
-    (op.Ldt 0 (turn d) ∷ op.Ldt 1 (last d) ∷ op.Gt 1 0 ∷ op.Jz 1 (head + 3 + length body + 8) ∷ op.Ldi 1 1 ∷ op.Add 0 1 ∷ op.Stt (turn d) 0 ∷ op.Jmp head ∷ []))
+turns_code p t d head body = turn_code p t d ++ (body ++ next_code d head (head + TURN_LENGTH + length body + NEXT_LENGTH))
+
+-- before the first turn: the bounds are kept, and the loop is left where the first one is above the second
+abbrev pub bounds_code : ℕ → ℕ → ℕ → List Op
+bounds_code d head exit = op.Stt (turn d) 0 ∷ op.Stt (last d) 1 ∷ op.Gt 0 1 ∷ op.Jz 0 head ∷ op.Jmp exit ∷ []
 
 abbrev pub on_code : ℕ → ℕ → ℕ → ℕ → List Op → List Op → (ℕ → List Op) → List Op
 on_code p t d a from upto body_at =
-    let head = a + 1 + length from + length upto + 5 in
-    let turns = turns_code p t d head (body_at (head + 3)) in
-    op.Stmt p ∷ (from ++ (upto ++ (op.Stt (turn d) 0 ∷ op.Stt (last d) 1 ∷ op.Gt 0 1 ∷ op.Jz 0 head ∷ op.Jmp (head + length turns) ∷ turns)))
+    let head = a + 1 + length from + length upto + BOUNDS_LENGTH in
+    let turns = turns_code p t d head (body_at (head + TURN_LENGTH)) in
+    op.Stmt p ∷ (from ++ (upto ++ (bounds_code d head (head + length turns) ++ turns)))
 
--- the search of FOR FIRST, at this address: register 0 has the value, and register 1 counts the records
-abbrev pub search_code : Placed → ℕ → ℕ → Rel → ℕ → ℕ → List Op
-search_code p temp field rel label a =
-    op.Ldi 1 0 ∷ op.Ldi 2 p.file.size ∷ op.Gt 2 1 ∷ op.Jz 2 (a + 12) ∷ op.Ldx 2 (p.first + field) (record_cells p.file) 1 ∷ rel_op rel 2 0 ∷ op.Jz 2 (a + 9)
-    ∷ op.Stt temp 1 ∷ op.Jmp label ∷ op.Ldi 2 1 ∷ op.Add 1 2 ∷ op.Jmp (a + 1) ∷ []
+-- a search looks at the record whose number register 1 has: a word of it goes into register 2, or on at an address where no
+-- record is left; the word is told for the first record of the file
+abbrev pub look_code : File → ℕ → ℕ → List Op
+look_code f word none = op.Ldi 2 f.size ∷ op.Gt 2 1 ∷ op.Jz 2 none ∷ op.Ldx 2 word (record_cells f) 1 ∷ []
+
+-- the next record is looked at, at the head of the search
+abbrev pub again_code : ℕ → List Op
+again_code head = op.Ldi 2 1 ∷ op.Add 1 2 ∷ op.Jmp head ∷ []
+
+-- to the label with the record in the temporary, or on at an address unless its word stands so to the value in register 0
+abbrev pub found_code : ℕ → Rel → ℕ → ℕ → List Op
+found_code temp rel label other = rel_op rel 2 0 ∷ op.Jz 2 other ∷ op.Stt temp 1 ∷ op.Jmp label ∷ []
+
+-- the search of FOR FIRST, at this address, where register 0 has the value
+abbrev pub search_code : File → ℕ → ℕ → Rel → ℕ → ℕ → List Op
+search_code f word temp rel label a =
+    let head = a + 1 in
+    let other = head + LOOK_LENGTH + FOUND_LENGTH in
+    op.Ldi 1 0 ∷ (look_code f word (other + AGAIN_LENGTH) ++ (found_code temp rel label other ++ again_code head))
 
 abbrev pub for_first_code : Option Placed → ℕ → ℕ → Rel → ℕ → ℕ → List Op
 for_first_code None temp field rel label a = []
-for_first_code (Some p) temp field rel label a = search_code p temp field rel label a
+for_first_code (Some p) temp field rel label a = search_code p.file (p.first + field) temp rel label a
 
--- the search for a free record, at this address, and how it is seized: register 1 counts the records
+-- the record joins the chain and is marked, and the temporary gets its number
+abbrev pub take_code : File → ℕ → ℕ → ℕ → List Op
+take_code f mark file temp = op.Chn 1 file ∷ op.Ldi 2 1 ∷ op.Stx mark (record_cells f) 1 2 ∷ op.Stt temp 1 ∷ []
+
+-- the search for a free record, at this address, and how that is seized; the mark is told for the first record
+abbrev pub free_search_code : File → ℕ → ℕ → ℕ → ℕ → ℕ → List Op
+free_search_code f mark file temp label a =
+    let head = a + 1 + 1 in
+    let free = head + LOOK_LENGTH + 1 + AGAIN_LENGTH in
+    op.Ckf ∷ op.Ldi 1 0 ∷ (look_code f mark label ++ (op.Jz 2 free ∷ (again_code head ++ take_code f mark file temp)))
+
 abbrev pub seize_code : Option Placed → ℕ → ℕ → ℕ → ℕ → List Op
 seize_code None file temp label a = []
-seize_code (Some p) file temp label a =
-    let mark = p.first + length p.file.fields in
-    op.Ckf ∷ op.Ldi 1 0 ∷ op.Ldi 2 p.file.size ∷ op.Gt 2 1 ∷ op.Jz 2 label ∷ op.Ldx 2 mark (record_cells p.file) 1 ∷ op.Jz 2 (a + 10)
-    ∷ op.Ldi 2 1 ∷ op.Add 1 2 ∷ op.Jmp (a + 2) ∷ op.Chn 1 file ∷ op.Ldi 2 1 ∷ op.Stx mark (record_cells p.file) 1 2 ∷ op.Stt temp 1 ∷ []
+seize_code (Some p) file temp label a = free_search_code p.file (p.first + length p.file.fields) file temp label a
 
 -- the fields of the record in register 0 get their INIT values
 abbrev pub inits_code : Placed → ℕ → List Variable → List Op
@@ -153,13 +199,38 @@ send_code (Some (Combined name count answer)) signal b fresh pl = op.Call (pl.en
 send_code (Some (Outside name count)) signal b fresh pl = op.Snd 2 signal 0 ∷ []
 send_code _ signal b fresh pl = []
 
-abbrev pub count_of : Option SignalKind → ℕ
-count_of (Some (Buffered name level count)) = count
-count_of (Some (Direct name count)) = count
-count_of (Some (Combined name count answer)) = count
-count_of (Some (Answer name count combined)) = count
-count_of (Some (Outside name count)) = count
-count_of None = 0
+-- how many values a signal has
+abbrev pub count_in : Places → ℕ → ℕ
+count_in pl signal = option_map_or signal_count (slice_get pl.signals signal) 0
+
+-- the reference that is held goes into register 0
+abbrev pub holder_code : Holder → Site → List Op
+holder_code (holder.Temporary t) site = op.Ldt 0 t ∷ []
+holder_code (holder.Variable v) site = op.Ldw 0 (site.first + v) ∷ []
+
+-- the code of that one of these blocks whose reference register 0 has, and then on past all of them; what checks the
+-- reference at last always faults, since it is of none of them
+abbrev pub each_receiver : List ℕ → (ℕ → List Op) → ℕ → List Op
+each_receiver [] arm a = op.Ckp 0 0 ∷ []
+each_receiver (b ∷ bs) arm a =
+    let next = a + COMPARE_LENGTH + length (arm b) + 1 in
+    let rest = each_receiver bs arm next in
+    compare_code (b + 1) next ++ (arm b ++ (op.Jmp (next + length rest) ∷ rest))
+
+-- the reference in register 0 is looked at before the first of these values. Where there are none, choosing the receiver looks at it
+abbrev pub look_first : List ℕ → List Expr → ℕ → List Op
+look_first bs [] a = []
+look_first bs (e ∷ es) a = each_receiver bs (λ b. []) a
+
+-- the values join the outgoing ones, and the receiver gets them by its code. A reference that is held is looked at before any
+-- value is computed; it stays in register 0, which the values leave alone
+abbrev pub receiver_code : Option Receiver → List ℕ → Site → List Expr → (ℕ → List Op) → ℕ → List Op
+receiver_code None bs site values arm a = values_code values site 0 ++ arm 0
+receiver_code (Some (receiver.Block b)) bs site values arm a = values_code values site 0 ++ arm b
+receiver_code (Some (receiver.Held h)) bs site values arm a =
+    let look = look_first bs values (a + 1) in
+    let joins = values_code values site 1 in
+    holder_code h site ++ (look ++ (joins ++ each_receiver bs arm (a + 1 + length look + length joins)))
 
 -- one statement, from the code of those in it: one line a kind
 abbrev pub layer_code : StmtKind-F KindCode StmtCode Choice → KindCode
@@ -181,10 +252,12 @@ layer_code (stmt.On t from upto body) pl p d a = on_code p t d a (expr_code from
 layer_code (stmt.ForFirst t file field rel e l) pl p d a =
     let value = expr_code e pl.site 0 in
     op.Stmt p ∷ (value ++ for_first_code (slice_get pl.site.files file) t field rel (pl.label l) (a + 1 + length value))
-layer_code (stmt.Send signal block values fresh) pl p d a = op.Stmt p ∷ (values_code values pl.site ++ send_code (slice_get pl.signals signal) signal (block_or block) fresh pl)
+layer_code (stmt.Send signal to values fresh) pl p d a =
+    op.Stmt p ∷ receiver_code to (pl.receivers signal) pl.site values (λ b. send_code (slice_get pl.signals signal) signal b fresh pl) (a + 1)
 layer_code (stmt.Retrieve answer temps) pl p d a = op.Stmt p ∷ retrieve_code 0 temps
-layer_code (stmt.Return answer values) pl p d a = op.Stmt p ∷ (values_code values pl.site ++ op.Ret answer ∷ [])
-layer_code (stmt.Transfer signal block) pl p d a = op.Stmt p ∷ op.Trf (pl.enter (block_or block) signal) (count_of (slice_get pl.signals signal)) ∷ []
+layer_code (stmt.Return answer values) pl p d a = op.Stmt p ∷ (values_code values pl.site 0 ++ op.Ret answer ∷ [])
+layer_code (stmt.Transfer signal to) pl p d a =
+    op.Stmt p ∷ receiver_code to (pl.receivers signal) pl.site [] (λ b. op.Trf (pl.enter b signal) (count_in pl signal) ∷ []) (a + 1)
 layer_code (stmt.Seize t file l) pl p d a = op.Stmt p ∷ seize_code (slice_get pl.site.files file) file t (pl.label l) (a + 1)
 layer_code (stmt.Free t file) pl p d a = op.Stmt p ∷ free_code (slice_get pl.site.files file) file t
 layer_code stmt.Exit pl p d a = op.Stmt p ∷ op.End ∷ []

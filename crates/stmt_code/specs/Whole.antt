@@ -6,17 +6,24 @@ use Rattle.std.specs.Prelude.{ℕ, zero, suc, ◌+◌, min, List, [], ◌∷◌,
 use Rattle.machine_code.specs.declared.op.Op.{Op}
 use Rattle.machine_code.specs.declared.op.Op.TheVariants as op
 use Rattle.exchange_model.specs.declared.exchange.Exchange.{Exchange}
+use Rattle.exchange_model.specs.declared.block.Block.{Block}
 use Rattle.exchange_model.specs.declared.entry.Entry.{Entry}
 use Rattle.exchange_model.specs.declared.stmt.Stmt.{Stmt}
 use Rattle.exchange_model.specs.declared.stmt.StmtKind.{out-StmtKind}
-use Rattle.source_meaning.specs.Config.{base_of, files_of, body_of, label_of, enter_place, entry_number, is_enter}
-use Rattle.source_meaning.specs.Step.{variable_width}
+use Rattle.source_meaning.specs.Config.{base_of, files_of, body_of, label_of, enter_place, is_receiver, entry_number, is_enter}
+use Rattle.source_meaning.specs.Changes.{variable_width}
 use Rattle.stmt_code.specs.StmtCode.{Places, codes, stmt_code}
 
 -- the addresses of labels, by block and label, and of ENTERs, by block and signal
 pub record Table : Type 0 where
   pub label : ℕ → ℕ → ℕ
   pub enter : ℕ → ℕ → ℕ
+
+-- those of these blocks that receive a signal, where the first of them has this number
+abbrev pub receivers_from : ℕ → ℕ → List Block → List ℕ
+receivers_from b signal [] = []
+receivers_from b signal (k ∷ ks) =
+    (if is_receiver signal k then b ∷ receivers_from (b + 1) signal ks else receivers_from (b + 1) signal ks)
 
 abbrev pub places_of : Exchange → Table → ℕ → Places
 places_of x t b = record {
@@ -25,6 +32,7 @@ places_of x t b = record {
   label = t.label b;
   enter = t.enter;
   entry = entry_number x;
+  receivers = λ signal. receivers_from 0 signal x.blocks;
   signals = x.signals;
 }
 

@@ -8,7 +8,12 @@
 #![tactic(auto)]
 
 mod laws;
+mod lengths;
 mod ranges;
 
 pub use laws::whole_code_is_faithful;
+pub use lengths::{
+    AGAIN_LENGTH, BOUNDS_LENGTH, COMPARE_LENGTH, FIRST_LOOP_LOCAL, FOUND_LENGTH, LOOK_LENGTH,
+    NEXT_LENGTH, TURN_LENGTH,
+};
 pub use ranges::files_are_numbered;

@@ -2,7 +2,9 @@
 use Rattle.std.specs.Prelude.{◌≡◌, Result, Ok, Err}
 use Rattle.token_grammar.specs.declared.fault.Fault.{Fault}
 use Rattle.token_grammar.specs.declared.fault.Fault.TheVariants as faults
-use Rattle.token_grammar.specs.Reading.{Stuck}
+use Rattle.plex_lexer.specs.declared.cursor.Cursor.{Cursor}
+use Rattle.plex_lexer.specs.Cursors.{ahead}
+use Rattle.token_grammar.specs.Reading.{Stuck, Reader}
 
 abbrev pub Fails : {Y : Type 0} → Fault → Result Y Stuck → Type 0
 Fails faults.Memory read = Unit {0}
@@ -17,3 +19,7 @@ abbrev pub Holds : {X : Type 0} → X → Result X Fault → Type 0
 Holds x (Ok y) = y ≡ x
 Holds x (Err faults.Memory) = Unit {0}
 Holds x (Err (faults.Stuck left deep)) = ⊥
+
+-- a function of the parser does what a reader does with the tokens ahead
+abbrev pub Reads : {Y : Type 0} → Result (Y × Cursor) Fault → Reader Y → Cursor → Type 0
+Reads result reader tokens = Gives (λ x. (x.0, ahead x.1)) result (reader (ahead tokens))

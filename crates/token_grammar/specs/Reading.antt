@@ -1,8 +1,7 @@
 -- Reading from the front of a list of tokens.
 use Rattle.std.specs.Prelude.{ℕ, zero, suc, Bool, true, false, cond, nat_lt, List, [], ◌∷◌, ◌++◌, length, Result, Ok, Err, Option, Some, None, codes}
 use Rattle.plex_lexer.specs.declared.token.Token.{Token}
-use Rattle.plex_lexer.specs.declared.token.TokenKind.{TokenKind}
-use Rattle.plex_lexer.specs.declared.token.TokenKind.TheVariants as kinds
+pub use Rattle.plex_lexer.specs.Spots.{name_in, number_in}
 use Rattle.token_grammar.specs.declared.named.Named.{Named}
 use Rattle.token_grammar.specs.declared.named.Numbered.{Numbered}
 use Rattle.token_grammar.specs.declared.named.Leveled.{Leveled}
@@ -105,19 +104,7 @@ all_read (Ok x) = only_all x.0 x.1
 abbrev pub with_front : {X : Type 0} → List X → Result (List X × List Token) Stuck → Result (List X × List Token) Stuck
 with_front front read = read >>= λ xs. Ok (front ++ xs.0, xs.1)
 
--- the name and the number that a token is
-abbrev pub name_in : TokenKind → List ℕ
-name_in (kinds.Name n) = n
-name_in (kinds.Number n) = []
-name_in (kinds.Keyword n) = []
-name_in (kinds.Mark n) = []
-
-abbrev pub number_in : TokenKind → ℕ
-number_in (kinds.Number n) = n
-number_in (kinds.Name n) = 0
-number_in (kinds.Keyword n) = 0
-number_in (kinds.Mark n) = 0
-
+-- a token as a name, as a number, and as the name of a job buffer, on this line
 abbrev pub named_at : ℕ → Token → Named
 named_at line t = record { line = line; name = name_in t.kind }
 

@@ -10,9 +10,7 @@
 mod fault;
 mod named;
 mod reading;
-#[cfg(test)]
-mod tests;
 
 pub use fault::Fault;
 pub use named::{Leveled, Named, Numbered};
-pub use reading::{class_of, level, line_of, name, number, starts, starts_in, starts_name, word};
+pub use reading::{level, line_of, name, number, starts, starts_in, starts_name, word};

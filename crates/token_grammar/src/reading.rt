@@ -1,24 +1,26 @@
 // One token read.
 ghost use Rattle.std.specs.Prelude.{◌≡◌, ◌∷◌, [], length};
 ghost use Rattle.std.specs.Str.{bytes_eq};
-ghost use Rattle.token_grammar.specs.Language.{kind_class, line_at, mem, name_class, LEVEL, NAME};
-ghost use Rattle.token_grammar.specs.Reading.{at, level_of, level_read, name_in, name_read, number_in, number_read, word_of};
-ghost use Rattle.token_grammar.specs.Gives.{Gives};
+ghost use Rattle.plex_lexer.specs.Cursors.{ahead, token};
+ghost use Rattle.token_grammar.specs.Language.{class, line_at, mem, name_class, LEVEL, NAME};
+ghost use Rattle.token_grammar.specs.Reading.{at, level_of, level_read, name_in, name_read, number_read, word_of};
+ghost use Rattle.token_grammar.specs.Gives.{Gives, Reads};
 
 use crate::fault::Fault;
 use crate::named::{Leveled, Named, Numbered};
-use plex_lexer::{Token, TokenKind};
+use plex_lexer::{Cursor, Found, Sort};
 use plex_num::Level;
 
 /// The class of a token: below 5 a name, 5 a number, 2k + 6 the keyword k, 2m + 7 the mark m.
-pub fn class_of(kind: &TokenKind) -> u64
-    ensures { result ≡ kind_class kind.now }
+#[tactic(auto, using(crate::proofs::Classes::class_by_sort))]
+fn class_of(found: Found<'_>) -> u64
+    ensures { result ≡ class (token found.entry) }
 {
-    match kind {
-        TokenKind::Name(name) => name_class_of(name.as_slice()),
-        TokenKind::Number(_) => 5,
-        TokenKind::Keyword(keyword) => 2 * u64::from(*keyword) + 6,
-        TokenKind::Mark(mark) => 2 * u64::from(*mark) + 7,
+    match found.sort() {
+        Sort::Name => name_class_of(found.spelled()),
+        Sort::Number => 5,
+        Sort::Keyword(keyword) => 2 * u64::from(keyword) + 6,
+        Sort::Mark(mark) => 2 * u64::from(mark) + 7,
     }
 }
 
@@ -45,32 +47,32 @@ fn is_text(name: &[u8], text: &[u8]) -> bool
 }
 
 /// The line of the first token; 1 where there is none.
-pub fn line_of(tokens: &[Token]) -> u32
-    ensures { result ≡ line_at tokens.now }
+pub fn line_of(tokens: Cursor<'_>) -> u32
+    ensures { result ≡ line_at (ahead tokens.entry) }
 {
     match tokens.split_first() {
         None => 1,
-        Some((first, _)) => first.line,
+        Some((first, _)) => first.line(),
     }
 }
 
 /// Whether the first token is of this class.
-pub fn starts(tokens: &[Token], want: u64) -> bool
-    ensures { result ≡ at (want ∷ []) tokens.now }
+pub fn starts(tokens: Cursor<'_>, want: u64) -> bool
+    ensures { result ≡ at (want ∷ []) (ahead tokens.entry) }
 {
     match tokens.split_first() {
         None => false,
-        Some((first, _)) => class_of(&first.kind) == want,
+        Some((first, _)) => class_of(first) == want,
     }
 }
 
 /// Whether the first token is of one of these classes.
-pub fn starts_in(tokens: &[Token], wants: &[u64]) -> bool
-    ensures { result ≡ at wants.now tokens.now }
+pub fn starts_in(tokens: Cursor<'_>, wants: &[u64]) -> bool
+    ensures { result ≡ at wants.now (ahead tokens.entry) }
 {
     match tokens.split_first() {
         None => false,
-        Some((first, _)) => is_in(class_of(&first.kind), wants),
+        Some((first, _)) => is_in(class_of(first), wants),
     }
 }
 
@@ -88,12 +90,12 @@ fn is_in(class: u64, wants: &[u64]) -> bool
 }
 
 /// Whether the first token is a name.
-pub fn starts_name(tokens: &[Token]) -> bool
-    ensures { result ≡ at NAME tokens.now }
+pub fn starts_name(tokens: Cursor<'_>) -> bool
+    ensures { result ≡ at NAME (ahead tokens.entry) }
 {
     match tokens.split_first() {
         None => false,
-        Some((first, _)) => is_name(class_of(&first.kind)),
+        Some((first, _)) => is_name(class_of(first)),
     }
 }
 
@@ -103,10 +105,11 @@ fn is_name(class: u64) -> bool
     class == 0 || class == 1 || class == 2 || class == 3 || class == 4
 }
 
-/// The tokens after a word of this class, or the place where it lacks.
+/// A word of this class and the tokens after it, or the place where it lacks.
 #[tactic(auto, unfolding(crate::specs::Reading::word_of))]
-pub fn word(tokens: &[Token], want: u64) -> Result<(&Token, &[Token]), Fault>
-    ensures { Gives (λ x. (x.0.now, x.1.now)) result (word_of (want ∷ []) tokens.now) }
+pub fn word(tokens: Cursor<'_>, want: u64) -> Result<(Found<'_>, Cursor<'_>), Fault>
+    ensures { Gives (λ x. (token x.0, ahead x.1)) result
+        (word_of (want ∷ []) (ahead tokens.entry)) }
 {
     match tokens.split_first() {
         None => Err(Fault::Stuck {
@@ -114,7 +117,7 @@ pub fn word(tokens: &[Token], want: u64) -> Result<(&Token, &[Token]), Fault>
             deep: false,
         }),
         Some((first, rest)) => {
-            if class_of(&first.kind) == want {
+            if class_of(first) == want {
                 Ok((first, rest))
             } else {
                 Err(Fault::Stuck {
@@ -128,60 +131,8 @@ pub fn word(tokens: &[Token], want: u64) -> Result<(&Token, &[Token]), Fault>
 
 /// A name and the tokens after it, or the place where it lacks.
 #[tactic(auto, unfolding(crate::specs::Reading::word_of, crate::specs::Reading::name_read))]
-pub fn name(tokens: &[Token]) -> Result<(Named, &[Token]), Fault>
-    ensures { Gives (λ x. (x.0, x.1.now)) result (name_read tokens.now) }
-{
-    match tokens.split_first() {
-        None => Err(Fault::Stuck {
-            left: 0,
-            deep: false,
-        }),
-        Some((first, rest)) => match &first.kind {
-            TokenKind::Name(name) => Ok((
-                Named {
-                    line: first.line,
-                    name: name.copy(),
-                },
-                rest,
-            )),
-            _ => Err(Fault::Stuck {
-                left: tokens.len(),
-                deep: false,
-            }),
-        },
-    }
-}
-
-/// A number and the tokens after it, or the place where it lacks.
-#[tactic(auto, unfolding(crate::specs::Reading::word_of, crate::specs::Reading::number_read))]
-pub fn number(tokens: &[Token]) -> Result<(Numbered, &[Token]), Fault>
-    ensures { Gives (λ x. (x.0, x.1.now)) result (number_read tokens.now) }
-{
-    match tokens.split_first() {
-        None => Err(Fault::Stuck {
-            left: 0,
-            deep: false,
-        }),
-        Some((first, rest)) => match &first.kind {
-            TokenKind::Number(value) => Ok((
-                Numbered {
-                    line: first.line,
-                    value: *value,
-                },
-                rest,
-            )),
-            _ => Err(Fault::Stuck {
-                left: tokens.len(),
-                deep: false,
-            }),
-        },
-    }
-}
-
-/// The name of a job buffer and the tokens after it, or the place where it lacks.
-#[tactic(auto, unfolding(crate::specs::Reading::word_of, crate::specs::Reading::level_read))]
-pub fn level(tokens: &[Token]) -> Result<(Leveled, &[Token]), Fault>
-    ensures { Gives (λ x. (x.0, x.1.now)) result (level_read tokens.now) }
+pub fn name(tokens: Cursor<'_>) -> Result<(Named, Cursor<'_>), Fault>
+    ensures { Reads result name_read tokens.entry }
 {
     match tokens.split_first() {
         None => Err(Fault::Stuck {
@@ -189,7 +140,63 @@ pub fn level(tokens: &[Token]) -> Result<(Leveled, &[Token]), Fault>
             deep: false,
         }),
         Some((first, rest)) => {
-            if !is_level(class_of(&first.kind)) {
+            if !is_name(class_of(first)) {
+                return Err(Fault::Stuck {
+                    left: tokens.len(),
+                    deep: false,
+                });
+            }
+            Ok((
+                Named {
+                    line: first.line(),
+                    name: first.name(),
+                },
+                rest,
+            ))
+        }
+    }
+}
+
+/// A number and the tokens after it, or the place where it lacks.
+#[tactic(auto, unfolding(crate::specs::Reading::word_of, crate::specs::Reading::number_read))]
+pub fn number(tokens: Cursor<'_>) -> Result<(Numbered, Cursor<'_>), Fault>
+    ensures { Reads result number_read tokens.entry }
+{
+    match tokens.split_first() {
+        None => Err(Fault::Stuck {
+            left: 0,
+            deep: false,
+        }),
+        Some((first, rest)) => {
+            if class_of(first) != 5 {
+                return Err(Fault::Stuck {
+                    left: tokens.len(),
+                    deep: false,
+                });
+            }
+            Ok((
+                Numbered {
+                    line: first.line(),
+                    value: first.number(),
+                },
+                rest,
+            ))
+        }
+    }
+}
+
+/// The name of a job buffer and the tokens after it, or the place where it lacks.
+#[tactic(auto, unfolding(crate::specs::Reading::word_of, crate::specs::Reading::level_read))]
+pub fn level(tokens: Cursor<'_>) -> Result<(Leveled, Cursor<'_>), Fault>
+    ensures { Reads result level_read tokens.entry }
+{
+    match tokens.split_first() {
+        None => Err(Fault::Stuck {
+            left: 0,
+            deep: false,
+        }),
+        Some((first, rest)) => {
+            if !is_level(class_of(first)) {
                 return Err(Fault::Stuck {
                     left: tokens.len(),
                     deep: false,
@@ -197,8 +204,8 @@ pub fn level(tokens: &[Token]) -> Result<(Leveled, &[Token]), Fault>
             }
             Ok((
                 Leveled {
-                    line: first.line,
-                    level: level_in(&first.kind),
+                    line: first.line(),
+                    level: level_of_name(first.spelled()),
                 },
                 rest,
             ))
@@ -210,17 +217,6 @@ fn is_level(class: u64) -> bool
     ensures { result ≡ mem class LEVEL }
 {
     class == 1 || class == 2 || class == 3 || class == 4
-}
-
-fn level_in(kind: &TokenKind) -> Level
-    ensures { result ≡ level_of (name_in kind.now) }
-{
-    match kind {
-        TokenKind::Name(name) => level_of_name(name.as_slice()),
-        TokenKind::Number(_) => Level::D,
-        TokenKind::Keyword(_) => Level::D,
-        TokenKind::Mark(_) => Level::D,
-    }
 }
 
 fn level_of_name(name: &[u8]) -> Level

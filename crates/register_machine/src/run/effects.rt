@@ -1,24 +1,21 @@
 // What an instruction may do to the job's own state.
 ghost use Rattle.std.specs.Prelude.{◌≡◌, ◌<◌, ◌^◌, ◌↔◌, ◌++◌, ◌∷◌, [], ◌&&◌, not, nat_eq, length, take, slice_index, slice_set, nat_lt, None, unwrap_or, position, IsNone, IsTrue};
-ghost use Rattle.source_meaning.specs.Own.{budget};
-ghost use Rattle.source_meaning.specs.Value.{holds};
-ghost use Rattle.source_meaning.specs.Config.{eight};
-ghost use Rattle.source_meaning.specs.Step.{at_zero, without};
+ghost use Rattle.job_types.specs.Own.{budget, eight};
+ghost use Rattle.job_types.specs.Chain.{holds, without};
+ghost use Rattle.job_types.specs.Truth.{at_zero};
 ghost use Rattle.register_machine.specs.Machine.{reg, goes, next, sets, fails, checks, counts, divides, made_one, chains, joins, sends, activates, enters, calls, resumes, returns, ends};
 ghost use Rattle.job_types.specs.declared.chain.Held.{Held};
 
 use super::{JobRun, eight_of};
 use crate::frames::Frame;
 use job_types::{Chain, Fault, Held, Outcome, SendTo, Sent};
+use plex_limits::{MOST_CALLERS, MOST_COUNTED, MOST_HELD, MOST_SENT, MOST_VALUES};
 use plex_num::Values;
 use std::mem;
 
-/// The most statements that one job may make.
-const BUDGET: u32 = 1_000_000;
-
 impl JobRun {
-    /// The value of a register.
-    pub(crate) fn register(&self, r: u8) -> u32
+    /// The value of a register, numbered from 0 to 15.
+    pub fn register(&self, r: u8) -> u32
         requires { r < 16 }
         ensures { result ≡ reg self.now r }
     {
@@ -65,10 +62,11 @@ impl JobRun {
     pub(super) fn fail(&mut self, fault: Fault)
         ensures { self.new ≡ fails fault self.old }
     {
-        self.over = Some(Outcome::Faulted {
+        self.done.outcome = Outcome::Faulted {
             fault,
             point: self.point,
-        });
+        };
+        self.over = true;
     }
 
     /// Goes on where the test holds, and else ends by the fault.
@@ -96,10 +94,11 @@ impl JobRun {
         if within {
             self.address += 1;
         } else {
-            self.over = Some(Outcome::Faulted {
+            self.done.outcome = Outcome::Faulted {
                 fault: Fault::Budget,
                 point,
-            });
+            };
+            self.over = true;
         }
     }
 
@@ -164,7 +163,7 @@ impl JobRun {
     pub(super) fn holds(&self, file: u32, number: u32) -> bool
         ensures { result ≡ holds self.now.own.chain file number }
     {
-        has_record(&self.chain, file, number)
+        has_record(&self.done.chain, file, number)
     }
 
     /// Whether the job has a forlopp.
@@ -179,8 +178,8 @@ impl JobRun {
         requires { self.old.pc < 2 ^ 63 }
         ensures { self.new ≡ joins file number self.old }
     {
-        if self.chain.as_slice().len() < 64 {
-            self.chain.push(Held { file, number });
+        if self.done.chain.as_slice().len() < MOST_HELD {
+            self.done.chain.push(Held { file, number });
             self.address += 1;
         } else {
             self.fail(Fault::Chain);
@@ -192,7 +191,7 @@ impl JobRun {
         requires { self.old.pc < 2 ^ 63 }
         ensures { self.new ≡ chains (without self.old.own.chain file number) self.old }
     {
-        remove_record(&mut self.chain, file, number);
+        remove_record(&mut self.done.chain, file, number);
         self.address += 1;
     }
 
@@ -200,7 +199,7 @@ impl JobRun {
     pub(super) fn join_outgoing(&mut self, r: u8)
         requires register { r < 16 }
         requires address { self.old.pc < 2 ^ 63 }
-        requires room { length self.old.out < 8 }
+        requires room { length self.old.out < MOST_VALUES }
         ensures { self.new ≡ next (record self.old { out = self.old.out ++ reg self.old r ∷ [] }) }
     {
         self.outgoing.push(self.registers[r as usize]);
@@ -212,9 +211,9 @@ impl JobRun {
         requires { self.old.pc < 2 ^ 63 }
         ensures { self.new ≡ sends to self.old }
     {
-        if self.sends.as_slice().len() < 255 {
+        if self.done.sends.as_slice().len() < MOST_SENT {
             let values = mem::replace(&mut self.outgoing, Values::new());
-            self.sends.push(Sent { to, values });
+            self.done.sends.push(Sent { to, values });
             self.address += 1;
         } else {
             self.fail(Fault::Sends);
@@ -254,7 +253,7 @@ impl JobRun {
         requires { self.old.pc < 2 ^ 63 }
         ensures { self.new ≡ calls a answer self.old }
     {
-        if self.frames.len() < 8 {
+        if self.frames.len() < MOST_CALLERS {
             self.frames.push(Frame {
                 back: self.address + 1,
                 locals: self.locals,
@@ -304,7 +303,8 @@ impl JobRun {
         ensures { self.new ≡ ends self.old.frames self.old }
     {
         if self.frames.len() == 0 {
-            self.over = Some(Outcome::Ended);
+            self.done.outcome = Outcome::Ended;
+            self.over = true;
         } else {
             self.fail(Fault::BadEnd);
         }
@@ -332,7 +332,7 @@ fn place_of(chain: &Chain, file: u32, number: u32) -> Option<usize>
 }
 
 /// Takes a record out of a chain, if it is there.
-#[tactic(auto, using(crate::proofs::Chained::without_found, crate::proofs::Chained::without_none))]
+#[tactic(auto, using(job_types::proofs::Chained::without_found, job_types::proofs::Chained::without_none))]
 fn remove_record(chain: &mut Chain, file: u32, number: u32)
     ensures { chain.new ≡ without chain.old file number }
 {
@@ -343,10 +343,10 @@ fn remove_record(chain: &mut Chain, file: u32, number: u32)
 }
 
 /// Whether one statement more may be counted.
-#[tactic(auto, unfolding(source_meaning::specs::Own::budget))]
+#[tactic(auto, unfolding(job_types::specs::Own::budget))]
 fn may_count(count: u32) -> bool
     ensures word { result ≡ nat_lt count budget }
     ensures number { IsTrue result ↔ (count < budget) }
 {
-    count < BUDGET
+    (count as usize) < MOST_COUNTED
 }

@@ -1,21 +1,31 @@
-// What each instruction does to the job's own state.
-ghost use Rattle.std.specs.Prelude.{◌≡◌, ◌<◌, ◌^◌, nat_lt, None};
+// What each instruction does: to the job's own state, and to the one word that it touches.
+ghost use Rattle.std.specs.Prelude.{◌≡◌, ◌+◌, ◌*◌, ◌<◌, ◌^◌, true, nat_lt, None, slice_index, slice_set};
 ghost use Rattle.machine_code.specs.Operands.{OpFits};
-ghost use Rattle.register_machine.specs.Machine.{act, Allowed, send_to, level_of};
+ghost use Rattle.machine_code.specs.Told.{told_all, told_more};
+ghost use Rattle.job_types.specs.declared.touch.Touch.TheVariants.{Load, Store};
+ghost use Rattle.job_types.specs.Own.{untouched};
+ghost use Rattle.register_machine.specs.Machine.{act, reach, loaded, touched, HasRoom, MayTouch, send_to, level_of};
 
 use super::JobRun;
 use job_types::{Fault, SendTo};
-use machine_code::Op;
+use machine_code::{Op, Words};
 use plex_num::{Level, add, div, fits, mul, rem, sub};
 
 impl JobRun {
-    /// Makes an instruction, where `value` is the value of the word that it loads. The job must not have ended.
-    pub(crate) fn act(&mut self, op: Op, value: u32)
+    /// Makes an instruction. The job must not have ended. It stands in the loop that calls it, since a call for each instruction
+    /// would copy the instruction first and take twice the time.
+    #[inline(always)]
+    pub(crate) fn act<W: Words>(&mut self, op: Op, words: &mut W)
         requires runs { self.old.over ≡ None }
         requires address { self.old.pc < 2 ^ 63 }
         requires operands { OpFits op }
-        requires room { Allowed op self.old }
-        ensures { self.new ≡ act op value self.old }
+        requires room { HasRoom op self.old }
+        requires words { MayTouch (W.may_read words.old) (W.may_write words.old) (reach op self.old) }
+        ensures run { self.new ≡ act op (loaded (reach op self.old) (W.values words.old)) self.old }
+        ensures values { W.values words.new ≡ (touched (reach op self.old) (untouched (W.values words.old))).store }
+        ensures told { W.told words.new ≡ told_all (W.told words.old) (touched (reach op self.old) (untouched (W.values words.old))).trace }
+        ensures allowed { (W.may_read words.new ≡ W.may_read words.old) × (W.may_write words.new ≡ W.may_write words.old) }
+        ensures like { W.like words.old words.new }
     {
         self.tick();
         match op {
@@ -52,13 +62,25 @@ impl JobRun {
             ),
             Op::Jmp { a } => self.go(a),
             Op::Jz { r, a } => self.go_if_zero(r, a),
-            Op::Ldw { r, .. } => self.set(r, value),
-            Op::Stw { .. } => self.next(),
+            Op::Ldw { r, w } => {
+                let value = words.read(w);
+                self.set(r, value);
+            }
+            Op::Stw { w, r } => {
+                words.write(w, self.register(r));
+                self.next();
+            }
             Op::Ckw { r, d } => self.check(fits_width(self.register(r), d), Fault::Range),
             Op::Ckp { r, n } => self.check(self.register(r) < n, Fault::Pointer),
             Op::Own { r, f } => self.check(self.holds(f, self.register(r)), Fault::NotOwn),
-            Op::Ldx { r, .. } => self.set(r, value),
-            Op::Stx { .. } => self.next(),
+            Op::Ldx { r, w, n, s } => {
+                let value = read_at(words, w, n, self.register(s));
+                self.set(r, value);
+            }
+            Op::Stx { w, n, s, r } => {
+                write_at(words, w, n, self.register(s), self.register(r));
+                self.next();
+            }
             Op::Ckf => self.check(self.has_forlopp(), Fault::NoForlopp),
             Op::Chn { r, f } => self.join(f, self.register(r)),
             Op::Unc { r, f } => self.leave(f, self.register(r)),
@@ -71,6 +93,36 @@ impl JobRun {
             Op::End => self.end(),
         }
     }
+}
+
+/// The value of the word w + n * i.
+fn read_at<W: Words>(words: &mut W, w: u32, n: u32, i: u32) -> u32
+    requires { W.may_read words.old (w + n * i) ≡ true }
+    ensures value { result ≡ slice_index (W.values words.old) (w + n * i) }
+    ensures values { W.values words.new ≡ W.values words.old }
+    ensures allowed { (W.may_read words.new ≡ W.may_read words.old) × (W.may_write words.new ≡ W.may_write words.old) }
+    ensures told { W.told words.new ≡ told_more (W.told words.old) (Load (w + n * i) result) }
+    ensures like { W.like words.old words.new }
+{
+    words.read(place_of(w, n, i) as u32)
+}
+
+/// Gives the word w + n * i its value.
+fn write_at<W: Words>(words: &mut W, w: u32, n: u32, i: u32, value: u32)
+    requires { W.may_write words.old (w + n * i) ≡ true }
+    ensures values { W.values words.new ≡ slice_set (W.values words.old) (w + n * i) value }
+    ensures allowed { (W.may_read words.new ≡ W.may_read words.old) × (W.may_write words.new ≡ W.may_write words.old) }
+    ensures told { W.told words.new ≡ told_more (W.told words.old) (Store (w + n * i) value) }
+    ensures like { W.like words.old words.new }
+{
+    words.write(place_of(w, n, i) as u32, value);
+}
+
+/// The number w + n * i.
+fn place_of(w: u32, n: u32, i: u32) -> u64
+    ensures { result ≡ w + n * i }
+{
+    u64::from(w) + u64::from(n) * u64::from(i)
 }
 
 /// Whether the value is below 2^width.

@@ -46,7 +46,7 @@ emit_kind-returns-in-ForFirst t c =
 
 pub emit_kind-returns-in-Send : goal.emit_kind-returns-in-Send
 emit_kind-returns-in-Send t c =
-    let made = as_kind c.args.kind.now (layer.Send c.in-Send.signal c.in-Send.block c.in-Send.values c.in-Send.fresh) (places_in c.args.at.now) c.args.spot.point c.args.spot.loops c.args.spot.start c.args.ops.now c.send.new.ops (ap out-StmtKind c.in-Send.is ∙ kind.outs-Send c.in-Send.signal c.in-Send.block c.in-Send.values c.in-Send.fresh) in
+    let made = as_kind c.args.kind.now (layer.Send c.in-Send.signal c.in-Send.to c.in-Send.values c.in-Send.fresh) (places_in c.args.at.now) c.args.spot.point c.args.spot.loops c.args.spot.start c.args.ops.now c.send.new.ops (ap out-StmtKind c.in-Send.is ∙ kind.outs-Send c.in-Send.signal c.in-Send.to c.in-Send.values c.in-Send.fresh) in
     search (rules, made)
 
 pub emit_kind-returns-in-Retrieve : goal.emit_kind-returns-in-Retrieve
@@ -61,7 +61,7 @@ emit_kind-returns-in-Return t c =
 
 pub emit_kind-returns-in-Transfer : goal.emit_kind-returns-in-Transfer
 emit_kind-returns-in-Transfer t c =
-    let made = as_kind c.args.kind.now (layer.Transfer c.in-Transfer.signal c.in-Transfer.block) (places_in c.args.at.now) c.args.spot.point c.args.spot.loops c.args.spot.start c.args.ops.now c.transfer.new.ops (ap out-StmtKind c.in-Transfer.is ∙ kind.outs-Transfer c.in-Transfer.signal c.in-Transfer.block) in
+    let made = as_kind c.args.kind.now (layer.Transfer c.in-Transfer.signal c.in-Transfer.to) (places_in c.args.at.now) c.args.spot.point c.args.spot.loops c.args.spot.start c.args.ops.now c.transfer.new.ops (ap out-StmtKind c.in-Transfer.is ∙ kind.outs-Transfer c.in-Transfer.signal c.in-Transfer.to) in
     search (rules, made)
 
 pub emit_kind-returns-in-Seize : goal.emit_kind-returns-in-Seize

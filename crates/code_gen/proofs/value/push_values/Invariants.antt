@@ -5,4 +5,4 @@ use Rattle.code_gen.proofs.value.push_values.Given as goal
 
 abbrev pub invariant-loop-value : goal.invariant-loop-value
 invariant-loop-value l =
-    l.ops ++ values_code (drop l.value-index l.value-items) (places_in l.at).site ≡ l.fn.ops ++ values_code l.values (places_in l.at).site
+    l.ops ++ values_code (drop l.value-index l.value-items) (places_in l.at).site l.first ≡ l.fn.ops ++ values_code l.values (places_in l.at).site l.first

@@ -1,8 +1,8 @@
 use Rattle.std.proofs.Common.{rules, arith}
 use Rattle.std.proofs.lemmas.Grind.{common_steps}
 use Rattle.exchange_model.specs.declared.expr.Factor.{the_lemmas}
-use Rattle.expr_code.proofs.Opened.{factor_code-Number, factor_code-Temporary, factor_code-Field, factor_code-Bracket}
-use Rattle.expr_code.proofs.At.{term_at, factor_at, variable_at, field_at, bracket_at}
+use Rattle.expr_code.proofs.Opened.{factor_code-Number, factor_code-Temporary, factor_code-Field, factor_code-Bracket, factor_code-Reference}
+use Rattle.expr_code.proofs.At.{term_at, factor_at, variable_at, field_at, bracket_at, reference_at}
 use Rattle.expr_code.proofs.FieldSteps.{variable_grows}
 use Rattle.expr_code.proofs.expr.+code.Goals as goal
 
@@ -30,6 +30,14 @@ push_factor-returns-in-Field-clause-code t c = rw (c.in-Field.is, factor_code-Fi
 
 pub push_factor-returns-in-Bracket-clause-code : goal.push_factor-returns-in-Bracket-clause-code
 push_factor-returns-in-Bracket-clause-code t c = rw (c.in-Bracket.is, factor_code-Bracket) (search rules)
+
+pub push_factor-overflow_add-b : goal.push_factor-overflow_add-b
+push_factor-overflow_add-b t c =
+    let small = reference_at c.args.factor.now c.in-Reference.b c.args.layout.now c.args.block c.requires.of_block c.in-Reference.is in
+    search (rules, small)
+
+pub push_factor-returns-in-Reference-clause-code : goal.push_factor-returns-in-Reference-clause-code
+push_factor-returns-in-Reference-clause-code t c = rw (c.in-Reference.is, factor_code-Reference) (search rules)
 
 pub expr_code-push_term-requires : goal.expr_code-push_term-requires
 expr_code-push_term-requires t c =

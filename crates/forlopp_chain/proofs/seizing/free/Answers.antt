@@ -1,23 +1,21 @@
-use Rattle.std.proofs.Common.{refl, ◌∙◌}
-use Rattle.std.proofs.lemmas.Bool.{false≢true}
+use Rattle.std.proofs.Common.{◌∙◌}
 use Rattle.forlopp_chain.proofs.Freed.{freed-Some, freed-None}
 use Rattle.forlopp_chain.proofs.seizing.free.Goals as goal
 
 -- the record was found
 pub returns-in-Some-clause-held : goal.returns-in-Some-clause-held
 returns-in-Some-clause-held c =
-    let found = freed-Some c.args.held c.args.chain.now c.in-Some.place (rw c.as_slice.ensures.items at c.in-Some.ensures.place) in
-    (λ held. found.1, λ held. refl)
+    (freed-Some c.args.held.file c.args.held.number c.args.chain.now c.in-Some.place (rw c.as_slice.ensures.items at c.in-Some.ensures.place)).1
 
 pub returns-in-Some-clause-chain : goal.returns-in-Some-clause-chain
-returns-in-Some-clause-chain c =
-    c.remove.ensures.left ∙ (freed-Some c.args.held c.args.chain.now c.in-Some.place (rw c.as_slice.ensures.items at c.in-Some.ensures.place)).0
+returns-in-Some-clause-chain c = c.remove.ensures.left
+    ∙ (freed-Some c.args.held.file c.args.held.number c.args.chain.now c.in-Some.place (rw c.as_slice.ensures.items at c.in-Some.ensures.place)).0
 
 -- it stands nowhere
 pub returns-in-None-clause-held : goal.returns-in-None-clause-held
 returns-in-None-clause-held c =
-    let absent = freed-None c.args.held c.args.chain.now (rw c.as_slice.ensures.items at c.in-None.ensures.place) in
-    (λ held. absurd (false≢true held), λ held. absurd (absent.1 held))
+    (freed-None c.args.held.file c.args.held.number c.args.chain.now (rw c.as_slice.ensures.items at c.in-None.ensures.place)).1
 
 pub returns-in-None-clause-chain : goal.returns-in-None-clause-chain
-returns-in-None-clause-chain c = (freed-None c.args.held c.args.chain.now (rw c.as_slice.ensures.items at c.in-None.ensures.place)).0
+returns-in-None-clause-chain c =
+    (freed-None c.args.held.file c.args.held.number c.args.chain.now (rw c.as_slice.ensures.items at c.in-None.ensures.place)).0

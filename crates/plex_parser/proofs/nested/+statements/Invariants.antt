@@ -1,4 +1,5 @@
 use Rattle.std.proofs.Common.{◌≡◌, ◌+◌, ◌*◌, length}
+use Rattle.plex_lexer.specs.Cursors.{ahead}
 use Rattle.token_grammar.specs.Reading.{with_front, many}
 use Rattle.plex_ast.specs.Words.{WHEN}
 use Rattle.plex_parser.specs.Statements.{STMT, stmt_read, when_by}
@@ -47,14 +48,14 @@ abbrev pub decreases-if_tail : goal.decreases-if_tail
 decreases-if_tail l = 13 * l.deep + 1
 
 abbrev pub invariant-stmts-stmts : goal.invariant-stmts-stmts
-invariant-stmts-stmts l = with_front l.list (many STMT (stmt_read l.room l.deep) l.left) ≡ many STMT (stmt_read l.room l.deep) l.tokens
+invariant-stmts-stmts l = with_front l.list (many STMT (stmt_read l.room l.deep) (ahead l.left)) ≡ many STMT (stmt_read l.room l.deep) (ahead l.tokens)
 
 abbrev pub decreases-stmts-stmts : goal.decreases-stmts-stmts
-decreases-stmts-stmts l = length l.left
+decreases-stmts-stmts l = length (ahead l.left)
 
 abbrev pub invariant-whens-whens : goal.invariant-whens-whens
 invariant-whens-whens l =
-    with_front l.list (many WHEN (when_by (many STMT (stmt_read l.room l.deep))) l.left) ≡ many WHEN (when_by (many STMT (stmt_read l.room l.deep))) l.tokens
+    with_front l.list (many WHEN (when_by (many STMT (stmt_read l.room l.deep))) (ahead l.left)) ≡ many WHEN (when_by (many STMT (stmt_read l.room l.deep))) (ahead l.tokens)
 
 abbrev pub decreases-whens-whens : goal.decreases-whens-whens
-decreases-whens-whens l = length l.left
+decreases-whens-whens l = length (ahead l.left)

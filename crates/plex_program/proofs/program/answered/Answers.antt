@@ -3,10 +3,10 @@ use Rattle.plex_program.proofs.program.answered.Goals as goal
 
 pub returns-in-Ok : goal.returns-in-Ok
 returns-in-Ok g c = record {
-  answers = answered_report _ _ c.in-Ok-Some.command _ _ c.in-Ok.text _ (rw c.in-Ok-Some.field-0-is at c.in-Ok-Some.ensures) c.in-Ok.ensures.comes c.done_answer.ensures;
+  answers = answered_report _ _ c.in-Ok-Some.command _ _ c.in-Ok.answer (rw c.in-Ok-Some.field-0-is at c.in-Ok-Some.ensures.command) c.in-Ok.ensures.comes c.in-Ok.ensures.ending;
 }
 
 pub returns-in-Err-NotHeld : goal.returns-in-Err-NotHeld
 returns-in-Err-NotHeld g c = record {
-  answers = answered_not_held _ _ c.in-Ok-Some.command _ _ (rw c.in-Ok-Some.field-0-is at c.in-Ok-Some.ensures) (rw c.in-Err-NotHeld.field-0-is at c.in-Err-NotHeld.ensures.comes);
+  answers = answered_not_held _ _ c.in-Ok-Some.command _ _ (rw c.in-Ok-Some.field-0-is at c.in-Ok-Some.ensures.command) (rw c.in-Err-NotHeld.field-0-is at c.in-Err-NotHeld.ensures.comes);
 }

@@ -1,5 +1,5 @@
 use Rattle.std.proofs.Common.{◌≡◌, drop}
-use Rattle.source_meaning.specs.Step.{chosen}
+use Rattle.source_meaning.specs.Changes.{chosen}
 use Rattle.source_interpreter.specs.Kept.{AreWhensOfText}
 use Rattle.source_interpreter.proofs.control.chosen.Given as goal
 

@@ -1,5 +1,5 @@
 use Rattle.std.proofs.Common.{◌≡◌, drop}
-use Rattle.source_meaning.specs.Step.{takes}
+use Rattle.source_meaning.specs.Changes.{takes}
 use Rattle.source_interpreter.proofs.run.take_values.Given as goal
 
 abbrev pub invariant-loop-place : goal.invariant-loop-place

@@ -1,7 +1,7 @@
 use Rattle.std.proofs.Common.{not, rules, arith}
 use Rattle.std.proofs.lemmas.Fn.{filter_same}
 use Rattle.job_types.specs.declared.job.Job.{Job}
-use Rattle.job_buffers.specs.Waiting.{is_of}
+use Rattle.job_types.specs.Waiting.{is_of}
 use Rattle.job_buffers.proofs.Removed.{shorter_by}
 use Rattle.job_buffers.proofs.queue.Queue.remove_forlopp.Goals as goal
 

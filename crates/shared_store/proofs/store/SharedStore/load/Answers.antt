@@ -3,8 +3,8 @@ use Rattle.machine_code.specs.Permits.{may_read}
 use Rattle.shared_store.specs.declared.view.Hold.{Hold}
 use Rattle.shared_store.specs.Seats.{hold_of}
 use Rattle.shared_store.proofs.Touched.{Sound-snoc}
-use Rattle.machine_code.proofs.Touched.{length-stored}
-use Rattle.machine_code.specs.declared.permit.Touch.TheVariants.{Load}
+use Rattle.job_types.proofs.Touched.{length-stored}
+use Rattle.job_types.specs.declared.touch.Touch.TheVariants.{Load}
 use Rattle.shared_store.proofs.LoanSteps.{looks}
 use Rattle.shared_store.proofs.Kept.{keeps_job}
 use Rattle.shared_store.proofs.store.SharedStore.load.Goals as goal

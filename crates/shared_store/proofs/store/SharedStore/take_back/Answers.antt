@@ -2,7 +2,7 @@ use Rattle.std.proofs.Common.{sym, ap, ◌∙◌, arith}
 use Rattle.shared_store.specs.Loans.{taken_back}
 use Rattle.shared_store.specs.Seats.{top_of, hold_of}
 use Rattle.shared_store.specs.Rule.{Sat, both}
-use Rattle.machine_code.proofs.Touched.{length-stored}
+use Rattle.job_types.proofs.Touched.{length-stored}
 use Rattle.shared_store.proofs.Lending.{rejoins}
 use Rattle.shared_store.proofs.Kept.{keeps_root}
 use Rattle.shared_store.proofs.store.SharedStore.take_back.Goals as goal

@@ -3,7 +3,7 @@ use Rattle.std.specs.Prelude.{slice_index}
 use Rattle.std.specs.List.{find, range_with_len}
 use Rattle.exchange_model.specs.Cells.{field_cell}
 use Rattle.source_meaning.specs.Value.{stands as stand}
-use Rattle.source_meaning.specs.Step.{least_record}
+use Rattle.source_meaning.specs.Changes.{least_record}
 use Rattle.source_interpreter.proofs.place.Place.first_where.Given as goal
 
 abbrev pub invariant-loop-number : goal.invariant-loop-number

@@ -2,7 +2,8 @@ use Rattle.std.proofs.Common.{rules, ◌≡◌, ℕ, List, [], Ok, Err, refl, ap
 use Rattle.job_types.specs.declared.fault.Fault.{Fault}
 use Rattle.exchange_model.specs.declared.stmt.StmtKind.TheOpen as stmt
 use Rattle.source_meaning.specs.Value.{values_of}
-use Rattle.source_meaning.specs.Config.{Caller, eight}
+use Rattle.source_meaning.specs.Config.{Caller}
+use Rattle.job_types.specs.Own.{eight}
 use Rattle.source_meaning.specs.Step.{does}
 use Rattle.source_interpreter.specs.Running.{Running, sight_of}
 use Rattle.source_interpreter.specs.declared.stop.Stop.TheVariants as stop

@@ -1,5 +1,5 @@
 use Rattle.std.proofs.Common.{◌-◌}
-use Rattle.source_meaning.specs.Own.{budget}
+use Rattle.job_types.specs.Own.{budget}
 use Rattle.source_interpreter.proofs.Ending.{IsLater}
 use Rattle.source_interpreter.proofs.run.Run.finish.Given as goal
 

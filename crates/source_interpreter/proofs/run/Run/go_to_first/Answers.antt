@@ -3,7 +3,7 @@ use Rattle.std.specs.Prelude.{slice_index}
 use Rattle.exchange_model.specs.Cells.{field_cell}
 use Rattle.source_meaning.specs.Value.{answer_of, expr_value, stands as stand}
 use Rattle.source_meaning.specs.Config.{files_of, from_place, label_of}
-use Rattle.source_meaning.specs.Step.{least_record}
+use Rattle.source_meaning.specs.Changes.{least_record}
 use Rattle.source_interpreter.specs.Running.{Running, sight_of}
 use Rattle.source_interpreter.proofs.Searching.{first_found, first_none}
 use Rattle.source_interpreter.proofs.run.Run.go_to_first.Goals as goal

@@ -1,10 +1,11 @@
 use Rattle.std.proofs.Common.{ℕ, ◌≤◌, List, length, sym, subst}
+use Rattle.plex_limits.specs.declared.limits.TheConstants.{MOST_VALUES}
 use Rattle.exchange_model.specs.declared.stmt.StmtKind.TheOpen as stmt
 use Rattle.exchange_model.specs.declared.stmt.StmtKind.TheVariants as kind
 use Rattle.exchange_model.specs.declared.expr.Expr.{Expr}
 use Rattle.source_interpreter.specs.Leaves.{Does}
-use Rattle.source_interpreter.specs.Kept.{AreOfText, AreWhensOfText}
-use Rattle.source_interpreter.proofs.Performing.{if_first_kept, if_other_kept, whens_kept, otherwise_kept, body_kept, few_sent, few_returned, by_kind, exits}
+use Rattle.source_interpreter.specs.Kept.{AreExprsOfText, AreOfText, AreWhensOfText}
+use Rattle.source_interpreter.proofs.Performing.{if_first_kept, if_other_kept, whens_kept, otherwise_kept, body_kept, few_sent, few_returned, of_if_goto, of_if, of_send, of_return, by_kind, exits}
 use Rattle.source_interpreter.proofs.run.Run.perform.Goals as goal
 
 pub choose-requires-clause-first : goal.choose-requires-clause-first
@@ -19,14 +20,26 @@ choose_case-requires-clause-whens c = subst AreWhensOfText (sym c.as_slice-in-Ca
 pub choose_case-requires-clause-otherwise : goal.choose_case-requires-clause-otherwise
 choose_case-requires-clause-otherwise c = subst AreOfText (sym c.as_slice-in-Case-2.ensures) (otherwise_kept c.args.statement.now c.in-Case.value c.in-Case.whens c.in-Case.otherwise c.requires c.in-Case.is)
 
-pub begin_turns-requires : goal.begin_turns-requires
-begin_turns-requires c = subst AreOfText (sym c.as_slice-in-On.ensures) (body_kept c.args.statement.now c.in-On.temp c.in-On.from c.in-On.upto c.in-On.body c.requires c.in-On.is)
+pub begin_turns-requires-clause-body : goal.begin_turns-requires-clause-body
+begin_turns-requires-clause-body c = subst AreOfText (sym c.as_slice-in-On.ensures) (body_kept c.args.statement.now c.in-On.temp c.in-On.from c.in-On.upto c.in-On.body c.requires c.in-On.is)
 
-pub send-requires : goal.send-requires
-send-requires c = subst (λ (es : List Expr). length es ≤ 8) (sym c.as_slice-in-Send.ensures) (few_sent c.args.statement.now c.in-Send.signal c.in-Send.block c.in-Send.values c.in-Send.fresh c.requires c.in-Send.is)
+pub send-requires-clause-few : goal.send-requires-clause-few
+send-requires-clause-few c = subst (λ (es : List Expr). length es ≤ MOST_VALUES) (sym c.as_slice-in-Send.ensures) (few_sent c.args.statement.now c.in-Send.signal c.in-Send.to c.in-Send.values c.in-Send.fresh c.requires c.in-Send.is)
 
-pub answer-requires : goal.answer-requires
-answer-requires c = subst (λ (es : List Expr). length es ≤ 8) (sym c.as_slice-in-Return.ensures) (few_returned c.args.statement.now c.in-Return.answer c.in-Return.values c.requires c.in-Return.is)
+pub answer-requires-clause-few : goal.answer-requires-clause-few
+answer-requires-clause-few c = subst (λ (es : List Expr). length es ≤ MOST_VALUES) (sym c.as_slice-in-Return.ensures) (few_returned c.args.statement.now c.in-Return.answer c.in-Return.values c.requires c.in-Return.is)
+
+pub send-requires-clause-values : goal.send-requires-clause-values
+send-requires-clause-values c = subst AreExprsOfText (sym c.as_slice-in-Send.ensures) (of_send c.args.statement.now c.in-Send.signal c.in-Send.to c.in-Send.values c.in-Send.fresh c.requires c.in-Send.is)
+
+pub answer-requires-clause-values : goal.answer-requires-clause-values
+answer-requires-clause-values c = subst AreExprsOfText (sym c.as_slice-in-Return.ensures) (of_return c.args.statement.now c.in-Return.answer c.in-Return.values c.requires c.in-Return.is)
+
+pub jump_if-requires : goal.jump_if-requires
+jump_if-requires c = of_if_goto c.args.statement.now c.in-IfGoto.cond c.in-IfGoto.label c.requires c.in-IfGoto.is
+
+pub choose-requires-clause-cond : goal.choose-requires-clause-cond
+choose-requires-clause-cond c = of_if c.args.statement.now c.in-If.cond c.in-If.yes c.in-If.no c.requires c.in-If.is
 
 pub returns-in-Goto : goal.returns-in-Goto
 returns-in-Goto c =
@@ -34,9 +47,9 @@ returns-in-Goto c =
 
 pub returns-in-Send : goal.returns-in-Send
 returns-in-Send c =
-    let done : Does (stmt.Send c.in-Send.signal c.in-Send.block c.in-Send.values c.in-Send.fresh) c.args.self.now c.args.store.now c.send.result c.send.new.self c.args.store.now =
-    subst (λ (es : List Expr). Does (stmt.Send c.in-Send.signal c.in-Send.block es c.in-Send.fresh) c.args.self.now c.args.store.now c.send.result c.send.new.self c.args.store.now) c.as_slice-in-Send.ensures c.send.ensures in
-    by_kind c.args.statement.now (kind.Send c.in-Send.signal c.in-Send.block c.in-Send.values c.in-Send.fresh) (stmt.Send c.in-Send.signal c.in-Send.block c.in-Send.values c.in-Send.fresh) c.args.self.now c.send.new.self c.args.store.now c.args.store.now c.send.result c.in-Send.is (kind.outs-Send c.in-Send.signal c.in-Send.block c.in-Send.values c.in-Send.fresh) done
+    let done : Does (stmt.Send c.in-Send.signal c.in-Send.to c.in-Send.values c.in-Send.fresh) c.args.self.now c.args.store.now c.send.result c.send.new.self c.args.store.now =
+    subst (λ (es : List Expr). Does (stmt.Send c.in-Send.signal c.in-Send.to es c.in-Send.fresh) c.args.self.now c.args.store.now c.send.result c.send.new.self c.args.store.now) c.as_slice-in-Send.ensures c.send.ensures in
+    by_kind c.args.statement.now (kind.Send c.in-Send.signal c.in-Send.to c.in-Send.values c.in-Send.fresh) (stmt.Send c.in-Send.signal c.in-Send.to c.in-Send.values c.in-Send.fresh) c.args.self.now c.send.new.self c.args.store.now c.args.store.now c.send.result c.in-Send.is (kind.outs-Send c.in-Send.signal c.in-Send.to c.in-Send.values c.in-Send.fresh) done
 
 pub returns-in-Retrieve : goal.returns-in-Retrieve
 returns-in-Retrieve c =
@@ -46,7 +59,11 @@ returns-in-Retrieve c =
 
 pub returns-in-Transfer : goal.returns-in-Transfer
 returns-in-Transfer c =
-    by_kind c.args.statement.now (kind.Transfer c.in-Transfer.signal c.in-Transfer.block) (stmt.Transfer c.in-Transfer.signal c.in-Transfer.block) c.args.self.now c.transfer.new.self c.args.store.now c.args.store.now c.transfer.result c.in-Transfer.is (kind.outs-Transfer c.in-Transfer.signal c.in-Transfer.block) c.transfer.ensures
+    by_kind c.args.statement.now (kind.Transfer c.in-Transfer.signal c.in-Transfer.to) (stmt.Transfer c.in-Transfer.signal c.in-Transfer.to) c.args.self.now c.transfer.new.self c.args.store.now c.args.store.now c.transfer.result c.in-Transfer.is (kind.outs-Transfer c.in-Transfer.signal c.in-Transfer.to) c.transfer.ensures
 
 pub returns-in-Exit : goal.returns-in-Exit
 returns-in-Exit c = exits c.args.statement.now c.args.self.now c.args.store.now c.end.result c.in-Exit.is c.end.ensures
+
+pub returns-in-Free : goal.returns-in-Free
+returns-in-Free c =
+    by_kind c.args.statement.now (kind.Free c.in-Free.temp c.in-Free.file) (stmt.Free c.in-Free.temp c.in-Free.file) c.args.self.now c.free.new.self c.args.store.now c.free.new.store c.free.result c.in-Free.is (kind.outs-Free c.in-Free.temp c.in-Free.file) c.free.ensures

@@ -5,7 +5,8 @@ use Rattle.job_types.specs.declared.fault.Fault.TheVariants as fault
 use Rattle.exchange_model.specs.declared.stmt.StmtKind.TheOpen as stmt
 use Rattle.exchange_model.specs.Cells.{Placed, mark_cell}
 use Rattle.source_meaning.specs.Config.{files_of, from_place, label_of}
-use Rattle.source_meaning.specs.Step.{does, least_record}
+use Rattle.source_meaning.specs.Step.{does}
+use Rattle.source_meaning.specs.Changes.{least_record}
 use Rattle.source_interpreter.specs.Running.{Running}
 use Rattle.source_interpreter.specs.declared.stop.Stop.TheVariants as stop
 use Rattle.source_interpreter.proofs.Follow.{checked, answered}

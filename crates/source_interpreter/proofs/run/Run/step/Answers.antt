@@ -2,8 +2,8 @@ use Rattle.std.proofs.Common.{rules, ◌≡◌, Some, Ok, Err}
 use Rattle.std.specs.Prelude.{nat_lt}
 use Rattle.job_types.specs.declared.fault.Fault.{Fault}
 use Rattle.job_types.specs.declared.fault.Fault.TheVariants as fault
-use Rattle.source_meaning.specs.Own.{budget, counted}
-use Rattle.source_meaning.specs.Config.{settle}
+use Rattle.job_types.specs.Own.{budget, counted}
+use Rattle.source_meaning.specs.Config.{next_counted}
 use Rattle.source_interpreter.specs.Running.{Running}
 use Rattle.source_interpreter.specs.Taken.{before}
 use Rattle.source_interpreter.specs.declared.stop.Stop.TheVariants as stop
@@ -17,7 +17,7 @@ returns-in_err-count-in-Some-Do c =
     let r : Running = c.args.self.now in
     let r1 : Running = c.take_next.new.self in
     let f : Fault = c.in_err-count-in-Some-Do.field-0.0 in
-    let settled : settle r.todo ≡ before c.in_ok-take_next.field-0 r1.todo = search rules in
+    let settled : next_counted r.todo ≡ before c.in_ok-take_next.field-0 r1.todo = search rules in
     let took : r1 ≡ record r { todo = r1.todo } = search rules in
     let found : c.in_ok-take_next.field-0 ≡ Some (next.Do c.in-Some-Do.statement) = search rules in
     let full : Err f ≡ checked (nat_lt r1.own.count budget) fault.Budget = search rules in
@@ -30,7 +30,7 @@ returns-in_err-count-in-Some-Start c =
     let r : Running = c.args.self.now in
     let r1 : Running = c.take_next.new.self in
     let f : Fault = c.in_err-count-in-Some-Start.field-0.0 in
-    let settled : settle r.todo ≡ before c.in_ok-take_next.field-0 r1.todo = search rules in
+    let settled : next_counted r.todo ≡ before c.in_ok-take_next.field-0 r1.todo = search rules in
     let took : r1 ≡ record r { todo = r1.todo } = search rules in
     let found : c.in_ok-take_next.field-0 ≡ Some (next.Start c.in-Some-Start.statement) = search rules in
     let full : Err f ≡ checked (nat_lt r1.own.count budget) fault.Budget = search rules in
@@ -43,7 +43,7 @@ returns-in_err-count-in-Some-Turn c =
     let r : Running = c.args.self.now in
     let r1 : Running = c.take_next.new.self in
     let f : Fault = c.in_err-count-in-Some-Turn.field-0.0 in
-    let settled : settle r.todo ≡ before c.in_ok-take_next.field-0 r1.todo = search rules in
+    let settled : next_counted r.todo ≡ before c.in_ok-take_next.field-0 r1.todo = search rules in
     let took : r1 ≡ record r { todo = r1.todo } = search rules in
     let found : c.in_ok-take_next.field-0 ≡ Some (next.Turn c.in-Some-Turn.point c.in-Some-Turn.temp c.in-Some-Turn.this c.in-Some-Turn.last c.in-Some-Turn.body) = search rules in
     let full : Err f ≡ checked (nat_lt r1.own.count budget) fault.Budget = search rules in
@@ -55,7 +55,7 @@ pub returns-in-None : goal.returns-in-None
 returns-in-None c =
     let r : Running = c.args.self.now in
     let r1 : Running = c.take_next.new.self in
-    let settled : settle r.todo ≡ before c.in_ok-take_next.field-0 r1.todo = search rules in
+    let settled : next_counted r.todo ≡ before c.in_ok-take_next.field-0 r1.todo = search rules in
     let took : r1 ≡ record r { todo = r1.todo } = search rules in
     nothing_left r r1 c.args.store.now c.end.result c.in_ok-take_next.field-0 settled took c.in-None.is c.end.ensures
 
@@ -63,7 +63,7 @@ pub returns-in_ok-count-in-Some-Do : goal.returns-in_ok-count-in-Some-Do
 returns-in_ok-count-in-Some-Do c =
     let r : Running = c.args.self.now in
     let r1 : Running = c.take_next.new.self in
-    let settled : settle r.todo ≡ before c.in_ok-take_next.field-0 r1.todo = search rules in
+    let settled : next_counted r.todo ≡ before c.in_ok-take_next.field-0 r1.todo = search rules in
     let took : r1 ≡ record r { todo = r1.todo } = search rules in
     let found : c.in_ok-take_next.field-0 ≡ Some (next.Do c.in-Some-Do.statement) = search rules in
     let room : Ok tt ≡ checked (nat_lt r1.own.count budget) fault.Budget = search rules in
@@ -74,7 +74,7 @@ pub returns-in_ok-count-in-Some-Start : goal.returns-in_ok-count-in-Some-Start
 returns-in_ok-count-in-Some-Start c =
     let r : Running = c.args.self.now in
     let r1 : Running = c.take_next.new.self in
-    let settled : settle r.todo ≡ before c.in_ok-take_next.field-0 r1.todo = search rules in
+    let settled : next_counted r.todo ≡ before c.in_ok-take_next.field-0 r1.todo = search rules in
     let took : r1 ≡ record r { todo = r1.todo } = search rules in
     let found : c.in_ok-take_next.field-0 ≡ Some (next.Start c.in-Some-Start.statement) = search rules in
     let room : Ok tt ≡ checked (nat_lt r1.own.count budget) fault.Budget = search rules in
@@ -85,7 +85,7 @@ pub returns-in_ok-count-in-Some-Turn : goal.returns-in_ok-count-in-Some-Turn
 returns-in_ok-count-in-Some-Turn c =
     let r : Running = c.args.self.now in
     let r1 : Running = c.take_next.new.self in
-    let settled : settle r.todo ≡ before c.in_ok-take_next.field-0 r1.todo = search rules in
+    let settled : next_counted r.todo ≡ before c.in_ok-take_next.field-0 r1.todo = search rules in
     let took : r1 ≡ record r { todo = r1.todo } = search rules in
     let found : c.in_ok-take_next.field-0 ≡ Some (next.Turn c.in-Some-Turn.point c.in-Some-Turn.temp c.in-Some-Turn.this c.in-Some-Turn.last c.in-Some-Turn.body) = search rules in
     let room : Ok tt ≡ checked (nat_lt r1.own.count budget) fault.Budget = search rules in

@@ -1,4 +1,0 @@
-pub mod BlockSteps
-pub mod Choices
-pub mod Layers
-pub mod Steps

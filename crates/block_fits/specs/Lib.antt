@@ -1,4 +1,0 @@
-pub mod Blocks
-pub mod Everywhere
-pub mod Meanings
-pub mod Shares

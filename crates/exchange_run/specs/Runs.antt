@@ -1,0 +1,41 @@
+-- How a job is run, how far the single run has come, and where it ends.
+use Rattle.std.specs.Prelude.{◌≡◌, ℕ, ◌<◌, ◌≤◌, List, Option, Some, None}
+use Rattle.job_types.specs.declared.job.JobStart.{JobStart}
+use Rattle.job_types.specs.declared.outcome.JobDone.{JobDone}
+use Rattle.job_types.specs.Own.{done_of}
+use Rattle.exchange_model.specs.declared.exchange.Exchange.{Exchange}
+use Rattle.source_meaning.specs.Job.{job}
+use Rattle.source_meaning.specs.SingleRun.{after, end_state, ending_at, opening}
+use Rattle.source_meaning.specs.SingleRun as single
+use Rattle.source_meaning.specs.State.{Coming, State}
+use Rattle.source_meaning.specs.Valid.{IsValid, IsFitting}
+use Rattle.retire_order.specs.Accounts.{Account, with_words}
+
+-- a start that fits a valid state of these stored words
+pub record MayRun (x : Exchange) (start : JobStart) (store : List ℕ) : Type 0 where
+  pub state : State
+  pub valid : IsValid x state
+  pub fitting : IsFitting x state start
+  pub store_is : state.store ≡ store
+
+-- what a job of this start leaves, over these words
+abbrev pub left_by : Exchange → JobStart → List ℕ → JobDone
+left_by x start store = done_of (job x start store).own (job x start store).over
+
+-- the words after a job of this start
+abbrev pub words_after : Exchange → JobStart → List ℕ → List ℕ
+words_after x start store = (job x start store).world.store
+
+-- the books and the words stand for the single run after so many jobs, nobody runs, and the run was not over before
+pub record Stands (x : Exchange) (lines : List Coming) (limit n : ℕ) (b : Account) (words : List ℕ) : Type 0 where
+  pub state : with_words b.state words ≡ after x (opening x lines) n
+  pub ended : b.state.ended ≡ n
+  pub nobody : b.running ≡ 0
+  pub limited : b.limit ≡ limit
+  pub few : n ≤ limit
+  pub goes_on : (m : ℕ) → m < n → ending_at limit (after x (opening x lines) m) ≡ None
+
+-- the books and the words stand for the end of the single run, and this is how it ends
+pub record ComesTo (x : Exchange) (lines : List Coming) (limit : ℕ) (s : State) (words : List ℕ) (ending : single.Ending) : Type 0 where
+  pub state : with_words s words ≡ end_state x limit (opening x lines)
+  pub ends : ending_at limit (end_state x limit (opening x lines)) ≡ Some ending

@@ -1,0 +1,54 @@
+// Jobs run by compiled code.
+ghost use Rattle.std.specs.Prelude.{◌≡◌};
+
+use crate::runner::Runner;
+use exchange_model::Exchange;
+use job_types::{JobDone, JobStart};
+use machine_code::Code;
+use plex_num::{Memory, Seq};
+use register_machine::{JobRun, run_to_end};
+
+/// Runs each job by the register machine on faithful code. One run serves all jobs, each begun in the place of the one before.
+#[derive(Drop)]
+pub struct ByCode<'a> {
+    code: &'a Code,
+    run: JobRun,
+}
+
+impl<'a> ByCode<'a> {
+    /// Before the first job of this code.
+    pub fn new(code: &'a Code) -> ByCode<'a>
+        ensures { result.code.now ≡ code.now }
+    {
+        ByCode {
+            code,
+            run: JobRun::idle(),
+        }
+    }
+}
+
+impl<'a> Runner for ByCode<'a> {
+    ghost use Rattle.exchange_run.specs.Machines.{Leaves};
+    ghost use Rattle.register_machine.specs.Faithful.{Faithful};
+
+    ghost runs = { λ r x. Faithful x r.code.now };
+
+    ghost has_left = { λ r d. Leaves r.run d };
+
+    #[tactic(auto, using(crate::proofs::Starting::entry_within))]
+    fn run(
+        &mut self,
+        exchange: &Exchange,
+        start: &JobStart,
+        words: &mut Seq<u32>,
+    ) -> Result<(), Memory> {
+        exchange.kept();
+        self.run.begin(self.code, start);
+        run_to_end(exchange, &mut self.run, self.code, words);
+        Ok(())
+    }
+
+    fn done(&self) -> &JobDone {
+        self.run.done()
+    }
+}

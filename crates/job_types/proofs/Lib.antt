@@ -1,0 +1,3 @@
+pub mod ChainMaps
+pub mod Chained
+pub mod Touched

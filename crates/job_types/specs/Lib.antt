@@ -1,0 +1,6 @@
+pub mod Chain
+pub mod Forlopps
+pub mod Own
+pub mod Touches
+pub mod Truth
+pub mod Waiting

@@ -1,8 +1,0 @@
-pub mod Blocks
-pub mod Known
-pub mod Layers
-pub mod Places
-pub mod References
-pub mod Steps
-pub mod SurveySteps
-pub mod Told

@@ -1,8 +1,0 @@
-use Rattle.machine_code.proofs.Touched.{stored-kept, stored-last}
-use Rattle.machine_code.proofs.laws.last_store_counts.Goals as goal
-
-pub returns-clause-last : goal.returns-clause-last
-returns-clause-last c = stored-last
-
-pub returns-clause-none : goal.returns-clause-none
-returns-clause-none c = stored-kept

@@ -1,0 +1,26 @@
+-- The answer of a run that has come to its end.
+use Rattle.std.proofs.Common.{◌≡◌, ℕ, List, map, sym, ap, ◌∙◌}
+use Rattle.std.specs.Prelude.{unwrap_or}
+use Rattle.exchange_model.specs.declared.exchange.Exchange.{Exchange}
+use Rattle.signal_file.specs.declared.line.Line.{Line}
+use Rattle.source_meaning.specs.SingleRun.{Ending, Finished, Limited, Restarted}
+use Rattle.source_meaning.specs.State.{State}
+use Rattle.retire_order.specs.Accounts.{with_words}
+use Rattle.retire_order.specs.Lines.{coming_of}
+use Rattle.exchange_run.specs.Runs.{ComesTo}
+use Rattle.report_text.specs.Report.{report_text}
+use Rattle.plex_program.specs.Answer.{end_of, ended_answer, ended_status, ending_of, run_answer}
+use Rattle.plex_program.specs.Program.{IsEnding}
+use Rattle.plex_program.specs.declared.perform.Answer.{Answer}
+use Rattle.plex_program.specs.declared.program.Status.{Status}
+
+pub status_ends : (e : Ending) (s : Status) → s ≡ ended_status e → IsEnding s
+status_ends Finished s is = rw is tt
+status_ends Restarted s is = rw is tt
+status_ends Limited s is = rw is tt
+
+pub answer_is : (x : Exchange) (lines : List Line) (jobs : ℕ) (s : State) (words : List ℕ) (e : Ending) (a : Answer) → ComesTo x (map coming_of lines) jobs s words e → a.status ≡ ended_status e → a.text ≡ report_text x (with_words s words) e → a ≡ run_answer x lines jobs
+answer_is x lines jobs s words e a comes status_is text_is =
+    let ends : e ≡ ending_of jobs (end_of x lines jobs) = ap (λ o. unwrap_or o Limited) (sym comes.ends) in
+    let here : a ≡ ended_answer x (with_words s words) e = λ i. record { status = status_is i; text = text_is i } in
+    here ∙ ap (λ t. ended_answer x t e) comes.state ∙ ap (ended_answer x (end_of x lines jobs)) ends

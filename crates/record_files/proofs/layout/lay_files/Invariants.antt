@@ -1,5 +1,0 @@
-use Rattle.record_files.proofs.Laying.{FilesLaid}
-use Rattle.record_files.proofs.layout.lay_files.Given as goal
-
-abbrev pub invariant-loop-file : goal.invariant-loop-file
-invariant-loop-file l = FilesLaid l.fn.rows l.rows l.first l.word l.file-index l.files

@@ -1,0 +1,29 @@
+-- The parts of a report, joined.
+use Rattle.std.proofs.Common.{◌≡◌, ℕ, List, [], ◌∷◌, ◌++◌, map, refl, sym, ap, ◌∙◌}
+use Rattle.std.proofs.lemmas.List.{append-nil}
+use Rattle.std.proofs.lemmas.List.Concat.{flat_map-append}
+use Rattle.exchange_model.specs.declared.exchange.Exchange.{Exchange}
+use Rattle.source_meaning.specs.SingleRun.{Ending}
+use Rattle.source_meaning.specs.State.{State}
+use Rattle.report_text.specs.Report.{end_line, event_line, field_lines, held_lines, jobs_line, report_text, text_of, variable_lines, written}
+
+joined : {text more : List ℕ} (lines others : List (List ℕ)) → text ≡ text_of lines → more ≡ text ++ text_of others → more ≡ text_of (lines ++ others)
+joined lines others is wrote = wrote ∙ ap (λ t. t ++ text_of others) is ∙ sym (flat_map-append written lines others)
+
+one_line : (line : List ℕ) → written line ≡ text_of (line ∷ [])
+one_line line = sym (append-nil (written line))
+
+joined_one : {text more : List ℕ} (lines : List (List ℕ)) (line : List ℕ) → text ≡ text_of lines → more ≡ text ++ written line → more ≡ text_of (lines ++ line ∷ [])
+joined_one {text = text} lines line is wrote = joined lines (line ∷ []) is (wrote ∙ ap (λ t. text ++ t) (one_line line))
+
+-- the texts after each part
+pub whole : (x : Exchange) (s : State) (ending : Ending) (empty events jobs variables fields holders all : List ℕ) → empty ≡ [] → events ≡ empty ++ text_of (map (event_line x) s.events) → jobs ≡ events ++ written (jobs_line s.ended) → variables ≡ jobs ++ text_of (variable_lines x.blocks s.store) → fields ≡ variables ++ text_of (field_lines x.blocks s.store) → holders ≡ fields ++ text_of (held_lines x.blocks s.chains) → all ≡ holders ++ written (end_line ending) → all ≡ report_text x s ending
+unfolding report_text
+whole x s ending empty events jobs variables fields holders all none a b c d e f =
+    let lines = map (event_line x) s.events in
+    let first : events ≡ text_of lines = a ∙ ap (λ t. t ++ text_of lines) none in
+    let second = joined_one lines (jobs_line s.ended) first b in
+    let third = joined (lines ++ jobs_line s.ended ∷ []) (variable_lines x.blocks s.store) second c in
+    let fourth = joined (lines ++ jobs_line s.ended ∷ [] ++ variable_lines x.blocks s.store) (field_lines x.blocks s.store) third d in
+    let fifth = joined (lines ++ jobs_line s.ended ∷ [] ++ variable_lines x.blocks s.store ++ field_lines x.blocks s.store) (held_lines x.blocks s.chains) fourth e in
+    joined_one (lines ++ jobs_line s.ended ∷ [] ++ variable_lines x.blocks s.store ++ field_lines x.blocks s.store ++ held_lines x.blocks s.chains) (end_line ending) fifth f

@@ -1,0 +1,109 @@
+// The lines of the events.
+ghost use Rattle.std.specs.Prelude.{◌≡◌, ◌++◌, OnOk, map};
+ghost use Rattle.retire_order.specs.Events.{event_of};
+ghost use Rattle.report_text.specs.Report.{event_line, fault_words, out_line, text_of, value_words};
+
+use crate::names::{add_number, add_point, fault_word, signal_name};
+use exchange_model::Exchange;
+use job_types::Fault;
+use plex_num::{Memory, Seq};
+use retire_order::Event;
+
+/// The line of each event, in order.
+pub fn add_events(text: &mut Seq<u8>, exchange: &Exchange, events: &[Event]) -> Result<(), Memory>
+    ensures { OnOk result (text.new
+        ≡ text.old ++ text_of (map (event_line exchange.now) (map event_of events.now))) }
+{
+    for event in events {
+        add_event(text, exchange, event)?;
+        text.append(b"\n")?;
+    }
+    Ok(())
+}
+
+/// The line of an event, without its end.
+fn add_event(text: &mut Seq<u8>, exchange: &Exchange, event: &Event) -> Result<(), Memory>
+    ensures { OnOk result (text.new ≡ text.old ++ event_line exchange.now (event_of event.now)) }
+{
+    match event {
+        Event::Out {
+            job,
+            signal,
+            values,
+            forlopp,
+        } => add_out(text, exchange, *job, *signal, values.as_slice(), *forlopp),
+        Event::Release {
+            forlopp,
+            job,
+            fault,
+            point,
+            jobs,
+            records,
+        } => {
+            add_number(text, b"RELEASE F", *forlopp)?;
+            add_fault(text, exchange, *job, *fault, *point, *jobs, *records)
+        }
+        Event::Lost { line } => add_number(text, b"LOST line ", u64::from(*line)),
+        Event::Restart {
+            job,
+            fault,
+            point,
+            jobs,
+            records,
+        } => {
+            text.append(b"RESTART")?;
+            add_fault(text, exchange, *job, *fault, *point, *jobs, *records)
+        }
+    }
+}
+
+/// `OUT j SIG v1 v2 Fn`.
+fn add_out(
+    text: &mut Seq<u8>,
+    exchange: &Exchange,
+    job: u64,
+    signal: u32,
+    values: &[u32],
+    forlopp: u64,
+) -> Result<(), Memory>
+    ensures { OnOk result
+        (text.new ≡ text.old ++ out_line exchange.now job signal values.now forlopp) }
+{
+    add_number(text, b"OUT ", job)?;
+    text.append(b" ")?;
+    text.append(signal_name(exchange, signal))?;
+    add_values(text, values)?;
+    add_number(text, b" F", forlopp)
+}
+
+/// ` v` for each value.
+fn add_values(text: &mut Seq<u8>, values: &[u32]) -> Result<(), Memory>
+    ensures { OnOk result (text.new ≡ text.old ++ value_words values.now) }
+{
+    for value in values {
+        add_number(text, b" ", u64::from(*value))?;
+    }
+    Ok(())
+}
+
+/// ` job j FAULT at BLOCK:line jobs k records r`.
+fn add_fault(
+    text: &mut Seq<u8>,
+    exchange: &Exchange,
+    job: u64,
+    fault: Fault,
+    point: u32,
+    jobs: u64,
+    records: u32,
+) -> Result<(), Memory>
+    ensures { OnOk result
+        (text.new ≡ text.old ++ fault_words exchange.now job fault point jobs records) }
+{
+    add_number(text, b" job ", job)?;
+    text.append(b" ")?;
+    text.append(fault_word(fault))?;
+    text.append(b" at ")?;
+    add_point(text, exchange, point)?;
+    add_number(text, b" jobs ", jobs)?;
+    add_number(text, b" records ", u64::from(records))
+}

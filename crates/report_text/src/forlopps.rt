@@ -1,0 +1,48 @@
+// The lines of the records that forlopps hold.
+ghost use Rattle.std.specs.Prelude.{◌≡◌, ◌++◌, OnOk, map};
+ghost use Rattle.report_text.specs.Report.{held_line, held_lines, text_of, written};
+
+use crate::names::{add_held_name, add_number};
+use exchange_model::Exchange;
+use forlopp_chain::Chains;
+use job_types::Held;
+use plex_num::{Memory, Seq};
+
+/// The line of each record that a forlopp holds, by the numbers of the forlopps.
+pub fn add_holders(text: &mut Seq<u8>, exchange: &Exchange, chains: &Chains) -> Result<(), Memory>
+    ensures { OnOk result
+        (text.new ≡ text.old ++ text_of (held_lines exchange.now.blocks chains.now.chains)) }
+{
+    let numbers = chains.numbers()?;
+    for number in numbers.as_slice() {
+        add_chain(text, exchange, *number, chains.chain(*number))?;
+    }
+    Ok(())
+}
+
+/// The line of each record of a chain.
+fn add_chain(
+    text: &mut Seq<u8>,
+    exchange: &Exchange,
+    forlopp: u64,
+    chain: &[Held],
+) -> Result<(), Memory>
+    ensures { OnOk result (text.new
+        ≡ text.old ++ text_of (map (held_line exchange.now.blocks forlopp) chain.now)) }
+{
+    for held in chain {
+        add_held(text, exchange, forlopp, *held)?;
+    }
+    Ok(())
+}
+
+/// `HELD Fn BLOCK.FILE(r)`.
+fn add_held(text: &mut Seq<u8>, exchange: &Exchange, forlopp: u64, held: Held) -> Result<(), Memory>
+    ensures { OnOk result
+        (text.new ≡ text.old ++ written (held_line exchange.now.blocks forlopp held)) }
+{
+    add_number(text, b"HELD F", forlopp)?;
+    text.append(b" ")?;
+    add_held_name(text, exchange, held)?;
+    text.append(b"\n")
+}

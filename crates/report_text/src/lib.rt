@@ -1,0 +1,16 @@
+// The text of a report.
+//
+// What goes in: an exchange, the books and the stored words of a run, and how it ended. What comes out: the text of its
+// report, byte for byte. Contracts see a definition over a state of the single run. It knows no job and no machine, and
+// changes nothing.
+#![tactic(auto)]
+
+mod events;
+mod forlopps;
+mod names;
+mod stored;
+#[cfg(test)]
+mod tests;
+mod whole;
+
+pub use whole::report;

@@ -1,0 +1,54 @@
+ghost use Rattle.std.specs.Prelude.{◌≡◌, ◌++◌, IfOk, OnOk};
+ghost use Rattle.retire_order.specs.Accounts.{with_words};
+ghost use Rattle.retire_order.specs.Events.{ending_of};
+ghost use Rattle.report_text.specs.Report.{end_line, jobs_line, report_text, written};
+
+use crate::events::add_events;
+use crate::forlopps::add_holders;
+use crate::names::add_number;
+use crate::stored::{add_fields, add_variables};
+use exchange_model::Exchange;
+use plex_num::{Memory, Seq};
+use retire_order::{Books, Ending};
+use std::alloc::Global;
+
+/// The text of the report of a run of this exchange that has left these books and these stored words, in the order of the
+/// cells, and that has ended so. Memory is the only reason for an error.
+pub fn report(
+    alloc: Global,
+    exchange: &Exchange,
+    books: &Books,
+    words: &Seq<u32>,
+    ending: Ending,
+) -> Result<Seq<u8>, Memory>
+    ensures { IfOk result (λ text. text
+        ≡ report_text exchange.now (with_words books.now.state words.now) (ending_of ending)) }
+{
+    let mut text = Seq::new(alloc);
+    add_events(&mut text, exchange, books.events())?;
+    add_jobs(&mut text, books.ended())?;
+    add_variables(&mut text, exchange, words.as_slice())?;
+    add_fields(&mut text, exchange, words.as_slice())?;
+    add_holders(&mut text, exchange, books.chains())?;
+    add_ending(&mut text, ending)?;
+    Ok(text)
+}
+
+/// `JOBS n`.
+fn add_jobs(text: &mut Seq<u8>, ended: u64) -> Result<(), Memory>
+    ensures { OnOk result (text.new ≡ text.old ++ written (jobs_line ended)) }
+{
+    add_number(text, b"JOBS ", ended)?;
+    text.append(b"\n")
+}
+
+/// How the run ended.
+fn add_ending(text: &mut Seq<u8>, ending: Ending) -> Result<(), Memory>
+    ensures { OnOk result (text.new ≡ text.old ++ written (end_line (ending_of ending))) }
+{
+    match ending {
+        Ending::Done => text.append(b"END DONE\n"),
+        Ending::Restart => text.append(b"END RESTART\n"),
+        Ending::Limit => text.append(b"END LIMIT\n"),
+    }
+}

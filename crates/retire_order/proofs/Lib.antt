@@ -1,0 +1,10 @@
+pub mod Keeping
+pub mod Lined
+pub mod Listed
+pub mod Written
+pub mod Traffic
+pub mod Worlds
+pub mod Settled
+pub mod Counted
+pub mod Fitting
+pub mod Bare

@@ -1,0 +1,93 @@
+-- What contracts see of the books: a state whose words stand elsewhere, how many jobs run, and how many may end.
+use Rattle.std.specs.Prelude.{◌≡◌, ℕ, ◌+◌, ◌*◌, ◌<◌, ◌≤◌, ◌^◌, nat_lt, Bool, false, List, [], ◌∷◌, length, Option, Some, None, unwrap_or, if◌then◌else◌}
+use Rattle.plex_limits.specs.declared.limits.TheConstants.{MOST_JOBS, MOST_SENT}
+use Rattle.std.specs.FinMap as map
+use Rattle.job_types.specs.Forlopps.{ChainMap, Dead, none_dead}
+use Rattle.job_types.specs.Waiting.{Waiting, nobody}
+use Rattle.job_types.specs.declared.job.Job.{Job}
+use Rattle.job_types.specs.declared.job.JobStart.{JobStart}
+use Rattle.exchange_model.specs.declared.exchange.Exchange.{Exchange}
+use Rattle.forlopp_chain.specs.Chains.{AreBelow}
+use Rattle.source_meaning.specs.State.{Coming, Event, Origin, State}
+use Rattle.source_meaning.specs.Arrivals.{arrives, forlopp_for, is_due, level_of}
+use Rattle.source_meaning.specs.SingleRun.{begun, next_start}
+use Rattle.retire_order.specs.Lines.{Timetable}
+
+-- a state, of whose words nothing is said; how many jobs run; and after how many jobs the run ends
+pub record Account : Type 0 where
+  pub state : State
+  pub running : ℕ
+  pub limit : ℕ
+
+-- the state with the words that stand beside the books
+abbrev pub with_words : State → List ℕ → State
+with_words s words = record s { store = words }
+
+-- what holds of the books at every moment
+pub record IsKept (b : Account) : Type 0 where
+  pub few : b.limit ≤ MOST_JOBS
+  pub within : b.state.ended + b.running ≤ b.limit
+  pub restarts : b.state.restarts ≤ b.state.ended
+  pub some : 1 ≤ b.state.next
+  pub next : b.state.next ≤ 1 + length b.state.arrived + MOST_SENT * b.state.ended
+  pub lines : length b.state.arrived + length b.state.lines < 2 ^ 32
+  pub below : AreBelow b.state.chains b.state.next
+  pub chains : map.len b.state.chains ≤ b.state.ended
+
+-- the account of these parts
+abbrev pub account : Timetable → Waiting → ChainMap → Dead → List Event → (next ended restarts running limit : ℕ) → Account
+account t waiting chains dead events next ended restarts running limit = record {
+  state = record {
+    store = [];
+    waiting = waiting;
+    chains = chains;
+    dead = dead;
+    next = next;
+    ended = ended;
+    restarts = restarts;
+    events = events;
+    lines = t.lines;
+    arrived = t.arrived;
+  };
+  running = running;
+  limit = limit;
+}
+
+-- the books before the first line has arrived: with the opening store, this is the opening
+abbrev pub opened : List Coming → ℕ → Account
+opened lines limit = account (record { lines = lines; arrived = [] }) nobody map.empty none_dead [] 1 0 0 0 limit
+
+-- the start of the next job, where the limit lets one more begin
+abbrev pub upcoming : Account → Option JobStart
+upcoming b = (if nat_lt (b.state.ended + b.running) b.limit then next_start b.state else None)
+
+-- the next job, if there is one, has begun, and is one of those that run
+abbrev pub after_start : Option JobStart → Account → Account
+after_start None b = b
+after_start (Some start) b = record b { state = begun b.state; running = b.running + 1 }
+
+-- the state after the next line, where that is due
+abbrev pub line_arrives : Exchange → List Coming → State → Option State
+line_arrives x [] s = None
+line_arrives x (l ∷ rest) s = (if is_due l s then Some (arrives x l rest s) else None)
+
+-- the next line of a state, before these: its number, where its forlopp comes from, and its job
+pub record IsLine (x : Exchange) (l : Coming) (rest : List Coming) (number : ℕ) (origin : Origin) (job : Job) (s : State) : Type 0 where
+  pub next : s.lines ≡ l ∷ rest
+  pub numbered : number ≡ l.number
+  pub from : origin ≡ l.origin
+  pub begins : job ≡ record { entry = l.entry; level = level_of x l.entry; values = l.values; forlopp = forlopp_for l.origin s }
+
+-- whether the next line is due
+abbrev pub is_next_due : List Coming → State → Bool
+is_next_due [] s = false
+is_next_due (l ∷ rest) s = is_due l s
+
+-- the books after the next line, where that is due
+abbrev pub after_arrival : Exchange → Account → Account
+after_arrival x b = record b { state = unwrap_or (line_arrives x b.state.lines b.state) b.state }
+
+-- for how many ended jobs the next line waits
+abbrev pub next_count : List Coming → Option ℕ
+next_count [] = None
+next_count (l ∷ rest) = Some l.after

@@ -1,0 +1,6 @@
+pub mod Events
+pub mod Lines
+pub mod Accounts
+pub mod Stores
+pub mod Retired
+pub mod Traffic

@@ -1,0 +1,141 @@
+// Lines of the signal file arrive.
+ghost use Rattle.std.specs.Prelude.{◌≡◌, ◌+◌, ◌<◌, ◌^◌, ◌++◌, ◌∷◌, [], List, false, length, MatchResult, if◌then◌else◌};
+ghost use Rattle.exchange_model.specs.declared.exchange.Exchange.{Exchange};
+ghost use Rattle.job_buffers.specs.Room.{room_at};
+ghost use Rattle.job_types.specs.Forlopps.{is_dead};
+ghost use Rattle.job_types.specs.Waiting.{joins};
+ghost use Rattle.source_meaning.specs.Arrivals.{arrives, forlopp_for, is_due, level_of, next_after};
+ghost use Rattle.source_meaning.specs.State.{Coming, Lost, has_stopped};
+ghost use Rattle.retire_order.specs.Accounts.{IsLine, after_arrival, is_next_due};
+ghost use Rattle.retire_order.specs.Lines.{coming_of, origin_of};
+
+use crate::books::Books;
+use crate::event::{Event, EventLog};
+use exchange_model::{Exchange, SignalKind};
+use forlopp_chain::Chains;
+use job_buffers::Buffers;
+use job_types::Job;
+use plex_num::{Level, Memory};
+use signal_file::{Line, LineKind};
+
+impl Books {
+    /// Lets the next line arrive, if it is due: true exactly where it is, and else nothing changes. No job may run, and the
+    /// last restart must not have come. Where memory is refused, nothing changes.
+    pub fn arrive(&mut self, exchange: &Exchange) -> Result<bool, Memory>
+        requires nobody { self.old.running ≡ 0 }
+        requires goes_on { has_stopped self.old.state ≡ false }
+        ensures { MatchResult result
+            (λ due. (due ≡ is_next_due self.old.state.lines self.old.state)
+            × (self.new ≡ after_arrival exchange.now self.old))
+            (λ _. self.new ≡ self.old) }
+    {
+        let Some(line) = self.schedule.next() else {
+            return Ok(false);
+        };
+        if !self.is_due(line) {
+            return Ok(false);
+        }
+        let (number, kind) = (line.number, line.kind);
+        let job = self.job_of(exchange, line);
+        self.take_line(number, kind, job)?;
+        Ok(true)
+    }
+
+    /// The next line arrives, which must be there; it has this number, its forlopp comes from there, and this is its job.
+    fn take_line(&mut self, number: u32, kind: LineKind, job: Job) -> Result<(), Memory>
+        requires { 0 < length self.old.state.lines }
+        ensures { MatchResult result
+            (λ _. (x : Exchange) (l : Coming) (rest : List Coming)
+            → IsLine x l rest number (origin_of kind) job self.old.state
+            → self.new ≡ record self.old { state = arrives x l rest self.old.state })
+            (λ _. self.new ≡ self.old) }
+    {
+        self.waiting.reserve(job.level, 1)?;
+        self.events.reserve(1)?;
+        self.schedule.arrive(job.forlopp)?;
+        self.next = next_after(kind, self.next);
+        admit(
+            &self.chains,
+            &mut self.waiting,
+            &mut self.events,
+            number,
+            job,
+        );
+        Ok(())
+    }
+
+    /// Whether a line is due.
+    fn is_due(&self, line: &Line) -> bool
+        ensures { result ≡ is_due (coming_of line.now) self.now.state }
+    {
+        u64::from(line.after) <= self.ended || self.waiting.pick().is_none()
+    }
+
+    /// The forlopp of a line that arrives.
+    fn forlopp_for(&self, kind: LineKind) -> u64
+        ensures { result ≡ forlopp_for (origin_of kind) self.now.state }
+    {
+        match kind {
+            LineKind::Fresh => self.next,
+            LineKind::Bare => 0,
+            LineKind::Same { line } => self.schedule.given_to(line),
+        }
+    }
+
+    /// The job of a line that arrives.
+    fn job_of(&self, exchange: &Exchange, line: &Line) -> Job
+        ensures { result ≡ record {
+          entry = line.now.entry;
+          level = level_of exchange.now line.now.entry;
+          values = line.now.values;
+          forlopp = forlopp_for (origin_of line.now.kind) self.now.state;
+        } }
+    {
+        Job {
+            entry: line.entry,
+            level: level_of(exchange, line.entry),
+            values: line.values.copy(),
+            forlopp: self.forlopp_for(line.kind),
+        }
+    }
+}
+
+/// The level at which a job of an entry waits.
+fn level_of(exchange: &Exchange, entry: u32) -> Level
+    ensures { result ≡ level_of exchange.now entry }
+{
+    let Some(start) = exchange.entries.get(entry as usize) else {
+        return Level::B;
+    };
+    match exchange.signals.get(start.signal as usize) {
+        Some(SignalKind::Buffered { level, .. }) => *level,
+        _ => Level::B,
+    }
+}
+
+/// The next new number after a line of this kind.
+fn next_after(kind: LineKind, next: u64) -> u64
+    requires { next + 1 < 2 ^ 64 }
+    ensures { result ≡ next_after (origin_of kind) next }
+{
+    match kind {
+        LineKind::Fresh => next + 1,
+        LineKind::Bare | LineKind::Same { .. } => next,
+    }
+}
+
+/// The job of a line joins its list, unless its forlopp is dead: then the line is lost. There must be room for both.
+fn admit(chains: &Chains, waiting: &mut Buffers, events: &mut EventLog, number: u32, job: Job)
+    requires waiting { 0 < room_at job.level waiting.old.room }
+    requires events { 0 < events.old.room }
+    ensures waiting { waiting.new.waiting
+        ≡ (if is_dead chains.now.dead job.forlopp then waiting.old.waiting else joins job waiting.old.waiting) }
+    ensures events { events.new.events
+        ≡ (if is_dead chains.now.dead job.forlopp then events.old.events ++ Lost number ∷ [] else events.old.events) }
+{
+    if chains.is_dead(job.forlopp) {
+        events.push_reserved(Event::Lost { line: number });
+    } else {
+        waiting.push_reserved(job);
+    }
+}

@@ -1,0 +1,114 @@
+// The lines of a signal file, and the forlopps that those got which have arrived.
+ghost use Rattle.std.specs.Prelude.{◌≡◌, ℕ, ◌+◌, ◌<◌, ◌≤◌, ◌^◌, ◌++◌, ◌∷◌, [], List, length, map, drop, nat_eq, slice_get, MatchResult, OnOk, OnErr, Option, Some, if◌then◌else◌};
+ghost use Rattle.std.specs.Option.{option_copied, option_map, option_or};
+ghost use Rattle.std.specs.HashMap.{get};
+ghost use Rattle.source_meaning.specs.Arrivals.{given_to};
+ghost use Rattle.source_meaning.specs.State.{Arrived, Coming};
+ghost use Rattle.retire_order.specs.Lines.{coming_of};
+
+use plex_num::{Memory, Seq};
+use signal_file::Line;
+use std::alloc::Global;
+use std::collections::HashMap;
+use std::marker::Model;
+
+/// The lines in order; the forlopps of those that have arrived, which are the first ones; and the same by their numbers.
+pub struct Schedule {
+    lines: Seq<Line>,
+    given: Vec<u64>,
+    numbers: HashMap<u32, u64>,
+}
+
+impl Drop for Schedule {
+    fn drop(self) {
+        let Schedule {
+            lines: _,
+            given: _,
+            numbers: _,
+        } = self;
+    }
+}
+
+impl Model for Schedule {
+    ghost use Rattle.std.specs.Prelude.{◌≡◌, ℕ, ◌≤◌, length, nat_eq};
+    ghost use Rattle.std.specs.HashMap.{get};
+    ghost use Rattle.retire_order.specs.Lines.{Timetable, arrived_of, found_in, timetable};
+
+    ghost Value = { Timetable };
+
+    ghost view = { λ s. timetable s.lines s.given.items };
+
+    ghost invariant = { λ s. (length s.given.items ≤ length s.lines)
+        × ((n : ℕ) → get nat_eq s.numbers n ≡ found_in (arrived_of s.lines s.given.items) n) };
+}
+
+impl Schedule {
+    /// No line has arrived; it takes no memory.
+    pub fn new(alloc: Global, lines: Seq<Line>) -> Schedule
+        ensures lines { result.lines ≡ map coming_of lines }
+        ensures arrived { result.arrived ≡ [] }
+    {
+        Schedule {
+            lines,
+            given: Vec::new(alloc),
+            numbers: HashMap::new(alloc),
+        }
+    }
+
+    /// The next line; `None` exactly where none is left.
+    pub fn next(&self) -> Option<&Line>
+        ensures { option_map coming_of (option_copied result) ≡ slice_get self.now.lines 0 }
+    {
+        self.lines.as_slice().get(self.given.len())
+    }
+
+    /// The forlopp that a line got; 0 where no line of this number has arrived.
+    pub fn given_to(&self, line: u32) -> u64
+        ensures { result ≡ given_to self.now.arrived line }
+    {
+        match self.numbers.get(&line) {
+            Some(forlopp) => *forlopp,
+            None => 0,
+        }
+    }
+
+    /// The next line has arrived, which must be there, and got this forlopp. Where memory is refused, nothing changes.
+    pub fn arrive(&mut self, forlopp: u64) -> Result<(), Memory>
+        requires { 0 < length self.old.lines }
+        ensures { MatchResult result
+            (λ _. (l : Coming) × (self.old.lines ≡ l ∷ self.new.lines)
+            × (self.new.arrived ≡ self.old.arrived ++ record { line = l; forlopp = forlopp } ∷ []))
+            (λ _. self.new ≡ self.old) }
+    {
+        let number = line_at(&self.lines, self.given.len()).number;
+        if self.given.reserve(1).is_err() {
+            return Err(Memory);
+        }
+        note(&mut self.numbers, number, forlopp)?;
+        self.given.push_reserved(forlopp);
+        Ok(())
+    }
+}
+
+/// The line at a place.
+fn line_at(lines: &Seq<Line>, place: usize) -> &Line
+    requires { place < length lines.now }
+    ensures { slice_get lines.now place ≡ Some result.now }
+{
+    &lines.as_slice()[place]
+}
+
+/// Notes the forlopp of a line, unless one of its number is noted. Where memory is refused, nothing changes.
+fn note(numbers: &mut HashMap<u32, u64>, line: u32, forlopp: u64) -> Result<(), Memory>
+    ensures ok { OnOk result ((n : ℕ) → get nat_eq numbers.new n
+        ≡ option_or (get nat_eq numbers.old n) (if nat_eq line n then Some forlopp else Option.None)) }
+    ensures err { OnErr result ((n : ℕ) → get nat_eq numbers.new n ≡ get nat_eq numbers.old n) }
+{
+    if numbers.contains_key(&line) {
+        return Ok(());
+    }
+    match numbers.insert(line, forlopp) {
+        Ok(_) => Ok(()),
+        Err(_) => Err(Memory),
+    }
+}

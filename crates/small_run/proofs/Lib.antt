@@ -1,4 +1,0 @@
-pub mod Waits
-pub mod Stands
-pub mod FirstForm
-pub mod Machines

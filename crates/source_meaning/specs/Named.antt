@@ -1,0 +1,26 @@
+-- The stored data that an expression names: variables of its block, and fields of the record whose number a temporary has.
+use Rattle.std.specs.Prelude.{ℕ, List, [], ◌∷◌}
+use Rattle.exchange_model.specs.declared.expr.Expr.{Expr, fold-Expr}
+use Rattle.exchange_model.specs.declared.expr.Factor.TheOpen.{Factor-F, Variable, Field, Bracket}
+use Rattle.exchange_model.specs.declared.stmt.Stmt.{Stmt}
+use Rattle.exchange_model.specs.declared.stmt.When.{When}
+use Rattle.exchange_model.specs.declared.stmt.StmtKind.{StmtKind, StmtKind-F}
+use Rattle.exchange_model.specs.Inside.{joined}
+
+-- one layer of a statement, with the statements in it
+abbrev pub Layer : Type 0
+Layer = StmtKind-F StmtKind Stmt When
+
+pub data Named : Type 0 where
+  NamedVariable : (variable : ℕ) → Named
+  NamedField : (file field pointer : ℕ) → Named
+
+abbrev pub factor_named : Factor-F (List Named) (List Named) (List Named) (List Named) → List Named
+factor_named (Variable v) = NamedVariable v ∷ []
+factor_named (Field file field pointer) = NamedField file field pointer ∷ []
+factor_named (Bracket inside) = inside
+factor_named _ = []
+
+-- what an expression names, from left to right
+unfoldable pub named_in : Expr → List Named
+named_in = fold-Expr (List Named) (List Named) (List Named) (List Named) factor_named (λ e. joined e.terms) (λ j. j.factor) (λ t. joined t.factors)

@@ -1,0 +1,3 @@
+pub mod Laying
+pub mod Looking
+pub mod Opened

@@ -1,0 +1,7 @@
+pub mod Blocks
+pub mod Kept
+pub mod Named
+pub mod Note
+pub mod Seen
+pub mod Texts
+pub mod Walk

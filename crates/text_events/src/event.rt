@@ -1,0 +1,161 @@
+// What may stand at a place of a text.
+ghost use Rattle.std.specs.Prelude.{◌≡◌};
+ghost use Rattle.text_events.specs.Kept.{said_of};
+ghost use Rattle.text_events.specs.Seen.{note_of};
+
+use crate::kept::Kept;
+use crate::role::{Meaning, Need, Role};
+use plex_ast::{Item, Stmt};
+use plex_num::Name;
+use std::marker::Model;
+
+/// What stands at a place. Names stand in the tree. A statement is named by the number of the events before it in its part.
+#[derive(Clone, Copy, Drop)]
+pub enum Place<'a> {
+    /// A declaration makes so many signals.
+    Signals {
+        count: u32,
+    },
+    /// A signal or an answer has this name.
+    Signal {
+        name: &'a Name,
+    },
+    /// It carries so many values.
+    Carries {
+        count: u32,
+    },
+    /// A block begins.
+    Block,
+    BlockName {
+        name: &'a Name,
+    },
+    /// A declaration takes so many cells.
+    Cells {
+        count: u64,
+    },
+    /// A name is declared.
+    Declares {
+        name: &'a Name,
+        meaning: Meaning,
+    },
+    /// The number after WIDTH.
+    Width {
+        bits: u32,
+    },
+    /// The number after INIT, and that after the WIDTH before it.
+    Init {
+        value: u32,
+        bits: u32,
+    },
+    /// The number after SIZE.
+    Size {
+        records: u32,
+    },
+    /// A line of the survey receives a signal.
+    Receives {
+        signal: &'a Name,
+    },
+    /// A signal is named.
+    Names {
+        signal: &'a Name,
+        role: Role,
+    },
+    /// The statement at a place of a list begins.
+    Begins {
+        list: &'a [Stmt],
+        at: u32,
+    },
+    /// The ENTER or the statement at a place of a program begins.
+    BeginsItem {
+        list: &'a [Item],
+        at: u32,
+    },
+    /// A declared name is used.
+    Uses {
+        name: &'a Name,
+        need: Need,
+    },
+    /// A declared name is an operand of the statement.
+    Reads {
+        name: &'a Name,
+        need: Need,
+        owner: u32,
+    },
+    /// A number is an operand of the statement.
+    Counts {
+        owner: u32,
+    },
+    /// A block is an operand of the statement.
+    Refers {
+        block: &'a Name,
+        owner: u32,
+    },
+    /// A label to which control may go.
+    Goes {
+        label: &'a Name,
+    },
+    /// The file that FOR FIRST looks through.
+    Searches {
+        file: &'a Name,
+    },
+    /// The field that FOR FIRST looks at, and its file.
+    Compares {
+        field: &'a Name,
+        file: &'a Name,
+    },
+    /// The file of SEIZE or FREE.
+    Holds {
+        file: &'a Name,
+    },
+    /// The number after a WHEN of a CASE.
+    Chooses {
+        owner: u32,
+        number: u32,
+    },
+    /// The text of a block ends.
+    Ends,
+}
+
+/// What stands at a place, on its line, counted from 1; contracts see the line and the note.
+#[derive(Drop)]
+pub struct Event<'a> {
+    kept: Kept<'a>,
+}
+
+impl<'a> Model for Event<'a> {
+    ghost use Rattle.std.specs.Coded.{codes};
+    ghost use Rattle.text_events.specs.Note.{Event as Said};
+    ghost use Rattle.text_events.specs.Kept.{line_kept, note_kept};
+    ghost use Rattle.text_events.specs.contracts.role.Meaning as meaning;
+    ghost use Rattle.text_events.specs.contracts.role.Need as need;
+    ghost use Rattle.text_events.specs.contracts.role.Role as role;
+
+    ghost Value = { Said };
+
+    ghost coded = { Prim.hlevel (codes, meaning.the_row.coded, need.the_row.coded, role.the_row.coded) };
+
+    ghost view = { λ e. record { line = line_kept e.kept; note = note_kept e.kept } };
+}
+
+impl<'a> Event<'a> {
+    /// The line, counted from 1.
+    pub fn line(&self) -> u32
+        ensures { result ≡ self.now.line }
+    {
+        self.kept.line()
+    }
+
+    /// What stands there.
+    pub fn place(&self) -> Place<'a>
+        ensures { note_of result ≡ self.now.note }
+    {
+        self.kept.place()
+    }
+}
+
+/// The event of which this is kept.
+pub(crate) fn made(kept: Kept<'_>) -> Event<'_>
+    ensures { result ≡ said_of kept.entry }
+{
+    Event { kept }
+}

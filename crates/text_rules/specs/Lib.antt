@@ -1,0 +1,7 @@
+pub mod Blocks
+pub mod Links
+pub mod Received
+pub mod Signals
+pub mod Surveys
+pub mod Tables
+pub mod Texts

@@ -1,0 +1,134 @@
+// What a block has told so far, and what it tells as a whole.
+ghost use Rattle.std.specs.Prelude.{◌≡◌, ◌||◌, ℕ, List, OnOk, IfOk, Option, false};
+ghost use Rattle.std.specs.Str.{bytes_eq};
+ghost use Rattle.indexmap.specs.IndexMap.{get};
+ghost use Rattle.indexmap.specs.IndexSet.{contains};
+ghost use Rattle.first_fault.specs.First.{any, or_else};
+ghost use Rattle.text_events.specs.Named.{meaning_of_note};
+ghost use Rattle.text_events.specs.Seen.{note_of};
+ghost use Rattle.text_rules.specs.Blocks.{labels, labels_note, operand_of, chooses_note};
+ghost use Rattle.text_rules.specs.Blocks.{has_choice};
+
+use crate::names::NameSet;
+use indexmap::{IndexMap, IndexSet};
+use plex_num::{Memory, Name};
+use std::alloc::Global;
+use text_events::{Event, Meaning, Place};
+
+/// The names that are declared so far.
+pub(crate) struct Declared {
+    pub(crate) names: IndexMap<Name, Meaning>,
+}
+
+impl Drop for Declared {
+    fn drop(self) {
+        let Declared { names: _ } = self;
+    }
+}
+
+impl Declared {
+    pub(crate) fn new(alloc: Global) -> Declared
+        ensures { (n : List ℕ) → get bytes_eq result.names n ≡ Option.None }
+    {
+        Declared {
+            names: IndexMap::new(alloc),
+        }
+    }
+
+    /// What a name stands for.
+    pub(crate) fn meaning(&self, name: &Name) -> Option<Meaning>
+        ensures { result ≡ get bytes_eq self.now.names name.now }
+    {
+        self.names.get(name).copied()
+    }
+
+    #[tactic(auto, using(crate::proofs::BlockSteps::see_declared))]
+    pub(crate) fn see(&mut self, place: Place<'_>) -> Result<(), Memory>
+        ensures { OnOk result ((n : List ℕ) → get bytes_eq self.new.names n ≡ or_else (meaning_of_note n (note_of place.entry)) (get bytes_eq self.old.names n)) }
+    {
+        if let Place::Declares { name, meaning } = place {
+            match self.names.insert(name.copy(), meaning) {
+                Ok(_) => {}
+                Err(_) => return Err(Memory),
+            }
+        }
+        Ok(())
+    }
+}
+
+// The statement whose operand stands at a place.
+pub(crate) fn operand_of(place: Place<'_>) -> Option<u32>
+    ensures { result ≡ operand_of (note_of place.entry) }
+{
+    match place {
+        Place::Counts { owner } => Some(owner),
+        Place::Reads { owner, .. } => Some(owner),
+        Place::Refers { owner, .. } => Some(owner),
+        _ => None,
+    }
+}
+
+/// The numbers after WHEN that each CASE has so far.
+pub(crate) struct Chosen {
+    pub(crate) numbers: IndexSet<(u32, u32)>,
+}
+
+impl Drop for Chosen {
+    fn drop(self) {
+        let Chosen { numbers: _ } = self;
+    }
+}
+
+impl Chosen {
+    pub(crate) fn new(alloc: Global) -> Chosen
+        ensures { (o n : ℕ) → has_choice result.numbers.keys o n ≡ false }
+    {
+        Chosen {
+            numbers: IndexSet::new(alloc),
+        }
+    }
+
+    /// Whether a CASE has this number.
+    pub(crate) fn has(&self, owner: u32, number: u32) -> bool
+        ensures { result ≡ has_choice self.now.numbers.keys owner number }
+    {
+        let pair = (owner, number);
+        self.numbers.contains(&pair)
+    }
+
+    pub(crate) fn see(&mut self, place: Place<'_>) -> Result<(), Memory>
+        ensures { OnOk result ((o n : ℕ) → has_choice self.new.numbers.keys o n ≡ (has_choice self.old.numbers.keys o n || chooses_note o n (note_of place.entry))) }
+    {
+        if let Place::Chooses { owner, number } = place {
+            match self.numbers.insert((owner, number)) {
+                Ok(_) => {}
+                Err(_) => return Err(Memory),
+            }
+        }
+        Ok(())
+    }
+}
+
+fn see_label(names: &mut NameSet, place: Place<'_>) -> Result<(), Memory>
+    ensures { OnOk result ((n : List ℕ) → contains bytes_eq names.new.names n ≡ (contains bytes_eq names.old.names n || labels_note n (note_of place.entry))) }
+{
+    match place {
+        Place::Declares {
+            name,
+            meaning: Meaning::Label(_),
+        } => names.add(name),
+        _ => Ok(()),
+    }
+}
+
+/// The labels of a whole block.
+#[tactic(auto, using(crate::proofs::BlockSteps::labels_begin, crate::proofs::BlockSteps::labels_step, crate::proofs::BlockSteps::labels_end))]
+pub(crate) fn labels_of(alloc: Global, events: &[Event<'_>]) -> Result<NameSet, Memory>
+    ensures { IfOk result (λ l. (n : List ℕ) → contains bytes_eq l.names n ≡ any (labels n) events.now) }
+{
+    let mut labels = NameSet::new(alloc);
+    for event in events {
+        see_label(&mut labels, event.place())?;
+    }
+    Ok(labels)
+}

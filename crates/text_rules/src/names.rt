@@ -1,0 +1,44 @@
+ghost use Rattle.std.specs.Prelude.{◌≡◌, ◌||◌, false, ℕ, List, OnOk};
+ghost use Rattle.std.specs.Str.{bytes_eq};
+ghost use Rattle.indexmap.specs.IndexSet.{contains};
+
+use indexmap::IndexSet;
+use plex_num::{Memory, Name};
+use std::alloc::Global;
+
+/// A set of names.
+pub(crate) struct NameSet {
+    pub(crate) names: IndexSet<Name>,
+}
+
+impl Drop for NameSet {
+    fn drop(self) {
+        let NameSet { names: _ } = self;
+    }
+}
+
+impl NameSet {
+    pub(crate) fn new(alloc: Global) -> NameSet
+        ensures { (n : List ℕ) → contains bytes_eq result.names n ≡ false }
+    {
+        NameSet {
+            names: IndexSet::new(alloc),
+        }
+    }
+
+    pub(crate) fn has(&self, name: &Name) -> bool
+        ensures { result ≡ contains bytes_eq self.now.names name.now }
+    {
+        self.names.contains(name)
+    }
+
+    /// Takes in a name.
+    pub(crate) fn add(&mut self, name: &Name) -> Result<(), Memory>
+        ensures { OnOk result ((n : List ℕ) → contains bytes_eq self.new.names n ≡ (contains bytes_eq self.old.names n || bytes_eq name.now n)) }
+    {
+        match self.names.insert(name.copy()) {
+            Ok(_) => Ok(()),
+            Err(_) => Err(Memory),
+        }
+    }
+}

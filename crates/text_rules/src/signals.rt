@@ -1,0 +1,95 @@
+// The rules of signals and of names of blocks.
+ghost use Rattle.std.specs.Prelude.{◌≡◌, Option, OnOk, MatchResult};
+ghost use Rattle.first_fault.specs.First.{first_broken};
+ghost use Rattle.text_events.specs.Seen.{note_of};
+ghost use Rattle.text_rules.specs.Signals.{broken, all_rules, KnowsNothing, Sees};
+ghost use Rattle.text_rules.specs.Tables.{names_in, IsTold};
+ghost use Rattle.text_rules.specs.Texts.{signals_told};
+
+use crate::fault::Fault;
+use crate::names::NameSet;
+use crate::rule::SignalRule;
+use plex_limits::MOST_VALUES;
+use plex_num::{Memory, Seq};
+use std::alloc::Global;
+use text_events::{Event, Place};
+
+/// The names of signals with their answers, and those of blocks, before an event.
+#[derive(Drop)]
+pub(crate) struct Seen {
+    pub(crate) signals: NameSet,
+    pub(crate) blocks: NameSet,
+}
+
+impl Seen {
+    fn new(alloc: Global) -> Seen
+        ensures { KnowsNothing (names_in result) }
+    {
+        Seen {
+            signals: NameSet::new(alloc),
+            blocks: NameSet::new(alloc),
+        }
+    }
+
+    /// Takes in one event more.
+    fn see(&mut self, place: Place<'_>) -> Result<(), Memory>
+        ensures { OnOk result (Sees (names_in self.old) (note_of place.entry) (names_in self.new)) }
+    {
+        match place {
+            Place::Signal { name } => self.signals.add(name),
+            Place::BlockName { name } => self.blocks.add(name),
+            _ => Ok(()),
+        }
+    }
+
+    fn is_broken(&self, rule: SignalRule, place: Place<'_>) -> bool
+        ensures { result ≡ broken rule (names_in self.now) (note_of place.entry) }
+    {
+        match rule {
+            SignalRule::Once => match place {
+                Place::Signal { name } => self.signals.has(name),
+                Place::BlockName { name } => self.blocks.has(name),
+                _ => false,
+            },
+            SignalRule::FewValues => match place {
+                Place::Carries { count } => count as usize > MOST_VALUES,
+                _ => false,
+            },
+        }
+    }
+
+    /// The first rule that an event breaks.
+    fn rule_at(&self, event: &Event<'_>) -> Option<SignalRule>
+        ensures { result ≡ first_broken (λ r k e. broken r k e.note) all_rules (names_in self.now) event.now }
+    {
+        let place = event.place();
+        if self.is_broken(SignalRule::Once, place) {
+            return Some(SignalRule::Once);
+        }
+        if self.is_broken(SignalRule::FewValues, place) {
+            return Some(SignalRule::FewValues);
+        }
+        None
+    }
+}
+
+/// Whether the parts of a text keep the rules of signals and of names of blocks; else the first fault, and there the lowest rule.
+/// It refuses for memory only where memory is refused.
+pub fn check_signals(alloc: Global, parts: &[Seq<Event<'_>>]) -> Result<(), Fault<SignalRule>>
+    ensures { MatchResult result (λ _. signals_told parts.now ≡ Option.None) (IsTold (signals_told parts.now)) }
+{
+    let mut seen = Seen::new(alloc);
+    for part in parts {
+        for event in part.as_slice() {
+            if let Some(rule) = seen.rule_at(event) {
+                let line = event.line();
+                return Err(Fault::Rule { rule, line });
+            }
+            match seen.see(event.place()) {
+                Ok(()) => {}
+                Err(_) => return Err(Fault::Memory),
+            }
+        }
+    }
+    Ok(())
+}

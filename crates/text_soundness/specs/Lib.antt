@@ -1,0 +1,6 @@
+pub mod Blocks
+pub mod Everywhere
+pub mod Fine
+pub mod Meanings
+pub mod Served
+pub mod Shares

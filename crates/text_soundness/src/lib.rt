@@ -1,0 +1,4 @@
+// Laws: a text that breaks no rule means an exchange.
+#![tactic(auto)]
+
+pub mod laws;

@@ -1,6 +1,0 @@
-use Rattle.typed_block.specs.Blocks.{variable_in}
-use Rattle.typed_block.proofs.Picked.{Picked}
-use Rattle.typed_block.proofs.data.variables_of.Given as goal
-
-abbrev pub invariant-loop-decl : goal.invariant-loop-decl
-invariant-loop-decl l = Picked variable_in l.decls l.decl-index l.list
