@@ -1,5 +1,5 @@
 -- The code of jumps, choices and loops is appended.
-use Rattle.std.proofs.Common.{◌≡◌, ℕ, ◌+◌, ◌<◌, ◌≤◌, List, [], ◌∷◌, ◌++◌, length, drop, get_or, sym, ap, ◌∙◌, arith, append-nil, append_assoc}
+use Rattle.std.proofs.Common.{◌≡◌, ℕ, ◌+◌, ◌<◌, ◌≤◌, Bool, true, false, List, [], ◌∷◌, ◌++◌, length, drop, get_or, sym, ap, ◌∙◌, arith, append-nil, append_assoc}
 use Rattle.std.proofs.Math.ListN.{drop_of_length-le}
 use Rattle.machine_code.specs.declared.op.Op.{Op}
 use Rattle.machine_code.specs.declared.op.Op.TheVariants as op
@@ -7,7 +7,7 @@ use Rattle.exchange_model.specs.declared.expr.Cond.{Cond}
 use Rattle.expr_code.specs.Code.{cond_code}
 use Rattle.expr_code.proofs.Emits.{opens}
 use Rattle.stmt_code.specs.declared.lengths.TheConstants.{TURN_LENGTH, NEXT_LENGTH}
-use Rattle.stmt_code.specs.StmtCode.{Places, takes_code, compare_code, turn, last, turn_code, next_code, turns_code, bounds_code}
+use Rattle.stmt_code.specs.StmtCode.{Places, past_code, takes_code, compare_code, turn, last, turn_code, next_code, turns_code, bounds_code}
 use Rattle.code_gen.specs.declared.control.Choice.{Choice}
 use Rattle.code_gen.specs.Choices.{choice_codes}
 use Rattle.code_gen.proofs.Parts.{two, three, four, six, part_more}
@@ -39,11 +39,20 @@ if_goto_is p a next len label there c pl test old n1 n2 new is long after to e1 
 
 -- branches
 
-pub branches_are : (p no_at end len : ℕ) (test first other old n1 n2 n3 n4 n5 new : List Op) → len ≡ length other → end ≡ no_at + len + 0 → n1 ≡ old ++ op.Stmt p ∷ [] → n2 ≡ n1 ++ test → n3 ≡ n2 ++ op.Jz 0 no_at ∷ [] → n4 ≡ n3 ++ first → n5 ≡ n4 ++ op.Jmp end ∷ [] → new ≡ n5 ++ other
-    → new ≡ old ++ op.Stmt p ∷ (test ++ (op.Jz 0 no_at ∷ (first ++ (op.Jmp (no_at + length other) ∷ other))))
-branches_are p no_at end len test first other old n1 n2 n3 n4 n5 new long after e1 e2 e3 e4 e5 e6 =
+pub past_some : (both : Bool) (end : ℕ) (old new : List Op) → both ≡ true → new ≡ old ++ op.Jmp end ∷ [] → new ≡ old ++ past_code both end
+past_some both end old new is e = e ∙ sym (ap (λ b. old ++ past_code b end) is)
+
+pub past_none : (both : Bool) (end : ℕ) (old : List Op) → both ≡ false → old ≡ old ++ past_code both end
+past_none both end old is = sym (ap (λ b. old ++ past_code b end) is ∙ append-nil old)
+
+-- a jump past the other list, or none
+pub ruleset pasts = (past_some, past_none)
+
+pub branches_are : (p no_at end len : ℕ) (both : Bool) (test first other old n1 n2 n3 n4 n5 new : List Op) → len ≡ length other → end ≡ no_at + len + 0 → n1 ≡ old ++ op.Stmt p ∷ [] → n2 ≡ n1 ++ test → n3 ≡ n2 ++ op.Jz 0 no_at ∷ [] → n4 ≡ n3 ++ first → n5 ≡ n4 ++ past_code both end → new ≡ n5 ++ other
+    → new ≡ old ++ op.Stmt p ∷ (test ++ (op.Jz 0 no_at ∷ (first ++ (past_code both (no_at + length other) ++ other))))
+branches_are p no_at end len both test first other old n1 n2 n3 n4 n5 new long after e1 e2 e3 e4 e5 e6 =
     let address : end ≡ no_at + length other = omega (arith, after, long) in
-    six old n1 n2 n3 n4 n5 new (op.Stmt p ∷ []) test (op.Jz 0 no_at ∷ []) first (op.Jmp (no_at + length other) ∷ []) other e1 e2 e3 e4 (e5 ∙ ap (λ n. n4 ++ op.Jmp n ∷ []) address) e6
+    six old n1 n2 n3 n4 n5 new (op.Stmt p ∷ []) test (op.Jz 0 no_at ∷ []) first (past_code both (no_at + length other)) other e1 e2 e3 e4 (e5 ∙ ap (λ n. n4 ++ past_code both n) address) e6
 
 -- choices
 
@@ -64,19 +73,19 @@ choices_end cs i end now all past h = sym (append-nil now) ∙ sym (ap (λ l. no
 
 -- loops
 
-pub turns_are : (p t d head exit len turn_local last_local : ℕ) (body old n1 n2 new : List Op) → turn_local ≡ turn d → last_local ≡ turn_local + 1 → len ≡ length body → exit ≡ head + len + (TURN_LENGTH + NEXT_LENGTH) → n1 ≡ old ++ (op.Stmt p ∷ op.Ldt 0 turn_local ∷ op.Stt t 0 ∷ []) → n2 ≡ n1 ++ body
-    → new ≡ n2 ++ (op.Ldt 0 turn_local ∷ op.Ldt 1 last_local ∷ op.Gt 1 0 ∷ op.Jz 1 exit ∷ op.Ldi 1 1 ∷ op.Add 0 1 ∷ op.Stt turn_local 0 ∷ op.Jmp head ∷ []) → new ≡ old ++ turns_code p t d head body
+pub turns_are : (p t d head exit len turn_local last_local : ℕ) (body old n1 n2 new : List Op) → turn_local ≡ turn d → last_local ≡ turn_local + 1 → len ≡ length body → exit ≡ head + len + (TURN_LENGTH + NEXT_LENGTH) → n1 ≡ old ++ (op.Stmt p ∷ op.Stt t 0 ∷ []) → n2 ≡ n1 ++ body
+    → new ≡ n2 ++ (op.Ldt 0 turn_local ∷ op.Ldt 1 last_local ∷ op.Gt 1 0 ∷ op.Jz 1 exit ∷ op.Add 0 1 ∷ op.Stt turn_local 0 ∷ op.Jmp head ∷ []) → new ≡ old ++ turns_code p t d head body
 turns_are p t d head exit len turn_local last_local body old n1 n2 new is_turn is_last long after e1 e2 e3 =
     let address : exit ≡ head + TURN_LENGTH + length body + NEXT_LENGTH = omega (arith, after, long) in
     let behind : last_local ≡ last d = omega (arith, is_turn, is_last) in
-    three old n1 n2 new (turn_code p t d) body (next_code d head (head + TURN_LENGTH + length body + NEXT_LENGTH)) (e1 ∙ λ i. old ++ (op.Stmt p ∷ op.Ldt 0 (is_turn i) ∷ op.Stt t 0 ∷ [])) e2
-    (e3 ∙ λ i. n2 ++ (op.Ldt 0 (is_turn i) ∷ op.Ldt 1 (behind i) ∷ op.Gt 1 0 ∷ op.Jz 1 (address i) ∷ op.Ldi 1 1 ∷ op.Add 0 1 ∷ op.Stt (is_turn i) 0 ∷ op.Jmp head ∷ []))
+    three old n1 n2 new (turn_code p t) body (next_code d head (head + TURN_LENGTH + length body + NEXT_LENGTH)) e1 e2
+    (e3 ∙ λ i. n2 ++ (op.Ldt 0 (is_turn i) ∷ op.Ldt 1 (behind i) ∷ op.Gt 1 0 ∷ op.Jz 1 (address i) ∷ op.Add 0 1 ∷ op.Stt (is_turn i) 0 ∷ op.Jmp head ∷ []))
 
-pub bounds_are : (p d head exit turn_local last_local : ℕ) (from upto old n1 n2 n3 new : List Op) → turn_local ≡ turn d → last_local ≡ turn_local + 1 → n1 ≡ old ++ op.Stmt p ∷ [] → n2 ≡ n1 ++ from → n3 ≡ n2 ++ upto → new ≡ n3 ++ (op.Stt turn_local 0 ∷ op.Stt last_local 1 ∷ op.Gt 0 1 ∷ op.Jz 0 head ∷ op.Jmp exit ∷ [])
-    → new ≡ old ++ op.Stmt p ∷ (from ++ (upto ++ bounds_code d head exit))
-bounds_are p d head exit turn_local last_local from upto old n1 n2 n3 new is_turn is_last e1 e2 e3 e4 =
+pub bounds_are : (p d exit turn_local last_local : ℕ) (from upto old n1 n2 n3 new : List Op) → turn_local ≡ turn d → last_local ≡ turn_local + 1 → n1 ≡ old ++ op.Stmt p ∷ [] → n2 ≡ n1 ++ from → n3 ≡ n2 ++ upto → new ≡ n3 ++ (op.Stt turn_local 0 ∷ op.Stt last_local 1 ∷ op.Ge 1 0 ∷ op.Jz 1 exit ∷ [])
+    → new ≡ old ++ op.Stmt p ∷ (from ++ (upto ++ bounds_code d exit))
+bounds_are p d exit turn_local last_local from upto old n1 n2 n3 new is_turn is_last e1 e2 e3 e4 =
     let behind : last_local ≡ last d = omega (arith, is_turn, is_last) in
-    four old n1 n2 n3 new (op.Stmt p ∷ []) from upto (bounds_code d head exit) e1 e2 e3 (e4 ∙ λ i. n3 ++ (op.Stt (is_turn i) 0 ∷ op.Stt (behind i) 1 ∷ op.Gt 0 1 ∷ op.Jz 0 head ∷ op.Jmp exit ∷ []))
+    four old n1 n2 n3 new (op.Stmt p ∷ []) from upto (bounds_code d exit) e1 e2 e3 (e4 ∙ λ i. n3 ++ (op.Stt (is_turn i) 0 ∷ op.Stt (behind i) 1 ∷ op.Ge 1 0 ∷ op.Jz 1 exit ∷ []))
 
 pub case_parts : (p next end len : ℕ) (list given : List Choice) (value other old n1 n2 n3 new : List Op) → len ≡ length other → end ≡ next + len + 0 → given ≡ list → n1 ≡ old ++ op.Stmt p ∷ [] → n2 ≡ n1 ++ value → n3 ≡ n2 ++ choice_codes given end → new ≡ n3 ++ other
     → new ≡ old ++ op.Stmt p ∷ (value ++ (choice_codes list (next + length other) ++ other))

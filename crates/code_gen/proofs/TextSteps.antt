@@ -1,5 +1,7 @@
 -- The code of lists of statements, and of choices, is appended.
-use Rattle.std.proofs.Common.{◌≡◌, ℕ, zero, suc, ◌+◌, ◌<◌, ◌≤◌, List, [], ◌∷◌, ◌++◌, length, map, drop, get_or, refl, sym, ap, ◌∙◌, subst, arith, append-nil, append_assoc, add-one, length-append}
+use Rattle.std.proofs.Common.{◌≡◌, ◌≢◌, ℕ, zero, suc, ◌+◌, ◌<◌, ◌≤◌, Bool, List, [], ◌∷◌, ◌++◌, length, map, drop, get_or, refl, sym, ap, ◌∙◌, subst, arith, append-nil, append_assoc, add-one, length-append}
+use Rattle.std.specs.Prelude.{not, nat_eq}
+use Rattle.std.proofs.lemmas.Bool.{ne_eqb}
 use Rattle.std.proofs.Math.ListN.{drop_of_length-le}
 use Rattle.machine_code.specs.declared.op.Op.{Op}
 use Rattle.machine_code.specs.declared.op.Op.TheVariants as op
@@ -12,7 +14,7 @@ use Rattle.exchange_model.specs.declared.stmt.StmtKind.TheOpen as layer
 use Rattle.expr_code.specs.Code.{expr_code, cond_code}
 use Rattle.expr_code.proofs.Emits.{opens}
 use Rattle.stmt_code.specs.declared.lengths.TheConstants.{COMPARE_LENGTH, TURN_LENGTH, NEXT_LENGTH, BOUNDS_LENGTH}
-use Rattle.stmt_code.specs.StmtCode.{Choice as Source, Places, codes, compare_code, choices_code, next_code, turns_code, bounds_code, opened, kind_code, stmt_code, when_code, kind_code-out, stmt_code-kind, when_code-out}
+use Rattle.stmt_code.specs.StmtCode.{Choice as Source, Places, codes, compare_code, choices_code, next_code, has_any, past_code, turns_code, bounds_code, opened, kind_code, stmt_code, when_code, kind_code-out, stmt_code-kind, when_code-out}
 use Rattle.stmt_code.proofs.Setting.{first_in, others_in, yes_in, no_in, body_in, otherwise_in, choices_in}
 use Rattle.code_gen.specs.declared.control.Choice.{Choice}
 use Rattle.code_gen.specs.declared.setting.Setting.{Setting}
@@ -129,16 +131,23 @@ choices_inside s d e ws ss h = record { setting = h.setting; inside = choices_in
 pub body_inside : (s : Setting) (d t : ℕ) (e f : Expr) (ss : List Stmt) → IsIn s d (layer.On t e f ss) → AreIn s (d + 1) ss
 body_inside s d t e f ss h = subst (λ n. AreIn s n ss) (sym (add-one d)) (record { setting = h.setting; inside = body_in h.inside })
 
-pub if_kind : (k : StmtKind) (p d a yes_at no_at test_len yes_len : ℕ) (c : Cond) (ss rs : List Stmt) (pl : Places) (test first other old new : List Op) → out-StmtKind k ≡ layer.If c ss rs → test ≡ cond_code c pl.site → test_len ≡ length test → yes_at ≡ a + test_len + 2 → first ≡ codes (map stmt_code ss) pl d yes_at → yes_len ≡ length first → no_at ≡ yes_at + yes_len + 1 → other ≡ codes (map stmt_code rs) pl d no_at
-    → new ≡ old ++ op.Stmt p ∷ (test ++ (op.Jz 0 no_at ∷ (first ++ (op.Jmp (no_at + length other) ∷ other)))) → new ≡ old ++ kind_code k pl p d a
-if_kind k p d a yes_at no_at test_len yes_len c ss rs pl test first other old new is et lt ey ef lf en eo e =
+-- a list has a statement unless it is empty
+pub any_is : (ss : List Stmt) (empty : Bool) → empty ≡ nat_eq (length ss) 0 → not empty ≡ has_any (map stmt_code ss)
+any_is [] empty e = ap not e
+any_is (s ∷ ss) empty e = let some : length (s ∷ ss) ≢ 0 = omega arith in ap not (e ∙ ne_eqb (length (s ∷ ss)) 0 some)
+
+pub if_kind : (k : StmtKind) (p d a yes_at no_at test_len yes_len past_len : ℕ) (both : Bool) (c : Cond) (ss rs : List Stmt) (pl : Places) (test first other old new : List Op) → out-StmtKind k ≡ layer.If c ss rs → test ≡ cond_code c pl.site → test_len ≡ length test → yes_at ≡ a + test_len + 2 → first ≡ codes (map stmt_code ss) pl d yes_at → yes_len ≡ length first → both ≡ has_any (map stmt_code rs) → past_len ≡ length (past_code both 0) → no_at ≡ yes_at + yes_len + past_len → other ≡ codes (map stmt_code rs) pl d no_at
+    → new ≡ old ++ op.Stmt p ∷ (test ++ (op.Jz 0 no_at ∷ (first ++ (past_code both (no_at + length other) ++ other)))) → new ≡ old ++ kind_code k pl p d a
+if_kind k p d a yes_at no_at test_len yes_len past_len both c ss rs pl test first other old new is et lt ey ef lf eb lp en eo e =
     let t = cond_code c pl.site in
     let ya : yes_at ≡ a + 1 + length t + 1 = omega (arith, ey, lt, ap length et) in
     let fe : first ≡ codes (map stmt_code ss) pl d (a + 1 + length t + 1) = ef ∙ ap (codes (map stmt_code ss) pl d) ya in
     let f = codes (map stmt_code ss) pl d (a + 1 + length t + 1) in
-    let na : no_at ≡ a + 1 + length t + 1 + length f + 1 = omega (arith, en, ya, lf, ap length fe) in
-    let oe : other ≡ codes (map stmt_code rs) pl d (a + 1 + length t + 1 + length f + 1) = eo ∙ ap (codes (map stmt_code rs) pl d) na in
-    as_kind k (layer.If c ss rs) pl p d a old new is (e ∙ λ i. old ++ op.Stmt p ∷ (et i ++ (op.Jz 0 (na i) ∷ (fe i ++ (op.Jmp (na i + length (oe i)) ∷ oe i)))))
+    let some = has_any (map stmt_code rs) in
+    let jump : past_len ≡ length (past_code some 0) = lp ∙ ap (λ b. length (past_code b 0)) eb in
+    let na : no_at ≡ a + 1 + length t + 1 + length f + length (past_code some 0) = omega (arith, en, ya, lf, ap length fe, jump) in
+    let oe : other ≡ codes (map stmt_code rs) pl d (a + 1 + length t + 1 + length f + length (past_code some 0)) = eo ∙ ap (codes (map stmt_code rs) pl d) na in
+    as_kind k (layer.If c ss rs) pl p d a old new is (e ∙ λ i. old ++ op.Stmt p ∷ (et i ++ (op.Jz 0 (na i) ∷ (fe i ++ (past_code (eb i) (na i + length (oe i)) ++ oe i)))))
 
 -- the choices reach as far as what stands behind them
 reaches : (ws : List Source) (ss : List Stmt) (pl : Places) (d a : ℕ) → a + length (choices_code ws (map stmt_code ss) pl d a) ≡ behind_choices ws pl d a + length (codes (map stmt_code ss) pl d (behind_choices ws pl d a))
@@ -178,7 +187,7 @@ turns_length : (p t d head : ℕ) (body : List Op) → length (turns_code p t d 
 turns_length p t d head body = omega (arith, length-append body (next_code d head (head + TURN_LENGTH + length body + NEXT_LENGTH)))
 
 pub on_kind : (k : StmtKind) (p t d a from_len upto_len between head inner body_len exit : ℕ) (v w : Expr) (ss : List Stmt) (pl : Places) (from upto body old n1 new : List Op) → out-StmtKind k ≡ layer.On t v w ss → from ≡ expr_code v pl.site 0 → upto ≡ expr_code w pl.site 1 → from_len ≡ length from → between ≡ a + from_len + 1 → upto_len ≡ length upto → head ≡ between + upto_len + BOUNDS_LENGTH → inner ≡ head + TURN_LENGTH → body ≡ codes (map stmt_code ss) pl (d + 1) inner → body_len ≡ length body → exit ≡ head + body_len + (TURN_LENGTH + NEXT_LENGTH)
-    → n1 ≡ old ++ op.Stmt p ∷ (from ++ (upto ++ bounds_code d head exit)) → new ≡ n1 ++ turns_code p t d head body → new ≡ old ++ kind_code k pl p d a
+    → n1 ≡ old ++ op.Stmt p ∷ (from ++ (upto ++ bounds_code d exit)) → new ≡ n1 ++ turns_code p t d head body → new ≡ old ++ kind_code k pl p d a
 on_kind k p t d a from_len upto_len between head inner body_len exit v w ss pl from upto body old n1 new is ef eu lf eb lu eh ei ebody lb ex e1 e2 =
     let f = expr_code v pl.site 0 in
     let u = expr_code w pl.site 1 in
@@ -188,10 +197,10 @@ on_kind k p t d a from_len upto_len between head inner body_len exit v w ss pl f
     let body_is : body ≡ codes (map stmt_code ss) pl (suc d) (h + TURN_LENGTH) = ebody ∙ λ i. codes (map stmt_code ss) pl (add-one d i) (inner_is i) in
     let b = codes (map stmt_code ss) pl (suc d) (h + TURN_LENGTH) in
     let exit_is : exit ≡ h + length (turns_code p t d h b) = omega (arith, ex, head_is, lb, ap length body_is, turns_length p t d h b) in
-    let bounds : ℕ → ℕ → List Op = bounds_code d in
+    let bounds : ℕ → List Op = bounds_code d in
     let y = h + length (turns_code p t d h b) in
     let turns = turns_code p t d h b in
-    let front : List Op = op.Stmt p ∷ (f ++ (u ++ bounds h y)) in
+    let front : List Op = op.Stmt p ∷ (f ++ (u ++ bounds y)) in
     as_kind k (layer.On t v w ss) pl p d a old new is
-    (two old n1 new front turns (e1 ∙ λ i. old ++ op.Stmt p ∷ (ef i ++ (eu i ++ bounds (head_is i) (exit_is i)))) (e2 ∙ λ i. n1 ++ turns_code p t d (head_is i) (body_is i))
-    ∙ ap (λ l. old ++ op.Stmt p ∷ l) (append_assoc f (u ++ bounds h y) turns ∙ ap (λ l. f ++ l) (append_assoc u (bounds h y) turns)))
+    (two old n1 new front turns (e1 ∙ λ i. old ++ op.Stmt p ∷ (ef i ++ (eu i ++ bounds (exit_is i)))) (e2 ∙ λ i. n1 ++ turns_code p t d (head_is i) (body_is i))
+    ∙ ap (λ l. old ++ op.Stmt p ∷ l) (append_assoc f (u ++ bounds y) turns ∙ ap (λ l. f ++ l) (append_assoc u (bounds y) turns)))

@@ -3,7 +3,7 @@ ghost use Rattle.std.specs.Prelude.{◌≡◌, ◌+◌, ◌*◌, ◌≤◌, ◌�
 ghost use Rattle.plex_limits.specs.declared.limits.TheConstants.{MOST_NESTED, MOST_VALUES};
 ghost use Rattle.exchange_model.specs.declared.stmt.StmtKind.TheOpen as layer;
 ghost use Rattle.machine_code.specs.declared.op.Op.TheVariants as op;
-ghost use Rattle.stmt_code.specs.StmtCode.{bounds_code, takes_code, turns_code};
+ghost use Rattle.stmt_code.specs.StmtCode.{bounds_code, past_code, takes_code, turns_code};
 ghost use Rattle.code_gen.specs.Choices.{choice_codes};
 ghost use Rattle.code_gen.specs.Settings.{IsIn, code_in};
 
@@ -91,26 +91,47 @@ pub fn exit(spot: Spot, ops: &mut Seq<Op>) -> Result<(), Memory>
     push_all(ops, &[Op::Stmt { p: spot.point }, Op::End])
 }
 
-/// One of two lists, by whether register 0 is 0 after the test: the code of the lists stands at `yes_at` and at `no_at`.
+/// One of two lists, by whether register 0 is 0 after the test: the code of the other one stands at `no_at`, and `both` tells
+/// whether that one has a statement.
 #[tactic(auto, using(crate::proofs::ControlSteps::branches_are))]
 pub fn push_branches(
     point: u32,
     test: &Seq<Op>,
     yes: &Seq<Op>,
+    both: bool,
     no_at: u32,
     no: &Seq<Op>,
     ops: &mut Seq<Op>,
 ) -> Result<(), Memory>
     ensures { OnOk result (ops.new ≡ ops.old ++ (op.Stmt point ∷ (test.now ++ (op.Jz 0 no_at ∷
-        (yes.now ++ (op.Jmp (no_at + length no.now) ∷ no.now)))))) }
+        (yes.now ++ (past_code both (no_at + length no.now) ++ no.now)))))) }
 {
     let end = address_after(no_at, no.len(), 0)?;
     push_all(ops, &[Op::Stmt { p: point }])?;
     push_code(test, ops)?;
     push_all(ops, &[Op::Jz { r: 0, a: no_at }])?;
     push_code(yes, ops)?;
-    push_all(ops, &[Op::Jmp { a: end }])?;
+    push_past(both, end, ops)?;
     push_code(no, ops)
+}
+
+/// Appends the jump from the end of the first list of an IF past the other one, where that has a statement.
+#[tactic(auto, using(crate::proofs::ControlSteps::pasts))]
+fn push_past(both: bool, end: u32, ops: &mut Seq<Op>) -> Result<(), Memory>
+    ensures { OnOk result (ops.new ≡ ops.old ++ past_code both end) }
+{
+    if both {
+        push_all(ops, &[Op::Jmp { a: end }])
+    } else {
+        Ok(())
+    }
+}
+
+/// How many instructions that jump is.
+pub fn past_length(both: bool) -> u32
+    ensures { result ≡ length (past_code both 0) }
+{
+    if both { 1 } else { 0 }
 }
 
 /// A choice of a CASE with its code: the number, the address behind it, and the code of its list.
@@ -181,8 +202,8 @@ fn push_choice(choice: &Choice, end: u32, ops: &mut Seq<Op>) -> Result<(), Memor
     push_all(ops, &[Op::Jmp { a: end }])
 }
 
-/// Appends the turns of a loop, the code of which begins at `head`: the number is compared before one is added to it, so that
-/// it never passes 2^32.
+/// Appends the turns of a loop, the code of which begins at `head`, where register 0 has its number: the number is compared
+/// before one is added to it, so that it never passes 2^32.
 #[tactic(auto, using(crate::proofs::ControlSteps::turns_are))]
 pub fn push_turns(
     point: u32,
@@ -198,14 +219,7 @@ pub fn push_turns(
     let turn = FIRST_LOOP_LOCAL + 2 * loops;
     let last = turn + 1;
     let exit = address_after(head, body.len(), TURN_LENGTH + NEXT_LENGTH)?;
-    push_all(
-        ops,
-        &[
-            Op::Stmt { p: point },
-            Op::Ldt { r: 0, i: turn },
-            Op::Stt { i: temp, r: 0 },
-        ],
-    )?;
+    push_all(ops, &[Op::Stmt { p: point }, Op::Stt { i: temp, r: 0 }])?;
     push_code(body, ops)?;
     push_all(
         ops,
@@ -214,7 +228,6 @@ pub fn push_turns(
             Op::Ldt { r: 1, i: last },
             Op::Gt { r: 1, s: 0 },
             Op::Jz { r: 1, a: exit },
-            Op::Ldi { r: 1, n: 1 },
             Op::Add { r: 0, s: 1 },
             Op::Stt { i: turn, r: 0 },
             Op::Jmp { a: head },
@@ -223,19 +236,19 @@ pub fn push_turns(
 }
 
 /// Appends what comes before the turns of a loop: the bounds go into its two locals, and where there is no turn it is left.
+/// The first bound stays in register 0.
 #[tactic(auto, using(crate::proofs::ControlSteps::bounds_are))]
 pub fn push_bounds(
     point: u32,
     loops: u8,
     from: &Seq<Op>,
     upto: &Seq<Op>,
-    head: u32,
     exit: u32,
     ops: &mut Seq<Op>,
 ) -> Result<(), Memory>
     requires { loops ≤ MOST_NESTED }
     ensures { OnOk result (ops.new ≡ ops.old ++ (op.Stmt point ∷ (from.now ++
-        (upto.now ++ bounds_code loops head exit)))) }
+        (upto.now ++ bounds_code loops exit)))) }
 {
     let turn = FIRST_LOOP_LOCAL + 2 * loops;
     push_all(ops, &[Op::Stmt { p: point }])?;
@@ -246,9 +259,8 @@ pub fn push_bounds(
         &[
             Op::Stt { i: turn, r: 0 },
             Op::Stt { i: turn + 1, r: 1 },
-            Op::Gt { r: 0, s: 1 },
-            Op::Jz { r: 0, a: head },
-            Op::Jmp { a: exit },
+            Op::Ge { r: 1, s: 0 },
+            Op::Jz { r: 1, a: exit },
         ],
     )
 }

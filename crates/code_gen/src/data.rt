@@ -2,7 +2,7 @@
 ghost use Rattle.std.specs.Prelude.{◌≡◌, ◌+◌, ◌<◌, ◌^◌, ◌++◌, slice_get, OnOk};
 ghost use Rattle.exchange_model.specs.declared.stmt.StmtKind.TheOpen as layer;
 ghost use Rattle.expr_code.specs.Code.{pointer_code};
-ghost use Rattle.stmt_code.specs.StmtCode.{field_store};
+ghost use Rattle.stmt_code.specs.StmtCode.{field_store, range_code};
 ghost use Rattle.code_gen.specs.Settings.{IsFieldIn, IsIn, IsSetting, code_in, placed_of, places_in};
 
 use crate::lookup::width_of_field;
@@ -44,17 +44,15 @@ pub fn set_variable(
     ensures { OnOk result (ops.new ≡ ops.old ++ code_in
         (layer.SetVariable variable value.now) at.now spot) }
 {
-    let fits = Op::Ckw {
-        r: 0,
-        d: at.width(variable),
-    };
+    let width = at.width(variable);
     let store = Op::Stw {
         w: at.word(variable),
         r: 0,
     };
     push_all(ops, &[Op::Stmt { p: spot.point }])?;
     push_value(value, at, 0, ops)?;
-    push_all(ops, &[fits, store])
+    push_range(0, width, ops)?;
+    push_all(ops, &[store])
 }
 
 /// A field gets a value: first the pointer is checked, and then whether the value fits the field's width.
@@ -93,11 +91,8 @@ fn store_field(
     let Some(place) = at.file(file) else {
         return Ok(());
     };
-    let check = Op::Ckw {
-        r: 0,
-        d: width_of_field(&place, field),
-    };
-    let store = Op::Stx {
+    let field_width = width_of_field(&place, field);
+    let write = Op::Stx {
         w: word_in(&place, field),
         n: place.file.record_cells(),
         s: 1,
@@ -105,7 +100,20 @@ fn store_field(
     };
     push_all(ops, &[Op::Ldt { r: 1, i: pointer }])?;
     push_pointer(&place, file, 1, ops)?;
-    push_all(ops, &[check, store])
+    push_range(0, field_width, ops)?;
+    push_all(ops, &[write])
+}
+
+/// Appends what looks whether the value in the register `r` fits a width, which each value does from 32 bits on.
+#[tactic(auto, using(crate::proofs::DataSteps::ranges))]
+fn push_range(r: u8, width: u8, ops: &mut Seq<Op>) -> Result<(), Memory>
+    ensures { OnOk result (ops.new ≡ ops.old ++ range_code r width) }
+{
+    if width < 32 {
+        push_all(ops, &[Op::Ckw { r, d: width }])
+    } else {
+        Ok(())
+    }
 }
 
 /// The word of a field of a file's first record.

@@ -1,13 +1,14 @@
 // The code of statements, and of the lists in them.
 ghost use Rattle.std.specs.Prelude.{◌≡◌, ◌++◌, map, IfOk, OnOk};
 ghost use Rattle.exchange_model.specs.declared.stmt.StmtKind.{out-StmtKind};
-ghost use Rattle.stmt_code.specs.StmtCode.{codes, kind_code, stmt_code, when_code};
+ghost use Rattle.stmt_code.specs.StmtCode.{codes, has_any, kind_code, stmt_code, when_code};
 ghost use Rattle.code_gen.specs.Choices.{chosen, behind_choices};
 ghost use Rattle.code_gen.specs.Settings.{AreIn, AreChoicesIn, IsIn, places_in};
 
 use crate::addresses::{address_after, address_between, address_plus};
 use crate::control::{
-    Choice, Choices, enter, exit, goto, if_goto, push_bounds, push_branches, push_case, push_turns,
+    Choice, Choices, enter, exit, goto, if_goto, past_length, push_bounds, push_branches,
+    push_case, push_turns,
 };
 use crate::data::{set_field, set_temp, set_variable};
 use crate::records::{for_first, free, seize};
@@ -78,9 +79,10 @@ pub fn emit_kind(
             let test = test_code(alloc, cond, at)?;
             let yes_at = address_after(spot.start, test.len(), 2)?;
             let first = list_code(alloc, yes, at, spot.loops, yes_at)?;
-            let no_at = address_after(yes_at, first.len(), 1)?;
+            let both = has_statement(no);
+            let no_at = address_after(yes_at, first.len(), past_length(both))?;
             let other = list_code(alloc, no, at, spot.loops, no_at)?;
-            push_branches(spot.point, &test, &first, no_at, &other, ops)
+            push_branches(spot.point, &test, &first, both, no_at, &other, ops)
         }
         StmtKind::Case {
             value,
@@ -106,7 +108,7 @@ pub fn emit_kind(
             let inner = address_plus(head, TURN_LENGTH)?;
             let turn = list_code(alloc, body, at, spot.loops + 1, inner)?;
             let exit = address_after(head, turn.len(), TURN_LENGTH + NEXT_LENGTH)?;
-            push_bounds(spot.point, spot.loops, &low, &high, head, exit, ops)?;
+            push_bounds(spot.point, spot.loops, &low, &high, exit, ops)?;
             push_turns(spot.point, *temp, spot.loops, head, &turn, ops)
         }
         StmtKind::ForFirst {
@@ -139,6 +141,14 @@ pub fn emit_kind(
         StmtKind::Exit => exit(spot, ops),
         StmtKind::Finish => exit(spot, ops),
     }
+}
+
+/// Whether a list has a statement.
+#[tactic(auto, using(crate::proofs::TextSteps::any_is))]
+fn has_statement(list: &Seq<Stmt>) -> bool
+    ensures { result ≡ has_any (map stmt_code list.now) }
+{
+    !list.as_slice().is_empty()
 }
 
 /// The choices of a CASE with their code, which begins at an address.

@@ -17,8 +17,6 @@ mod index;
 mod laws;
 mod signal;
 mod stmt;
-#[cfg(test)]
-mod tests;
 
 pub use block::{Block, Enter, File, FilePlace, Label, Variable};
 pub use crossing::exchange_crosses;

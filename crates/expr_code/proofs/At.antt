@@ -1,5 +1,5 @@
 -- The parts of an expression of a block are of that block.
-use Rattle.std.proofs.Common.{◌≡◌, ℕ, zero, suc, ◌+◌, ◌*◌, ◌<◌, ◌≤◌, ◌^◌, List, [], ◌∷◌, length, map, get_or, Some, slice_get, sym, ap, ◌∙◌, subst, arith}
+use Rattle.std.proofs.Common.{◌≡◌, ℕ, zero, suc, ◌+◌, ◌*◌, ◌<◌, ◌≤◌, ◌^◌, List, [], ◌∷◌, length, map, get_or, Some, slice_get, refl, sym, ap, ◌∙◌, subst, arith}
 use Rattle.std.proofs.lemmas.Nat.{mul-le}
 use Rattle.std.proofs.lemmas.Option.{same_Some}
 use Rattle.std.specs.List.{AllByRecursion}
@@ -48,6 +48,14 @@ term_at e l b ts i t r h room is lt item =
     let deep : bracket_depth e ≡ most (map term_depth ts) = bracket_depth-out e ∙ ap (λ l. most (map term_depth l)) (sym is) in
     (record { scope = h.scope; is_scope = h.is_scope; fits = each_at (TermFits h.scope) ts i t all lt item }, omega (arith, deep, most_at term_depth ts i t lt item))
 
+pub first_term_at : (e : Expr) (l : Rows) (b : ℕ) (ts : List Term) (t : Term) (rest : List Term) (r : ℕ) → IsExprOf l b e → r + (2 * bracket_depth e + 2) < 16 → ts ≡ (out-Expr e).terms → ts ≡ t ∷ rest → IsTermOf l b t × (r + (2 * term_depth t + 1) < 16)
+first_term_at e l b ts t rest r h room same is =
+    let here = term_at e l b (t ∷ rest) 0 t r h room (sym is ∙ same) (omega arith) refl in
+    (here.0, omega (arith, here.1))
+
+pub next_term_at : (e : Expr) (l : Rows) (b : ℕ) (ts : List Term) (first : Term) (rest : List Term) (i : ℕ) (t : Term) (r : ℕ) → IsExprOf l b e → r + (2 * bracket_depth e + 2) < 16 → ts ≡ (out-Expr e).terms → ts ≡ first ∷ rest → i < length rest → t ≡ get_or rest i t → IsTermOf l b t × (r + 1 + (2 * term_depth t + 1) < 16)
+next_term_at e l b ts first rest i t r h room same is lt item = term_at e l b (first ∷ rest) (suc i) t r h room (sym is ∙ same) (omega arith) item
+
 pub factor_at : (t : Term) (l : Rows) (b : ℕ) (js : List Joined) (i : ℕ) (j : Joined) (r : ℕ) → IsTermOf l b t → r + (2 * term_depth t + 1) < 16 → js ≡ (out-Term t).factors → i < length js → j ≡ get_or js i j → IsFactorOf l b j.factor × (r + 1 + 2 * factor_own_depth j.factor < 16)
 factor_at t l b js i j r h room is lt item =
     let Fits : Joined → Type 0 = λ j. FactorOwnFits h.scope j.factor in
@@ -55,6 +63,14 @@ factor_at t l b js i j r h room is lt item =
     let all : AllByRecursion Fits js = subst (AllByRecursion Fits) (sym is) (factors_fit h.scope t h.fits) in
     let deep : term_depth t ≡ most (map depth js) = term_is_deep t ∙ ap (λ l. most (map depth l)) (sym is) in
     (record { scope = h.scope; is_scope = h.is_scope; fits = each_at Fits js i j all lt item }, omega (arith, deep, most_at depth js i j lt item))
+
+pub first_factor_at : (t : Term) (l : Rows) (b : ℕ) (js : List Joined) (j : Joined) (rest : List Joined) (r : ℕ) → IsTermOf l b t → r + (2 * term_depth t + 1) < 16 → js ≡ (out-Term t).factors → js ≡ j ∷ rest → IsFactorOf l b j.factor × (r + 2 * factor_own_depth j.factor < 16)
+first_factor_at t l b js j rest r h room same is =
+    let here = factor_at t l b (j ∷ rest) 0 j r h room (sym is ∙ same) (omega arith) refl in
+    (here.0, omega (arith, here.1))
+
+pub next_factor_at : (t : Term) (l : Rows) (b : ℕ) (js : List Joined) (first : Joined) (rest : List Joined) (i : ℕ) (j : Joined) (r : ℕ) → IsTermOf l b t → r + (2 * term_depth t + 1) < 16 → js ≡ (out-Term t).factors → js ≡ first ∷ rest → i < length rest → j ≡ get_or rest i j → IsFactorOf l b j.factor × (r + 1 + 2 * factor_own_depth j.factor < 16)
+next_factor_at t l b js first rest i j r h room same is lt item = factor_at t l b (first ∷ rest) (suc i) j r h room (sym is ∙ same) (omega arith) item
 
 pub variable_at : (f : Factor) (v : ℕ) (l : Rows) (b : ℕ) → IsFactorOf l b f → f ≡ Variable v → HasCell l (cell.Variable b v)
 variable_at f v l b h is =
@@ -116,3 +132,16 @@ relations_at l b c rss i rs now h is lt item same =
     let P : Expr → Type 0 = IsSide h.scope in
     let all : AllByRecursion P (joined (map relation_exprs rss)) = subst (λ l. AllByRecursion P (joined (map relation_exprs l))) (sym is) (sides_fit h.scope (cond_exprs c) h.fits.each h.fits.shallow) in
     record { scope = h.scope; is_scope = h.is_scope; sides = subst (λ l. AllByRecursion P (relation_exprs l)) (sym same) (list_at P rss i rs all lt item) }
+
+-- the first of a list, and one of those behind it
+pub first_relation_at : (l : Rows) (b : ℕ) (rs : List Relation) (r : Relation) (rest : List Relation) → AreRelationsOf l b rs → rs ≡ r ∷ rest → IsRelationOf l b r
+first_relation_at l b rs r rest h is = relation_at l b (r ∷ rest) 0 r (subst (AreRelationsOf l b) is h) (omega arith) refl
+
+pub next_relation_at : (l : Rows) (b : ℕ) (rs : List Relation) (first : Relation) (rest : List Relation) (i : ℕ) (r : Relation) → AreRelationsOf l b rs → rs ≡ first ∷ rest → i < length rest → r ≡ get_or rest i r → IsRelationOf l b r
+next_relation_at l b rs first rest i r h is lt item = relation_at l b (first ∷ rest) (suc i) r (subst (AreRelationsOf l b) is h) (omega arith) item
+
+pub first_relations_at : (l : Rows) (b : ℕ) (c : Cond) (all : List (List Relation)) (rs now : List Relation) (rest : List (List Relation)) → IsCondOf l b c → all ≡ c.any → all ≡ rs ∷ rest → now ≡ rs → AreRelationsOf l b now
+first_relations_at l b c all rs now rest h any is same = relations_at l b c (rs ∷ rest) 0 rs now h (sym is ∙ any) (omega arith) refl same
+
+pub next_relations_at : (l : Rows) (b : ℕ) (c : Cond) (all : List (List Relation)) (first : List Relation) (rest : List (List Relation)) (i : ℕ) (rs now : List Relation) → IsCondOf l b c → all ≡ c.any → all ≡ first ∷ rest → i < length rest → rs ≡ get_or rest i rs → now ≡ rs → AreRelationsOf l b now
+next_relations_at l b c all first rest i rs now h any is lt item same = relations_at l b c (first ∷ rest) (suc i) rs now h (sym is ∙ any) (omega arith) item same

@@ -1,13 +1,13 @@
 -- One more term or factor is appended.
-use Rattle.std.proofs.Common.{◌≡◌, ℕ, ◌+◌, ◌<◌, ◌≤◌, List, [], ◌∷◌, ◌++◌, length, drop, map, get_or, sym, ap, ◌∙◌, subst}
+use Rattle.std.proofs.Common.{◌≡◌, ℕ, ◌+◌, ◌<◌, ◌≤◌, List, [], ◌∷◌, ◌++◌, length, drop, map, get_or, refl, sym, ap, ◌∙◌, subst}
 use Rattle.std.proofs.Math.ListN.{drop_of_length-le}
+use Rattle.std.proofs.lemmas.List.{nil_from_length}
 use Rattle.machine_code.specs.declared.op.Op.{Op}
-use Rattle.machine_code.specs.declared.op.Op.TheVariants.{Ldi}
 use Rattle.exchange_model.specs.declared.expr.Expr.{Expr, out-Expr}
 use Rattle.exchange_model.specs.declared.expr.Term.{Term, out-Term}
 use Rattle.exchange_model.specs.declared.expr.Joined.{Joined}
 use Rattle.store_layout.specs.Rows.{Rows}
-use Rattle.expr_code.specs.Code.{Site, term_op, factor_op, sum_code, product_code, expr_code, term_code, factor_code, joined_code, summand_code}
+use Rattle.expr_code.specs.Code.{Site, term_op, factor_op, sum_code, product_code, whole_sum, whole_product, expr_code, term_code, factor_code, joined_code, summand_code}
 use Rattle.expr_code.specs.Sites.{Begins, Grows}
 use Rattle.expr_code.proofs.Emits.{Emitting, emitting_begin, emitting_on, emitting_with, emitting_end, begins_on, opens}
 use Rattle.expr_code.proofs.Opened.{expr_code-out, term_code-out}
@@ -18,13 +18,20 @@ use Rattle.expr_code.proofs.Opened.{expr_code-out, term_code-out}
 unfoldable pub TermsLeft : (l : Rows) (b r : ℕ) (old now : List Op) (ts : List Term) (e : Expr) → Type 0
 TermsLeft l b r old now ts e = Emitting l b old now (λ site. sum_code (map summand_code ts) site r) (λ site. expr_code e site r)
 
-pub terms_begin : (e : Expr) (ts : List Term) (l : Rows) (b r : ℕ) (old now : List Op) → ts ≡ (out-Expr e).terms → now ≡ old ++ Ldi r 0 ∷ [] → TermsLeft l b r old now ts e
+pub terms_begin : (e : Expr) (ts : List Term) (t : Term) (rest : List Term) (l : Rows) (b r : ℕ) (old now : List Op) → ts ≡ (out-Expr e).terms → ts ≡ t ∷ rest → Grows l b old now (λ site. term_code t site r) → TermsLeft l b r old now rest e
 unfolding TermsLeft
-terms_begin e ts l b r old now is e1 =
-    let left : Site → List Op = λ site. sum_code (map summand_code ts) site r in
-    emitting_with l b old old now (Ldi r 0 ∷ []) left (λ site. expr_code e site r) e1
-    (emitting_begin l b old (λ site. Ldi r 0 ∷ left site) (λ site. expr_code e site r)
-    (λ site. ap (λ us. Ldi r 0 ∷ sum_code (map summand_code us) site r) is ∙ sym (ap (λ c. c site r) (expr_code-out e))))
+terms_begin e ts t rest l b r old now same is g =
+    let left : Site → List Op = λ site. sum_code (map summand_code rest) site r in
+    let all : Site → List Op = λ site. expr_code e site r in
+    emitting_on l b old old now (λ site. term_code t site r) left all g
+    (emitting_begin l b old (λ site. term_code t site r ++ left site) all
+    (λ site. sym (ap (λ c. c site r) (expr_code-out e) ∙ ap (λ us. whole_sum (map summand_code us) site r) (sym same ∙ is))))
+
+pub terms_none : (e : Expr) (ts : List Term) (l : Rows) (b r : ℕ) (old : List Op) → ts ≡ (out-Expr e).terms → length ts ≡ 0 → Grows l b old old (λ site. expr_code e site r)
+terms_none e ts l b r old same none =
+    emitting_end l b old old (λ site. expr_code e site r) (λ site. expr_code e site r)
+    (λ site. ap (λ c. c site r) (expr_code-out e) ∙ ap (λ us. whole_sum (map summand_code us) site r) (sym same ∙ nil_from_length ts none))
+    (emitting_begin l b old (λ site. expr_code e site r) (λ site. expr_code e site r) (λ site. refl))
 
 pub terms_more : (ts : List Term) (i : ℕ) (t : Term) (l : Rows) (b r : ℕ) (old now mid new : List Op) (e : Expr) → i < length ts → t ≡ get_or ts i t → Grows l b now mid (λ site. term_code t site (r + 1)) → new ≡ mid ++ term_op (out-Term t).minus r (r + 1) ∷ [] → TermsLeft l b r old now (drop i ts) e → TermsLeft l b r old new (drop (i + 1) ts) e
 unfolding TermsLeft
@@ -50,13 +57,20 @@ terms_begins l b r old now new ts e h more = begins_on old now new h.begins more
 unfoldable pub FactorsLeft : (l : Rows) (b r : ℕ) (old now : List Op) (js : List Joined) (t : Term) → Type 0
 FactorsLeft l b r old now js t = Emitting l b old now (λ site. product_code (map joined_code js) site r) (λ site. term_code t site r)
 
-pub factors_begin : (t : Term) (js : List Joined) (l : Rows) (b r : ℕ) (old now : List Op) → js ≡ (out-Term t).factors → now ≡ old ++ Ldi r 1 ∷ [] → FactorsLeft l b r old now js t
+pub factors_begin : (t : Term) (js : List Joined) (j : Joined) (rest : List Joined) (l : Rows) (b r : ℕ) (old now : List Op) → js ≡ (out-Term t).factors → js ≡ j ∷ rest → Grows l b old now (λ site. factor_code j.factor site r) → FactorsLeft l b r old now rest t
 unfolding FactorsLeft
-factors_begin t js l b r old now is e1 =
-    let left : Site → List Op = λ site. product_code (map joined_code js) site r in
-    emitting_with l b old old now (Ldi r 1 ∷ []) left (λ site. term_code t site r) e1
-    (emitting_begin l b old (λ site. Ldi r 1 ∷ left site) (λ site. term_code t site r)
-    (λ site. ap (λ us. Ldi r 1 ∷ product_code (map joined_code us) site r) is ∙ sym (ap (λ c. c site r) (term_code-out t))))
+factors_begin t js j rest l b r old now same is g =
+    let left : Site → List Op = λ site. product_code (map joined_code rest) site r in
+    let all : Site → List Op = λ site. term_code t site r in
+    emitting_on l b old old now (λ site. factor_code j.factor site r) left all g
+    (emitting_begin l b old (λ site. factor_code j.factor site r ++ left site) all
+    (λ site. sym (ap (λ c. c site r) (term_code-out t) ∙ ap (λ us. whole_product (map joined_code us) site r) (sym same ∙ is))))
+
+pub factors_none : (t : Term) (js : List Joined) (l : Rows) (b r : ℕ) (old : List Op) → js ≡ (out-Term t).factors → length js ≡ 0 → Grows l b old old (λ site. term_code t site r)
+factors_none t js l b r old same none =
+    emitting_end l b old old (λ site. term_code t site r) (λ site. term_code t site r)
+    (λ site. ap (λ c. c site r) (term_code-out t) ∙ ap (λ us. whole_product (map joined_code us) site r) (sym same ∙ nil_from_length js none))
+    (emitting_begin l b old (λ site. term_code t site r) (λ site. term_code t site r) (λ site. refl))
 
 pub factors_more : (js : List Joined) (i : ℕ) (j : Joined) (l : Rows) (b r : ℕ) (old now mid new : List Op) (t : Term) → i < length js → j ≡ get_or js i j → Grows l b now mid (λ site. factor_code j.factor site (r + 1)) → new ≡ mid ++ factor_op j.by r (r + 1) ∷ [] → FactorsLeft l b r old now (drop i js) t → FactorsLeft l b r old new (drop (i + 1) js) t
 unfolding FactorsLeft
@@ -77,6 +91,6 @@ unfolding FactorsLeft
 factors_begins l b r old now new js t h more = begins_on old now new h.begins more
 
 -- a loop over terms, and one over factors
-pub ruleset each_term = (terms_begin, terms_more, terms_end, terms_begins)
+pub ruleset each_term = (terms_begin, terms_more, terms_end, terms_none, terms_begins)
 
-pub ruleset each_factor = (factors_begin, factors_more, factors_end, factors_begins)
+pub ruleset each_factor = (factors_begin, factors_more, factors_end, factors_none, factors_begins)

@@ -15,9 +15,9 @@ use Rattle.exchange_model.specs.declared.expr.Factor.{Factor}
 use Rattle.exchange_model.specs.declared.expr.Factor.TheVariants.{Number, Variable, Temporary, Field, Reference}
 use Rattle.exchange_model.specs.Cells.{Placed, field_cell, record_cells}
 use Rattle.exchange_model.specs.Inside.{most, bracket_depth}
-use Rattle.exchange_model.specs.Fits.{Scope, ExprFits}
+use Rattle.exchange_model.specs.Fits.{Scope, ExprFits, TermsStand, FactorsStand}
 use Rattle.exchange_model.specs.PartFits.{TermFits, FactorOwnFits}
-use Rattle.exchange_model.proofs.Layers.{expr_fits-out}
+use Rattle.exchange_model.proofs.Layers.{expr_fits-out, term_fits-out}
 use Rattle.exchange_model.specs.PartCounts.{term_depth, factor_own_depth}
 use Rattle.exchange_model.proofs.Counted.{bracket_depth-out}
 use Rattle.job_types.specs.Own.{seen}
@@ -25,12 +25,12 @@ use Rattle.source_meaning.specs.Value.{Got, Gives, Fails, Eval, Sight, with_valu
 use Rattle.job_types.specs.Chain.{holds}
 use Rattle.source_meaning.proofs.Layers.{expr_value-out, term_value-out, factor_value-Number, factor_value-Variable, factor_value-Temporary, factor_value-Field, factor_value-Bracket, factor_value-Reference}
 use Rattle.register_machine.specs.Machine.{Machine, HasRoom, machine_step, reg, sets, checks, fails, divides, made_one}
-use Rattle.expr_code.specs.Code.{Code, term_op, factor_op, own_code, field_code, sum_code, product_code, expr_code, term_code, factor_code, joined_code, summand_code}
+use Rattle.expr_code.specs.Code.{Code, term_op, factor_op, own_code, field_code, sum_code, product_code, whole_sum, whole_product, expr_code, term_code, factor_code, joined_code, summand_code}
 use Rattle.expr_code.specs.Runs.{HasOp, HasAt, site_of, Agrees, Computes}
 use Rattle.expr_code.specs.Sites.{IsLimited}
 use Rattle.expr_code.proofs.Each.{all_fit}
 use Rattle.expr_code.proofs.Places.{has_front, has_back}
-use Rattle.expr_code.proofs.Runs.{agrees_on, bind_runs, then_runs, check_runs, nothing, StandsAt, op_sets, op_sets_plain, op_fails, op_checks}
+use Rattle.expr_code.proofs.Runs.{agrees_on, after_none, bind_runs, then_runs, check_runs, nothing, StandsAt, op_sets, op_sets_plain, op_fails, op_checks}
 use Rattle.source_meaning.proofs.Parts.{Parts, every_expr}
 use Rattle.expr_code.proofs.Opened.{expr_code-out, term_code-out, factor_code-Number, factor_code-Variable, factor_code-Temporary, factor_code-Field, factor_code-Bracket, factor_code-Reference}
 use Rattle.expr_code.proofs.Fitted.{number_fits, temporary_fits, field_fits, bracket_fits, reference_fits, factors_fit, term_is_deep, bracket_is_deep}
@@ -79,6 +79,17 @@ joined_runs code Divide x zero m op pc r at small lt e = op_fails code m op pc (
 joined_runs code Divide x (suc y) m op pc r at small lt e = op_sets_plain code m op pc r _ at (omega arith) lt e
 joined_runs code Modulo x zero m op pc r at small lt e = op_fails code m op pc (pc + 1) r 50 fault.Divide at e
 joined_runs code Modulo x (suc y) m op pc r at small lt e = op_sets_plain code m op pc r _ at (omega arith) lt e
+
+-- the first term of a sum is its value, and the first factor that of a product
+first_summed : (minus : Bool) (v : ℕ) → minus ≡ false → v < 2 ^ 32 → summed minus 0 v ≡ v
+first_summed minus v plain small =
+    let same : (0 + v) % 2 ^ 32 ≡ v = omega arith in
+    ap (λ b. summed b 0 v) plain ∙ same
+
+first_joined : (by : FactorOp) (v : ℕ) (go : ℕ → Got) → by ≡ Times → v < 2 ^ 32 → with_value (joined by 1 v) go ≡ go v
+first_joined by v go times small =
+    let same : (1 * v) % 2 ^ 32 ≡ v = omega arith in
+    ap (λ b. with_value (joined b 1 v) go) times ∙ after_none (go ((1 * v) % 2 ^ 32)) ∙ ap go same
 
 -- an agreeing machine that stands at an instruction
 pub stands : {code : List Op} {s : Sight} {m : Machine} {pc : ℕ} {op : Op} → Agrees m s → m.run.pc ≡ pc → HasOp code pc op → HasRoom op m.run → StandsAt code m pc op
@@ -134,19 +145,38 @@ module _ (code : List Op) (s : Sight) where
       bind_runs code (λ p. product_value (map multiplier_of js) p s) (omega arith) (omega arith) (joined_runs code j.by product v n op (pc + length c) r (stands b q.at h.0 (factor_room j.by r (r + 1) n)) small (omega arith) same) (λ n2 x2 p q2 is2 small2.
       product_runs js p n2 (pc + length c + 1) end r all.1 (agrees_on (omega arith) q2 b) q2.at is2 small2 (omega arith) h.1 (omega (arith, length-append c (op ∷ product_code (map joined_code js) (site_of s) r)))))
 
-  term_layer_runs : (t : Term) → AllByRecursion (λ (j : Joined). FactorRuns j.factor) (out-Term t).factors → TermRuns t
-  term_layer_runs t all =
-      let js = (out-Term t).factors in
-      runs_as (ap (λ d. 2 * d + 1) (term_is_deep t)) (term_code-out t) (ap (λ (v : Eval). v s) (term_value-out t)) (λ m pc r a at lt has.
-      then_runs code (omega arith) (omega arith) (op_sets_plain code m (Ldi r 1) pc r 1 (stands a at has.0 tt) (omega arith) (omega arith) refl) (λ n q is.
-      product_runs js 1 n (pc + 1) _ r all (agrees_on (omega arith) q a) q.at is (omega arith) (omega arith) has.1 (omega arith)))
+  -- a product and a sum, whose first part is no case of its own in the value
+  factors_run : (js : List Joined) (m : Machine) (pc r : ℕ) → FactorsStand js → AllByRecursion (λ (j : Joined). FactorRuns j.factor) js → Agrees m s → m.run.pc ≡ pc → r + (2 * most (map (λ (j : Joined). factor_own_depth j.factor) js) + 1) < 16 → HasAt code pc (whole_product (map joined_code js) (site_of s) r) → Computes code m (pc + length (whole_product (map joined_code js) (site_of s) r)) r 50 (product_value (map multiplier_of js) 1 s)
+  factors_run [] m pc r stand all a at lt has = absurd stand
+  factors_run (j ∷ js) m pc r stand all a at lt has =
+      let c = factor_code j.factor (site_of s) r in
+      let rest = product_code (map joined_code js) (site_of s) r in
+      let end = pc + length (c ++ rest) in
+      let more : ℕ → Got = λ p. product_value (map multiplier_of js) p s in
+      bind_runs code (λ v. with_value (joined j.by 1 v) more) (omega arith) (omega arith) (all.0 m pc r a at (omega arith) (has_front code pc c rest has)) (λ n x v q is small.
+      subst (Computes code n end r 50) (sym (first_joined j.by v more stand small))
+      (product_runs js v n (pc + length c) end r all.1 (agrees_on (omega arith) q a) q.at is small (omega arith) (has_back code pc c rest has) (omega (arith, length-append c rest))))
 
-  expr_layer_runs : (e : Expr) → AllByRecursion TermRuns (out-Expr e).terms → RunsWithin (2 * bracket_depth e + 2) (expr_code e) (expr_value e s)
-  expr_layer_runs e all =
-      let ts = (out-Expr e).terms in
+  terms_run : (ts : List Term) (m : Machine) (pc r : ℕ) → TermsStand ts → AllByRecursion TermRuns ts → Agrees m s → m.run.pc ≡ pc → r + (2 * most (map term_depth ts) + 2) < 16 → HasAt code pc (whole_sum (map summand_code ts) (site_of s) r) → Computes code m (pc + length (whole_sum (map summand_code ts) (site_of s) r)) r 50 (sum_value (map summand_of ts) 0 s)
+  terms_run [] m pc r stand all a at lt has = absurd stand
+  terms_run (t ∷ ts) m pc r stand all a at lt has =
+      let c = term_code t (site_of s) r in
+      let rest = sum_code (map summand_code ts) (site_of s) r in
+      let end = pc + length (c ++ rest) in
+      let minus = (out-Term t).minus in
+      bind_runs code (λ v. sum_value (map summand_of ts) (summed minus 0 v) s) (omega arith) (omega arith) (all.0 m pc r a at (omega arith) (has_front code pc c rest has)) (λ n x v q is small.
+      subst (λ sum. Computes code n end r 50 (sum_value (map summand_of ts) sum s)) (sym (first_summed minus v stand small))
+      (sum_runs ts v n (pc + length c) end r all.1 (agrees_on (omega arith) q a) q.at is small (omega arith) (has_back code pc c rest has) (omega (arith, length-append c rest))))
+
+  term_layer_runs : (t : Term) → FactorsStand (out-Term t).factors → AllByRecursion (λ (j : Joined). FactorRuns j.factor) (out-Term t).factors → TermRuns t
+  term_layer_runs t stand all =
+      runs_as (ap (λ d. 2 * d + 1) (term_is_deep t)) (term_code-out t) (ap (λ (v : Eval). v s) (term_value-out t)) (λ m pc r a at lt has.
+      factors_run (out-Term t).factors m pc r stand all a at lt has)
+
+  expr_layer_runs : (e : Expr) → TermsStand (out-Expr e).terms → AllByRecursion TermRuns (out-Expr e).terms → RunsWithin (2 * bracket_depth e + 2) (expr_code e) (expr_value e s)
+  expr_layer_runs e stand all =
       runs_as (ap (λ d. 2 * d + 2) (bracket_depth-out e)) (expr_code-out e) (ap (λ (v : Eval). v s) (expr_value-out e)) (λ m pc r a at lt has.
-      then_runs code (omega arith) (omega arith) (op_sets_plain code m (Ldi r 0) pc r 0 (stands a at has.0 tt) (omega arith) (omega arith) refl) (λ n q is.
-      sum_runs ts 0 n (pc + 1) _ r all (agrees_on (omega arith) q a) q.at is (omega arith) (omega arith) has.1 (omega arith)))
+      terms_run (out-Expr e).terms m pc r stand all a at lt has)
 
   -- ## Factors
 
@@ -220,8 +250,8 @@ module _ (code : List Op) (s : Sight) where
   module _ (scope : Scope) (few : IsLimited scope) where
     expr_steps : Parts (λ e. ExprFits scope e → RunsWithin (2 * bracket_depth e + 2) (expr_code e) (expr_value e s)) (λ t. TermFits scope t → TermRuns t) (λ f. FactorOwnFits scope f → FactorRuns f)
     expr_steps = record {
-      expr = λ e all fits. expr_layer_runs e (all_fit (TermFits scope) TermRuns (out-Expr e).terms all (expr_fits-out scope e fits).1);
-      term = λ t all fits. term_layer_runs t (all_fit (λ (j : Joined). FactorOwnFits scope j.factor) (λ (j : Joined). FactorRuns j.factor) (out-Term t).factors all (factors_fit scope t fits));
+      expr = λ e all fits. expr_layer_runs e (expr_fits-out scope e fits).0 (all_fit (TermFits scope) TermRuns (out-Expr e).terms all (expr_fits-out scope e fits).1);
+      term = λ t all fits. term_layer_runs t (term_fits-out scope t fits).0 (all_fit (λ (j : Joined). FactorOwnFits scope j.factor) (λ (j : Joined). FactorRuns j.factor) (out-Term t).factors all (factors_fit scope t fits));
       number = λ n fits. leaf (Number n) (factor_code-Number n) (factor_value-Number n s) (number_runs n (number_fits scope n fits));
       variable = λ v fits. leaf (Variable v) (factor_code-Variable v) (factor_value-Variable v s) (variable_runs v);
       temporary = λ t fits.

@@ -7,7 +7,7 @@ use Rattle.exchange_model.specs.declared.expr.Term.{Term, out-Term, fold-Term, f
 use Rattle.exchange_model.specs.declared.expr.Joined.{Joined, fold-Joined, fold_out-Joined}
 use Rattle.exchange_model.specs.declared.expr.Factor.{Factor, Factor-F, map-Factor, out-Factor, fold_out-Factor}
 use Rattle.exchange_model.specs.declared.expr.Factor.TheVariants.{Number, Variable, Temporary, Field, Bracket, Reference, outs-Number, outs-Variable, outs-Temporary, outs-Field, outs-Bracket, outs-Reference}
-use Rattle.expr_code.specs.Code.{Code, FactorCode, TermCode, factor_layer, joined_layer, term_layer, expr_layer, product_from_1, sum_from_0, field_code, expr_code, term_code, factor_code, joined_code, summand_code}
+use Rattle.expr_code.specs.Code.{Code, FactorCode, TermCode, factor_layer, joined_layer, term_layer, expr_layer, whole_product, whole_sum, field_code, expr_code, term_code, factor_code, joined_code, summand_code}
 
 -- what the fold makes of a factor in a term and of a term
 abbrev folded_joined : Joined → FactorCode
@@ -24,17 +24,17 @@ term_is : folded_term ≡ summand_code
 unfolding term_code
 term_is = fun_ext (λ t.
     fold_out-Term Code Code FactorCode TermCode factor_layer expr_layer joined_layer term_layer t
-    ∙ ap (λ g. record { minus = (out-Term t).minus; code = product_from_1 (map g (out-Term t).factors) }) joined_is)
+    ∙ ap (λ g. record { minus = (out-Term t).minus; code = whole_product (map g (out-Term t).factors) }) joined_is)
 
 -- an expression is the sum of its terms
-pub expr_code-out : (e : Expr) → expr_code e ≡ sum_from_0 (map summand_code (out-Expr e).terms)
+pub expr_code-out : (e : Expr) → expr_code e ≡ whole_sum (map summand_code (out-Expr e).terms)
 unfolding expr_code
 expr_code-out e =
     fold_out-Expr Code Code FactorCode TermCode factor_layer expr_layer joined_layer term_layer e
-    ∙ ap (λ g. sum_from_0 (map g (out-Expr e).terms)) term_is
+    ∙ ap (λ g. whole_sum (map g (out-Expr e).terms)) term_is
 
 -- a term is the product of its factors
-pub term_code-out : (t : Term) → term_code t ≡ product_from_1 (map joined_code (out-Term t).factors)
+pub term_code-out : (t : Term) → term_code t ≡ whole_product (map joined_code (out-Term t).factors)
 unfolding term_code
 term_code-out t = refl
 

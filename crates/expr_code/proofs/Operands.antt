@@ -22,7 +22,7 @@ use Rattle.exchange_model.specs.PartFits.{TermFits, FactorOwnFits}
 use Rattle.exchange_model.proofs.Layers.{expr_fits-out}
 use Rattle.exchange_model.specs.PartCounts.{term_depth, factor_own_depth}
 use Rattle.exchange_model.proofs.Counted.{bracket_depth-out}
-use Rattle.expr_code.specs.Code.{Site, Code, term_op, factor_op, rel_op, own_code, field_code, sum_code, product_code, expr_code, term_code, factor_code, joined_code, summand_code, relation_code, all_code, any_code, cond_code}
+use Rattle.expr_code.specs.Code.{Site, Code, term_op, factor_op, rel_op, own_code, field_code, sum_code, product_code, whole_sum, whole_product, expr_code, term_code, factor_code, joined_code, summand_code, relation_code, and_code, all_code, or_code, any_code, cond_code}
 use Rattle.expr_code.specs.Sites.{IsPlace, IsSite}
 use Rattle.source_meaning.proofs.Parts.{Parts, every_expr}
 use Rattle.expr_code.proofs.Opened.{expr_code-out, term_code-out, factor_code-Number, factor_code-Variable, factor_code-Temporary, factor_code-Field, factor_code-Bracket, factor_code-Reference}
@@ -76,11 +76,19 @@ module _ (scope : Scope) (site : Site) (is_site : IsSite scope site) where
   product_fits (j ∷ js) r all lt =
       all_append OpFits (factor_code j.factor site (r + 1)) _ (all.0 (r + 1) (omega arith)) (factor_op_fits j.by r (r + 1) (omega arith) (omega arith), product_fits js r all.1 (omega arith))
 
+  terms_fit : (ts : List Term) (r : ℕ) → AllByRecursion TermOps ts → r + (2 * most (map term_depth ts) + 2) < 16 → AllByRecursion OpFits (whole_sum (map summand_code ts) site r)
+  terms_fit [] r all lt = tt
+  terms_fit (t ∷ ts) r all lt = all_append OpFits (term_code t site r) _ (all.0 r (omega arith)) (sum_fits ts r all.1 (omega arith))
+
+  joineds_fit : (js : List Joined) (r : ℕ) → AllByRecursion (λ (j : Joined). FactorOps j.factor) js → r + (2 * most (map (λ (j : Joined). factor_own_depth j.factor) js) + 1) < 16 → AllByRecursion OpFits (whole_product (map joined_code js) site r)
+  joineds_fit [] r all lt = tt
+  joineds_fit (j ∷ js) r all lt = all_append OpFits (factor_code j.factor site r) _ (all.0 r (omega arith)) (product_fits js r all.1 (omega arith))
+
   term_layer_fits : (t : Term) → AllByRecursion (λ (j : Joined). FactorOps j.factor) (out-Term t).factors → TermOps t
-  term_layer_fits t all = fits_as (ap (λ d. 2 * d + 1) (term_is_deep t)) (term_code-out t) (λ r lt. ((omega arith, omega arith), product_fits (out-Term t).factors r all lt))
+  term_layer_fits t all = fits_as (ap (λ d. 2 * d + 1) (term_is_deep t)) (term_code-out t) (λ r lt. joineds_fit (out-Term t).factors r all lt)
 
   expr_layer_fits : (e : Expr) → AllByRecursion TermOps (out-Expr e).terms → FitsWithin (2 * bracket_depth e + 2) (expr_code e)
-  expr_layer_fits e all = fits_as (ap (λ d. 2 * d + 2) (bracket_depth-out e)) (expr_code-out e) (λ r lt. ((omega arith, omega arith), sum_fits (out-Expr e).terms r all lt))
+  expr_layer_fits e all = fits_as (ap (λ d. 2 * d + 2) (bracket_depth-out e)) (expr_code-out e) (λ r lt. terms_fit (out-Expr e).terms r all lt)
 
   leaf_fits : (f : Factor) {c : Code} → factor_code f ≡ c → FitsWithin 0 c → FactorOps f
   leaf_fits f ec h r lt = fits_as {j = 0} refl ec h r (omega arith)
@@ -130,26 +138,34 @@ module _ (scope : Scope) (site : Site) (is_site : IsSite scope site) where
       (all_append OpFits (expr_code r.right site 1) _ (expr_ops_fit r.right 1 fr.0 (omega (arith, fr.1)))
       (rel_op_fits r.rel 0 1 (omega arith) (omega arith), tt))
 
+  and_ops : (rs : List Relation) → AllByRecursion Fits (relation_exprs rs) → AllByRecursion OpFits (and_code rs site)
+  and_ops [] fits = tt
+  and_ops (r ∷ rs) fits = (
+    (omega arith, omega arith),
+    all_append OpFits (relation_code r site) _ (relation_ops r fits.0 fits.1.0)
+        ((omega arith, omega arith), ((omega arith, omega arith), and_ops rs fits.1.1)),
+  )
+
   all_ops : (rs : List Relation) → AllByRecursion Fits (relation_exprs rs) → AllByRecursion OpFits (all_code rs site)
   all_ops [] fits = ((omega arith, omega arith), tt)
-  all_ops (r ∷ rs) fits =
-      all_append OpFits (relation_code r site) _ (relation_ops r fits.0 fits.1.0)
-      ((omega arith, omega arith), ((omega arith, omega arith), ((omega arith, omega arith), all_ops rs fits.1.1)))
+  all_ops (r ∷ rs) fits = all_append OpFits (relation_code r site) _ (relation_ops r fits.0 fits.1.0) (and_ops rs fits.1.1)
+
+  or_ops : (rss : List (List Relation)) → AllByRecursion Fits (joined (map relation_exprs rss)) → AllByRecursion OpFits (or_code rss site)
+  or_ops [] fits = tt
+  or_ops (rs ∷ rss) fits =
+      let here = all_left Fits (relation_exprs rs) (joined (map relation_exprs rss)) fits in
+      let later = all_right Fits (relation_exprs rs) (joined (map relation_exprs rss)) fits in (
+        (omega arith, omega arith),
+        all_append OpFits (all_code rs site) _ (all_ops rs here)
+            ((omega arith, omega arith), ((omega arith, omega arith), or_ops rss later)),
+      )
 
   any_ops : (rss : List (List Relation)) → AllByRecursion Fits (joined (map relation_exprs rss)) → AllByRecursion OpFits (any_code rss site)
   any_ops [] fits = ((omega arith, omega arith), tt)
   any_ops (rs ∷ rss) fits =
       let here = all_left Fits (relation_exprs rs) (joined (map relation_exprs rss)) fits in
-      let later = all_right Fits (relation_exprs rs) (joined (map relation_exprs rss)) fits in (
-        (omega arith, omega arith),
-        (
-          (omega arith, omega arith),
-          all_append OpFits (all_code rs site) _ (all_ops rs here)
-              ((omega arith, omega arith), ((omega arith, omega arith), ((omega arith, omega arith), any_ops rss later))),
-        ),
-      )
+      let later = all_right Fits (relation_exprs rs) (joined (map relation_exprs rss)) fits in
+      all_append OpFits (all_code rs site) _ (all_ops rs here) (or_ops rss later)
 
   pub cond_ops_fit : (c : Cond) → ExprsFit scope (cond_exprs c) → AllByRecursion OpFits (cond_code c site)
-  cond_ops_fit c fits =
-      let each = all_both (ExprFits scope) (λ e. bracket_depth e ≤ 6) (cond_exprs c) fits.each fits.shallow in
-      ((omega arith, omega arith), ((omega arith, omega arith), any_ops c.any each))
+  cond_ops_fit c fits = any_ops c.any (all_both (ExprFits scope) (λ e. bracket_depth e ≤ 6) (cond_exprs c) fits.each fits.shallow)

@@ -1,8 +1,10 @@
 -- The code of expressions and of conditions.
 --
--- An expression in register r takes this register and those above it. A sum begins with 0 and a product with 1, as the
--- value of an expression does, so that the first term and the first factor are no cases of their own. In a condition
--- every relation is evaluated: the two results so far stand in two locals, since a relation may need all registers.
+-- An expression in register r takes this register and those above it. The first term of a sum and the first factor of a
+-- product go straight into its register, and each further one joins what stands there by way of the register above it: so
+-- a number or a variable that is a whole expression is one instruction. In an exchange there is a first one, which is taken
+-- from nothing and divides nothing. In a condition every relation is evaluated: a result so far stands in register 0, and
+-- in a local of its own while a further relation is evaluated, since that may need all registers.
 use Rattle.std.specs.Prelude.{ℕ, ◌+◌, Bool, true, false, List, [], ◌∷◌, ◌++◌, map, slice_get, Option, Some, None}
 use Rattle.machine_code.specs.declared.op.Op.{Op}
 use Rattle.machine_code.specs.declared.op.Op.TheVariants.{Ldi, Ldt, Stt, Add, Sub, Mul, Div, Rem, Eq, Ne, Lt, Le, Gt, Ge, And, Or, Ldw, Ckp, Own, Ldx}
@@ -86,22 +88,26 @@ product_code (f ∷ rest) site r = f.code site (r + 1) ++ (factor_op f.by r (r +
 abbrev pub joined_layer : {E T : Type 0} → Joined-F Code E FactorCode T → FactorCode
 joined_layer j = record { by = j.by; code = j.factor }
 
-abbrev pub product_from_1 : List FactorCode → Code
-product_from_1 factors site r = Ldi r 1 ∷ product_code factors site r
+-- the product of these factors, of which there is a first one
+abbrev pub whole_product : List FactorCode → Code
+whole_product [] site r = []
+whole_product (f ∷ rest) site r = f.code site r ++ product_code rest site r
 
 abbrev pub term_layer : {F E : Type 0} → Term-F F E FactorCode TermCode → TermCode
-term_layer t = record { minus = t.minus; code = product_from_1 t.factors }
+term_layer t = record { minus = t.minus; code = whole_product t.factors }
 
 -- these terms, added to the sum in the register or taken from it
 abbrev pub sum_code : List TermCode → Code
 sum_code [] site r = []
 sum_code (t ∷ rest) site r = t.code site (r + 1) ++ (term_op t.minus r (r + 1) ∷ sum_code rest site r)
 
-abbrev pub sum_from_0 : List TermCode → Code
-sum_from_0 terms site r = Ldi r 0 ∷ sum_code terms site r
+-- the sum of these terms, of which there is a first one
+abbrev pub whole_sum : List TermCode → Code
+whole_sum [] site r = []
+whole_sum (t ∷ rest) site r = t.code site r ++ sum_code rest site r
 
 abbrev pub expr_layer : {F J : Type 0} → Expr-F F Code J TermCode → Code
-expr_layer e = sum_from_0 e.terms
+expr_layer e = whole_sum e.terms
 
 -- the value of an expression goes into the register
 unfoldable pub expr_code : Expr → Code
@@ -116,7 +122,7 @@ joined_code j = record { by = j.by; code = factor_code j.factor }
 
 -- that of a term
 unfoldable pub term_code : Term → Code
-term_code t = product_from_1 (map joined_code (out-Term t).factors)
+term_code t = whole_product (map joined_code (out-Term t).factors)
 
 abbrev pub summand_code : Term → TermCode
 summand_code t = record { minus = (out-Term t).minus; code = term_code t }
@@ -132,16 +138,26 @@ and_local = 49
 abbrev pub relation_code : Relation → Site → List Op
 relation_code r site = expr_code r.left site 0 ++ (expr_code r.right site 1 ++ rel_op r.rel 0 1 ∷ [])
 
--- these relations, joined to the result of AND so far, which goes into register 0 in the end
-abbrev pub all_code : List Relation → Site → List Op
-all_code [] site = Ldt 0 and_local ∷ []
-all_code (r ∷ rest) site = relation_code r site ++ (Ldt 1 and_local ∷ And 0 1 ∷ Stt and_local 0 ∷ all_code rest site)
+-- these relations, joined to the result of AND so far, which stands in register 0
+abbrev pub and_code : List Relation → Site → List Op
+and_code [] site = []
+and_code (r ∷ rest) site = Stt and_local 0 ∷ (relation_code r site ++ (Ldt 1 and_local ∷ And 0 1 ∷ and_code rest site))
 
--- these lists of relations, joined to the result of OR so far, which goes into register 0 in the end
+-- 1 into register 0 where all these relations hold, else 0
+abbrev pub all_code : List Relation → Site → List Op
+all_code [] site = Ldi 0 1 ∷ []
+all_code (r ∷ rest) site = relation_code r site ++ and_code rest site
+
+-- these lists of relations, joined to the result of OR so far, which stands in register 0
+abbrev pub or_code : List (List Relation) → Site → List Op
+or_code [] site = []
+or_code (rs ∷ rest) site = Stt or_local 0 ∷ (all_code rs site ++ (Ldt 1 or_local ∷ Or 0 1 ∷ or_code rest site))
+
+-- 1 into register 0 where all relations of one of these lists hold, else 0
 abbrev pub any_code : List (List Relation) → Site → List Op
-any_code [] site = Ldt 0 or_local ∷ []
-any_code (rs ∷ rest) site = Ldi 0 1 ∷ Stt and_local 0 ∷ (all_code rs site ++ (Ldt 1 or_local ∷ Or 0 1 ∷ Stt or_local 0 ∷ any_code rest site))
+any_code [] site = Ldi 0 0 ∷ []
+any_code (rs ∷ rest) site = all_code rs site ++ or_code rest site
 
 -- 1 into register 0 where the condition holds, else 0
 abbrev pub cond_code : Cond → Site → List Op
-cond_code c site = Ldi 0 0 ∷ Stt or_local 0 ∷ any_code c.any site
+cond_code c site = any_code c.any site

@@ -10,9 +10,9 @@ use machine_code::Op;
 use plex_num::{Memory, Seq};
 use store_layout::Layout;
 
-/// The local of the result of OR so far.
+/// The local of the result of OR so far, while further relations are evaluated.
 const OR_LOCAL: u8 = 48;
-/// The local of the result of AND so far.
+/// The local of the result of AND so far, while a further relation is evaluated.
 const AND_LOCAL: u8 = 49;
 
 /// Appends the code that leaves 1 in register 0 where a condition of the block holds, else 0. It may use all registers, and
@@ -24,29 +24,19 @@ pub fn cond_code(cond: &Cond, layout: &Layout, block: u32, ops: &mut Seq<Op>) ->
         (λ site. cond_code cond.now site)) }
     ensures begins { OnErr result (Begins ops.old ops.new) }
 {
-    push_all(
-        ops,
-        &[Op::Ldi { r: 0, n: 0 }, Op::Stt { i: OR_LOCAL, r: 0 }],
-    )?;
-    for relations in cond.any.as_slice() {
-        push_all(
-            ops,
-            &[Op::Ldi { r: 0, n: 1 }, Op::Stt { i: AND_LOCAL, r: 0 }],
-        )?;
+    let Some((relations, rest)) = cond.any.as_slice().split_first() else {
+        return push_all(ops, &[Op::Ldi { r: 0, n: 0 }]);
+    };
+    push_relations(relations.as_slice(), layout, block, ops)?;
+    for relations in rest {
+        push_all(ops, &[Op::Stt { i: OR_LOCAL, r: 0 }])?;
         push_relations(relations.as_slice(), layout, block, ops)?;
-        push_all(
-            ops,
-            &[
-                Op::Ldt { r: 1, i: OR_LOCAL },
-                Op::Or { r: 0, s: 1 },
-                Op::Stt { i: OR_LOCAL, r: 0 },
-            ],
-        )?;
+        push_all(ops, &[Op::Ldt { r: 1, i: OR_LOCAL }, Op::Or { r: 0, s: 1 }])?;
     }
-    push_all(ops, &[Op::Ldt { r: 0, i: OR_LOCAL }])
+    Ok(())
 }
 
-/// Appends the code that joins relations to the result of AND so far.
+/// Appends the code that leaves 1 in register 0 where all these relations hold, else 0.
 #[tactic(auto, using(crate::proofs::CondSteps::each_relation, crate::proofs::Emits::growing))]
 fn push_relations(
     relations: &[Relation],
@@ -59,18 +49,19 @@ fn push_relations(
         (λ site. all_code relations.now site)) }
     ensures begins { OnErr result (Begins ops.old ops.new) }
 {
-    for relation in relations {
+    let Some((relation, rest)) = relations.split_first() else {
+        return push_all(ops, &[Op::Ldi { r: 0, n: 1 }]);
+    };
+    push_relation(relation, layout, block, ops)?;
+    for relation in rest {
+        push_all(ops, &[Op::Stt { i: AND_LOCAL, r: 0 }])?;
         push_relation(relation, layout, block, ops)?;
         push_all(
             ops,
-            &[
-                Op::Ldt { r: 1, i: AND_LOCAL },
-                Op::And { r: 0, s: 1 },
-                Op::Stt { i: AND_LOCAL, r: 0 },
-            ],
+            &[Op::Ldt { r: 1, i: AND_LOCAL }, Op::And { r: 0, s: 1 }],
         )?;
     }
-    push_all(ops, &[Op::Ldt { r: 0, i: AND_LOCAL }])
+    Ok(())
 }
 
 /// Appends the code that leaves 1 in register 0 where the relation holds, else 0.

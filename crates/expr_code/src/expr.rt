@@ -29,8 +29,11 @@ pub fn expr_code(
         (λ site. expr_code e.now site first)) }
     ensures begins { OnErr result (Begins ops.old ops.new) }
 {
-    push_all(ops, &[Op::Ldi { r: first, n: 0 }])?;
-    for term in e.terms.as_slice() {
+    let Some((term, rest)) = e.terms.as_slice().split_first() else {
+        return Ok(());
+    };
+    push_term(term, layout, block, first, ops)?;
+    for term in rest {
         push_term(term, layout, block, first + 1, ops)?;
         push_all(ops, &[term_op(term.minus, first)])?;
     }
@@ -53,8 +56,11 @@ fn push_term(
         (λ site. term_code term.now site r)) }
     ensures begins { OnErr result (Begins ops.old ops.new) }
 {
-    push_all(ops, &[Op::Ldi { r, n: 1 }])?;
-    for joined in term.factors.as_slice() {
+    let Some((joined, rest)) = term.factors.as_slice().split_first() else {
+        return Ok(());
+    };
+    push_factor(&joined.factor, layout, block, r, ops)?;
+    for joined in rest {
         push_factor(&joined.factor, layout, block, r + 1, ops)?;
         push_all(ops, &[factor_op(joined.by, r)])?;
     }

@@ -1,5 +1,5 @@
 // The text of a tree.
-use plex_ast::{Named, Numbered, Shape, ShapeKind, Signal, Tree};
+use plex_ast::{KeptName, Named, Numbered, Shape, ShapeKind, Signal, Tree};
 use plex_num::{Name, Seq};
 use plex_print::print_tree;
 use std::test::Fail;
@@ -8,6 +8,7 @@ use std::test::Fail;
 fn prints_a_signal(rt: HostRuntime) -> Result<(), Fail> {
     let mut name = Name::new();
     name.push(b'S');
+    let name = KeptName::new(rt.alloc(), name)?;
     let mut signals = Seq::new(rt.alloc());
     signals.push(Signal {
         line: 1,

@@ -1,5 +1,6 @@
 // The jobs of one level that wait.
 ghost use Rattle.std.specs.Prelude.{◌≡◌, ◌+◌, ◌-◌, ◌<◌, ◌≤◌, ◌^◌, ◌++◌, ◌∷◌, [], length, slice_get, drop, OnOk, count_by, MatchResult};
+ghost use Rattle.std.specs.List.{list_any};
 ghost use Rattle.std.specs.Option.{option_copied};
 ghost use Rattle.job_types.specs.Waiting.{is_of, others_in};
 
@@ -100,8 +101,30 @@ impl Queue {
         self.jobs.pop_front()
     }
 
-    /// Removes the jobs of a forlopp, and tells how many went.
+    /// Whether a job of a forlopp waits here.
+    fn has_forlopp(&self, forlopp: u64) -> bool
+        ensures { result ≡ list_any (is_of forlopp) self.now.jobs }
+    {
+        self.jobs.iter().any(|job| job.forlopp == forlopp)
+    }
+
+    /// Removes the jobs of a forlopp, and tells how many went. Most often none waits, and then no job is moved.
+    #[tactic(auto, using(crate::proofs::Removed::none_goes, crate::proofs::Removed::all_stay))]
     pub fn remove_forlopp(&mut self, forlopp: u64) -> u64
+        ensures count { result ≡ count_by (is_of forlopp) self.old.jobs }
+        ensures small { result < 2 ^ 62 }
+        ensures left { self.new.jobs ≡ others_in forlopp self.old.jobs }
+        ensures room { self.old.room ≤ self.new.room }
+    {
+        if self.has_forlopp(forlopp) {
+            self.keep_others(forlopp)
+        } else {
+            0
+        }
+    }
+
+    /// Keeps the jobs of all other forlopps, and tells how many went.
+    fn keep_others(&mut self, forlopp: u64) -> u64
         ensures count { result ≡ count_by (is_of forlopp) self.old.jobs }
         ensures small { result < 2 ^ 62 }
         ensures left { self.new.jobs ≡ others_in forlopp self.old.jobs }

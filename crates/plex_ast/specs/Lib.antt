@@ -1,3 +1,4 @@
 pub mod formers
+pub mod Few
 pub mod Grammar
 pub mod Words

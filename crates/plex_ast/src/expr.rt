@@ -1,5 +1,6 @@
 // Expressions and conditions.
 use crate::boxed::Boxed;
+use crate::few::Few;
 use plex_num::Seq;
 use token_grammar::{Named, Numbered};
 
@@ -10,7 +11,7 @@ pub struct Expr {
     /// The line of its first token, from 1; so in every node.
     pub line: u32,
     pub first: Term,
-    pub rest: Seq<Added>,
+    pub rest: Few<Added>,
 }
 
 /// What is added to a sum: `+ term | - term`
@@ -29,7 +30,7 @@ pub enum Added {
 pub struct Term {
     pub line: u32,
     pub first: Factor,
-    pub rest: Seq<Multiplied>,
+    pub rest: Few<Multiplied>,
 }
 
 /// What a product goes on with: `* factor | / factor | MOD factor`

@@ -19,7 +19,7 @@ pub use boxed::Boxed;
 pub use expr::{
     Added, Cond, Conj, Expr, Exprs, Factor, FactorKind, Multiplied, Rel, RelKind, Relation, Term,
 };
-pub use few::push_few;
+pub use few::{Few, push_few};
 pub use stmt::{Names, Reference, ReferenceKind, Stmt, StmtKind, When};
-pub use token_grammar::{Leveled, Named, Numbered};
+pub use token_grammar::{KeptName, Leveled, Named, Numbered};
 pub use tree::{Shape, ShapeKind, Signal, Tree};

@@ -64,13 +64,13 @@ pub enum StmtKind {
     If {
         cond: Boxed<Cond>,
         first: Seq<Stmt>,
-        other: Option<Seq<Stmt>>,
+        other: Option<Boxed<Seq<Stmt>>>,
     },
     /// `CASE expr IS { WHEN number DO { stmt } } OTHERWISE DO { stmt } ESAC ;`
     Case {
         value: Boxed<Expr>,
         whens: Seq<When>,
-        otherwise: Seq<Stmt>,
+        otherwise: Boxed<Seq<Stmt>>,
     },
     /// `ON name FROM expr UPTO expr DO { stmt } NO ;`
     On {

@@ -1,7 +1,8 @@
-// Values in boxes.
+// Values in boxes, and lists of few items.
 ghost use Rattle.token_grammar.specs.Gives.{Holds};
 
-use plex_ast::Boxed;
+use plex_ast::{Boxed, Few};
+use plex_num::Seq;
 use std::alloc::Global;
 use token_grammar::Fault;
 
@@ -11,6 +12,16 @@ pub fn boxed<T: Drop>(alloc: Global, value: T) -> Result<Boxed<T>, Fault>
 {
     match Boxed::new(alloc, value) {
         Ok(place) => Ok(place),
+        Err(_) => Err(Fault::Memory),
+    }
+}
+
+/// These items as a list that mostly is empty.
+pub fn few<T: Drop>(alloc: Global, items: Seq<T>) -> Result<Few<T>, Fault>
+    ensures { Holds items result }
+{
+    match Few::from_seq(alloc, items) {
+        Ok(list) => Ok(list),
         Err(_) => Err(Fault::Memory),
     }
 }

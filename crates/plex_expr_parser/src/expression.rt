@@ -4,7 +4,7 @@ ghost use Rattle.token_grammar.specs.Gives.{Reads};
 ghost use Rattle.token_grammar.specs.Reading.{many};
 ghost use Rattle.plex_expr_parser.specs.Readers.{added_by, bracket_at, bracket_read, expr_read, factor_read, inside_read, kind_with, multiplied_by, term_read, ADD, MULTIPLY};
 
-use crate::boxes::boxed;
+use crate::boxes::{boxed, few};
 use crate::factor::plain;
 use plex_ast::{Added, Expr, Factor, FactorKind, Multiplied, Term, push_few, words};
 use plex_lexer::Cursor;
@@ -32,6 +32,7 @@ pub fn expr(alloc: Global, tokens: Cursor<'_>, room: usize) -> Result<(Expr, Cur
     let line = line_of(tokens);
     let (first, left) = term(alloc, tokens, room)?;
     let (rest, left) = added_list(alloc, left, room)?;
+    let rest = few(alloc, rest)?;
     Ok((Expr { line, first, rest }, left))
 }
 
@@ -80,6 +81,7 @@ fn term(alloc: Global, tokens: Cursor<'_>, room: usize) -> Result<(Term, Cursor<
     let line = line_of(tokens);
     let (first, left) = factor(alloc, tokens, room)?;
     let (rest, left) = multiplied_list(alloc, left, room)?;
+    let rest = few(alloc, rest)?;
     Ok((Term { line, first, rest }, left))
 }
 

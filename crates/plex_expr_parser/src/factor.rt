@@ -19,7 +19,7 @@ pub fn pointer(
 {
     if starts(tokens, words::OPEN) {
         let (_, rest) = word(tokens, words::OPEN)?;
-        let (pointer, rest) = name(rest)?;
+        let (pointer, rest) = name(alloc, rest)?;
         let (_, rest) = word(rest, words::CLOSE)?;
         Ok((Some(boxed(alloc, pointer)?), rest))
     } else {
@@ -29,11 +29,11 @@ pub fn pointer(
 
 /// `REFERENCE name` and the tokens after it.
 #[tactic(auto, unfolding(crate::specs::Readers::block_read))]
-fn block(tokens: Cursor<'_>) -> Result<(FactorKind, Cursor<'_>), Fault>
+fn block(alloc: Global, tokens: Cursor<'_>) -> Result<(FactorKind, Cursor<'_>), Fault>
     ensures { Reads result block_read tokens.entry }
 {
     let (_, rest) = word(tokens, words::REFERENCE)?;
-    let (block, rest) = name(rest)?;
+    let (block, rest) = name(alloc, rest)?;
     Ok((FactorKind::Reference { block }, rest))
 }
 
@@ -46,9 +46,9 @@ pub fn plain(alloc: Global, tokens: Cursor<'_>) -> Result<(FactorKind, Cursor<'_
         let (value, rest) = number(tokens)?;
         Ok((FactorKind::Number(value), rest))
     } else if starts(tokens, words::REFERENCE) {
-        block(tokens)
+        block(alloc, tokens)
     } else {
-        let (first, rest) = name(tokens)?;
+        let (first, rest) = name(alloc, tokens)?;
         let (second, rest) = pointer(alloc, rest)?;
         match second {
             None => Ok((FactorKind::Name(first), rest)),

@@ -19,7 +19,7 @@ pub fn names(alloc: Global, tokens: Cursor<'_>) -> Result<(Names, Cursor<'_>), F
 {
     let line = line_of(tokens);
     let (_, left) = word(tokens, words::WITH)?;
-    let (first, left) = name(left)?;
+    let (first, left) = name(alloc, left)?;
     let (rest, left) = name_list(alloc, left)?;
     Ok((Names { line, first, rest }, left))
 }
@@ -31,7 +31,7 @@ fn name_list(alloc: Global, tokens: Cursor<'_>) -> Result<(Seq<Named>, Cursor<'_
     let mut left = tokens;
     let mut list = Seq::new(alloc);
     'names: while starts(left, words::COMMA) {
-        let (named, after) = comma_name(left)?;
+        let (named, after) = comma_name(alloc, left)?;
         if let Err(_) = list.push(named) {
             return Err(Fault::Memory);
         }
@@ -41,11 +41,11 @@ fn name_list(alloc: Global, tokens: Cursor<'_>) -> Result<(Seq<Named>, Cursor<'_
 }
 
 #[tactic(auto, unfolding(crate::specs::Readers::comma_name_read))]
-fn comma_name(tokens: Cursor<'_>) -> Result<(Named, Cursor<'_>), Fault>
+fn comma_name(alloc: Global, tokens: Cursor<'_>) -> Result<(Named, Cursor<'_>), Fault>
     ensures { Reads result comma_name_read tokens.entry }
 {
     let (_, left) = word(tokens, words::COMMA)?;
-    name(left)
+    name(alloc, left)
 }
 
 /// `WITH expr { , expr }` and the tokens after it, or where the reading stopped.
@@ -90,35 +90,35 @@ fn comma_expr(alloc: Global, tokens: Cursor<'_>, room: usize) -> Result<(Expr, C
 
 /// `REFERENCE name | REFERENCE ( name )` and the tokens after it, or where the reading stopped.
 #[tactic(auto, unfolding(crate::specs::Readers::reference_read))]
-pub fn reference(tokens: Cursor<'_>) -> Result<(Reference, Cursor<'_>), Fault>
+pub fn reference(alloc: Global, tokens: Cursor<'_>) -> Result<(Reference, Cursor<'_>), Fault>
     ensures { Reads result reference_read tokens.entry }
 {
     let line = line_of(tokens);
     let (_, left) = word(tokens, words::REFERENCE)?;
-    let (kind, left) = receiver_kind(left)?;
+    let (kind, left) = receiver_kind(alloc, left)?;
     Ok((Reference { line, kind }, left))
 }
 
 /// `name | ( name )`
 #[tactic(auto, unfolding(crate::specs::Readers::receiver_kind_read))]
-fn receiver_kind(tokens: Cursor<'_>) -> Result<(ReferenceKind, Cursor<'_>), Fault>
+fn receiver_kind(alloc: Global, tokens: Cursor<'_>) -> Result<(ReferenceKind, Cursor<'_>), Fault>
     ensures { Reads result receiver_kind_read tokens.entry }
 {
     if starts(tokens, words::OPEN) {
-        held(tokens)
+        held(alloc, tokens)
     } else {
-        let (block, left) = name(tokens)?;
+        let (block, left) = name(alloc, tokens)?;
         Ok((ReferenceKind::Block { name: block }, left))
     }
 }
 
 /// `( name )`
 #[tactic(auto, unfolding(crate::specs::Readers::held_read))]
-fn held(tokens: Cursor<'_>) -> Result<(ReferenceKind, Cursor<'_>), Fault>
+fn held(alloc: Global, tokens: Cursor<'_>) -> Result<(ReferenceKind, Cursor<'_>), Fault>
     ensures { Reads result held_read tokens.entry }
 {
     let (_, left) = word(tokens, words::OPEN)?;
-    let (holder, left) = name(left)?;
+    let (holder, left) = name(alloc, left)?;
     let (_, left) = word(left, words::CLOSE)?;
     Ok((ReferenceKind::Held { name: holder }, left))
 }

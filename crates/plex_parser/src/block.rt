@@ -47,7 +47,7 @@ fn one_block(
 {
     let line = line_of(tokens);
     let (_, left) = word(tokens, words::BLOCK)?;
-    let (block, left) = name(left)?;
+    let (block, left) = name(alloc, left)?;
     let (_, left) = word(left, words::SEMI)?;
     let (decls, left) = declarations(alloc, left)?;
     let (surveys, left) = survey(alloc, left)?;
@@ -83,7 +83,7 @@ fn survey_lines(alloc: Global, tokens: Cursor<'_>) -> Result<(Seq<Survey>, Curso
     let mut left = tokens;
     let mut list = Seq::new(alloc);
     'lines: while starts_survey(left) {
-        let (line, after) = survey_line(left)?;
+        let (line, after) = survey_line(alloc, left)?;
         if let Err(_) = list.push(line) {
             return Err(Fault::Memory);
         }
@@ -99,27 +99,27 @@ fn starts_survey(tokens: Cursor<'_>) -> bool
 }
 
 #[tactic(auto, unfolding(crate::specs::Blocks::survey_read))]
-fn survey_line(tokens: Cursor<'_>) -> Result<(Survey, Cursor<'_>), Fault>
+fn survey_line(alloc: Global, tokens: Cursor<'_>) -> Result<(Survey, Cursor<'_>), Fault>
     ensures { Reads result survey_read tokens.entry }
 {
     let line = line_of(tokens);
-    let (kind, left) = survey_kind(tokens)?;
+    let (kind, left) = survey_kind(alloc, tokens)?;
     Ok((Survey { line, kind }, left))
 }
 
 /// `RECEIVE name ; | SEND name ;`
 #[tactic(auto, unfolding(crate::specs::Blocks::survey_kind_read))]
-fn survey_kind(tokens: Cursor<'_>) -> Result<(SurveyKind, Cursor<'_>), Fault>
+fn survey_kind(alloc: Global, tokens: Cursor<'_>) -> Result<(SurveyKind, Cursor<'_>), Fault>
     ensures { Reads result survey_kind_read tokens.entry }
 {
     if starts(tokens, words::RECEIVE) {
         let (_, left) = word(tokens, words::RECEIVE)?;
-        let (signal, left) = name(left)?;
+        let (signal, left) = name(alloc, left)?;
         let (_, left) = word(left, words::SEMI)?;
         Ok((SurveyKind::Receive { signal }, left))
     } else {
         let (_, left) = word(tokens, words::SEND)?;
-        let (signal, left) = name(left)?;
+        let (signal, left) = name(alloc, left)?;
         let (_, left) = word(left, words::SEMI)?;
         Ok((SurveyKind::Send { signal }, left))
     }

@@ -66,9 +66,9 @@ fn decl_kind(alloc: Global, tokens: Cursor<'_>) -> Result<(DeclKind, Cursor<'_>)
     ensures { Reads result decl_kind_read tokens.entry }
 {
     if starts(tokens, words::VARIABLE) {
-        variable(tokens)
+        variable(alloc, tokens)
     } else if starts(tokens, words::TEMPORARY) {
-        temporary(tokens)
+        temporary(alloc, tokens)
     } else {
         file(alloc, tokens)
     }
@@ -76,11 +76,11 @@ fn decl_kind(alloc: Global, tokens: Cursor<'_>) -> Result<(DeclKind, Cursor<'_>)
 
 /// `VARIABLE name WIDTH number [ INIT number ] [ CLEAR ] ;`
 #[tactic(auto, unfolding(crate::specs::Blocks::variable_read))]
-fn variable(tokens: Cursor<'_>) -> Result<(DeclKind, Cursor<'_>), Fault>
+fn variable(alloc: Global, tokens: Cursor<'_>) -> Result<(DeclKind, Cursor<'_>), Fault>
     ensures { Reads result variable_read tokens.entry }
 {
     let (_, left) = word(tokens, words::VARIABLE)?;
-    let (variable, left) = name(left)?;
+    let (variable, left) = name(alloc, left)?;
     let (_, left) = word(left, words::WIDTH)?;
     let (width, left) = number(left)?;
     let (init, left) = init(left)?;
@@ -126,11 +126,11 @@ fn clear(tokens: Cursor<'_>) -> Result<(bool, Cursor<'_>), Fault>
 
 /// `TEMPORARY name ;`
 #[tactic(auto, unfolding(crate::specs::Blocks::temporary_read))]
-fn temporary(tokens: Cursor<'_>) -> Result<(DeclKind, Cursor<'_>), Fault>
+fn temporary(alloc: Global, tokens: Cursor<'_>) -> Result<(DeclKind, Cursor<'_>), Fault>
     ensures { Reads result temporary_read tokens.entry }
 {
     let (_, left) = word(tokens, words::TEMPORARY)?;
-    let (temporary, left) = name(left)?;
+    let (temporary, left) = name(alloc, left)?;
     let (_, left) = word(left, words::SEMI)?;
     Ok((DeclKind::Temporary { name: temporary }, left))
 }
@@ -142,7 +142,7 @@ fn file(alloc: Global, tokens: Cursor<'_>) -> Result<(DeclKind, Cursor<'_>), Fau
 {
     let (forlopp, left) = forlopp(tokens)?;
     let (_, left) = word(left, words::FILE)?;
-    let (file, left) = name(left)?;
+    let (file, left) = name(alloc, left)?;
     let (_, left) = word(left, words::SIZE)?;
     let (size, left) = number(left)?;
     let (_, left) = word(left, words::SEMI)?;
@@ -178,7 +178,7 @@ fn fields(alloc: Global, tokens: Cursor<'_>) -> Result<(Seq<Field>, Cursor<'_>),
     let mut left = tokens;
     let mut list = Seq::new(alloc);
     'fields: while starts(left, words::FIELD) {
-        let (field, after) = field(left)?;
+        let (field, after) = field(alloc, left)?;
         if let Err(_) = list.push(field) {
             return Err(Fault::Memory);
         }
@@ -189,12 +189,12 @@ fn fields(alloc: Global, tokens: Cursor<'_>) -> Result<(Seq<Field>, Cursor<'_>),
 
 /// `FIELD name WIDTH number [ INIT number ] ;`
 #[tactic(auto, unfolding(crate::specs::Blocks::field_read, crate::specs::Blocks::width_read))]
-fn field(tokens: Cursor<'_>) -> Result<(Field, Cursor<'_>), Fault>
+fn field(alloc: Global, tokens: Cursor<'_>) -> Result<(Field, Cursor<'_>), Fault>
     ensures { Reads result field_read tokens.entry }
 {
     let line = line_of(tokens);
     let (_, left) = word(tokens, words::FIELD)?;
-    let (field, left) = name(left)?;
+    let (field, left) = name(alloc, left)?;
     let (_, left) = word(left, words::WIDTH)?;
     let (width, left) = number(left)?;
     let (init, left) = init(left)?;

@@ -106,7 +106,7 @@ fn from_name(
     ensures { Reads result (name_item_read room) tokens.entry }
 {
     let line = line_of(tokens);
-    let (first, left) = name(tokens)?;
+    let (first, left) = name(alloc, tokens)?;
     after_name(alloc, left, line, first, room)
 }
 
@@ -138,7 +138,7 @@ fn enter(alloc: Global, tokens: Cursor<'_>) -> Result<(ItemKind, Cursor<'_>), Fa
     ensures { Reads result enter_read tokens.entry }
 {
     let (_, left) = word(tokens, words::ENTER)?;
-    let (signal, left) = name(left)?;
+    let (signal, left) = name(alloc, left)?;
     let (names, left) = taken(alloc, left)?;
     let (_, left) = word(left, words::SEMI)?;
     Ok((ItemKind::Enter { signal, names }, left))

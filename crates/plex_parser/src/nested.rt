@@ -104,7 +104,7 @@ fn kind(
     ensures { Reads result (kind_at room deep (body_read room deep)) tokens.entry }
 {
     if starts_name(tokens) {
-        let (name, left) = name(tokens)?;
+        let (name, left) = name(alloc, tokens)?;
         let (target, left) = assigned(alloc, left, room)?;
         let (pointer, value) = target;
         Ok((assign(name, pointer, value), left))
@@ -180,7 +180,7 @@ fn if_tail(
     ensures { Reads result (if_with cond (if_tail_at deep (body_read room deep))) tokens.entry }
 {
     if starts(tokens, words::GOTO) {
-        return if_goto(tokens, cond);
+        return if_goto(alloc, tokens, cond);
     }
     if deep == 0 {
         return Err(Fault::Stuck {
@@ -192,10 +192,14 @@ fn if_tail(
 }
 
 #[tactic(auto, unfolding(crate::specs::Statements::gone_read))]
-fn if_goto(tokens: Cursor<'_>, cond: Boxed<Cond>) -> Result<(StmtKind, Cursor<'_>), Fault>
+fn if_goto(
+    alloc: Global,
+    tokens: Cursor<'_>,
+    cond: Boxed<Cond>,
+) -> Result<(StmtKind, Cursor<'_>), Fault>
     ensures { Reads result (if_with cond gone_read) tokens.entry }
 {
-    let (label, left) = to_label(tokens)?;
+    let (label, left) = to_label(alloc, tokens)?;
     Ok((StmtKind::IfGoto { cond, label }, left))
 }
 
@@ -226,13 +230,13 @@ fn else_of(
     tokens: Cursor<'_>,
     room: usize,
     deep: usize,
-) -> Result<(Option<Seq<Stmt>>, Cursor<'_>), Fault>
+) -> Result<(Option<Boxed<Seq<Stmt>>>, Cursor<'_>), Fault>
     ensures { Reads result (else_by (stmts_read room deep)) tokens.entry }
 {
     if starts(tokens, words::ELSE) {
         let (_, left) = word(tokens, words::ELSE)?;
         let (list, left) = stmts(alloc, left, room, deep)?;
-        Ok((Some(list), left))
+        Ok((Some(boxed(alloc, list)?), left))
     } else {
         Ok((None, tokens))
     }
@@ -280,7 +284,7 @@ fn case(
         StmtKind::Case {
             value: boxed(alloc, value)?,
             whens,
-            otherwise,
+            otherwise: boxed(alloc, otherwise)?,
         },
         left,
     ))
@@ -339,7 +343,7 @@ fn on(
     ensures { Reads result (on_by room (stmts_read room deep)) tokens.entry }
 {
     let (_, left) = word(tokens, words::ON)?;
-    let (counter, left) = name(left)?;
+    let (counter, left) = name(alloc, left)?;
     let (_, left) = word(left, words::FROM)?;
     let (from, left) = expr(alloc, left, room)?;
     let (_, left) = word(left, words::UPTO)?;

@@ -24,7 +24,7 @@ pub fn plain(
     if starts_in(tokens, &SIGNALLING) {
         signalling(alloc, tokens, room)
     } else if starts(tokens, words::GOTO) {
-        goto(tokens)
+        goto(alloc, tokens)
     } else if starts(tokens, words::FOR) {
         for_first(alloc, tokens, room)
     } else if starts(tokens, words::SEIZE) {
@@ -38,20 +38,20 @@ pub fn plain(
 
 /// `GOTO name ;`: the label, and the tokens after it.
 #[tactic(auto, unfolding(crate::specs::Statements::to_label_read))]
-pub fn to_label(tokens: Cursor<'_>) -> Result<(Named, Cursor<'_>), Fault>
+pub fn to_label(alloc: Global, tokens: Cursor<'_>) -> Result<(Named, Cursor<'_>), Fault>
     ensures { Reads result to_label_read tokens.entry }
 {
     let (_, left) = word(tokens, words::GOTO)?;
-    let (label, left) = name(left)?;
+    let (label, left) = name(alloc, left)?;
     let (_, left) = word(left, words::SEMI)?;
     Ok((label, left))
 }
 
 #[tactic(auto, unfolding(crate::specs::Statements::goto_read))]
-fn goto(tokens: Cursor<'_>) -> Result<(StmtKind, Cursor<'_>), Fault>
+fn goto(alloc: Global, tokens: Cursor<'_>) -> Result<(StmtKind, Cursor<'_>), Fault>
     ensures { Reads result goto_read tokens.entry }
 {
-    let (label, left) = to_label(tokens)?;
+    let (label, left) = to_label(alloc, tokens)?;
     Ok((StmtKind::Goto { label }, left))
 }
 
@@ -66,14 +66,14 @@ fn for_first(
 {
     let (_, left) = word(tokens, words::FOR)?;
     let (_, left) = word(left, words::FIRST)?;
-    let (pointer, left) = name(left)?;
+    let (pointer, left) = name(alloc, left)?;
     let (_, left) = word(left, words::IN)?;
-    let (file, left) = name(left)?;
+    let (file, left) = name(alloc, left)?;
     let (_, left) = word(left, words::WHERE)?;
-    let (field, left) = name(left)?;
+    let (field, left) = name(alloc, left)?;
     let (rel, left) = rel(left)?;
     let (value, left) = expr(alloc, left, room)?;
-    let (label, left) = to_label(left)?;
+    let (label, left) = to_label(alloc, left)?;
     Ok((
         StmtKind::ForFirst {
             name: boxed(alloc, pointer)?,
@@ -93,11 +93,11 @@ fn seize(alloc: Global, tokens: Cursor<'_>) -> Result<(StmtKind, Cursor<'_>), Fa
     ensures { Reads result seize_read tokens.entry }
 {
     let (_, left) = word(tokens, words::SEIZE)?;
-    let (pointer, left) = name(left)?;
+    let (pointer, left) = name(alloc, left)?;
     let (_, left) = word(left, words::IN)?;
-    let (file, left) = name(left)?;
+    let (file, left) = name(alloc, left)?;
     let (_, left) = word(left, words::ELSE)?;
-    let (label, left) = to_label(left)?;
+    let (label, left) = to_label(alloc, left)?;
     Ok((
         StmtKind::Seize {
             name: boxed(alloc, pointer)?,
@@ -114,9 +114,9 @@ fn free(alloc: Global, tokens: Cursor<'_>) -> Result<(StmtKind, Cursor<'_>), Fau
     ensures { Reads result free_read tokens.entry }
 {
     let (_, left) = word(tokens, words::FREE)?;
-    let (pointer, left) = name(left)?;
+    let (pointer, left) = name(alloc, left)?;
     let (_, left) = word(left, words::IN)?;
-    let (file, left) = name(left)?;
+    let (file, left) = name(alloc, left)?;
     let (_, left) = word(left, words::SEMI)?;
     Ok((
         StmtKind::Free {

@@ -19,7 +19,7 @@ pub fn signals(alloc: Global, tokens: Cursor<'_>) -> Result<(Seq<Signal>, Cursor
     let mut left = tokens;
     let mut list = Seq::new(alloc);
     'signals: while starts(left, words::SIGNAL) {
-        let (signal, after) = one_signal(left)?;
+        let (signal, after) = one_signal(alloc, left)?;
         if let Err(_) = list.push(signal) {
             return Err(Fault::Memory);
         }
@@ -30,13 +30,13 @@ pub fn signals(alloc: Global, tokens: Cursor<'_>) -> Result<(Seq<Signal>, Cursor
 
 /// `SIGNAL name shape ;`
 #[tactic(auto, unfolding(crate::specs::Blocks::signal_read))]
-fn one_signal(tokens: Cursor<'_>) -> Result<(Signal, Cursor<'_>), Fault>
+fn one_signal(alloc: Global, tokens: Cursor<'_>) -> Result<(Signal, Cursor<'_>), Fault>
     ensures { Reads result signal_read tokens.entry }
 {
     let line = line_of(tokens);
     let (_, left) = word(tokens, words::SIGNAL)?;
-    let (signal, left) = name(left)?;
-    let (shape, left) = shape(left)?;
+    let (signal, left) = name(alloc, left)?;
+    let (shape, left) = shape(alloc, left)?;
     let (_, left) = word(left, words::SEMI)?;
     Ok((
         Signal {
@@ -49,22 +49,22 @@ fn one_signal(tokens: Cursor<'_>) -> Result<(Signal, Cursor<'_>), Fault>
 }
 
 #[tactic(auto, unfolding(crate::specs::Blocks::shape_read))]
-fn shape(tokens: Cursor<'_>) -> Result<(Shape, Cursor<'_>), Fault>
+fn shape(alloc: Global, tokens: Cursor<'_>) -> Result<(Shape, Cursor<'_>), Fault>
     ensures { Reads result shape_read tokens.entry }
 {
     let line = line_of(tokens);
-    let (kind, left) = shape_kind(tokens)?;
+    let (kind, left) = shape_kind(alloc, tokens)?;
     Ok((Shape { line, kind }, left))
 }
 
 #[tactic(auto, unfolding(crate::specs::Blocks::shape_kind_read))]
-fn shape_kind(tokens: Cursor<'_>) -> Result<(ShapeKind, Cursor<'_>), Fault>
+fn shape_kind(alloc: Global, tokens: Cursor<'_>) -> Result<(ShapeKind, Cursor<'_>), Fault>
     ensures { Reads result shape_kind_read tokens.entry }
 {
     if starts(tokens, words::SINGLE) {
         single(tokens)
     } else if starts(tokens, words::COMBINED) {
-        combined(tokens)
+        combined(alloc, tokens)
     } else {
         outside(tokens)
     }
@@ -106,13 +106,13 @@ fn direct(tokens: Cursor<'_>) -> Result<(ShapeKind, Cursor<'_>), Fault>
 
 /// `COMBINED DATA number ANSWER name DATA number`
 #[tactic(auto, unfolding(crate::specs::Blocks::combined_read))]
-fn combined(tokens: Cursor<'_>) -> Result<(ShapeKind, Cursor<'_>), Fault>
+fn combined(alloc: Global, tokens: Cursor<'_>) -> Result<(ShapeKind, Cursor<'_>), Fault>
     ensures { Reads result combined_read tokens.entry }
 {
     let (_, left) = word(tokens, words::COMBINED)?;
     let (sent, left) = data(left)?;
     let (_, left) = word(left, words::ANSWER)?;
-    let (answer, left) = name(left)?;
+    let (answer, left) = name(alloc, left)?;
     let (answered, left) = data(left)?;
     Ok((
         ShapeKind::Combined {

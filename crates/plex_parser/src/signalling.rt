@@ -35,7 +35,7 @@ fn send(alloc: Global, tokens: Cursor<'_>, room: usize) -> Result<(StmtKind, Cur
     ensures { Reads result (send_read room) tokens.entry }
 {
     let (_, left) = word(tokens, words::SEND)?;
-    let (signal, left) = name(left)?;
+    let (signal, left) = name(alloc, left)?;
     let (reference, left) = receiver(alloc, left)?;
     let (values, left) = values(alloc, left, room)?;
     let (fresh, left) = fresh(left)?;
@@ -57,7 +57,7 @@ fn retrieve(alloc: Global, tokens: Cursor<'_>) -> Result<(StmtKind, Cursor<'_>),
     ensures { Reads result retrieve_read tokens.entry }
 {
     let (_, left) = word(tokens, words::RETRIEVE)?;
-    let (signal, left) = name(left)?;
+    let (signal, left) = name(alloc, left)?;
     let (names, left) = taken(alloc, left)?;
     let (_, left) = word(left, words::SEMI)?;
     Ok((StmtKind::Retrieve { signal, names }, left))
@@ -73,7 +73,7 @@ fn return_of(
     ensures { Reads result (return_read room) tokens.entry }
 {
     let (_, left) = word(tokens, words::RETURN)?;
-    let (signal, left) = name(left)?;
+    let (signal, left) = name(alloc, left)?;
     let (values, left) = values(alloc, left, room)?;
     let (_, left) = word(left, words::SEMI)?;
     Ok((StmtKind::Return { signal, values }, left))
@@ -85,7 +85,7 @@ fn transfer(alloc: Global, tokens: Cursor<'_>) -> Result<(StmtKind, Cursor<'_>),
     ensures { Reads result transfer_read tokens.entry }
 {
     let (_, left) = word(tokens, words::TRANSFER)?;
-    let (signal, left) = name(left)?;
+    let (signal, left) = name(alloc, left)?;
     let (reference, left) = receiver(alloc, left)?;
     let (_, left) = word(left, words::SEMI)?;
     Ok((StmtKind::Transfer { signal, reference }, left))
@@ -100,7 +100,7 @@ fn receiver(
     ensures { Reads result receiver_read tokens.entry }
 {
     if starts(tokens, words::REFERENCE) {
-        let (reference, left) = reference(tokens)?;
+        let (reference, left) = reference(alloc, tokens)?;
         Ok((Some(boxed(alloc, reference)?), left))
     } else {
         Ok((None, tokens))

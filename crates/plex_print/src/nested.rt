@@ -11,7 +11,7 @@ use crate::plain::{
     transfer,
 };
 use crate::word::{end, name, number, word};
-use plex_ast::{Cond, Expr, Named, Stmt, StmtKind, When};
+use plex_ast::{Boxed, Cond, Expr, Named, Stmt, StmtKind, When};
 use plex_num::{Memory, Seq};
 
 /// Appends a statement.
@@ -53,7 +53,7 @@ fn kind(text: &mut Seq<u8>, kind: &StmtKind, room: usize, deep: usize) -> Result
             text,
             value.get(),
             whens.as_slice(),
-            otherwise.as_slice(),
+            otherwise.get().as_slice(),
             room,
             deep,
         ),
@@ -117,7 +117,7 @@ fn if_then(
     text: &mut Seq<u8>,
     test: &Cond,
     first: &Seq<Stmt>,
-    other: &Option<Seq<Stmt>>,
+    other: &Option<Boxed<Seq<Stmt>>>,
     room: usize,
     deep: usize,
 ) -> Result<(), Memory>
@@ -137,7 +137,7 @@ fn if_then(
 #[tactic(auto, unfolding(crate::specs::Printed::else_text))]
 fn some_else(
     text: &mut Seq<u8>,
-    other: &Option<Seq<Stmt>>,
+    other: &Option<Boxed<Seq<Stmt>>>,
     room: usize,
     deep: usize,
 ) -> Result<(), Memory>
@@ -148,7 +148,7 @@ fn some_else(
         None => Ok(()),
         Some(other) => {
             word(text, b"ELSE")?;
-            body(text, other.as_slice(), room, deep)
+            body(text, other.get().as_slice(), room, deep)
         }
     }
 }

@@ -1,4 +1,6 @@
 pub mod Private
+pub mod Standing
+pub mod Search
 pub mod Machine
 pub mod Faithful
 pub mod Steps

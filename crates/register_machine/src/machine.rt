@@ -1,11 +1,12 @@
 // One step of the machine: an instruction, and the word that it touches.
-ghost use Rattle.std.specs.Prelude.{◌≡◌, ◌<◌, None, length};
+ghost use Rattle.std.specs.Prelude.{◌≡◌, ◌<◌, ◌^◌, None, length};
 ghost use Rattle.machine_code.specs.Operands.{OpFits};
 ghost use Rattle.machine_code.specs.Told.{told_all};
 ghost use Rattle.register_machine.specs.Machine.{op_at, stepped, reach, HasRoom, MayTouch};
 
 use crate::run::JobRun;
-use machine_code::{Code, Words};
+use crate::run::stand::Stand;
+use machine_code::{Code, Op, Words};
 
 /// Makes one instruction. The job must not have ended, the address of its next instruction must be in the code, the operands of
 /// that instruction in their ranges, fewer than eight values outgoing at an ARG, and the word that it reads or writes one that `words` lets it.
@@ -22,6 +23,19 @@ pub fn step<W: Words>(run: &mut JobRun, code: &Code, words: &mut W)
     ensures allowed { (W.may_read words.new ≡ W.may_read words.old) × (W.may_write words.new ≡ W.may_write words.old) }
     ensures like { W.like words.old words.new }
 {
-    let op = run.next_op(code);
-    run.act(op, words);
+    let from = Stand {
+        at: run.address(),
+        made: run.steps(),
+    };
+    let next = run.act(instruction(code.ops.as_slice(), from.at), from, words);
+    run.put(from.after(next));
+}
+
+/// The instruction at an address, which must be in the code.
+pub(crate) fn instruction(ops: &[Op], at: usize) -> &Op
+    requires { at < length ops.now }
+    ensures op { result.now ≡ op_at ops.now at }
+    ensures address { at < 2 ^ 63 }
+{
+    &ops[at]
 }

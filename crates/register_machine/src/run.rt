@@ -1,15 +1,18 @@
 // What a job has of its own.
 mod effects;
-mod table;
+pub(crate) mod search;
+pub(crate) mod stand;
+pub(crate) mod table;
 
 ghost use Rattle.std.specs.Prelude.{◌≡◌, ◌<◌, ◌≤◌, ◌^◌, Some, length, slice_index, is_some, IsSome};
 ghost use Rattle.job_types.specs.Own.{eight};
 ghost use Rattle.register_machine.specs.Private.{fresh, idle};
-ghost use Rattle.register_machine.specs.Machine.{op_at};
+ghost use Rattle.register_machine.specs.Standing.{standing};
 
+use self::stand::Stand;
 use crate::frames::Frames;
 use job_types::{Chain, JobDone, JobStart, Outbox, Outcome};
-use machine_code::{Code, Op};
+use machine_code::Code;
 use plex_num::Values;
 use std::marker::Model;
 
@@ -132,26 +135,18 @@ impl JobRun {
     }
 
     /// The address of the next instruction.
-    pub fn address(&self) -> usize
+    pub(crate) fn address(&self) -> usize
         ensures { result ≡ self.now.pc }
     {
         self.address
     }
 
-    /// The outgoing values so far.
-    pub fn outgoing(&self) -> &[u32]
-        ensures { result.now ≡ self.now.out }
+    /// It stands there.
+    pub(crate) fn put(&mut self, stand: Stand)
+        ensures { self.new ≡ standing stand self.old }
     {
-        self.outgoing.as_slice()
-    }
-
-    /// The next instruction, whose address must be in the code.
-    pub(crate) fn next_op(&self, code: &Code) -> Op
-        requires { self.now.pc < length code.now.ops }
-        ensures op { result ≡ op_at code.now.ops self.now.pc }
-        ensures address { self.now.pc < 2 ^ 63 }
-    {
-        code.ops.as_slice()[self.address]
+        self.address = stand.at;
+        self.made = stand.made;
     }
 
     /// What the job leaves. It must have ended.

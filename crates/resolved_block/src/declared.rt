@@ -10,6 +10,7 @@ use indexmap::IndexMap;
 use plex_num::{Memory, Name};
 use std::alloc::Global;
 use text_events::{Event, Meaning, Place};
+use token_grammar::KeptName;
 
 /// The names that a block declares. Of a name that stands twice the last counts.
 pub struct Declared {
@@ -83,9 +84,9 @@ impl Declared {
     }
 
     /// What the name stands for.
-    pub(crate) fn meaning(&self, name: &Name) -> Option<Meaning>
+    pub(crate) fn meaning(&self, name: &KeptName) -> Option<Meaning>
         ensures { result ≡ meanings_in self.now name.now }
     {
-        self.names.get(name).copied()
+        self.names.get(&name.copy()).copied()
     }
 }

@@ -139,7 +139,7 @@ fn make_kind(
                     no: Seq::new(alloc),
                 }),
                 Some(stmts) => {
-                    let no = make_list(alloc, names, stmts.as_slice(), point)?;
+                    let no = make_list(alloc, names, stmts.get().as_slice(), point)?;
                     Ok(StmtKind::If { cond, yes, no })
                 }
             }
@@ -151,7 +151,7 @@ fn make_kind(
         } => {
             let value = make_expr(alloc, names, value.get())?;
             let whens = make_whens(alloc, names, whens.as_slice(), point)?;
-            let otherwise = make_list(alloc, names, otherwise.as_slice(), point)?;
+            let otherwise = make_list(alloc, names, otherwise.get().as_slice(), point)?;
             Ok(StmtKind::Case {
                 value,
                 whens,

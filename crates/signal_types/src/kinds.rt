@@ -5,8 +5,9 @@ ghost use Rattle.signal_types.specs.Signals.{shape_kinds, signals_from};
 
 use exchange_model::SignalKind;
 use plex_ast::{Named, Numbered, ShapeKind, Signal};
-use plex_num::{Memory, Name, Seq};
+use plex_num::{Memory, Seq};
 use std::alloc::Global;
+use token_grammar::KeptName;
 
 /// How many values a signal carries, which the rules keep to eight. Memory where 8 bits have no such number.
 fn count_of(values: &Numbered) -> Result<u8, Memory>
@@ -26,7 +27,7 @@ fn next_number(list: &Seq<SignalKind>) -> Result<u32, Memory>
 }
 
 /// A combined signal of this number.
-fn combined(name: &Name, values: &Numbered, number: u32) -> Result<SignalKind, Memory>
+fn combined(name: &KeptName, values: &Numbered, number: u32) -> Result<SignalKind, Memory>
     ensures { IfOk result (λ kind. kind ≡ signal.Combined name.now values.now.value (number + 1)) }
 {
     let count = count_of(values)?;
@@ -54,7 +55,7 @@ fn answer_of(name: &Named, values: &Numbered, number: u32) -> Result<SignalKind,
 
 /// Appends a signal of this name, and its answer.
 #[tactic(auto, using(crate::proofs::Numbering::combined_more))]
-fn add_kinds(list: &mut Seq<SignalKind>, name: &Name, kind: &ShapeKind) -> Result<(), Memory>
+fn add_kinds(list: &mut Seq<SignalKind>, name: &KeptName, kind: &ShapeKind) -> Result<(), Memory>
     ensures { OnOk result (list.new ≡ list.old ++ shape_kinds (length list.old) name.now kind.now) }
 {
     match kind {

@@ -10,6 +10,7 @@ use exchange_model::SignalKind;
 use indexmap::IndexMap;
 use plex_num::{Memory, Name};
 use std::alloc::Global;
+use token_grammar::KeptName;
 
 /// Signals, each found by its name. Of two signals of one name the first counts.
 pub struct SignalTable<'a> {
@@ -94,15 +95,15 @@ impl<'a> SignalTable<'a> {
     }
 
     /// The number of the first signal of this name.
-    pub fn number(&self, name: &Name) -> Option<u32>
+    pub fn number(&self, name: &KeptName) -> Option<u32>
         ensures kept { result ≡ get bytes_eq self.now.numbers name.now }
         ensures found { result ≡ number_in self.now.kinds.now name.now }
     {
-        self.numbers.get(name).copied()
+        self.numbers.get(&name.copy()).copied()
     }
 
     /// The first signal of this name.
-    pub fn kind(&self, name: &Name) -> Option<&'a SignalKind>
+    pub fn kind(&self, name: &KeptName) -> Option<&'a SignalKind>
         ensures kept { MatchOption result (kind_at self.now.kinds.now (get bytes_eq self.now.numbers name.now) ≡ Option.None) (λ k. kind_at self.now.kinds.now (get bytes_eq self.now.numbers name.now) ≡ Option.Some k.now) }
         ensures found { MatchOption result (kind_in self.now.kinds.now name.now ≡ Option.None) (λ k. kind_in self.now.kinds.now name.now ≡ Option.Some k.now) }
     {

@@ -1,8 +1,9 @@
 -- What remains to be done stands at an address.
 --
--- `At` says it of any list of items, and `Ready` of one whose first item is counted. A jump that ends a branch, an ENTER
--- that is reached from above and the end of a loop lead from the one to the other. With d loops open, their numbers and
--- last numbers stand in the locals from 24 up to 24 + 2 d, and nowhere else does what remains depend on the locals.
+-- `At` says it of any list of items, `Ready` of one whose first item is counted, and `AtHead` of a loop of which a turn
+-- begins. A jump that ends a branch, an ENTER that is reached from above and the end of a loop lead from the first to the
+-- others. With d loops open, their numbers and last numbers stand in the locals from 24 up to 24 + 2 d, and nowhere else does
+-- what remains depend on the locals; on a register it depends at the head of a loop alone.
 use Rattle.std.proofs.Common.{◌≡◌, ℕ, suc, ◌+◌, ◌*◌, ◌^◌, ◌<◌, ◌≤◌, true, false, List, [], ◌∷◌, ◌++◌, length, map, refl, ap, ◌∙◌, subst, arith, length-append}
 use Rattle.std.specs.Prelude.{slice_index, nat_lt}
 use Rattle.std.specs.List.{AllByRecursion}
@@ -58,8 +59,11 @@ mutual
         → At g b locals d rest (a + length (opened l (places g b) s.point d a)) → Ready g b locals d (Do s ∷ rest) a
     starts : {s : Stmt} {rest : List Item} {a : ℕ} (signal : ℕ) (temps : List ℕ) → out-StmtKind s.kind ≡ stmt.Enter signal temps → HasAt g.code a (op.Stmt s.point ∷ takes_code 0 temps) → AllByRecursion (λ t. t < 24) temps
         → At g b locals 0 rest (a + 1 + length (takes_code 0 temps)) → Ready g b locals 0 (Start s ∷ rest) a
-    turns : {d p t this end : ℕ} {body : List Stmt} {rest : List Item} {head : ℕ} → Loop g b d p t body head → end < 2 ^ 32 → nat_lt end this ≡ false → slice_index locals (turn d) ≡ this → slice_index locals (last d) ≡ end
-        → At g b locals d rest (exit_of g b d body head) → Ready g b locals (suc d) (Turns p t this end body ∷ rest) head
+
+-- a turn of a loop begins: its number is in register 0 and in its local
+pub data AtHead (g : Setting) (b : ℕ) (regs locals : List ℕ) : List Item → ℕ → Type 0 where
+  turns : {d p t this end : ℕ} {body : List Stmt} {rest : List Item} {head : ℕ} → Loop g b d p t body head → end < 2 ^ 32 → nat_lt end this ≡ false → slice_index regs 0 ≡ this → slice_index locals (turn d) ≡ this → slice_index locals (last d) ≡ end
+      → At g b locals d rest (exit_of g b d body head) → AtHead g b regs locals (Turns p t this end body ∷ rest) head
 
 pub fewer : (d : ℕ) (k l : List ℕ) → SameLoops (suc d) k l → SameLoops d k l
 fewer d k l h i low high = h i low (omega arith)
@@ -83,7 +87,6 @@ mutual
   ready_keeps k h (nothing e) = nothing e
   ready_keeps k h (does l is e has fits r) = does l is e has fits (at_keeps k h r)
   ready_keeps k h (starts signal temps is has fits r) = starts signal temps is has fits (at_keeps k h r)
-  ready_keeps {l = l} k h (turns {d = d} loop small lt e f r) = turns loop small lt (turn_same d k l h ∙ e) (last_same d k l h ∙ f) (at_keeps k (fewer d k l h) r)
 
 -- the same where the locals of all loops are
 pub at_moves : {g : Setting} {b d a : ℕ} {l : List ℕ} (k : List ℕ) {todo : List Item} → d ≤ 12 → SameLoops 12 k l → At g b l d todo a → At g b k d todo a

@@ -2,7 +2,7 @@
 --
 -- After each instruction only what it changes is told, so that the next one stands at a machine of which no more is known.
 use Rattle.std.proofs.Common.{◌≡◌, ◌≢◌, ℕ, suc, ◌+◌, ◌*◌, ◌%◌, ◌^◌, ◌<◌, ◌≤◌, Bool, true, false, List, [], ◌∷◌, ◌++◌, length, refl, ap, ◌∙◌, arith, if◌then◌else◌}
-use Rattle.std.specs.Prelude.{slice_index, slice_set, nat_lt, ◌==◌}
+use Rattle.std.specs.Prelude.{slice_index, slice_set, nat_lt, nat_le, ◌==◌}
 use Rattle.std.proofs.Math.ListN.{length-set}
 use Rattle.std.proofs.lemmas.List.{get_or-set_other, get_or-set_same}
 use Rattle.job_types.specs.declared.fault.Fault.{Fault}
@@ -74,6 +74,9 @@ module _ {g : Setting} {P : Machine → Type 0} {vs : List ℕ} {c : Config} {m 
 
   pub gt : {r q : ℕ} → Same g vs c m → m.run.pc ≡ a → HasOp g.code a (op.Gt r q) → r < 16 → ((n : Machine) → Same g vs c n → n.run.pc ≡ a + 1 → Gave r (one_if (nat_lt (reg m.run q) (reg m.run r))) m n → Comes g P n) → Comes g P m
   gt s at has lt k = sets_by _ s at has tt lt refl k
+
+  pub ge : {r q : ℕ} → Same g vs c m → m.run.pc ≡ a → HasOp g.code a (op.Ge r q) → r < 16 → ((n : Machine) → Same g vs c n → n.run.pc ≡ a + 1 → Gave r (one_if (nat_le (reg m.run q) (reg m.run r))) m n → Comes g P n) → Comes g P m
+  ge s at has lt k = sets_by _ s at has tt lt refl k
 
   pub eq : {r q : ℕ} → Same g vs c m → m.run.pc ≡ a → HasOp g.code a (op.Eq r q) → r < 16 → ((n : Machine) → Same g vs c n → n.run.pc ≡ a + 1 → Gave r (one_if (reg m.run r == reg m.run q)) m n → Comes g P n) → Comes g P m
   eq s at has lt k = sets_by _ s at has tt lt refl k

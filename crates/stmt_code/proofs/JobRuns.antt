@@ -13,7 +13,7 @@ use Rattle.register_machine.specs.Private.{fresh}
 use Rattle.register_machine.specs.Faithful.{Ends, Means, begun}
 use Rattle.stmt_code.proofs.Setting.{Setting}
 use Rattle.stmt_code.proofs.At.{At}
-use Rattle.stmt_code.proofs.Same.{AllSmall, append_small, none_small, zeros_small, zeros_length, blank_temps, Same, Sim, alive, ended}
+use Rattle.stmt_code.proofs.Same.{AllSmall, append_small, none_small, zeros_small, zeros_length, blank_temps, Same, Sim, alive, heads, ended}
 use Rattle.stmt_code.proofs.Values.{Laid}
 use Rattle.stmt_code.proofs.Steps.{run_sim}
 use Rattle.source_meaning.proofs.Budget.{job_over}
@@ -47,6 +47,7 @@ module _ {g : Setting} where
 
   told : {c : Config} {m : Machine} (s : Sim g c m) → (m.run.own.sends ≡ c.own.sends) × (m.run.own.chain ≡ c.own.chain) × (m.world ≡ c.world) × (m.run.over ≡ c.over)
   told (alive s at) = (ap (λ o. o.sends) s.own, ap (λ o. o.chain) s.own, s.world, s.runs ∙ sym s.going)
+  told (heads s at) = (ap (λ o. o.sends) s.own, ap (λ o. o.chain) s.own, s.world, s.runs ∙ sym s.going)
   told (ended e f own w) = (ap (λ o. o.sends) own, ap (λ o. o.chain) own, w, f ∙ sym e)
 
   -- from the address of the job's entry

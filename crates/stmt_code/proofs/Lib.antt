@@ -2,6 +2,7 @@ pub mod Setting
 pub mod At
 pub mod Same
 pub mod Instr
+pub mod Widths
 pub mod Compares
 pub mod Values
 pub mod Kind

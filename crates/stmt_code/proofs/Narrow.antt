@@ -1,8 +1,9 @@
 -- Where the numbers of an instruction are of 32 bits, each of its operands is in its range: what all kinds of statement need.
-use Rattle.std.proofs.Common.{◌≡◌, ℕ, zero, suc, ◌+◌, ◌*◌, ◌<◌, ◌≤◌, ◌^◌, Bool, true, false, List, [], ◌∷◌, ◌++◌, length, Some, refl, sym, subst, arith}
-use Rattle.std.specs.Prelude.{slice_get}
+use Rattle.std.proofs.Common.{◌≡◌, ℕ, zero, suc, ◌+◌, ◌*◌, ◌<◌, ◌≤◌, ◌^◌, Bool, true, false, List, [], ◌∷◌, ◌++◌, length, Some, refl, sym, subst, arith, if◌then◌else◌}
+use Rattle.std.specs.Prelude.{slice_get, nat_lt}
 use Rattle.std.specs.List.{AllByRecursion}
 use Rattle.machine_code.specs.declared.op.Op.{Op}
+use Rattle.machine_code.specs.declared.op.Op.TheVariants as op
 use Rattle.machine_code.specs.Operands.{OpFits, IsWidth}
 use Rattle.exchange_model.specs.declared.exchange.Exchange.{Exchange}
 use Rattle.exchange_model.specs.declared.signal.SignalKind.{SignalKind}
@@ -26,7 +27,7 @@ use Rattle.expr_code.specs.Sites.{IsLimited, IsSite, IsPlace}
 use Rattle.plex_num.proofs.Lists.{all_append, all_at, some_at}
 use Rattle.expr_code.proofs.Operands.{expr_ops_fit, cond_ops_fit}
 use Rattle.stmt_code.specs.Numbers.{AreNumbers}
-use Rattle.stmt_code.specs.StmtCode.{values_code}
+use Rattle.stmt_code.specs.StmtCode.{range_code, values_code}
 use Rattle.stmt_code.specs.Whole.{Table, places_of}
 
 -- the operands that are no numbers of 32 bits are in their ranges
@@ -47,7 +48,7 @@ pub narrow_fit : (ops : List Op) → AllNarrow ops → AllByRecursion AreNumbers
 narrow_fit [] narrow numbers = tt
 narrow_fit (op ∷ ops) narrow numbers = (narrow.0 numbers.0, narrow_fit ops narrow.1 numbers.1)
 
--- checks of pointers, and relations
+-- checks of pointers and of values, and relations
 
 own_narrow : (forlopp : Bool) (file r : ℕ) → r < 16 → AllNarrow (own_code forlopp file r)
 own_narrow false file r lt = tt
@@ -55,6 +56,14 @@ own_narrow true file r lt = (λ n. (lt, n), tt)
 
 pub pointer_narrow : (p : Placed) (file r : ℕ) → r < 16 → AllNarrow (pointer_code p file r)
 pointer_narrow p file r lt = (λ n. (lt, n), own_narrow p.file.forlopp file r lt)
+
+-- what looks whether a value fits
+range_narrow_if : (narrow : Bool) (r width : ℕ) → r < 16 → IsWidth width → AllNarrow (if narrow then op.Ckw r width ∷ [] else [])
+range_narrow_if false r width lt fits = tt
+range_narrow_if true r width lt fits = (λ n. (lt, fits), tt)
+
+pub range_narrow : (r width : ℕ) → r < 16 → IsWidth width → AllNarrow (range_code r width)
+range_narrow r width lt fits = range_narrow_if (nat_lt width 32) r width lt fits
 
 pub rel_narrow : (rel : Rel) (r s : ℕ) → r < 16 → s < 16 → Narrow (rel_op rel r s)
 rel_narrow Equal r s p q = λ n. (p, q)

@@ -26,17 +26,24 @@ use Rattle.exchange_model.specs.Inside.{bracket_depth}
 use Rattle.exchange_model.specs.Fits.{EnterFits, IsField, ExprFits, ExprsFit}
 use Rattle.exchange_model.specs.Kept.{IsExchange, signal_count, scope_of}
 use Rattle.source_meaning.specs.Config.{files_of}
+use Rattle.source_meaning.specs.Changes.{variable_width, field_width}
 use Rattle.expr_code.specs.Code.{Site, expr_code, cond_code, pointer_code}
 use Rattle.expr_code.specs.Sites.{IsLimited}
 use Rattle.stmt_code.specs.declared.lengths.TheConstants.{COMPARE_LENGTH, TURN_LENGTH, BOUNDS_LENGTH}
-use Rattle.stmt_code.specs.StmtCode.{Places, codes, takes_code, retrieve_code, values_code, field_store, choices_code, turns_code, for_first_code, seize_code, inits_code, free_code, level_number, queue_number, send_code, holder_code, each_receiver, look_first, receiver_code, opened, stmt_code, kind_code, when_code}
+use Rattle.stmt_code.specs.StmtCode.{Places, codes, takes_code, retrieve_code, values_code, range_code, field_store, has_any, past_code, choices_code, turns_code, for_first_code, seize_code, inits_code, free_code, level_number, queue_number, send_code, holder_code, each_receiver, look_first, receiver_code, opened, stmt_code, kind_code, when_code}
 use Rattle.stmt_code.specs.Whole.{Table, places_of}
 use Rattle.stmt_code.specs.Within.{ListIn, LayerIn, ChoicesIn}
 use Rattle.stmt_code.proofs.Setting.{first_in, others_in, yes_in, no_in, body_in, otherwise_in, choices_in}
 use Rattle.stmt_code.proofs.Takes.{AreTemps, are_temps}
 use Rattle.stmt_code.proofs.Receivers.{IsHeld}
 use Rattle.stmt_code.proofs.Signals.{answer_few, send_held, transfer_held}
-use Rattle.stmt_code.proofs.Narrow.{AllNarrow, narrow_on, pointer_narrow, rel_narrow, expr_narrow, cond_narrow, values_narrow, variable_width_fits, field_width_fits, signal_few}
+use Rattle.stmt_code.proofs.Narrow.{AllNarrow, narrow_on, pointer_narrow, range_narrow, rel_narrow, expr_narrow, cond_narrow, values_narrow, variable_width_fits, field_width_fits, signal_few}
+
+-- past the other list of an IF
+
+past_narrow : (both : Bool) (end : ℕ) → AllNarrow (past_code both end)
+past_narrow false end = tt
+past_narrow true end = (λ n. n, tt)
 
 -- temporaries take values
 
@@ -136,7 +143,8 @@ module _ (x : Exchange) (kept : IsExchange x) (few_files : length (files_of x) �
   field_narrow (Some p) file field pointer there within lt =
       let width = field_width_fits x kept few_files file field p there (within p refl) in (
         λ n. (omega arith, omega arith),
-        narrow_on (pointer_code p file 1) _ (pointer_narrow p file 1 (omega arith)) (λ n. (omega arith, width), (λ n. (n.0, n.1, omega arith, omega arith), tt)),
+        narrow_on (pointer_code p file 1) _ (pointer_narrow p file 1 (omega arith))
+            (narrow_on (range_code 0 (field_width p field)) _ (range_narrow 0 (field_width p field) (omega arith) width) (λ n. (n.0, n.1, omega arith, omega arith), tt)),
       )
 
   field_within : (b file field : ℕ) (k : Block) → IsField (scope_of x b k) file field → (p : Placed) → slice_get (files_of x) file ≡ Some p → field < length p.file.fields
@@ -158,7 +166,7 @@ module _ (x : Exchange) (kept : IsExchange x) (few_files : length (files_of x) �
       let body = codes (when_code w.0).body (places_of x t b) d (a + COMPARE_LENGTH) in (λ n. (omega arith, n), (λ n. (omega arith, omega arith), (λ n. (omega arith, n), narrow_on body _ (w.1 t b d (a + COMPARE_LENGTH) hw.0) (λ n. n, choices_narrow ws ss t b d (a + COMPARE_LENGTH + length body + 1) hw.1 hs))))
 
   turns_narrow : (p t d head : ℕ) (body : List Op) → t < 24 → d ≤ 12 → AllNarrow body → AllNarrow (turns_code p t d head body)
-  turns_narrow p t d head body lt le narrow = (λ n. n, (λ n. (omega arith, omega arith), (λ n. (omega arith, omega arith), narrow_on body _ narrow (λ n. (omega arith, omega arith), (λ n. (omega arith, omega arith), (λ n. (omega arith, omega arith), (λ n. (omega arith, n), (λ n. (omega arith, n), (λ n. (omega arith, omega arith), (λ n. (omega arith, omega arith), (λ n. n, tt)))))))))))
+  turns_narrow p t d head body lt le narrow = (λ n. n, (λ n. (omega arith, omega arith), narrow_on body _ narrow (λ n. (omega arith, omega arith), (λ n. (omega arith, omega arith), (λ n. (omega arith, omega arith), (λ n. (omega arith, n), (λ n. (omega arith, omega arith), (λ n. (omega arith, omega arith), (λ n. n, tt)))))))))
 
   enter_narrow : (signal : ℕ) (temps : List ℕ) → LayerNarrow (stmt.Enter signal temps)
   enter_narrow signal temps t b p d a h =
@@ -174,7 +182,8 @@ module _ (x : Exchange) (kept : IsExchange x) (few_files : length (files_of x) �
   set_variable_narrow v e t b p d a h =
       let value = value_narrow t b d 0 h e (omega arith) h.fits.exprs.each.0 h.fits.exprs.shallow.0 in
       let width = variable_width_fits x kept few_files b v h.block h.there h.fits.names in
-      (λ n. n, narrow_on (expr_code e (places_of x t b).site 0) _ value (λ n. (omega arith, width), (λ n. (n, omega arith), tt)))
+      let look = range_narrow 0 (variable_width x b v) (omega arith) width in
+      (λ n. n, narrow_on (expr_code e (places_of x t b).site 0) _ value (narrow_on (range_code 0 (variable_width x b v)) _ look (λ n. (n, omega arith), tt)))
 
   set_field_narrow : (file field pointer : ℕ) (e : Expr) → LayerNarrow (stmt.SetField file field pointer e)
   set_field_narrow file field pointer e t b p d a h =
@@ -242,7 +251,11 @@ module _ (x : Exchange) (kept : IsExchange x) (few_files : length (files_of x) �
       let yes_at = a + 1 + length test + 1 in
       let first_part = codes (map stmt_code (map (λ e. e.0) yes_part)) pl d yes_at in
       let narrow = cond_narrow x kept few_files t b h.block c h.there h.limited h.fits.exprs in
-      (λ n. n, narrow_on test _ narrow (λ n. (omega arith, n), narrow_on first_part _ (list_narrow yes_part t b d yes_at (yes_in h)) (λ n. n, list_narrow no_part t b d (yes_at + length first_part + 1) (no_in h))))
+      let both = has_any (map stmt_code (map (λ e. e.0) no_part)) in
+      let other = yes_at + length first_part + length (past_code both 0) in
+      let second_part = codes (map stmt_code (map (λ e. e.0) no_part)) pl d other in
+      let past = past_code both (other + length second_part) in
+      (λ n. n, narrow_on test _ narrow (λ n. (omega arith, n), narrow_on first_part _ (list_narrow yes_part t b d yes_at (yes_in h)) (narrow_on past _ (past_narrow both (other + length second_part)) (list_narrow no_part t b d other (no_in h)))))
 
   case_narrow : (e : Expr) (whens : List ((w : When) × WhenNarrow w)) (otherwise : List ((s : Stmt) × StmtNarrow s)) → LayerNarrow (stmt.Case e (map (λ e. e.0) whens) (map (λ e. e.0) otherwise))
   case_narrow e whens otherwise t b p d a h =
@@ -261,7 +274,7 @@ module _ (x : Exchange) (kept : IsExchange x) (few_files : length (files_of x) �
       let first_value = value_narrow t b d 0 h from (omega arith) h.fits.exprs.each.0 h.fits.exprs.shallow.0 in
       let last_value = value_narrow t b d 1 h upto (omega arith) h.fits.exprs.each.1.0 h.fits.exprs.shallow.1.0 in
       let turns = turns_narrow p temp d head inner (omega (arith, h.fits.names, h.limited.temporaries)) (omega arith) (list_narrow body t b (suc d) (head + TURN_LENGTH) (body_in h)) in
-      (λ n. n, narrow_on cf _ first_value (narrow_on cu _ last_value (λ n. (omega arith, omega arith), (λ n. (omega arith, omega arith), (λ n. (omega arith, omega arith), (λ n. (omega arith, n), (λ n. n, turns)))))))
+      (λ n. n, narrow_on cf _ first_value (narrow_on cu _ last_value (λ n. (omega arith, omega arith), (λ n. (omega arith, omega arith), (λ n. (omega arith, omega arith), (λ n. (omega arith, n), turns))))))
 
   -- one line a kind
   pub layer_narrow : (y : StmtKind-F ((k : StmtKind) × KindNarrow k) ((s : Stmt) × StmtNarrow s) ((w : When) × WhenNarrow w)) → LayerNarrow (map-StmtKind _ _ _ _ _ _ (λ e. e.0) (λ e. e.0) (λ e. e.0) y)

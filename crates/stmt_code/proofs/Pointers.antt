@@ -2,7 +2,7 @@
 use Rattle.std.proofs.Common.{◌≡◌, ◌≢◌, ℕ, ◌+◌, ◌*◌, ◌^◌, ◌<◌, ◌≤◌, Bool, true, false, List, [], ◌∷◌, ◌++◌, length, Option, Some, None, refl, ap, ◌∙◌, subst, arith, length-append, if◌then◌else◌}
 use Rattle.std.specs.Prelude.{slice_get, slice_index, nat_lt, not, ◌||◌}
 use Rattle.std.proofs.Math.Nat.{mul_comm}
-use Rattle.job_types.specs.declared.fault.Fault.TheVariants.{NotOwn, Pointer, Range}
+use Rattle.job_types.specs.declared.fault.Fault.TheVariants.{NotOwn, Pointer}
 use Rattle.machine_code.specs.declared.op.Op.TheVariants as op
 use Rattle.exchange_model.specs.declared.expr.Expr.{Expr}
 use Rattle.exchange_model.specs.declared.stmt.StmtKind.TheOpen.{SetField}
@@ -16,11 +16,12 @@ use Rattle.register_machine.specs.Machine.{Machine, made_one, reg, checks}
 use Rattle.expr_code.specs.Code.{expr_code, own_code, pointer_code}
 use Rattle.expr_code.specs.Runs.{HasAt}
 use Rattle.expr_code.proofs.Places.{has_front, has_back}
-use Rattle.stmt_code.specs.StmtCode.{field_store}
+use Rattle.stmt_code.specs.StmtCode.{field_store, range_code}
 use Rattle.stmt_code.proofs.Setting.{Setting, places, few_loops}
 use Rattle.stmt_code.proofs.At.{At}
 use Rattle.stmt_code.proofs.Same.{Same, Follows}
 use Rattle.stmt_code.proofs.Instr.{Kept, loops_on, same_loops, ldt, stx, check}
+use Rattle.stmt_code.proofs.Widths.{range_sim}
 use Rattle.stmt_code.proofs.Values.{expr_in, count_sim, value_sim}
 use Rattle.stmt_code.proofs.Kind.{Case, todo_same, at_kept, at_gave, at_valued, goes_on_at}
 
@@ -71,17 +72,20 @@ module _ {g : Setting} where
       let w = field_width p field in
       let cell = field_cell p number field in
       let look = pointer_code p file 1 in
-      let tail = op.Ckw 0 w ∷ op.Stx (p.first + field) (record_cells p.file) 1 0 ∷ [] in
+      let range = range_code 0 w in
+      let store = op.Stx (p.first + field) (record_cells p.file) 1 0 ∷ [] in
+      let tail = range ++ store in
       let h = has_back g.code (a + 1) look tail has.1 in
-      let len : a + length (field_store (Some p) file field pointer) ≡ a + 1 + length look + 1 + 1 = omega (arith, length-append look tail) in
+      let h' = has_back g.code (a + 1 + length look) range store h in
+      let len : a + length (field_store (Some p) file field pointer) ≡ a + 1 + length look + length range + 1 = omega (arith, length-append look tail, length-append range store) in
       let r0 = subst (At g c.block m.run.locals d rest) len r in
       ldt (todo_same rest s) at has.0 (omega arith) (λ n1 s1 at1 q1.
       let it : reg n1.run 1 ≡ number = q1.is ∙ s.temps.same pointer lt in
       let ne : ◌≢◌ {A = ℕ} 0 1 = omega arith in
       pointer_sim p file number 1 (λ d. where_fits v w d (sets_cell cell v)) it s1 at1 (has_front g.code (a + 1) look tail has.1) (λ n2 s2 at2 q2.
       let value : reg n2.run 0 ≡ v = q2.regs 0 ∙ q1.others 0 ne ∙ is in
-      check (nat_lt v (2 ^ w)) (op.Ckw 0 w) Range (sets_cell cell v (goes rest c)) s2 at2 h.0 tt (ap (λ y. record { run = checks (nat_lt y (2 ^ w)) Range (made_one n2.run); world = n2.world }) value) (λ n3 s3 at3 q3.
-      stx cell v s3 at3 h.1.0 (ap (λ y. p.first + field + record_cells p.file * y) (q3.regs 1 ∙ q2.regs 1 ∙ it) ∙ cell_is p field number) (q3.regs 0 ∙ value) small (λ n4 s4 at4 q4.
+      range_sim 0 w v (sets_cell cell v (goes rest c)) value small s2 at2 (has_front g.code (a + 1 + length look) range store h) (λ n3 s3 at3 q3.
+      stx cell v s3 at3 h'.0 (ap (λ y. p.first + field + record_cells p.file * y) (q3.regs 1 ∙ q2.regs 1 ∙ it) ∙ cell_is p field number) (q3.regs 0 ∙ value) small (λ n4 s4 at4 q4.
       goes_on_at rest s4 at4 (at_kept le q4 (at_kept le q3 (at_kept le q2 (at_gave le q1 r0))))))))
 
   pub set_field : (file field pointer : ℕ) (e : Expr) → Case g (SetField file field pointer e)

@@ -15,7 +15,7 @@ use Rattle.register_machine.specs.Machine.{Machine, Goes, here, by_op, HasRoom, 
 use Rattle.expr_code.proofs.Runs.{goes_on}
 use Rattle.expr_code.specs.Runs.{HasOp}
 use Rattle.stmt_code.proofs.Setting.{Setting}
-use Rattle.stmt_code.proofs.At.{At}
+use Rattle.stmt_code.proofs.At.{At, AtHead}
 
 -- every value is below 2^32
 abbrev pub AllSmall : List ℕ → Type 0
@@ -58,9 +58,10 @@ pub record Same (g : Setting) (vs : List ℕ) (c : Config) (m : Machine) : Type 
   pub runs : m.run.over ≡ None
   pub going : c.over ≡ None
 
--- the machine stands where the job goes on, or both are over
+-- the machine stands where the job goes on, or at the head of a loop of which a turn begins, or both are over
 pub data Sim (g : Setting) (c : Config) (m : Machine) : Type 0 where
   alive : {d : ℕ} → Same g [] c m → At g c.block m.run.locals d c.todo m.run.pc → Sim g c m
+  heads : Same g [] c m → AtHead g c.block m.run.regs m.run.locals c.todo m.run.pc → Sim g c m
   ended : {o : Outcome} → c.over ≡ Some o → m.run.over ≡ Some o → m.run.own ≡ c.own → m.world ≡ c.world → Sim g c m
 
 -- the machine comes to a state

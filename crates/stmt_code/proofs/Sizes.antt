@@ -1,5 +1,5 @@
 -- How long a statement's code is depends neither on the addresses of labels and ENTERs nor on where it stands.
-use Rattle.std.proofs.Common.{◌≡◌, ℕ, suc, ◌+◌, Bool, List, [], ◌∷◌, ◌++◌, length, map, Option, Some, None, refl, sym, ap, ◌∙◌, subst, arith, length-append}
+use Rattle.std.proofs.Common.{◌≡◌, ℕ, suc, ◌+◌, Bool, true, false, List, [], ◌∷◌, ◌++◌, length, map, Option, Some, None, refl, sym, ap, ◌∙◌, subst, arith, length-append}
 use Rattle.std.specs.Prelude.{slice_get}
 use Rattle.machine_code.specs.declared.op.Op.{Op}
 use Rattle.machine_code.specs.declared.op.Op.TheVariants as op
@@ -16,7 +16,7 @@ use Rattle.exchange_model.specs.declared.stmt.StmtKind.TheOpen as stmt
 use Rattle.exchange_model.specs.Cells.{Placed}
 use Rattle.expr_code.specs.Code.{Site, expr_code, cond_code}
 use Rattle.stmt_code.specs.declared.lengths.TheConstants.{COMPARE_LENGTH, TURN_LENGTH, NEXT_LENGTH, BOUNDS_LENGTH}
-use Rattle.stmt_code.specs.StmtCode.{Places, codes, compare_code, choices_code, values_code, if_code, next_code, turns_code, bounds_code, on_code, for_first_code, seize_code, send_code, holder_code, each_receiver, look_first, receiver_code, opened, stmt_code, kind_code, when_code, kind_code-out, stmt_code-kind, when_code-out}
+use Rattle.stmt_code.specs.StmtCode.{Places, codes, compare_code, choices_code, values_code, has_any, past_code, if_code, next_code, turns_code, bounds_code, on_code, for_first_code, seize_code, send_code, holder_code, each_receiver, look_first, receiver_code, opened, stmt_code, kind_code, when_code, kind_code-out, stmt_code-kind, when_code-out}
 
 -- the addresses of labels, and of ENTERs by block and signal
 abbrev pub Addresses : Type 0
@@ -69,18 +69,23 @@ choices_same (w ∷ ws) ss pl l d a c =
     ∙ sums (length x) (length y) (length u) (length v) h g
     ∙ sym (choice_length n (c + COMPARE_LENGTH + length y + 1) y (op.Jmp (c + COMPARE_LENGTH + length y + 1 + length v)) v)
 
-pub if_length : (p a : ℕ) (test first : List Op) (else_at : ℕ → List Op) → length (if_code p a test first else_at) ≡ 3 + length test + length first + length (else_at (a + 1 + length test + 1 + length first + 1))
-if_length p a test first else_at =
-    let o = a + 1 + length test + 1 + length first + 1 in
-    let c2 = else_at o in
-    omega (arith, length-append test (op.Jz 0 o ∷ (first ++ (op.Jmp (o + length c2) ∷ c2))), length-append first (op.Jmp (o + length c2) ∷ c2))
+pub past_length : (both : Bool) (i j : ℕ) → length (past_code both i) ≡ length (past_code both j)
+past_length false i j = refl
+past_length true i j = refl
 
-pub on_length : (p t d a : ℕ) (from upto : List Op) (body_at : ℕ → List Op) → length (on_code p t d a from upto body_at) ≡ 17 + length from + length upto + length (body_at (a + 1 + length from + length upto + BOUNDS_LENGTH + TURN_LENGTH))
+pub if_length : (p a : ℕ) (test first : List Op) (both : Bool) (else_at : ℕ → List Op) → length (if_code p a test first both else_at) ≡ 2 + length test + length first + length (past_code both 0) + length (else_at (a + 1 + length test + 1 + length first + length (past_code both 0)))
+if_length p a test first both else_at =
+    let o = a + 1 + length test + 1 + length first + length (past_code both 0) in
+    let c2 = else_at o in
+    let past = past_code both (o + length c2) in
+    omega (arith, length-append test (op.Jz 0 o ∷ (first ++ (past ++ c2))), length-append first (past ++ c2), length-append past c2, past_length both (o + length c2) 0)
+
+pub on_length : (p t d a : ℕ) (from upto : List Op) (body_at : ℕ → List Op) → length (on_code p t d a from upto body_at) ≡ 14 + length from + length upto + length (body_at (a + 1 + length from + length upto + BOUNDS_LENGTH + TURN_LENGTH))
 on_length p t d a from upto body_at =
     let head = a + 1 + length from + length upto + BOUNDS_LENGTH in
     let cb = body_at (head + TURN_LENGTH) in
     let ct = turns_code p t d head cb in
-    let tail = bounds_code d head (head + length ct) ++ ct in
+    let tail = bounds_code d (head + length ct) ++ ct in
     omega (arith, length-append from (upto ++ tail), length-append upto tail, length-append cb (next_code d head (head + TURN_LENGTH + length cb + NEXT_LENGTH)))
 
 -- after the same instructions as many more
@@ -150,11 +155,13 @@ layer_same (stmt.If cond yes_part no_part) pl l p d a c =
     let x = f pl d (a + 1 + length test + 1) in
     let y = f (with_labels pl l) d (c + 1 + length test + 1) in
     let h1 = list_same yes_part pl l d (a + 1 + length test + 1) (c + 1 + length test + 1) in
-    let h2 = list_same no_part pl l d (a + 1 + length test + 1 + length x + 1) (c + 1 + length test + 1 + length y + 1) in
-    if_length p a test x (o pl d) ∙ more test x y _ _ h1 h2 ∙ sym (if_length p c test y (o (with_labels pl l) d))
+    let both = has_any (map stmt_code (map (λ e. e.0) no_part)) in
+    let past = past_code both 0 in
+    let h2 = list_same no_part pl l d (a + 1 + length test + 1 + length x + length past) (c + 1 + length test + 1 + length y + length past) in
+    if_length p a test x both (o pl d) ∙ more test past x y _ _ h1 h2 ∙ sym (if_length p c test y both (o (with_labels pl l) d))
   where
-    more : (test x y u v : List Op) → length x ≡ length y → length u ≡ length v → 3 + length test + length x + length u ≡ 3 + length test + length y + length v
-    more test x y u v h1 h2 = omega arith
+    more : (test past x y u v : List Op) → length x ≡ length y → length u ≡ length v → 2 + length test + length x + length past + length u ≡ 2 + length test + length y + length past + length v
+    more test past x y u v h1 h2 = omega arith
 layer_same (stmt.Case e whens otherwise) pl l p d a c =
     let value = expr_code e pl.site 0 in
     ap suc (tail_same value _ _ (choices_same whens otherwise pl l d (a + 1 + length value) (c + 1 + length value)))
@@ -163,7 +170,7 @@ layer_same (stmt.On t from upto body) pl l p d a c =
     let cu = expr_code upto pl.site 1 in
     let b = codes (map stmt_code (map (λ e. e.0) body)) in
     let h = list_same body pl l (suc d) (a + 1 + length cf + length cu + BOUNDS_LENGTH + TURN_LENGTH) (c + 1 + length cf + length cu + BOUNDS_LENGTH + TURN_LENGTH) in
-    on_length p t d a cf cu (b pl (suc d)) ∙ ap (λ n. 17 + length cf + length cu + n) h ∙ sym (on_length p t d c cf cu (b (with_labels pl l) (suc d)))
+    on_length p t d a cf cu (b pl (suc d)) ∙ ap (λ n. 14 + length cf + length cu + n) h ∙ sym (on_length p t d c cf cu (b (with_labels pl l) (suc d)))
 layer_same (stmt.ForFirst t file field rel e k) pl l p d a c =
     let value = expr_code e pl.site 0 in
     ap suc (tail_same value _ _ (search_same (slice_get pl.site.files file) t field rel (pl.label k) (l.0 k) (a + 1 + length value) (c + 1 + length value)))

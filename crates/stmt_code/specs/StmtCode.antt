@@ -3,8 +3,9 @@
 -- A statement's code is a function of where it stands: the places of its block, its point, the number of loops around it,
 -- and its address. A layer is said from the code of the lists in it. A loop keeps its number and its last number in two
 -- locals of its own, so that a jump out of it has nothing to put right; it compares before it adds, so that the number
--- never passes 2^32.
-use Rattle.std.specs.Prelude.{◌≡◌, ℕ, suc, ◌+◌, ◌*◌, Bool, true, false, List, [], ◌∷◌, ◌++◌, length, map, slice_get, Option, Some, None}
+-- never passes 2^32. Its head is reached before the first turn and from the end of a turn, and from nowhere else, since
+-- labels stand outside of all loops: so register 0 has its number there.
+use Rattle.std.specs.Prelude.{◌≡◌, ℕ, suc, ◌+◌, ◌*◌, nat_lt, Bool, true, false, List, [], ◌∷◌, ◌++◌, length, map, slice_get, Option, Some, None, if◌then◌else◌}
 use Rattle.std.specs.Option.{option_map_or}
 use Rattle.plex_num.specs.declared.level.Level.{Level}
 use Rattle.plex_num.specs.declared.level.Level.TheVariants.{A, B, C, D}
@@ -82,17 +83,32 @@ turn d = FIRST_LOOP_LOCAL + 2 * d
 abbrev pub last : ℕ → ℕ
 last d = FIRST_LOOP_LOCAL + 1 + 2 * d
 
+-- what looks whether the value in a register fits a width. Each value is of 32 bits, so that it fits a width of 32, and
+-- nothing looks
+abbrev pub range_code : ℕ → ℕ → List Op
+range_code r width = (if nat_lt width 32 then op.Ckw r width ∷ [] else [])
+
 -- the value in register 0 goes into a field
 abbrev pub field_store : Option Placed → ℕ → ℕ → ℕ → List Op
 field_store None file field pointer = []
 field_store (Some p) file field pointer =
-    op.Ldt 1 pointer ∷ (pointer_code p file 1 ++ op.Ckw 0 (field_width p field) ∷ op.Stx (p.first + field) (record_cells p.file) 1 0 ∷ [])
+    op.Ldt 1 pointer ∷ (pointer_code p file 1 ++ (range_code 0 (field_width p field) ++ op.Stx (p.first + field) (record_cells p.file) 1 0 ∷ []))
 
--- one of two lists, by whether register 0 is 0 after the test
-abbrev pub if_code : ℕ → ℕ → List Op → List Op → (ℕ → List Op) → List Op
-if_code p a test yes_part no_at =
-    let other = a + 1 + length test + 1 + length yes_part + 1 in
-    op.Stmt p ∷ (test ++ (op.Jz 0 other ∷ (yes_part ++ (op.Jmp (other + length (no_at other)) ∷ no_at other))))
+-- whether a list has a statement
+abbrev pub has_any : List StmtCode → Bool
+has_any [] = false
+has_any (c ∷ cs) = true
+
+-- from the end of the first list of an IF past the other one, where that has a statement
+abbrev pub past_code : Bool → ℕ → List Op
+past_code false end = []
+past_code true end = op.Jmp end ∷ []
+
+-- one of two lists, of which the other one may be empty, by whether register 0 is 0 after the test
+abbrev pub if_code : ℕ → ℕ → List Op → List Op → Bool → (ℕ → List Op) → List Op
+if_code p a test yes_part both no_at =
+    let other = a + 1 + length test + 1 + length yes_part + length (past_code both 0) in
+    op.Stmt p ∷ (test ++ (op.Jz 0 other ∷ (yes_part ++ (past_code both (other + length (no_at other)) ++ no_at other))))
 
 -- on at an address, unless register 0 has the number
 abbrev pub compare_code : ℕ → ℕ → List Op
@@ -107,28 +123,30 @@ choices_code (w ∷ ws) otherwise pl d a =
     let rest = choices_code ws otherwise pl d next in
     compare_code w.number next ++ (body ++ (op.Jmp (next + length rest) ∷ rest))
 
--- a turn begins: it is counted, and the temporary gets the loop's number
-abbrev pub turn_code : ℕ → ℕ → ℕ → List Op
-turn_code p t d = op.Stmt p ∷ op.Ldt 0 (turn d) ∷ op.Stt t 0 ∷ []
+-- a turn begins: it is counted, and the temporary gets the loop's number, which register 0 has
+abbrev pub turn_code : ℕ → ℕ → List Op
+turn_code p t = op.Stmt p ∷ op.Stt t 0 ∷ []
 
--- after a turn: out of the loop where it was the last one, and else one is added, and it goes on at the head
+-- after a turn: out of the loop where it was the last one, and else one is added, and it goes on at the head. The test leaves
+-- the 1 that is added
 abbrev pub next_code : ℕ → ℕ → ℕ → List Op
 next_code d head exit =
-    op.Ldt 0 (turn d) ∷ op.Ldt 1 (last d) ∷ op.Gt 1 0 ∷ op.Jz 1 exit ∷ op.Ldi 1 1 ∷ op.Add 0 1 ∷ op.Stt (turn d) 0 ∷ op.Jmp head ∷ []
+    op.Ldt 0 (turn d) ∷ op.Ldt 1 (last d) ∷ op.Gt 1 0 ∷ op.Jz 1 exit ∷ op.Add 0 1 ∷ op.Stt (turn d) 0 ∷ op.Jmp head ∷ []
 
 -- the turns of a loop, from its head on
 abbrev pub turns_code : ℕ → ℕ → ℕ → ℕ → List Op → List Op
-turns_code p t d head body = turn_code p t d ++ (body ++ next_code d head (head + TURN_LENGTH + length body + NEXT_LENGTH))
+turns_code p t d head body = turn_code p t ++ (body ++ next_code d head (head + TURN_LENGTH + length body + NEXT_LENGTH))
 
--- before the first turn: the bounds are kept, and the loop is left where the first one is above the second
-abbrev pub bounds_code : ℕ → ℕ → ℕ → List Op
-bounds_code d head exit = op.Stt (turn d) 0 ∷ op.Stt (last d) 1 ∷ op.Gt 0 1 ∷ op.Jz 0 head ∷ op.Jmp exit ∷ []
+-- before the first turn: the bounds are kept, and the loop is left unless the second one reaches the first, which stays in
+-- register 0
+abbrev pub bounds_code : ℕ → ℕ → List Op
+bounds_code d exit = op.Stt (turn d) 0 ∷ op.Stt (last d) 1 ∷ op.Ge 1 0 ∷ op.Jz 1 exit ∷ []
 
 abbrev pub on_code : ℕ → ℕ → ℕ → ℕ → List Op → List Op → (ℕ → List Op) → List Op
 on_code p t d a from upto body_at =
     let head = a + 1 + length from + length upto + BOUNDS_LENGTH in
     let turns = turns_code p t d head (body_at (head + TURN_LENGTH)) in
-    op.Stmt p ∷ (from ++ (upto ++ (bounds_code d head (head + length turns) ++ turns)))
+    op.Stmt p ∷ (from ++ (upto ++ (bounds_code d (head + length turns) ++ turns)))
 
 -- a search looks at the record whose number register 1 has: a word of it goes into register 2, or on at an address where no
 -- record is left; the word is told for the first record of the file
@@ -236,7 +254,7 @@ receiver_code (Some (receiver.Held h)) bs site values arm a =
 abbrev pub layer_code : StmtKind-F KindCode StmtCode Choice → KindCode
 layer_code (stmt.Enter signal temps) pl p d a = op.Jmp (a + 2 + length (takes_code 0 temps)) ∷ op.Stmt p ∷ takes_code 0 temps
 layer_code (stmt.SetTemp t e) pl p d a = op.Stmt p ∷ (expr_code e pl.site 0 ++ op.Stt t 0 ∷ [])
-layer_code (stmt.SetVariable v e) pl p d a = op.Stmt p ∷ (expr_code e pl.site 0 ++ op.Ckw 0 (pl.width v) ∷ op.Stw (pl.site.first + v) 0 ∷ [])
+layer_code (stmt.SetVariable v e) pl p d a = op.Stmt p ∷ (expr_code e pl.site 0 ++ (range_code 0 (pl.width v) ++ op.Stw (pl.site.first + v) 0 ∷ []))
 layer_code (stmt.SetField file field pointer e) pl p d a = op.Stmt p ∷ (expr_code e pl.site 0 ++ field_store (slice_get pl.site.files file) file field pointer)
 layer_code (stmt.Goto l) pl p d a = op.Stmt p ∷ op.Jmp (pl.label l) ∷ []
 layer_code (stmt.IfGoto c l) pl p d a =
@@ -244,7 +262,7 @@ layer_code (stmt.IfGoto c l) pl p d a =
     op.Stmt p ∷ (test ++ op.Jz 0 (a + 1 + length test + 2) ∷ op.Jmp (pl.label l) ∷ [])
 layer_code (stmt.If c yes_part no_part) pl p d a =
     let test = cond_code c pl.site in
-    if_code p a test (codes yes_part pl d (a + 1 + length test + 1)) (codes no_part pl d)
+    if_code p a test (codes yes_part pl d (a + 1 + length test + 1)) (has_any no_part) (codes no_part pl d)
 layer_code (stmt.Case e whens otherwise) pl p d a =
     let value = expr_code e pl.site 0 in
     op.Stmt p ∷ (value ++ choices_code whens otherwise pl d (a + 1 + length value))

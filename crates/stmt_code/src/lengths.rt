@@ -3,11 +3,11 @@
 /// What compares register 0 with a number.
 pub const COMPARE_LENGTH: u32 = 3;
 /// What begins a turn of a loop.
-pub const TURN_LENGTH: u32 = 3;
+pub const TURN_LENGTH: u32 = 2;
 /// What comes after a turn of a loop.
-pub const NEXT_LENGTH: u32 = 8;
+pub const NEXT_LENGTH: u32 = 7;
 /// What keeps the bounds of a loop.
-pub const BOUNDS_LENGTH: u32 = 5;
+pub const BOUNDS_LENGTH: u32 = 4;
 /// What looks at the next record of a file.
 pub const LOOK_LENGTH: u32 = 4;
 /// What tests a record's field, and leaves the search with it.

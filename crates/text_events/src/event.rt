@@ -6,8 +6,8 @@ ghost use Rattle.text_events.specs.Seen.{note_of};
 use crate::kept::Kept;
 use crate::role::{Meaning, Need, Role};
 use plex_ast::{Item, Stmt};
-use plex_num::Name;
 use std::marker::Model;
+use token_grammar::KeptName;
 
 /// What stands at a place. Names stand in the tree. A statement is named by the number of the events before it in its part.
 #[derive(Clone, Copy, Drop)]
@@ -18,7 +18,7 @@ pub enum Place<'a> {
     },
     /// A signal or an answer has this name.
     Signal {
-        name: &'a Name,
+        name: &'a KeptName,
     },
     /// It carries so many values.
     Carries {
@@ -27,7 +27,7 @@ pub enum Place<'a> {
     /// A block begins.
     Block,
     BlockName {
-        name: &'a Name,
+        name: &'a KeptName,
     },
     /// A declaration takes so many cells.
     Cells {
@@ -35,7 +35,7 @@ pub enum Place<'a> {
     },
     /// A name is declared.
     Declares {
-        name: &'a Name,
+        name: &'a KeptName,
         meaning: Meaning,
     },
     /// The number after WIDTH.
@@ -53,11 +53,11 @@ pub enum Place<'a> {
     },
     /// A line of the survey receives a signal.
     Receives {
-        signal: &'a Name,
+        signal: &'a KeptName,
     },
     /// A signal is named.
     Names {
-        signal: &'a Name,
+        signal: &'a KeptName,
         role: Role,
     },
     /// The statement at a place of a list begins.
@@ -72,12 +72,12 @@ pub enum Place<'a> {
     },
     /// A declared name is used.
     Uses {
-        name: &'a Name,
+        name: &'a KeptName,
         need: Need,
     },
     /// A declared name is an operand of the statement.
     Reads {
-        name: &'a Name,
+        name: &'a KeptName,
         need: Need,
         owner: u32,
     },
@@ -87,25 +87,25 @@ pub enum Place<'a> {
     },
     /// A block is an operand of the statement.
     Refers {
-        block: &'a Name,
+        block: &'a KeptName,
         owner: u32,
     },
     /// A label to which control may go.
     Goes {
-        label: &'a Name,
+        label: &'a KeptName,
     },
     /// The file that FOR FIRST looks through.
     Searches {
-        file: &'a Name,
+        file: &'a KeptName,
     },
     /// The field that FOR FIRST looks at, and its file.
     Compares {
-        field: &'a Name,
-        file: &'a Name,
+        field: &'a KeptName,
+        file: &'a KeptName,
     },
     /// The file of SEIZE or FREE.
     Holds {
-        file: &'a Name,
+        file: &'a KeptName,
     },
     /// The number after a WHEN of a CASE.
     Chooses {

@@ -8,13 +8,13 @@ ghost use Rattle.plex_ast.specs.declared.stmt.StmtKind.{out-StmtKind};
 
 use crate::event::Place;
 use plex_ast::{Boxed, Exprs, Item, ItemKind, Names, Reference, ReferenceKind, Stmt, StmtKind};
-use plex_num::Name;
+use token_grammar::KeptName;
 
 /// To which of several receivers a signal goes: nothing is said of it, a block is named, or a name holds the block.
 #[derive(Clone, Copy, Drop)]
 pub enum Way<'a> {
     Open,
-    To(&'a Name),
+    To(&'a KeptName),
     Held,
 }
 
@@ -25,26 +25,26 @@ pub enum Head<'a> {
     Nothing,
     Other,
     Enters {
-        signal: &'a Name,
+        signal: &'a KeptName,
         count: usize,
     },
     /// `fresh` says whether NEW FORLOPP stands there.
     Sends {
-        signal: &'a Name,
+        signal: &'a KeptName,
         way: Way<'a>,
         count: usize,
         fresh: bool,
     },
     Retrieves {
-        signal: &'a Name,
+        signal: &'a KeptName,
         count: usize,
     },
     Returns {
-        signal: &'a Name,
+        signal: &'a KeptName,
         count: usize,
     },
     Transfers {
-        signal: &'a Name,
+        signal: &'a KeptName,
         way: Way<'a>,
     },
 }

@@ -8,7 +8,8 @@ ghost use Rattle.text_events.specs.declared.role.Meaning.TheVariants as meanings
 use crate::event::Place;
 use crate::role::{Meaning, Need, Role};
 use plex_ast::{Boxed, Item, ItemKind, Named, Stmt};
-use plex_num::{Name, Seq};
+use plex_num::Seq;
+use token_grammar::KeptName;
 
 /// A field of a file, by its place in its file, and its name.
 #[derive(Drop)]
@@ -34,7 +35,7 @@ pub enum Kept<'a> {
     },
     Signal {
         line: u32,
-        name: &'a Name,
+        name: &'a KeptName,
     },
     Carries {
         line: u32,
@@ -45,7 +46,7 @@ pub enum Kept<'a> {
     },
     BlockName {
         line: u32,
-        name: &'a Name,
+        name: &'a KeptName,
     },
     Cells {
         line: u32,
@@ -84,12 +85,12 @@ pub enum Kept<'a> {
     },
     Receives {
         line: u32,
-        signal: &'a Name,
+        signal: &'a KeptName,
     },
     Names {
         role: Role,
         line: u32,
-        signal: &'a Name,
+        signal: &'a KeptName,
     },
     Begins {
         at: u32,
@@ -102,7 +103,7 @@ pub enum Kept<'a> {
     Uses {
         need: Need,
         line: u32,
-        name: &'a Name,
+        name: &'a KeptName,
     },
     Reads {
         need: Need,
@@ -119,16 +120,16 @@ pub enum Kept<'a> {
     },
     Goes {
         line: u32,
-        label: &'a Name,
+        label: &'a KeptName,
     },
     Searches {
         line: u32,
-        file: &'a Name,
+        file: &'a KeptName,
     },
     Compares(Boxed<Compared<'a>>),
     Holds {
         line: u32,
-        file: &'a Name,
+        file: &'a KeptName,
     },
     Chooses {
         line: u32,

@@ -154,7 +154,7 @@ pub(crate) fn walk_kind<'a>(
             match other {
                 None => Ok(()),
                 Some(stmts) => {
-                    walk_body(alloc, stmts, out)?;
+                    walk_body(alloc, stmts.get(), out)?;
                     Ok(())
                 }
             }
@@ -166,7 +166,7 @@ pub(crate) fn walk_kind<'a>(
         } => {
             walk_expr(value.get(), owner, out)?;
             walk_whens(alloc, whens.as_slice(), owner, out)?;
-            walk_body(alloc, otherwise, out)?;
+            walk_body(alloc, otherwise.get(), out)?;
             Ok(())
         }
         StmtKind::On {

@@ -9,9 +9,10 @@ ghost use Rattle.text_rules.specs.Tables.{amounts_of};
 
 use exchange_model::SignalKind;
 use plex_limits::{MOST_BLOCKS, MOST_CELLS, MOST_ENTRIES, MOST_SIGNALS, MOST_STATEMENTS};
-use plex_num::{Memory, Name};
+use plex_num::Memory;
 use signal_types::SignalTable;
 use text_events::{Head, Place};
+use token_grammar::KeptName;
 
 /// How much there is of what has limits.
 #[derive(Clone, Copy)]
@@ -41,7 +42,7 @@ fn count_blocks(place: Place<'_>) -> u64
     }
 }
 
-fn is_buffered(signals: &SignalTable, name: &Name) -> bool
+fn is_buffered(signals: &SignalTable, name: &KeptName) -> bool
     ensures { result ≡ is_buffered (kind_in signals.now.kinds.now name.now) }
 {
     match signals.kind(name) {

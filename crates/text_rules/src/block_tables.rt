@@ -14,6 +14,7 @@ use indexmap::{IndexMap, IndexSet};
 use plex_num::{Memory, Name};
 use std::alloc::Global;
 use text_events::{Event, Meaning, Place};
+use token_grammar::KeptName;
 
 /// The names that are declared so far.
 pub(crate) struct Declared {
@@ -36,10 +37,10 @@ impl Declared {
     }
 
     /// What a name stands for.
-    pub(crate) fn meaning(&self, name: &Name) -> Option<Meaning>
+    pub(crate) fn meaning(&self, name: &KeptName) -> Option<Meaning>
         ensures { result ≡ get bytes_eq self.now.names name.now }
     {
-        self.names.get(name).copied()
+        self.names.get(&name.copy()).copied()
     }
 
     #[tactic(auto, using(crate::proofs::BlockSteps::see_declared))]

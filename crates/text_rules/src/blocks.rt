@@ -18,10 +18,11 @@ use crate::rule::BlockRule;
 use crate::surveys::BlockTable;
 use exchange_model::SignalKind;
 use plex_limits::{MOST_OPERANDS, MOST_RECORDS, MOST_TEMPORARIES};
-use plex_num::{Memory, Name, Seq};
+use plex_num::{Memory, Seq};
 use signal_types::{SignalTable, count_of_signal};
 use std::alloc::Global;
 use text_events::{Event, Head, Meaning, Need, Place, Role};
+use token_grammar::KeptName;
 
 // Whether a value is not below 2^bits.
 #[tactic(auto, using(crate::proofs::Widths::fits_wide))]
@@ -90,7 +91,7 @@ fn stands(role: Role, kind: &SignalKind) -> bool
 }
 
 // Whether a signal of this name may not stand so.
-fn is_misplaced(signals: &SignalTable, name: &Name, role: Role) -> bool
+fn is_misplaced(signals: &SignalTable, name: &KeptName, role: Role) -> bool
     ensures { result ≡ not (stands role (kind_in signals.now.kinds.now name.now)) }
 {
     match signals.kind(name) {
@@ -118,7 +119,7 @@ fn same_number(a: Option<u32>, b: Option<u32>) -> bool
 }
 
 // Whether the signal of this name has another number of values.
-fn has_other_data(signals: &SignalTable, name: &Name, count: usize) -> bool
+fn has_other_data(signals: &SignalTable, name: &KeptName, count: usize) -> bool
     ensures { result ≡ other_data count (kind_in signals.now.kinds.now name.now) }
 {
     match signals.kind(name) {
@@ -128,7 +129,7 @@ fn has_other_data(signals: &SignalTable, name: &Name, count: usize) -> bool
 }
 
 // Whether the signal of this name is of another kind than a single buffered one.
-fn has_other_kind(signals: &SignalTable, name: &Name) -> bool
+fn has_other_kind(signals: &SignalTable, name: &KeptName) -> bool
     ensures { result ≡ is_other_kind (kind_in signals.now.kinds.now name.now) }
 {
     match signals.kind(name) {
@@ -138,7 +139,7 @@ fn has_other_kind(signals: &SignalTable, name: &Name) -> bool
 }
 
 // The number of the answer of the combined signal of this name.
-fn answer_of(signals: &SignalTable, name: &Name) -> Option<u32>
+fn answer_of(signals: &SignalTable, name: &KeptName) -> Option<u32>
     ensures { result ≡ answer_of (kind_in signals.now.kinds.now name.now) }
 {
     match signals.kind(name) {
@@ -158,7 +159,7 @@ fn retrieves(signals: &SignalTable, answer: Option<u32>, head: Head<'_>) -> bool
 }
 
 // Whether a statement sends the combined signal whose answer has this name.
-fn asks(signals: &SignalTable, answer: &Name, head: Head<'_>) -> bool
+fn asks(signals: &SignalTable, answer: &KeptName, head: Head<'_>) -> bool
     ensures { result ≡ asks (kind_in signals.now.kinds.now) (number_in signals.now.kinds.now answer.now) (head_seen head.entry) }
 {
     match head {

@@ -18,10 +18,11 @@ use crate::rule::LinkRule;
 use crate::surveys::BlockTable;
 use exchange_model::SignalKind;
 use plex_ast::{Block, Item, ItemKind, Survey, SurveyKind};
-use plex_num::{Memory, Name, Seq};
+use plex_num::{Memory, Seq};
 use signal_types::SignalTable;
 use std::alloc::Global;
 use text_events::{Event, Head, Place, Way};
+use token_grammar::KeptName;
 
 /// The signals that a block receives, sends and enters.
 #[derive(Drop)]
@@ -129,7 +130,7 @@ impl Drop for Links<'_> {
 }
 
 impl Links<'_> {
-    fn is_outside(&self, signal: &Name) -> bool
+    fn is_outside(&self, signal: &KeptName) -> bool
         ensures { result ≡ is_outside (kind_in self.now.signals.now.kinds.now signal.now) }
     {
         match self.signals.kind(signal) {
@@ -156,19 +157,19 @@ fn is_open(way: Way<'_>) -> bool
 }
 
 impl Before {
-    fn has_no_receiver(&self, links: &Links<'_>, signal: &Name) -> bool
+    fn has_no_receiver(&self, links: &Links<'_>, signal: &KeptName) -> bool
         ensures { result ≡ no_receiver (links_in self.now links.now) signal.now Open }
     {
         !links.is_outside(signal) && links.blocks.receiver_count(signal) == 0
     }
 
-    fn needs_reference(&self, links: &Links<'_>, signal: &Name, way: Way<'_>) -> bool
+    fn needs_reference(&self, links: &Links<'_>, signal: &KeptName, way: Way<'_>) -> bool
         ensures { result ≡ needs_reference (links_in self.now links.now) signal.now (way_seen way.entry) }
     {
         !links.is_outside(signal) && links.blocks.receiver_count(signal) > 1 && is_open(way)
     }
 
-    fn is_wrong_way(&self, links: &Links<'_>, signal: &Name, way: Way<'_>) -> bool
+    fn is_wrong_way(&self, links: &Links<'_>, signal: &KeptName, way: Way<'_>) -> bool
         ensures { result ≡ is_wrong_way (links_in self.now links.now) signal.now (way_seen way.entry) }
     {
         match way {
@@ -180,7 +181,7 @@ impl Before {
         }
     }
 
-    fn is_not_received(&self, links: &Links<'_>, signal: &Name, way: Way<'_>) -> bool
+    fn is_not_received(&self, links: &Links<'_>, signal: &KeptName, way: Way<'_>) -> bool
         ensures { result ≡ not_received (links_in self.now links.now) signal.now (way_seen way.entry) }
     {
         !links.is_outside(signal) && self.is_wrong_way(links, signal, way)

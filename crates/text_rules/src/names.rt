@@ -5,6 +5,7 @@ ghost use Rattle.indexmap.specs.IndexSet.{contains};
 use indexmap::IndexSet;
 use plex_num::{Memory, Name};
 use std::alloc::Global;
+use token_grammar::KeptName;
 
 /// A set of names.
 pub(crate) struct NameSet {
@@ -26,14 +27,14 @@ impl NameSet {
         }
     }
 
-    pub(crate) fn has(&self, name: &Name) -> bool
+    pub(crate) fn has(&self, name: &KeptName) -> bool
         ensures { result ≡ contains bytes_eq self.now.names name.now }
     {
-        self.names.contains(name)
+        self.names.contains(&name.copy())
     }
 
     /// Takes in a name.
-    pub(crate) fn add(&mut self, name: &Name) -> Result<(), Memory>
+    pub(crate) fn add(&mut self, name: &KeptName) -> Result<(), Memory>
         ensures { OnOk result ((n : List ℕ) → contains bytes_eq self.new.names n ≡ (contains bytes_eq self.old.names n || bytes_eq name.now n)) }
     {
         match self.names.insert(name.copy()) {

@@ -12,6 +12,7 @@ use indexmap::{IndexMap, IndexSet};
 use plex_ast::{Block, Item, ItemKind, Survey, SurveyKind};
 use plex_num::{Memory, Name};
 use std::alloc::Global;
+use token_grammar::KeptName;
 
 /// The blocks that receive a signal: the first of them, and how many there are.
 #[derive(Clone, Copy)]
@@ -48,21 +49,21 @@ impl Received {
     }
 
     /// Whether the block of a number receives a signal.
-    pub(crate) fn has(&self, block: u32, signal: &Name) -> bool
+    pub(crate) fn has(&self, block: u32, signal: &KeptName) -> bool
         ensures { result ≡ has_pair self.now block signal.now }
     {
         let pair = (block, signal.copy());
         self.pairs.contains(&pair)
     }
 
-    fn receiving(&self, signal: &Name) -> Option<Receiving>
+    fn receiving(&self, signal: &KeptName) -> Option<Receiving>
         ensures { result ≡ get bytes_eq self.now.signals signal.now }
     {
-        self.signals.get(signal).copied()
+        self.signals.get(&signal.copy()).copied()
     }
 
     /// How many blocks receive a signal.
-    pub(crate) fn count(&self, signal: &Name) -> u64
+    pub(crate) fn count(&self, signal: &KeptName) -> u64
         ensures { result ≡ counted_in self.now signal.now }
     {
         match self.receiving(signal) {
@@ -72,7 +73,7 @@ impl Received {
     }
 
     /// The first block that receives a signal.
-    pub(crate) fn first(&self, signal: &Name) -> Option<u32>
+    pub(crate) fn first(&self, signal: &KeptName) -> Option<u32>
         ensures { result ≡ first_in self.now signal.now }
     {
         match self.receiving(signal) {
@@ -83,7 +84,7 @@ impl Received {
 
     /// One block more receives a signal.
     #[tactic(auto, using(crate::proofs::SurveySteps::first_again, crate::proofs::SurveySteps::first_new, crate::proofs::SurveySteps::count_again, crate::proofs::SurveySteps::count_new))]
-    fn count_one(&mut self, block: u32, signal: &Name) -> Result<(), Memory>
+    fn count_one(&mut self, block: u32, signal: &KeptName) -> Result<(), Memory>
         ensures pairs { OnOk result (self.new.pairs ≡ self.old.pairs) }
         ensures counts { OnOk result
             ((s : List ℕ) → counted_in self.new s
@@ -111,7 +112,7 @@ impl Received {
     }
 
     /// Adds a block with a signal that it receives; says whether that is new.
-    fn add_pair(&mut self, block: u32, signal: &Name) -> Result<bool, Memory>
+    fn add_pair(&mut self, block: u32, signal: &KeptName) -> Result<bool, Memory>
         ensures added { IfOk result (λ added. added ≡ not (has_pair self.old block signal.now)) }
         ensures pairs { OnOk result
             ((b : ℕ) (s : List ℕ) → has_pair self.new b s
@@ -124,7 +125,7 @@ impl Received {
         Ok(added)
     }
 
-    fn count_if(&mut self, added: bool, block: u32, signal: &Name) -> Result<(), Memory>
+    fn count_if(&mut self, added: bool, block: u32, signal: &KeptName) -> Result<(), Memory>
         ensures pairs { OnOk result (self.new.pairs ≡ self.old.pairs) }
         ensures counts { OnOk result
             ((s : List ℕ) → counted_in self.new s
@@ -140,7 +141,7 @@ impl Received {
     }
 
     /// A block receives a signal; one that it received before is not counted again.
-    fn receive(&mut self, block: u32, signal: &Name) -> Result<(), Memory>
+    fn receive(&mut self, block: u32, signal: &KeptName) -> Result<(), Memory>
         ensures pairs { OnOk result
             ((b : ℕ) (s : List ℕ) → has_pair self.new b s
             ≡ (has_pair self.old b s || (nat_eq b block && bytes_eq signal.now s))) }
@@ -223,15 +224,15 @@ impl Numbers {
         }
     }
 
-    fn number(&self, name: &Name) -> Option<u32>
+    fn number(&self, name: &KeptName) -> Option<u32>
         ensures { result ≡ get bytes_eq self.now.names name.now }
     {
-        self.names.get(name).copied()
+        self.names.get(&name.copy()).copied()
     }
 
     /// Takes in a name with its number; a name that is there keeps its number.
     #[tactic(auto, using(crate::proofs::SurveySteps::note_kept, crate::proofs::SurveySteps::note_new))]
-    fn add(&mut self, name: &Name, number: u32) -> Result<(), Memory>
+    fn add(&mut self, name: &KeptName, number: u32) -> Result<(), Memory>
         ensures { OnOk result
             ((n : List ℕ) → get bytes_eq self.new.names n
             ≡ or_else (get bytes_eq self.old.names n) (if bytes_eq name.now n
@@ -294,7 +295,7 @@ impl<'a> BlockTable<'a> {
     }
 
     /// The number of the block of this name.
-    pub fn number(&self, name: &Name) -> Option<u32>
+    pub fn number(&self, name: &KeptName) -> Option<u32>
         ensures kept { result ≡ get bytes_eq self.now.numbers.names name.now }
         ensures found { result ≡ block_named self.now.blocks.now name.now }
     {
@@ -302,7 +303,7 @@ impl<'a> BlockTable<'a> {
     }
 
     /// The number of the first block that receives this signal.
-    pub fn first_receiver(&self, signal: &Name) -> Option<u32>
+    pub fn first_receiver(&self, signal: &KeptName) -> Option<u32>
         ensures kept { result ≡ first_in self.now.received signal.now }
         ensures found { result ≡ first_receiver self.now.blocks.now signal.now }
     {
@@ -310,7 +311,7 @@ impl<'a> BlockTable<'a> {
     }
 
     /// How many blocks receive this signal.
-    pub(crate) fn receiver_count(&self, signal: &Name) -> u64
+    pub(crate) fn receiver_count(&self, signal: &KeptName) -> u64
         ensures kept { result ≡ counted_in self.now.received signal.now }
         ensures found { result ≡ receiver_count self.now.blocks.now signal.now }
     {
@@ -318,7 +319,7 @@ impl<'a> BlockTable<'a> {
     }
 
     /// Whether the block of a number receives this signal.
-    pub(crate) fn receives(&self, block: u32, signal: &Name) -> bool
+    pub(crate) fn receives(&self, block: u32, signal: &KeptName) -> bool
         ensures kept { result ≡ has_pair self.now.received block signal.now }
         ensures found { result ≡ receives_at self.now.blocks.now block signal.now }
     {

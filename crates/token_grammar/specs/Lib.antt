@@ -1,4 +1,5 @@
 pub mod Faults
 pub mod Gives
+pub mod Kept
 pub mod Language
 pub mod Reading

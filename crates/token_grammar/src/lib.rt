@@ -8,9 +8,11 @@
 #![tactic(auto)]
 
 mod fault;
+mod kept_name;
 mod named;
 mod reading;
 
 pub use fault::Fault;
+pub use kept_name::KeptName;
 pub use named::{Leveled, Named, Numbered};
 pub use reading::{level, line_of, name, number, starts, starts_in, starts_name, word};

@@ -1,10 +1,11 @@
-use plex_num::{Level, Name};
+use crate::kept_name::KeptName;
+use plex_num::Level;
 
 /// A name of a text, with its line, counted from 1.
 #[derive(Drop)]
 pub struct Named {
     pub line: u32,
-    pub name: Name,
+    pub name: KeptName,
 }
 
 /// A number of a text, with its line, counted from 1.

@@ -7,9 +7,11 @@ ghost use Rattle.token_grammar.specs.Reading.{at, level_of, level_read, name_in,
 ghost use Rattle.token_grammar.specs.Gives.{Gives, Reads};
 
 use crate::fault::Fault;
+use crate::kept_name::KeptName;
 use crate::named::{Leveled, Named, Numbered};
 use plex_lexer::{Cursor, Found, Sort};
 use plex_num::Level;
+use std::alloc::Global;
 
 /// The class of a token: below 5 a name, 5 a number, 2k + 6 the keyword k, 2m + 7 the mark m.
 #[tactic(auto, using(crate::proofs::Classes::class_by_sort))]
@@ -129,9 +131,9 @@ pub fn word(tokens: Cursor<'_>, want: u64) -> Result<(Found<'_>, Cursor<'_>), Fa
     }
 }
 
-/// A name and the tokens after it, or the place where it lacks.
+/// A name and the tokens after it, or the place where it lacks. A long name takes memory.
 #[tactic(auto, unfolding(crate::specs::Reading::word_of, crate::specs::Reading::name_read))]
-pub fn name(tokens: Cursor<'_>) -> Result<(Named, Cursor<'_>), Fault>
+pub fn name(alloc: Global, tokens: Cursor<'_>) -> Result<(Named, Cursor<'_>), Fault>
     ensures { Reads result name_read tokens.entry }
 {
     match tokens.split_first() {
@@ -146,13 +148,11 @@ pub fn name(tokens: Cursor<'_>) -> Result<(Named, Cursor<'_>), Fault>
                     deep: false,
                 });
             }
-            Ok((
-                Named {
-                    line: first.line(),
-                    name: first.name(),
-                },
-                rest,
-            ))
+            let Ok(name) = KeptName::new(alloc, first.name()) else {
+                return Err(Fault::Memory);
+            };
+            let line = first.line();
+            Ok((Named { line, name }, rest))
         }
     }
 }

@@ -1,11 +1,13 @@
 // What an instruction may do to the job's own state.
-ghost use Rattle.std.specs.Prelude.{◌≡◌, ◌<◌, ◌^◌, ◌↔◌, ◌++◌, ◌∷◌, [], ◌&&◌, not, nat_eq, length, take, slice_index, slice_set, nat_lt, None, unwrap_or, position, IsNone, IsTrue};
+ghost use Rattle.std.specs.Prelude.{◌≡◌, ◌+◌, ◌<◌, ◌^◌, ◌↔◌, ◌++◌, ◌∷◌, [], ◌&&◌, true, not, nat_eq, length, take, replicate, slice_index, slice_set, nat_lt, is_some, Some, None, unwrap_or, position, IsNone, IsTrue};
 ghost use Rattle.job_types.specs.Own.{budget, eight};
 ghost use Rattle.job_types.specs.Chain.{holds, without};
 ghost use Rattle.job_types.specs.Truth.{at_zero};
-ghost use Rattle.register_machine.specs.Machine.{reg, goes, next, sets, fails, checks, counts, divides, made_one, chains, joins, sends, activates, enters, calls, resumes, returns, ends};
+ghost use Rattle.register_machine.specs.Machine.{reg, goes, next, fails, checks, counts, divides, joins, sends, calls, returns, ends};
+ghost use Rattle.register_machine.specs.Standing.{standing, stood};
 ghost use Rattle.job_types.specs.declared.chain.Held.{Held};
 
+use super::stand::Stand;
 use super::{JobRun, eight_of};
 use crate::frames::Frame;
 use job_types::{Chain, Fault, Held, Outcome, SendTo, Sent};
@@ -13,100 +15,83 @@ use plex_limits::{MOST_CALLERS, MOST_COUNTED, MOST_HELD, MOST_SENT, MOST_VALUES}
 use plex_num::Values;
 use std::mem;
 
+// Each of these tells the address of the next instruction, and none where the job has ended.
 impl JobRun {
     /// The value of a register, numbered from 0 to 15.
-    pub fn register(&self, r: u8) -> u32
+    pub(super) fn register(&self, r: u8) -> u32
         requires { r < 16 }
         ensures { result ≡ reg self.now r }
     {
         self.registers[r as usize]
     }
 
-    /// Goes to an address.
-    pub(super) fn go(&mut self, a: u32)
-        ensures { self.new ≡ goes a self.old }
-    {
-        self.address = a as usize;
-    }
-
-    /// Goes on to the next instruction.
-    pub(super) fn next(&mut self)
-        requires { self.old.pc < 2 ^ 63 }
-        ensures { self.new ≡ next self.old }
-    {
-        self.address += 1;
-    }
-
     /// A register gets a value.
-    pub(super) fn set(&mut self, r: u8, value: u32)
+    pub(super) fn set(&mut self, r: u8, value: u32, from: Stand) -> Option<usize>
         requires register { r < 16 }
-        requires address { self.old.pc < 2 ^ 63 }
-        ensures { self.new ≡ sets r value self.old }
+        requires address { from.at < 2 ^ 63 }
+        ensures next { result ≡ Some (from.at + 1) }
+        ensures run { self.new ≡ record self.old { regs = slice_set self.old.regs r value } }
     {
         self.registers[r as usize] = value;
-        self.address += 1;
+        from.next()
     }
 
     /// A local gets the value of a register.
-    pub(super) fn set_local(&mut self, i: u8, r: u8)
+    pub(super) fn set_local(&mut self, i: u8, r: u8, from: Stand) -> Option<usize>
         requires local { i < 50 }
         requires register { r < 16 }
-        requires address { self.old.pc < 2 ^ 63 }
-        ensures { self.new ≡ next (record self.old { locals = slice_set self.old.locals i (reg self.old r) }) }
+        requires address { from.at < 2 ^ 63 }
+        ensures next { result ≡ Some (from.at + 1) }
+        ensures run { self.new ≡ record self.old { locals = slice_set self.old.locals i (reg self.old r) } }
     {
         self.locals[i as usize] = self.registers[r as usize];
-        self.address += 1;
+        from.next()
     }
 
     /// The job ends by a fault.
-    pub(super) fn fail(&mut self, fault: Fault)
-        ensures { self.new ≡ fails fault self.old }
+    pub(super) fn fail(&mut self, fault: Fault) -> Option<usize>
+        ensures next { result ≡ None }
+        ensures run { self.new ≡ fails fault self.old }
     {
         self.done.outcome = Outcome::Faulted {
             fault,
             point: self.point,
         };
         self.over = true;
+        None
     }
 
     /// Goes on where the test holds, and else ends by the fault.
-    pub(super) fn check(&mut self, holds: bool, fault: Fault)
-        requires { self.old.pc < 2 ^ 63 }
-        ensures { self.new ≡ checks holds fault self.old }
+    pub(super) fn check(&mut self, holds: bool, fault: Fault, from: Stand) -> Option<usize>
+        requires runs { self.old.over ≡ None }
+        requires address { from.at < 2 ^ 63 }
+        ensures run { stood from result self.new ≡ checks holds fault (standing from self.old) }
+        ensures over { is_some result ≡ not (is_some self.new.over) }
     {
-        if holds {
-            self.next();
-        } else {
-            self.fail(fault);
-        }
+        if holds { from.next() } else { self.fail(fault) }
     }
 
-    /// A statement is counted. The job must not have ended.
+    /// A statement is counted.
     #[tactic(auto, using(crate::proofs::Counting::one_more))]
-    pub(super) fn count(&mut self, point: u32)
+    pub(super) fn count(&mut self, point: u32, from: Stand) -> Option<usize>
         requires runs { self.old.over ≡ None }
-        requires address { self.old.pc < 2 ^ 63 }
-        ensures { self.new ≡ counts point self.old }
+        requires address { from.at < 2 ^ 63 }
+        ensures run { stood from result self.new ≡ counts point (standing from self.old) }
+        ensures over { is_some result ≡ not (is_some self.new.over) }
     {
         let within = may_count(self.count);
         self.count += 1;
         self.point = point;
         if within {
-            self.address += 1;
+            from.next()
         } else {
             self.done.outcome = Outcome::Faulted {
                 fault: Fault::Budget,
                 point,
             };
             self.over = true;
+            None
         }
-    }
-
-    /// One more instruction was made.
-    pub(super) fn tick(&mut self)
-        ensures { self.new ≡ made_one self.old }
-    {
-        self.made = self.made.wrapping_add(1);
     }
 
     /// The value of a local.
@@ -134,28 +119,39 @@ impl JobRun {
     }
 
     /// A register gets a value, unless the divisor is 0.
-    pub(super) fn divide(&mut self, r: u8, divisor: u32, quotient: Option<u32>)
+    pub(super) fn divide(
+        &mut self,
+        r: u8,
+        divisor: u32,
+        quotient: Option<u32>,
+        from: Stand,
+    ) -> Option<usize>
+        requires runs { self.old.over ≡ None }
         requires register { r < 16 }
-        requires address { self.old.pc < 2 ^ 63 }
+        requires address { from.at < 2 ^ 63 }
         requires divisor { IsNone quotient ↔ (divisor ≡ 0) }
-        ensures { self.new ≡ divides r divisor (unwrap_or quotient 0) self.old }
+        ensures run { stood from result self.new
+            ≡ divides r divisor (unwrap_or quotient 0) (standing from self.old) }
+        ensures over { is_some result ≡ not (is_some self.new.over) }
     {
         match quotient {
-            Some(value) => self.set(r, value),
+            Some(value) => self.set(r, value, from),
             None => self.fail(Fault::Divide),
         }
     }
 
     /// Goes to an address where a register is 0, and else on.
-    pub(super) fn go_if_zero(&mut self, r: u8, a: u32)
+    pub(super) fn go_if_zero(&self, r: u8, a: u32, from: Stand) -> Option<usize>
         requires register { r < 16 }
-        requires address { self.old.pc < 2 ^ 63 }
-        ensures { self.new ≡ at_zero (reg self.old r) (goes a self.old) (next self.old) }
+        requires address { from.at < 2 ^ 63 }
+        ensures run { stood from result self.now ≡ at_zero (reg self.now r)
+            (goes a (standing from self.now)) (next (standing from self.now)) }
+        ensures next { is_some result ≡ true }
     {
         if self.register(r) == 0 {
-            self.go(a);
+            Some(a as usize)
         } else {
-            self.next();
+            from.next()
         }
     }
 
@@ -174,60 +170,75 @@ impl JobRun {
     }
 
     /// A record joins the chain.
-    pub(super) fn join(&mut self, file: u32, number: u32)
-        requires { self.old.pc < 2 ^ 63 }
-        ensures { self.new ≡ joins file number self.old }
+    pub(super) fn join(&mut self, file: u32, number: u32, from: Stand) -> Option<usize>
+        requires runs { self.old.over ≡ None }
+        requires address { from.at < 2 ^ 63 }
+        ensures run { stood from result self.new ≡ joins file number (standing from self.old) }
+        ensures over { is_some result ≡ not (is_some self.new.over) }
     {
         if self.done.chain.as_slice().len() < MOST_HELD {
             self.done.chain.push(Held { file, number });
-            self.address += 1;
+            from.next()
         } else {
-            self.fail(Fault::Chain);
+            self.fail(Fault::Chain)
         }
     }
 
     /// A record leaves the chain.
-    pub(super) fn leave(&mut self, file: u32, number: u32)
-        requires { self.old.pc < 2 ^ 63 }
-        ensures { self.new ≡ chains (without self.old.own.chain file number) self.old }
+    pub(super) fn leave(&mut self, file: u32, number: u32, from: Stand) -> Option<usize>
+        requires { from.at < 2 ^ 63 }
+        ensures next { result ≡ Some (from.at + 1) }
+        ensures run { self.new ≡ record self.old {
+          own = record self.old.own {
+            chain = without self.old.own.chain file number;
+          };
+        } }
     {
         remove_record(&mut self.done.chain, file, number);
-        self.address += 1;
+        from.next()
     }
 
     /// A register joins the outgoing values; there must be room for it.
-    pub(super) fn join_outgoing(&mut self, r: u8)
+    pub(super) fn join_outgoing(&mut self, r: u8, from: Stand) -> Option<usize>
         requires register { r < 16 }
-        requires address { self.old.pc < 2 ^ 63 }
+        requires address { from.at < 2 ^ 63 }
         requires room { length self.old.out < MOST_VALUES }
-        ensures { self.new ≡ next (record self.old { out = self.old.out ++ reg self.old r ∷ [] }) }
+        ensures next { result ≡ Some (from.at + 1) }
+        ensures run { self.new ≡ record self.old { out = self.old.out ++ reg self.old r ∷ [] } }
     {
         self.outgoing.push(self.registers[r as usize]);
-        self.address += 1;
+        from.next()
     }
 
     /// Sends the outgoing values.
-    pub(super) fn send(&mut self, to: SendTo)
-        requires { self.old.pc < 2 ^ 63 }
-        ensures { self.new ≡ sends to self.old }
+    pub(super) fn send(&mut self, to: SendTo, from: Stand) -> Option<usize>
+        requires runs { self.old.over ≡ None }
+        requires address { from.at < 2 ^ 63 }
+        ensures run { stood from result self.new ≡ sends to (standing from self.old) }
+        ensures over { is_some result ≡ not (is_some self.new.over) }
     {
         if self.done.sends.as_slice().len() < MOST_SENT {
             let values = mem::replace(&mut self.outgoing, Values::new());
             self.done.sends.push(Sent { to, values });
-            self.address += 1;
+            from.next()
         } else {
-            self.fail(Fault::Sends);
+            self.fail(Fault::Sends)
         }
     }
 
     /// A new activation at an address, with these entry values.
-    fn activate(&mut self, a: u32, values: [u32; 8])
-        ensures { self.new ≡ activates a values self.old }
+    fn activate(&mut self, a: u32, values: [u32; 8]) -> Option<usize>
+        ensures next { result ≡ Some a }
+        ensures run { self.new ≡ record self.old {
+          regs = replicate 16 0;
+          locals = replicate 50 0;
+          own = record self.old.own { given = values };
+        } }
     {
-        self.address = a as usize;
         self.registers = [0; 16];
         self.locals = [0; 50];
         self.given = values;
+        Some(a as usize)
     }
 
     /// The outgoing values, and 0 beyond them, and then none are outgoing.
@@ -241,47 +252,63 @@ impl JobRun {
     }
 
     /// A new activation, whose entry values are the outgoing ones.
-    pub(super) fn enter(&mut self, a: u32)
-        ensures { self.new ≡ enters a self.old }
+    pub(super) fn enter(&mut self, a: u32) -> Option<usize>
+        ensures next { result ≡ Some a }
+        ensures run { self.new ≡ record self.old {
+          regs = replicate 16 0;
+          locals = replicate 50 0;
+          out = [];
+          own = record self.old.own { given = eight self.old.out };
+        } }
     {
         let values = self.take_outgoing();
-        self.activate(a, values);
+        self.activate(a, values)
     }
 
     /// The same, and the activation that is left waits for an answer.
-    pub(super) fn call(&mut self, a: u32, answer: u32)
-        requires { self.old.pc < 2 ^ 63 }
-        ensures { self.new ≡ calls a answer self.old }
+    pub(super) fn call(&mut self, a: u32, answer: u32, from: Stand) -> Option<usize>
+        requires runs { self.old.over ≡ None }
+        requires address { from.at < 2 ^ 63 }
+        ensures run { stood from result self.new ≡ calls a answer (standing from self.old) }
+        ensures over { is_some result ≡ not (is_some self.new.over) }
     {
         if self.frames.len() < MOST_CALLERS {
             self.frames.push(Frame {
-                back: self.address + 1,
+                back: from.at + 1,
                 locals: self.locals,
                 given: self.given,
                 awaits: answer,
             });
-            self.enter(a);
+            self.enter(a)
         } else {
-            self.fail(Fault::Depth);
+            self.fail(Fault::Depth)
         }
     }
 
     /// A caller goes on, and the outgoing values are the answer.
-    fn resume(&mut self, frame: &Frame)
-        ensures { self.new ≡ resumes frame.now self.old }
+    fn resume(&mut self, frame: &Frame) -> Option<usize>
+        ensures next { result ≡ Some frame.now.back }
+        ensures run { self.new ≡ record self.old {
+          regs = replicate 16 0;
+          locals = frame.now.locals;
+          out = [];
+          own = record self.old.own { given = frame.now.given; answers = eight self.old.out };
+        } }
     {
         self.answers = eight_of(self.outgoing.as_slice());
         self.outgoing = Values::new();
-        self.address = frame.back;
         self.registers = [0; 16];
         self.locals = frame.locals;
         self.given = frame.given;
+        Some(frame.back)
     }
 
     /// Answers the caller that waits.
     #[tactic(auto, using(crate::proofs::Returning::returns_to, crate::proofs::Returning::returns_none))]
-    pub(super) fn give_back(&mut self, answer: u32)
-        ensures { self.new ≡ returns self.old.frames answer self.old }
+    pub(super) fn give_back(&mut self, answer: u32, from: Stand) -> Option<usize>
+        requires runs { self.old.over ≡ None }
+        ensures run { stood from result self.new ≡ returns self.old.frames answer (standing from self.old) }
+        ensures over { is_some result ≡ not (is_some self.new.over) }
     {
         match self.frames.take(answer) {
             Some(frame) => self.resume(&frame),
@@ -290,23 +317,32 @@ impl JobRun {
     }
 
     /// A new activation, whose entry values are the first n of those of this one.
-    pub(super) fn transfer(&mut self, a: u32, n: u32)
-        ensures { self.new ≡ activates a (eight (take n self.old.own.given)) self.old }
+    pub(super) fn transfer(&mut self, a: u32, n: u32) -> Option<usize>
+        ensures next { result ≡ Some a }
+        ensures run { self.new ≡ record self.old {
+          regs = replicate 16 0;
+          locals = replicate 50 0;
+          own = record self.old.own { given = eight (take n self.old.own.given) };
+        } }
     {
         let kept = (n as usize).min(8);
         let values = eight_of(&self.given[..kept]);
-        self.activate(a, values);
+        self.activate(a, values)
     }
 
     /// The job ends, unless a caller waits.
-    pub(super) fn end(&mut self)
-        ensures { self.new ≡ ends self.old.frames self.old }
+    pub(super) fn end(&mut self, from: Stand) -> Option<usize>
+        requires runs { self.old.over ≡ None }
+        ensures run { stood from result self.new ≡ ends self.old.frames (standing from self.old) }
+        ensures over { is_some result ≡ not (is_some self.new.over) }
     {
+        let _ = from;
         if self.frames.len() == 0 {
             self.done.outcome = Outcome::Ended;
             self.over = true;
+            None
         } else {
-            self.fail(Fault::BadEnd);
+            self.fail(Fault::BadEnd)
         }
     }
 }

@@ -86,7 +86,7 @@ emit_kind-returns-in-Finish t c =
 
 pub emit_kind-returns-in_ok-other-in-If : goal.emit_kind-returns-in_ok-other-in-If
 emit_kind-returns-in_ok-other-in-If t c =
-    let made = if_kind c.args.kind.now c.args.spot.point c.args.spot.loops c.args.spot.start c.in_ok-yes_at-in-If.yes_at c.in_ok-no_at-in-If.no_at c.len.result c.len-in-If.result c.in-If.cond c.in-If.yes c.in-If.no (places_in c.args.at.now) c.in_ok-test-in-If.test c.in_ok-first-in-If.first c.in_ok-other-in-If.other c.args.ops.now c.push_branches.new.ops (ap out-StmtKind c.in-If.is ∙ kind.outs-If c.in-If.cond c.in-If.yes c.in-If.no) c.in_ok-test-in-If.ensures c.len.ensures c.in_ok-yes_at-in-If.ensures c.in_ok-first-in-If.ensures c.len-in-If.ensures c.in_ok-no_at-in-If.ensures c.in_ok-other-in-If.ensures in
+    let made = if_kind c.args.kind.now c.args.spot.point c.args.spot.loops c.args.spot.start c.in_ok-yes_at-in-If.yes_at c.in_ok-no_at-in-If.no_at c.len.result c.len-in-If.result c.past_length.result c.has_statement-both.result c.in-If.cond c.in-If.yes c.in-If.no (places_in c.args.at.now) c.in_ok-test-in-If.test c.in_ok-first-in-If.first c.in_ok-other-in-If.other c.args.ops.now c.push_branches.new.ops (ap out-StmtKind c.in-If.is ∙ kind.outs-If c.in-If.cond c.in-If.yes c.in-If.no) c.in_ok-test-in-If.ensures c.len.ensures c.in_ok-yes_at-in-If.ensures c.in_ok-first-in-If.ensures c.len-in-If.ensures c.has_statement-both.ensures c.past_length.ensures c.in_ok-no_at-in-If.ensures c.in_ok-other-in-If.ensures in
     search (rules, made)
 
 pub emit_kind-returns-in_ok-last-in-Case : goal.emit_kind-returns-in_ok-last-in-Case

@@ -1,0 +1,11 @@
+pub mod Places
+pub mod Slots
+pub mod Sources
+pub mod Flows
+pub mod Facts
+pub mod Orders
+pub mod Numbers
+pub mod Accesses
+pub mod Faults
+pub mod Summaries
+pub mod Pairs

@@ -1,0 +1,15 @@
+pub mod Standing
+pub mod Finding
+pub mod Numbered
+pub mod Walking
+pub mod Telling
+pub mod Lookups
+pub mod Sourcing
+pub mod Entering
+pub mod Wayfaring
+pub mod Smallness
+pub mod Rowing
+pub mod Naming
+pub mod Raising
+pub mod Tabling
+pub mod Handing

@@ -1,0 +1,125 @@
+-- What look-ups find.
+use Rattle.std.proofs.Common.{◌≡◌, ℕ, zero, suc, ◌<◌, ◌≤◌, Bool, true, false, List, [], ◌∷◌, ◌++◌, length, drop, map, Some, None, slice_get, nat_eq, ◌||◌, Option, is_some, unwrap_or, refl, sym, ap, ◌∙◌, if◌then◌else◌, append-nil, arith}
+use Rattle.std.proofs.Math.ListN.{drop_of_length-le}
+use Rattle.std.proofs.Math.Seq.{drop-nil}
+use Rattle.std.proofs.lemmas.Option.{slice_get_past, none-some, same_Some}
+use Rattle.exchange_model.specs.declared.exchange.Exchange.{Exchange}
+use Rattle.exchange_model.specs.declared.block.Block.{Block}
+use Rattle.exchange_model.specs.declared.block.Enter.{Enter as Row}
+use Rattle.exchange_model.specs.declared.block.Label.{Label}
+use Rattle.exchange_model.specs.declared.stmt.Stmt.{Stmt}
+use Rattle.exchange_model.specs.declared.stmt.StmtKind.{out-StmtKind}
+use Rattle.source_meaning.specs.Config.{Do, Start, body_of, label_of, row_place, enter_place, is_receiver, is_enter, starting}
+use Rattle.source_meaning.specs.Rests.{first_point, head_point}
+use Rattle.std.specs.List.{find, list_any}
+use Rattle.std.specs.Option.{option_map, option_map_or}
+use Rattle.exchange_model.specs.Index.{place_in, rows_of, enter_of}
+use Rattle.flow_points.specs.Places.{enter_point, receives}
+use Rattle.flow_table.specs.Ways.{listed, enters_in, receiving}
+
+found_past : {A B : Type 0} (xs : List A) (i : ℕ) (b : B) (f : A → B) → length xs ≤ i → option_map_or f (slice_get xs i) b ≡ b
+found_past xs i b f past = ap (λ o. option_map_or f o b) (slice_get_past xs i past)
+
+found_at : {A B : Type 0} (xs : List A) (i : ℕ) (x : A) (b : B) (f : A → B) → slice_get xs i ≡ Some x → option_map_or f (slice_get xs i) b ≡ f x
+found_at xs i x b f there = ap (λ o. option_map_or f o b) there
+
+abbrev label_in : ℕ → Block → ℕ
+label_in l k = option_map_or (λ (e : Label). e.place) (slice_get k.labels l) 0
+
+pub found_none : (x : Exchange) (b l : ℕ) → length x.blocks ≤ b → 0 ≡ label_of x b l
+found_none x b l past = sym (found_past x.blocks b 0 (label_in l) past)
+
+pub label_none : (x : Exchange) (b l : ℕ) (k : Block) → slice_get x.blocks b ≡ Some k → length k.labels ≤ l → 0 ≡ label_of x b l
+label_none x b l k there past = sym (found_at x.blocks b k 0 (label_in l) there ∙ found_past k.labels l 0 (λ (e : Label). e.place) past)
+
+pub label_some : (x : Exchange) (b l : ℕ) (k : Block) (e : Label) → slice_get x.blocks b ≡ Some k → slice_get k.labels l ≡ Some e → e.place ≡ label_of x b l
+label_some x b l k e there is = sym (found_at x.blocks b k 0 (label_in l) there ∙ found_at k.labels l e 0 (λ (e : Label). e.place) is)
+
+-- the text of a block from a place on
+
+body_past : (x : Exchange) (b : ℕ) → length x.blocks ≤ b → body_of x b ≡ []
+body_past x b past = found_past x.blocks b [] (λ (k : Block). k.body) past
+
+body_is : (x : Exchange) (b : ℕ) (k : Block) → slice_get x.blocks b ≡ Some k → body_of x b ≡ k.body
+body_is x b k there = found_at x.blocks b k [] (λ (k : Block). k.body) there
+
+pub first_no_block : (x : Exchange) (b place : ℕ) → length x.blocks ≤ b → None ≡ first_point (drop place (body_of x b)) None
+first_no_block x b place past = sym (ap (λ ss. first_point (drop place ss) None) (body_past x b past) ∙ ap (λ ss. first_point ss None) (drop-nil place))
+
+pub first_past : (x : Exchange) (b place n : ℕ) (k : Block) (body : List Stmt) → slice_get x.blocks b ≡ Some k → body ≡ k.body → n ≡ length body → n < place → None ≡ first_point (drop place (body_of x b)) None
+first_past x b place n k body there same long past =
+    let far : length k.body ≤ place = (let e = ap length same in omega (arith, e, long, past)) in
+    sym (ap (λ ss. first_point (drop place ss) None) (body_is x b k there) ∙ ap (λ ss. first_point ss None) (drop_of_length-le k.body far))
+
+pub first_is : (x : Exchange) (b place : ℕ) (k : Block) (body rest : List Stmt) (r : Option ℕ) → slice_get x.blocks b ≡ Some k → body ≡ k.body → rest ≡ drop place body → r ≡ first_point rest None → r ≡ first_point (drop place (body_of x b)) None
+first_is x b place k body rest r there same at is = is ∙ ap (λ ss. first_point ss None) at ∙ ap (λ ss. first_point (drop place ss) None) (same ∙ sym (body_is x b k there))
+
+-- the ENTER of a signal
+
+abbrev of_signal : ℕ → Row → Bool
+of_signal signal r = nat_eq r.signal signal
+
+row_place_is : (rows : List Row) (signal : ℕ) → unwrap_or (place_in rows signal) 0 ≡ row_place rows signal
+row_place_is [] signal = refl
+row_place_is (r ∷ rows) signal = by_test (of_signal signal r) (row_place_is rows signal)
+  where
+    by_test : (t : Bool) → unwrap_or (place_in rows signal) 0 ≡ row_place rows signal → unwrap_or (option_map (λ (r : Row). r.place) (if t then Some r else find (of_signal signal) rows)) 0 ≡ (if t then r.place else row_place rows signal)
+    by_test true h = refl
+    by_test false h = h
+
+in_block : (o : Option Block) (signal : ℕ) → unwrap_or (place_in (rows_of o) signal) 0 ≡ option_map_or (λ (k : Block). row_place k.enters signal) o 0
+in_block None signal = refl
+in_block (Some k) signal = row_place_is k.enters signal
+
+pub enter_found : (x : Exchange) (b signal : ℕ) → unwrap_or (enter_of x.blocks b signal) 0 ≡ enter_place x b signal
+enter_found x b signal = in_block (slice_get x.blocks b) signal
+
+some_row : (rows : List Row) (signal : ℕ) → is_some (place_in rows signal) ≡ list_any (of_signal signal) rows
+some_row [] signal = refl
+some_row (r ∷ rows) signal = by_test (of_signal signal r) (some_row rows signal)
+  where
+    by_test : (t : Bool) → is_some (place_in rows signal) ≡ list_any (of_signal signal) rows → is_some (option_map (λ (r : Row). r.place) (if t then Some r else find (of_signal signal) rows)) ≡ (t || list_any (of_signal signal) rows)
+    by_test true h = refl
+    by_test false h = h
+
+received_in : (o : Option Block) (signal : ℕ) → is_some (place_in (rows_of o) signal) ≡ option_map_or (is_receiver signal) o false
+received_in None signal = refl
+received_in (Some k) signal = some_row k.enters signal
+
+pub receives_is : (x : Exchange) (b signal : ℕ) → is_some (enter_of x.blocks b signal) ≡ receives x signal b
+receives_is x b signal = received_in (slice_get x.blocks b) signal
+
+abbrev entered : List Stmt → Option ℕ
+entered ss = head_point (starting ss)
+
+pub enter_no_block : (x : Exchange) (b signal : ℕ) → length x.blocks ≤ b → None ≡ enter_point x b signal
+enter_no_block x b signal past = sym (ap (λ ss. entered (drop (enter_place x b signal) ss)) (body_past x b past) ∙ ap entered (drop-nil (enter_place x b signal)))
+
+pub enter_no_place : (x : Exchange) (b signal place : ℕ) (k : Block) → place ≡ enter_place x b signal → slice_get x.blocks b ≡ Some k → length k.body ≤ place → None ≡ enter_point x b signal
+enter_no_place x b signal place k at there past =
+    sym (ap (λ n. entered (drop n (body_of x b))) (sym at) ∙ ap (λ ss. entered (drop place ss)) (body_is x b k there) ∙ ap entered (drop_of_length-le k.body past))
+
+begun : (t : Bool) (s : Stmt) (ss : List Stmt) → is_enter (out-StmtKind s.kind) ≡ t → entered (s ∷ ss) ≡ (if t then Some s.point else None)
+begun true s ss is = ap (λ u. head_point (if u then Start s ∷ map Do ss else [])) is
+begun false s ss is = ap (λ u. head_point (if u then Start s ∷ map Do ss else [])) is
+
+entered_at : (ss : List Stmt) (place : ℕ) (s : Stmt) → slice_get ss place ≡ Some s → entered (drop place ss) ≡ (if is_enter (out-StmtKind s.kind) then Some s.point else None)
+entered_at [] place s e = absurd (none-some s e)
+entered_at (t ∷ ss) zero s e = begun (is_enter (out-StmtKind t.kind)) t ss refl ∙ ap (λ (u : Stmt). if is_enter (out-StmtKind u.kind) then Some u.point else None) (same_Some t s e)
+entered_at (t ∷ ss) (suc place) s e = entered_at ss place s e
+
+pub enter_is : (x : Exchange) (b signal place : ℕ) (k : Block) (s : Stmt) (r : Option ℕ) → place ≡ enter_place x b signal → slice_get x.blocks b ≡ Some k → slice_get k.body place ≡ Some s → r ≡ (if is_enter (out-StmtKind s.kind) then Some s.point else None) → r ≡ enter_point x b signal
+enter_is x b signal place k s r at there found is =
+    is ∙ sym (ap (λ n. entered (drop n (body_of x b))) (sym at) ∙ ap (λ ss. entered (drop place ss)) (body_is x b k there) ∙ entered_at k.body place s found)
+
+-- points that are listed
+
+pub none_listed : (points : List ℕ) (o : Option ℕ) → o ≡ None → points ≡ points ++ listed o
+none_listed points o none = sym (append-nil points) ∙ ap (λ p. points ++ listed p) (sym none)
+
+pub received : (x : Exchange) (signal b : ℕ) (t : Bool) (o : Option ℕ) (old new : List ℕ) → t ≡ receives x signal b → t ≡ true → o ≡ enter_point x b signal → new ≡ old ++ listed o → new ≡ old ++ enters_in x signal (receiving x signal (b ∷ []))
+received x signal b t o old new at is point e =
+    e ∙ ap (λ p. old ++ listed p) point ∙ ap (λ l. old ++ l) (sym (append-nil (listed (enter_point x b signal)))) ∙ ap (λ u. old ++ enters_in x signal (if u then b ∷ [] else [])) (sym is ∙ at)
+
+pub not_received : (x : Exchange) (signal b : ℕ) (t : Bool) (old : List ℕ) → t ≡ receives x signal b → t ≡ false → old ≡ old ++ enters_in x signal (receiving x signal (b ∷ []))
+not_received x signal b t old at is = sym (append-nil old) ∙ ap (λ u. old ++ enters_in x signal (if u then b ∷ [] else [])) (sym is ∙ at)

@@ -1,0 +1,220 @@
+-- The rows of the table, step by step.
+use Rattle.std.proofs.Common.{◌≡◌, ◌≢◌, ◌⊎◌, Bool, true, false, nat_eq, if◌then◌else◌, inl, inr, ℕ, zero, suc, ◌+◌, ◌<◌, ◌≤◌, List, [], ◌∷◌, ◌++◌, length, map, drop, get_or, Option, Some, None, slice_get, refl, sym, ap, ◌∙◌, subst, arith, append-nil, append_assoc, add-one, drop-cons, ⊎_elim}
+use Rattle.std.specs.Option.{option_map_or}
+use Rattle.std.specs.List.{AllByRecursion, Contains}
+use Rattle.std.proofs.Math.ListN.{drop_of_length-le}
+use Rattle.std.proofs.lemmas.Bool.{eqb-true, eqb-false, eq-eqb, ne_eqb}
+use Rattle.std.proofs.lemmas.List.{length-map}
+use Rattle.std.proofs.lemmas.List.Elements.{Contains-append_left, Contains-push, Contains-push_cases}
+use Rattle.source_meaning.proofs.Lists.{first_is, later_is}
+use Rattle.std.proofs.lemmas.Option.{slice_get_past, none-some, same_Some}
+use Rattle.exchange_model.specs.declared.block.Block.{Block}
+use Rattle.exchange_model.specs.declared.exchange.Exchange.{Exchange}
+use Rattle.exchange_model.specs.declared.stmt.StmtKind.{out-StmtKind}
+use Rattle.exchange_model.specs.Fits.{retrieved}
+use Rattle.exchange_model.specs.Kept.{IsExchange}
+use Rattle.source_meaning.specs.Config.{Item, Do, Turns}
+use Rattle.source_meaning.specs.Rests.{IsOfBlock, Stands, head_point}
+use Rattle.source_meaning.proofs.Fitting.{stmt_fits_in}
+use Rattle.flow_points.specs.Places.{Place, IsPlace, IsRetrieveAt}
+use Rattle.flow_points.specs.Slots.{temp_count, given_count, answer_count}
+use Rattle.flow_table.specs.declared.place.PlaceAt.{PlaceAt}
+use Rattle.flow_table.specs.declared.row.Row.{Row}
+use Rattle.flow_table.specs.declared.way.Way.{Way}
+use Rattle.flow_table.specs.Rows.{IsRowOf, HasRow, AreRows, AreRetrieves, awaited_point}
+use Rattle.flow_table.specs.Texts.{ArePlaces, seen}
+use Rattle.flow_table.specs.Ways.{AreWays, ways_of}
+use Rattle.flow_table.specs.Small.{IsSmall}
+use Rattle.flow_table.proofs.Smallness.{ways_small}
+use Rattle.flow_table.proofs.Telling.{ways_exact, first_or_later}
+
+-- a place is of its block
+
+-- what remains after a row may begin at any point
+ending : Option ℕ → List Item
+ending None = []
+ending (Some p) = Turns p 0 0 0 [] ∷ []
+
+ending_at : (end : Option ℕ) → head_point (ending end) ≡ end
+unfolding ending
+ending_at None = refl
+ending_at (Some p) = refl
+
+pub place_fits : (x : Exchange) (p : Place) → IsExchange x → IsPlace x p → IsOfBlock x p.block p.layer
+place_fits x p kept h =
+    let stands : Stands x p.block h.stmt (map Do h.list ++ ending h.end) = record { list = h.list; end = h.end; more = ending h.end; row = h.row; is = refl; ends = ending_at h.end } in
+    subst (λ (q : Place). IsOfBlock x p.block q.layer) (sym h.is) (stmt_fits_in x kept p.block h.stmt (map Do h.list ++ ending h.end) stands)
+
+pub row_is : (x : Exchange) (at : Place) (r : Row) (ways : List Way) → IsExchange x → IsPlace x at → ways ≡ ways_of x at → r.temps ≡ temp_count x at.block → r.given ≡ given_count x at.block → r.answered ≡ answer_count x (retrieved at.layer) → r.ways ≡ ways → IsRowOf x at r
+row_is x at r ways kept place made temps given answered same = record {
+  temps = temps;
+  given = given;
+  answered = answered;
+  ways = subst (AreWays x at) (sym (same ∙ made)) (ways_exact x at);
+  small = subst (AllByRecursion (λ (w : Way). IsSmall w.how)) (sym (same ∙ made)) (ways_small x at kept (place_fits x at kept place));
+}
+
+-- temporaries
+
+pub temps_none : (x : Exchange) (b : ℕ) → length x.blocks ≤ b → 0 ≡ temp_count x b
+temps_none x b past = sym (ap (λ o. option_map_or (λ (k : Block). length k.temporaries) o 0) (slice_get_past x.blocks b past))
+
+pub temps_some : (x : Exchange) (b n : ℕ) (k : Block) → slice_get x.blocks b ≡ Some k → n ≡ length k.temporaries → n ≡ temp_count x b
+temps_some x b n k there is = is ∙ sym (ap (λ o. option_map_or (λ (k : Block). length k.temporaries) o 0) there)
+
+pub temps_few : (x : Exchange) (b n : ℕ) (k : Block) → IsExchange x → slice_get x.blocks b ≡ Some k → n ≡ length k.temporaries → n ≤ 255
+temps_few x b n k kept there is = (let few = (kept.blocks.each b k there).temporaries in omega (arith, few, is))
+
+-- rows, one after the other
+
+opens : {X : Type 0} (xs : List X) (i : ℕ) (x : X) → i < length xs → x ≡ get_or xs i x → drop i xs ≡ x ∷ drop (i + 1) xs
+opens xs i x lt is = drop-cons xs i x lt ∙ ap (λ y. y ∷ drop (suc i) xs) (sym is) ∙ ap (λ n. x ∷ drop n xs) (sym (add-one i))
+
+-- each place with its row
+abbrev Pairs : Exchange → List PlaceAt → List Row → Type 0
+Pairs x [] [] = Unit {0}
+Pairs x (at ∷ places) (r ∷ rows) = IsRowOf x (seen at) r × Pairs x places rows
+Pairs x _ _ = ⊥
+
+pub record RowsGo (x : Exchange) (places : List PlaceAt) (i : ℕ) (now : List Row) : Type 0 where
+  pub all : (rest : List Row) → Pairs x (drop i places) rest → Pairs x places (now ++ rest)
+
+pub rows_begin : (x : Exchange) (places : List PlaceAt) (now : List Row) → now ≡ [] → RowsGo x places 0 now
+rows_begin x places now none = record { all = λ rest h. subst (λ l. Pairs x places (l ++ rest)) (sym none) h }
+
+pub rows_more : (x : Exchange) (places : List PlaceAt) (i : ℕ) (at : PlaceAt) (r : Row) (now new : List Row) → i < length places → at ≡ get_or places i at → IsRowOf x (seen at) r → new ≡ now ++ r ∷ [] → RowsGo x places i now → RowsGo x places (i + 1) new
+rows_more x places i at r now new lt is row e g = record {
+  all = λ rest h.
+      subst (Pairs x places) (sym (append_assoc now (r ∷ []) rest) ∙ ap (λ l. l ++ rest) (sym e))
+      (g.all (r ∷ rest) (subst (λ l. Pairs x l (r ∷ rest)) (sym (opens places i at lt is)) (row, h)));
+}
+
+pairs_long : (x : Exchange) (places : List PlaceAt) (rows : List Row) → Pairs x places rows → length rows ≡ length places
+pairs_long x [] [] h = refl
+pairs_long x [] (r ∷ rows) h = absurd h
+pairs_long x (at ∷ places) [] h = absurd h
+pairs_long x (at ∷ places) (r ∷ rows) h = (let e = pairs_long x places rows h.1 in omega arith)
+
+pairs_get : (x : Exchange) (places : List PlaceAt) (rows : List Row) → Pairs x places rows → (p : ℕ) (at : Place) → slice_get (map seen places) p ≡ Some at → HasRow x rows p at
+pairs_get x [] rows h p at there = absurd (none-some at there)
+pairs_get x (a ∷ places) [] h p at there = absurd h
+pairs_get x (a ∷ places) (r ∷ rows) h zero at there = record { row = r; there = refl; is = subst (λ (q : Place). IsRowOf x q r) (same_Some (seen a) at there) h.0 }
+pairs_get x (a ∷ places) (r ∷ rows) h (suc p) at there = (let g = pairs_get x places rows h.1 p at there in record { row = g.row; there = g.there; is = g.is })
+
+pub rows_end : (x : Exchange) (places : List PlaceAt) (i : ℕ) (now : List Row) → ArePlaces x (map seen places) → length places ≤ i → RowsGo x places i now → AreRows x now
+rows_end x places i now are past g =
+    let pairs : Pairs x places now = subst (Pairs x places) (append-nil now) (g.all [] (subst (λ l. Pairs x l []) (sym (drop_of_length-le places past)) tt)) in
+    let long = pairs_long x places now pairs in
+    let mapped : length (map seen places) ≡ length places = length-map places seen in
+    let each = are.each_point in
+    record {
+      each_point = omega (arith, long, mapped, each);
+      each = λ p at stands. pairs_get x places now pairs p at (are.listed p at stands);
+    }
+
+seen_at : (places : List PlaceAt) (i : ℕ) (at : PlaceAt) → i < length places → at ≡ get_or places i at → slice_get (map seen places) i ≡ Some (seen at)
+seen_at [] i at lt is = absurd (omega arith)
+seen_at (a ∷ places) zero at lt is = ap (λ (p : PlaceAt). Some (seen p)) (sym is)
+seen_at (a ∷ places) (suc i) at lt is = seen_at places i at (omega arith) is
+
+pub place_at : (x : Exchange) (places : List PlaceAt) (i : ℕ) (at : PlaceAt) → ArePlaces x (map seen places) → i < length places → at ≡ get_or places i at → IsPlace x (seen at)
+place_at x places i at are lt is = (are.stands i (seen at) (seen_at places i at lt is)).place
+
+-- the RETRIEVEs of an answer
+
+-- a RETRIEVE of the answer is among these places, and this is its point
+pub record Listed (answer : ℕ) (places : List PlaceAt) (q : ℕ) : Type 0 where
+  pub at : PlaceAt
+  pub one : Contains places at
+  pub retrieves : retrieved (out-StmtKind at.kind.now) ≡ Some answer
+  pub point : at.point ≡ q
+
+pub record RetrievesGo (x : Exchange) (answer : ℕ) (places : List PlaceAt) (i : ℕ) (points : List ℕ) : Type 0 where
+  pub from : (q : ℕ) → Contains points q → IsRetrieveAt x q answer
+  pub to : (q : ℕ) → Listed answer places q → Contains points q ⊎ Listed answer (drop i places) q
+
+pub retrieves_begin : (x : Exchange) (answer : ℕ) (places : List PlaceAt) (now : List ℕ) → now ≡ [] → RetrievesGo x answer places 0 now
+retrieves_begin x answer places now none = record { from = λ q c. absurd (let lt = c.1 in let e = ap length none in omega (arith, lt, e)); to = λ q h. inr h }
+
+later_listed : (answer : ℕ) (places : List PlaceAt) (i : ℕ) (at : PlaceAt) (q : ℕ) → i < length places → at ≡ get_or places i at → Listed answer (drop i places) q → ((retrieved (out-StmtKind at.kind.now) ≡ Some answer) × (at.point ≡ q)) ⊎ Listed answer (drop (i + 1) places) q
+later_listed answer places i at q lt is h =
+    ⊎_elim
+    (λ e. inl (subst (λ (p : PlaceAt). retrieved (out-StmtKind p.kind.now) ≡ Some answer) (sym e) h.retrieves, ap (λ (p : PlaceAt). p.point) e ∙ h.point))
+    (λ c. inr (record { at = h.at; one = c; retrieves = h.retrieves; point = h.point }))
+    (first_or_later at h.at (drop (i + 1) places) (subst (λ l. Contains l h.at) (opens places i at lt is) h.one))
+
+pub retrieves_yes : (x : Exchange) (answer : ℕ) (places : List PlaceAt) (i : ℕ) (at : PlaceAt) (now new : List ℕ) → ArePlaces x (map seen places) → i < length places → at ≡ get_or places i at → retrieved (out-StmtKind at.kind.now) ≡ Some answer → new ≡ now ++ at.point ∷ []
+    → RetrievesGo x answer places i now → RetrievesGo x answer places (i + 1) new
+retrieves_yes x answer places i at now new are lt is yes_is e g = record {
+  from = λ q c. ⊎_elim (g.from q) here (Contains-push_cases now at.point q (subst (λ l. Contains l q) e c));
+  to = λ q h. subst (λ l. Contains l q ⊎ Listed answer (drop (i + 1) places) q) (sym e) (⊎_elim (λ c. inl (Contains-append_left now (at.point ∷ []) q c)) (λ l. rest q (later_listed answer places i at q lt is l)) (g.to q h));
+}
+  where
+    here : {q : ℕ} → at.point ≡ q → IsRetrieveAt x q answer
+    here {q} e = record { place = seen at; stands = record { place = place_at x places i at are lt is; here = e }; retrieves = yes_is }
+
+    rest : (q : ℕ) → ((retrieved (out-StmtKind at.kind.now) ≡ Some answer) × (at.point ≡ q)) ⊎ Listed answer (drop (i + 1) places) q → Contains (now ++ at.point ∷ []) q ⊎ Listed answer (drop (i + 1) places) q
+    rest q (inl f) = inl (subst (λ n. Contains (now ++ n ∷ []) q) (sym f.1) (Contains-push now q))
+    rest q (inr l) = inr l
+
+pub retrieves_not : (x : Exchange) (answer : ℕ) (places : List PlaceAt) (i : ℕ) (at : PlaceAt) (now : List ℕ) → i < length places → at ≡ get_or places i at → (retrieved (out-StmtKind at.kind.now) ≡ Some answer → ⊥) → RetrievesGo x answer places i now → RetrievesGo x answer places (i + 1) now
+retrieves_not x answer places i at now lt is not_is g = record {
+  from = g.from;
+  to = λ q h. ⊎_elim inl (λ l. ⊎_elim (λ f. absurd (not_is f.0)) inr (later_listed answer places i at q lt is l)) (g.to q h);
+}
+
+placed_from : (places : List PlaceAt) (q : ℕ) (p : Place) → slice_get (map seen places) q ≡ Some p → (at : PlaceAt) × Contains places at × (seen at ≡ p)
+placed_from [] q p there = absurd (none-some p there)
+placed_from (a ∷ places) zero p there = (a, first_is a places, same_Some (seen a) p there)
+placed_from (a ∷ places) (suc q) p there = (let f = placed_from places q p there in (f.0, later_is a f.0 places f.1, f.2))
+
+pub retrieves_end : (x : Exchange) (answer : ℕ) (places : List PlaceAt) (i : ℕ) (now : List ℕ) → ArePlaces x (map seen places) → length places ≤ i → RetrievesGo x answer places i now → AreRetrieves x answer now
+retrieves_end x answer places i now are past g = record { exact = λ q. (g.from q, found q) }
+  where
+    listed : (q : ℕ) → IsRetrieveAt x q answer → Listed answer places q
+    listed q h =
+        let f = placed_from places q h.place (are.listed q h.place h.stands) in
+        record {
+          at = f.0;
+          one = f.1;
+          retrieves = subst (λ (p : Place). retrieved p.layer ≡ Some answer) (sym f.2) h.retrieves;
+          point = ap (λ (p : Place). p.point) f.2 ∙ h.stands.here;
+        }
+
+    none : (q : ℕ) → Listed answer (drop i places) q → ⊥
+    none q l = (let c = subst (λ ps. Contains ps l.at) (drop_of_length-le places past) l.one in let lt = c.1 in omega (arith, lt))
+
+    found : (q : ℕ) → IsRetrieveAt x q answer → Contains now q
+    found q h = ⊎_elim (λ c. c) (λ l. absurd (none q l)) (g.to q (listed q h))
+
+-- one statement
+
+pub equal_listed : (found answer p : ℕ) (old new : List ℕ) → found ≡ answer → new ≡ old ++ p ∷ [] → new ≡ old ++ awaited_point answer (Some found) p
+equal_listed found answer p old new same e = e ∙ ap (λ t. old ++ (if t then p ∷ [] else [])) (sym (eq-eqb found answer same))
+
+pub unequal_listed : (found answer p : ℕ) (old : List ℕ) → found ≢ answer → old ≡ old ++ awaited_point answer (Some found) p
+unequal_listed found answer p old other = sym (append-nil old) ∙ ap (λ t. old ++ (if t then p ∷ [] else [])) (sym (ne_eqb found answer other))
+
+pub awaited_is : (answer found p : ℕ) (o : Option ℕ) (old new : List ℕ) → Some found ≡ o → new ≡ old ++ awaited_point answer (Some found) p → new ≡ old ++ awaited_point answer o p
+awaited_is answer found p o old new is e = e ∙ ap (λ u. old ++ awaited_point answer u p) is
+
+pub awaited_none : (answer p : ℕ) (o : Option ℕ) (old : List ℕ) → None ≡ o → old ≡ old ++ awaited_point answer o p
+awaited_none answer p o old is = sym (append-nil old) ∙ ap (λ u. old ++ awaited_point answer u p) is
+
+pub retrieves_more : (x : Exchange) (answer : ℕ) (places : List PlaceAt) (i : ℕ) (at : PlaceAt) (now new : List ℕ) → ArePlaces x (map seen places) → i < length places → at ≡ get_or places i at → new ≡ now ++ awaited_point answer (retrieved (out-StmtKind at.kind.now)) at.point
+    → RetrievesGo x answer places i now → RetrievesGo x answer places (i + 1) new
+retrieves_more x answer places i at now new are lt is e g = by (retrieved (out-StmtKind at.kind.now)) refl e
+  where
+    same : new ≡ now → (retrieved (out-StmtKind at.kind.now) ≡ Some answer → ⊥) → RetrievesGo x answer places (i + 1) new
+    same f not_is = subst (RetrievesGo x answer places (i + 1)) (sym f) (retrieves_not x answer places i at now lt is not_is g)
+
+    other : (m : ℕ) → retrieved (out-StmtKind at.kind.now) ≡ Some m → nat_eq m answer ≡ false → retrieved (out-StmtKind at.kind.now) ≡ Some answer → ⊥
+    other m at_m differ at_answer = eqb-false m answer differ (same_Some m answer (sym at_m ∙ at_answer))
+
+    test : (m : ℕ) (t : Bool) → retrieved (out-StmtKind at.kind.now) ≡ Some m → nat_eq m answer ≡ t → new ≡ now ++ (if t then at.point ∷ [] else []) → RetrievesGo x answer places (i + 1) new
+    test m true at_m eq f = retrieves_yes x answer places i at now new are lt is (at_m ∙ ap Some (eqb-true m answer eq)) f g
+    test m false at_m eq f = same (f ∙ append-nil now) (other m at_m eq)
+
+    by : (o : Option ℕ) → retrieved (out-StmtKind at.kind.now) ≡ o → new ≡ now ++ awaited_point answer o at.point → RetrievesGo x answer places (i + 1) new
+    by None none f = same (f ∙ append-nil now) (λ some. absurd (let clash : None ≡ Some answer = sym none ∙ some in cc))
+    by (Some m) at_m f = test m (nat_eq m answer) at_m refl f

@@ -1,0 +1,6 @@
+pub mod Texts
+pub mod Ways
+pub mod Alone
+pub mod Rows
+pub mod Small
+pub mod Giving
