@@ -8,7 +8,6 @@ use Rattle.plex_limits.specs.declared.limits.TheConstants.{MOST_CALLERS}
 use Rattle.exchange_model.specs.declared.exchange.Exchange.{Exchange}
 use Rattle.exchange_model.specs.declared.entry.Entry.{Entry}
 use Rattle.source_meaning.specs.Changes.{value_count}
-use Rattle.source_meaning.specs.Valid.{entry_count}
 use Rattle.flow_points.specs.declared.fact.Slot.{Slot}
 use Rattle.flow_points.specs.declared.fact.Slot.TheVariants.{Depth}
 use Rattle.flow_points.specs.declared.fact.Value.{Value}
@@ -96,18 +95,6 @@ pub record IsLeast (x : Exchange) (f : Fact) : Type 0 where
 -- all that one rule gives is known already
 abbrev pub IsClosed : Exchange → Facts → Type 0
 IsClosed x P = (f : Fact) → Gives x P f → P f
-
--- a value that a job of the entry may start with, or a number, or any number
-abbrev pub IsValueOf : Exchange → ℕ → Value → Type 0
-IsValueOf x e (Arg k) = k < entry_count x e
-IsValueOf x e _ = Unit {0}
-
--- a fact is of the exchange where its entry, its point and its slot are there, and its value is one of the entry; any other is
--- strange
-pub record IsOfExchange (x : Exchange) (f : Fact) : Type 0 where
-  pub entry : f.entry < length x.entries
-  pub slot : HasSlot x f.point f.slot
-  pub value : IsValueOf x f.entry f.value
 
 -- what is known of a point in a job of the entry is known of it there as well
 abbrev pub KnowsAlike : Facts → Facts → ℕ → ℕ → Type 0

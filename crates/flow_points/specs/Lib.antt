@@ -3,9 +3,3 @@ pub mod Slots
 pub mod Sources
 pub mod Flows
 pub mod Facts
-pub mod Orders
-pub mod Numbers
-pub mod Accesses
-pub mod Faults
-pub mod Summaries
-pub mod Pairs
