@@ -1,5 +1,5 @@
 -- The answer of a run that has come to its end.
-use Rattle.std.proofs.Common.{◌≡◌, ℕ, List, map, sym, ap, ◌∙◌}
+use Rattle.std.proofs.Common.{◌≡◌, ℕ, List, map, refl, sym, ap, ◌∙◌}
 use Rattle.std.specs.Prelude.{unwrap_or}
 use Rattle.exchange_model.specs.declared.exchange.Exchange.{Exchange}
 use Rattle.signal_file.specs.declared.line.Line.{Line}
@@ -8,8 +8,13 @@ use Rattle.source_meaning.specs.State.{State}
 use Rattle.retire_order.specs.Accounts.{with_words}
 use Rattle.retire_order.specs.Lines.{coming_of}
 use Rattle.exchange_run.specs.Runs.{ComesTo}
+use Rattle.report_text.specs.Load.{load_text}
 use Rattle.report_text.specs.Report.{report_text}
-use Rattle.plex_program.specs.Answer.{end_of, ended_answer, ended_status, ending_of, run_answer}
+use Rattle.machine_code.specs.declared.code.Code.{Code}
+use Rattle.stmt_code.specs.Whole.{entry_addresses, whole_code}
+use Rattle.listing.specs.Listing.{IsListing, code_text}
+use Rattle.plex_program.specs.declared.program.Status.TheVariants as status
+use Rattle.plex_program.specs.Answer.{code_of, end_of, ended_answer, ended_status, ending_of, listing_answer, run_answer, summed_answer}
 use Rattle.plex_program.specs.Program.{IsEnding}
 use Rattle.plex_program.specs.declared.perform.Answer.{Answer}
 use Rattle.plex_program.specs.declared.program.Status.{Status}
@@ -24,3 +29,21 @@ answer_is x lines jobs s words e a comes status_is text_is =
     let ends : e ≡ ending_of jobs (end_of x lines jobs) = ap (λ o. unwrap_or o Limited) (sym comes.ends) in
     let here : a ≡ ended_answer x (with_words s words) e = λ i. record { status = status_is i; text = text_is i } in
     here ∙ ap (λ t. ended_answer x t e) comes.state ∙ ap (ended_answer x (end_of x lines jobs)) ends
+
+-- a summary looks at no word
+no_words : (calls : ℕ) (s : State) (words : List ℕ) (e : Ending) → load_text calls s e ≡ load_text calls (with_words s words) e
+unfolding load_text
+no_words calls s words e = refl
+
+pub summed_is : (calls jobs : ℕ) (x : Exchange) (lines : List Line) (s : State) (words : List ℕ) (e : Ending) (a : Answer) → ComesTo x (map coming_of lines) jobs s words e → a.status ≡ ended_status e → a.text ≡ load_text calls s e → a ≡ summed_answer calls (end_of x lines jobs) (ending_of jobs (end_of x lines jobs))
+summed_is calls jobs x lines s words e a comes status_is text_is =
+    let ends : e ≡ ending_of jobs (end_of x lines jobs) = ap (λ o. unwrap_or o Limited) (sym comes.ends) in
+    let told : a.text ≡ load_text calls (with_words s words) e = text_is ∙ no_words calls s words e in
+    let here : a ≡ summed_answer calls (with_words s words) e = λ i. record { status = status_is i; text = told i } in
+    here ∙ ap (λ t. summed_answer calls t e) comes.state ∙ ap (summed_answer calls (end_of x lines jobs)) ends
+
+pub listing_is : (x : Exchange) (code : Code) (a : Answer) → code.ops ≡ whole_code x → code.entries ≡ entry_addresses x → a.status ≡ status.Done → IsListing a.text code → a ≡ listing_answer x
+listing_is x code a ops entries status_is listed =
+    let same : code ≡ code_of x = λ i. record { ops = ops i; entries = entries i } in
+    let told : a.text ≡ code_text (code_of x) = listed.so ∙ ap code_text same in
+    λ i. record { status = status_is i; text = told i }

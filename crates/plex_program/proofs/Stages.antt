@@ -1,5 +1,5 @@
 -- Stages, one after the other.
-use Rattle.std.proofs.Common.{◌≡◌, ℕ, ◌+◌, ◌<◌, ◌≤◌, List, length, take, Option, Some, None, Result, Ok, Err, IfSome, IsSomeAnd, refl, ap, ◌∙◌, arith, min}
+use Rattle.std.proofs.Common.{◌≡◌, ℕ, ◌+◌, ◌<◌, ◌≤◌, List, length, take, Option, Some, None, Result, Ok, Err, IfSome, IsSomeAnd, refl, sym, ap, ◌∙◌, arith, min}
 use Rattle.std.proofs.lemmas.List.{take_all, length-take}
 use Rattle.std.proofs.lemmas.Bool.{lt-ltb, le-ltb}
 use Rattle.plex_io.specs.Files.{Files, Gives, Lacks}
@@ -23,6 +23,13 @@ module _ (limit : ℕ) where
   large_one bytes got e lt =
       let all : limit < length bytes = (let n : length got ≡ min (limit + 1) (length bytes) = same_size bytes got e in omega (arith, n, lt)) in
       rw (lt-ltb limit (length bytes) all) refl
+
+-- a text that fits, and one that does not
+pub is_fitting : (bytes : List ℕ) → length bytes ≤ MOST_BYTES → Some bytes ≡ fitting MOST_BYTES bytes
+is_fitting bytes le = sym (rw (le-ltb MOST_BYTES (length bytes) le) refl)
+
+pub none_fitting : (bytes : List ℕ) → MOST_BYTES < length bytes → None ≡ fitting MOST_BYTES bytes
+none_fitting bytes lt = sym (rw (lt-ltb MOST_BYTES (length bytes) lt) refl)
 
 fits_held : (o : Option (List ℕ)) (got : List ℕ) → Gives o MOST_BYTES got → length got ≤ MOST_BYTES → text_held o ≡ Ok (Some got)
 fits_held None got e le = absurd e

@@ -13,13 +13,20 @@ use Rattle.signal_file.specs.Lines.{signal_lines}
 use Rattle.source_meaning.specs.SingleRun.{Ending, Finished, Limited, Restarted, end_state, ending_at, opening}
 use Rattle.source_meaning.specs.State.{State}
 use Rattle.retire_order.specs.Lines.{coming_of}
+use Rattle.report_text.specs.Load.{load_text}
 use Rattle.report_text.specs.Report.{report_text}
+use Rattle.load_maker.specs.Exchange.{exchange_text}
+use Rattle.load_maker.specs.Signals.{signals_text}
+use Rattle.machine_code.specs.declared.code.Code.{Code}
+use Rattle.stmt_code.specs.Whole.{entry_addresses, whole_code}
+use Rattle.listing.specs.Listing.{code_text}
 use Rattle.plex_program.specs.Reading.{large_signals, resolve_fault, signals_fault, tree_of_file}
 use Rattle.plex_program.specs.Text.{refusal_text, usage_text}
 use Rattle.plex_program.specs.Words.{Word, shape}
 use Rattle.plex_program.specs.declared.fault.SourceFault.{SourceFault}
+use Rattle.plex_program.specs.declared.command.TheConstants.{USUAL_JOBS}
 use Rattle.plex_program.specs.declared.command.Command.{Command}
-use Rattle.plex_program.specs.declared.command.Command.TheVariants.{Run, Single}
+use Rattle.plex_program.specs.declared.command.Command.TheVariants.{Run, Single, List as Listing, Load}
 use Rattle.plex_program.specs.declared.command.RunWords.{RunWords}
 use Rattle.plex_program.specs.declared.perform.Answer.{Answer}
 use Rattle.plex_program.specs.declared.perform.Refused.{Refused}
@@ -117,10 +124,37 @@ run_of w files =
     goes_on (lines_at x w.signals files) (λ lines.
     Ok (run_answer x lines w.jobs)))
 
+-- the compiled code of an exchange, which leaves what the source means
+abbrev pub code_of : Exchange → Code
+code_of x = record { ops = whole_code x; entries = entry_addresses x }
+
+-- its listing
+abbrev pub listing_answer : Exchange → Answer
+listing_answer x = record { status = status.Done; text = code_text (code_of x) }
+
+abbrev pub list_of : Word → Files → Out Answer
+list_of name files = goes_on (exchange_at name files) (λ x. Ok (listing_answer x))
+
+-- the summary of the single run of a load that ends so, and the status of that ending
+abbrev pub summed_answer : ℕ → State → Ending → Answer
+summed_answer calls s ending = record { status = ended_status ending; text = load_text calls s ending }
+
+abbrev pub load_answer : ℕ → Exchange → List Line → Answer
+load_answer calls x lines = summed_answer calls (end_of x lines USUAL_JOBS) (ending_of USUAL_JOBS (end_of x lines USUAL_JOBS))
+
+-- the two texts of a load stand in place of an exchange file and a signal file
+abbrev pub load_of : ℕ → Out Answer
+load_of calls =
+    goes_on (exchange_of_file (fitting MOST_BYTES (exchange_text calls))) (λ x.
+    goes_on (lines_of_file x (fitting MOST_BYTES (signals_text calls))) (λ lines.
+    Ok (load_answer calls x lines)))
+
 -- what a command comes to: what the compiled code leaves is what the source means
 abbrev pub performed : Command → Files → Out Answer
 performed (Run w) files = run_of w files
 performed (Single w) files = run_of w files
+performed (Listing name) files = list_of name files
+performed (Load calls) files = load_of calls
 
 -- the status of a refusal
 abbrev pub refused_status : Refused → Status

@@ -4,9 +4,9 @@ use Rattle.std.specs.Option.{option_map}
 use Rattle.std.specs.Str.{bytes_eq}
 use Rattle.plex_limits.specs.declared.limits.TheConstants.{MOST_JOBS}
 use Rattle.plex_num.specs.Number.{number_of}
-use Rattle.plex_program.specs.declared.command.TheConstants.{USUAL_JOBS}
+use Rattle.plex_program.specs.declared.command.TheConstants.{MOST_CALLS, USUAL_JOBS}
 use Rattle.plex_program.specs.declared.command.Command.{Command}
-use Rattle.plex_program.specs.declared.command.Command.TheVariants.{Run, Single}
+use Rattle.plex_program.specs.declared.command.Command.TheVariants.{Run, Single, List as Listing, Load}
 use Rattle.plex_program.specs.declared.command.RunWords.{RunWords}
 
 -- a word
@@ -31,7 +31,29 @@ run_words [] = None
 run_words (e ∷ []) = None
 run_words (e ∷ s ∷ options) = option_map (λ jobs. record { exchange = e; signals = s; jobs = jobs }) (jobs_in options)
 
+-- the only one of these words
+abbrev pub only_word : List Word → Option Word
+only_word [] = None
+only_word (word ∷ []) = Some word
+only_word (word ∷ more ∷ rest) = None
+
+-- how many calls a load may have
+abbrev pub allowed_calls : Option ℕ → Option ℕ
+allowed_calls None = None
+allowed_calls (Some n) = (if nat_le 1 n && nat_le n MOST_CALLS then Some n else None)
+
+-- how many calls a load has, by these words
+abbrev pub calls_in : List Word → Option ℕ
+calls_in [] = None
+calls_in (value ∷ []) = allowed_calls (number_of value)
+calls_in (value ∷ more ∷ rest) = None
+
 -- the command that these words are
 abbrev pub shape : List Word → Option Command
 shape [] = None
-shape (name ∷ rest) = (if bytes_eq name (codes "run") then option_map Run (run_words rest) else (if bytes_eq name (codes "single") then option_map Single (run_words rest) else None))
+shape (name ∷ rest) =
+    (if bytes_eq name (codes "run") then option_map Run (run_words rest)
+    else (if bytes_eq name (codes "single") then option_map Single (run_words rest)
+    else (if bytes_eq name (codes "list") then option_map Listing (only_word rest)
+    else (if bytes_eq name (codes "load") then option_map Load (calls_in rest)
+    else None))))

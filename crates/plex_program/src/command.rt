@@ -4,7 +4,7 @@ ghost use Rattle.std.specs.Option.{option_map};
 ghost use Rattle.std.specs.Str.{bytes_eq};
 ghost use Rattle.plex_limits.specs.declared.limits.TheConstants.{MOST_JOBS};
 ghost use Rattle.plex_program.specs.Runs.{HasJobs};
-ghost use Rattle.plex_program.specs.Words.{allowed_jobs, jobs_in, run_words, shape};
+ghost use Rattle.plex_program.specs.Words.{allowed_calls, allowed_jobs, calls_in, jobs_in, only_word, run_words, shape};
 
 use plex_io::Word;
 use plex_limits::MOST_JOBS;
@@ -14,6 +14,9 @@ use std::alloc::Global;
 /// After how many jobs a run ends, where the words do not say.
 pub const USUAL_JOBS: u32 = 1_000_000;
 
+/// How many calls a load has at most.
+pub const MOST_CALLS: u32 = 10_000;
+
 /// What the words ask for.
 #[derive(Drop)]
 pub enum Command {
@@ -21,6 +24,10 @@ pub enum Command {
     Run(RunWords),
     /// `single E S [--jobs N]`: the same report, each job by the source itself.
     Single(RunWords),
+    /// `list E`: the listing of the compiled code of an exchange file.
+    List(Word),
+    /// `load N`: the summary of the run of a load of so many calls, from 1 to 10,000.
+    Load(u32),
 }
 
 /// The words of a run after its name.
@@ -46,6 +53,10 @@ pub fn read_command(alloc: Global, words: &[Word]) -> Result<Option<Command>, Me
         Ok(as_run(read_run(alloc, rest)?))
     } else if is_word(name.as_slice(), b"single") {
         Ok(as_single(read_run(alloc, rest)?))
+    } else if is_word(name.as_slice(), b"list") {
+        Ok(as_list(read_only(alloc, rest)?))
+    } else if is_word(name.as_slice(), b"load") {
+        Ok(as_load(calls_in(rest)))
     } else {
         Ok(None)
     }
@@ -69,6 +80,39 @@ fn as_single(words: Option<RunWords>) -> Option<Command>
         Some(words) => Some(Command::Single(words)),
         None => None,
     }
+}
+
+fn as_list(name: Option<Word>) -> Option<Command>
+    ensures is { result ≡ option_map Command.List name }
+    ensures jobs { IfSome result HasJobs }
+{
+    match name {
+        Some(name) => Some(Command::List(name)),
+        None => None,
+    }
+}
+
+fn as_load(calls: Option<u32>) -> Option<Command>
+    ensures is { result ≡ option_map Command.Load calls }
+    ensures jobs { IfSome result HasJobs }
+{
+    match calls {
+        Some(calls) => Some(Command::Load(calls)),
+        None => None,
+    }
+}
+
+/// The only one of these words; `None` where they are more or none.
+fn read_only(alloc: Global, rest: &[Word]) -> Result<Option<Word>, Memory>
+    ensures { IfOk result (λ word. word ≡ only_word rest.now) }
+{
+    let Some((word, more)) = rest.split_first() else {
+        return Ok(None);
+    };
+    if !more.is_empty() {
+        return Ok(None);
+    }
+    Ok(Some(Seq::copied(alloc, word.as_slice())?))
 }
 
 /// The words of a run after its name; `None` where they are none.
@@ -115,6 +159,29 @@ fn allowed_jobs(number: Option<u32>) -> Option<u32>
     let jobs = number?;
     if 1 <= jobs && jobs <= MOST_JOBS as u32 {
         Some(jobs)
+    } else {
+        None
+    }
+}
+
+/// The number of calls of a load, by these words; `None` where they are none.
+fn calls_in(rest: &[Word]) -> Option<u32>
+    ensures { result ≡ calls_in rest.now }
+{
+    let (value, more) = rest.split_first()?;
+    if !more.is_empty() {
+        return None;
+    }
+    allowed_calls(read_number(value.as_slice()))
+}
+
+/// The number, where a load may have so many calls.
+fn allowed_calls(number: Option<u32>) -> Option<u32>
+    ensures { result ≡ allowed_calls number }
+{
+    let calls = number?;
+    if 1 <= calls && calls <= MOST_CALLS {
+        Some(calls)
     } else {
         None
     }

@@ -5,16 +5,19 @@ ghost use Rattle.plex_limits.specs.declared.limits.TheConstants.{MOST_BYTES, MOS
 ghost use Rattle.front_end.specs.Resolved.{resolved};
 ghost use Rattle.plex_program.specs.Program.{IsEnding};
 ghost use Rattle.plex_program.specs.Reading.{IsSpelled, signals_fault};
-ghost use Rattle.plex_program.specs.Answer.{Comes, Reads, exchange_at, exchange_of_file, exchange_of_tree, lines_at, lines_of_file, or_broken, or_unread, performed, run_answer, run_of, text_at};
+ghost use Rattle.load_maker.specs.Exchange.{exchange_text};
+ghost use Rattle.load_maker.specs.Signals.{signals_text};
+ghost use Rattle.plex_program.specs.Answer.{Comes, Reads, exchange_at, exchange_of_file, exchange_of_tree, fitting, lines_at, lines_of_file, list_of, listing_answer, load_answer, load_of, or_broken, or_unread, performed, run_answer, run_of, text_at};
 ghost use Rattle.plex_program.specs.Runs.{AreRead, HasJobs};
 
 use crate::command::{Command, RunWords};
 use crate::fault::{SignalsFault, SignalsRule, SourceFault};
 use crate::program::Status;
 use crate::reading::{refused, rule_of, tree_of_file};
-use crate::running::{Means, run_answer};
+use crate::running::{Means, listing_answer, load_answer, run_answer};
 use exchange_model::Exchange;
 use front_end::{TextFault, resolve};
+use load_maker::{load_exchange, load_signals};
 use plex_ast::Tree;
 use plex_io::{Shelf, ShelfFault, Word};
 use plex_limits::MOST_BYTES;
@@ -201,7 +204,93 @@ fn answer_run(
     }
 }
 
+/// `list`.
+#[tactic(auto, using(crate::proofs::Stages::comes_stop, crate::proofs::Stages::comes_go, crate::proofs::Stages::comes_reads))]
+fn perform_list<S: Shelf>(alloc: Global, shelf: &mut S, name: &Word) -> Result<Answer, Stop>
+    ensures comes { Comes (S.held shelf.old) (list_of name.now) (S.faults shelf.old)
+        (S.faults shelf.new) result }
+    ensures ending { IfOk result (λ a. IsEnding a.status) }
+{
+    let exchange = exchange_in(alloc, shelf, name)?;
+    answer_list(alloc, &exchange)
+}
+
+/// The answer with the listing of an exchange's code, as a stage.
+fn answer_list(alloc: Global, exchange: &Exchange) -> Result<Answer, Stop>
+    ensures reads { Reads (Ok (listing_answer exchange.now)) result }
+    ensures ending { IfOk result (λ a. IsEnding a.status) }
+{
+    match listing_answer(alloc, exchange) {
+        Ok(answer) => Ok(answer),
+        Err(Memory) => Err(Stop::Memory),
+    }
+}
+
+/// `load`.
+#[tactic(auto, using(crate::proofs::Stages::reads_stop, crate::proofs::Stages::reads_go))]
+fn perform_load(alloc: Global, calls: u32) -> Result<Answer, Stop>
+    ensures reads { Reads (load_of calls) result }
+    ensures ending { IfOk result (λ a. IsEnding a.status) }
+{
+    let exchange = exchange_of_load(alloc, calls)?;
+    let lines = lines_of_load(alloc, &exchange, calls)?;
+    answer_load(alloc, calls, &exchange, lines)
+}
+
+/// The exchange of a load.
+fn exchange_of_load(alloc: Global, calls: u32) -> Result<Exchange, Stop>
+    ensures { Reads (exchange_of_file (fitting MOST_BYTES (exchange_text calls))) result }
+{
+    match load_exchange(alloc, calls) {
+        Ok(text) => exchange_of_file(alloc, &fitting(text)),
+        Err(Memory) => Err(Stop::Memory),
+    }
+}
+
+/// The signal lines of a load.
+fn lines_of_load(alloc: Global, exchange: &Exchange, calls: u32) -> Result<Seq<Line>, Stop>
+    ensures reads { Reads (lines_of_file exchange.now (fitting MOST_BYTES (signals_text calls)))
+        result }
+    ensures read { IfOk result (λ lines. AreRead exchange.now lines) }
+{
+    match load_signals(alloc, calls) {
+        Ok(text) => lines_of_file(alloc, exchange, &fitting(text)),
+        Err(Memory) => Err(Stop::Memory),
+    }
+}
+
+/// A text, where it is not too large for a file.
+#[tactic(auto, using(crate::proofs::Stages::is_fitting, crate::proofs::Stages::none_fitting))]
+fn fitting(text: Seq<u8>) -> Option<Seq<u8>>
+    ensures is { result ≡ fitting MOST_BYTES text }
+    ensures size { IfSome result (λ t. length t ≤ MOST_BYTES) }
+{
+    if text.len() > MOST_BYTES {
+        None
+    } else {
+        Some(text)
+    }
+}
+
+/// The answer of the run of a load, as a stage.
+fn answer_load(
+    alloc: Global,
+    calls: u32,
+    exchange: &Exchange,
+    lines: Seq<Line>,
+) -> Result<Answer, Stop>
+    requires { AreRead exchange.now lines }
+    ensures reads { Reads (Ok (load_answer calls exchange.now lines)) result }
+    ensures ending { IfOk result (λ a. IsEnding a.status) }
+{
+    match load_answer(alloc, calls, exchange, lines) {
+        Ok(answer) => Ok(answer),
+        Err(Memory) => Err(Stop::Memory),
+    }
+}
+
 /// What a command comes to.
+#[tactic(auto, using(crate::proofs::Stages::comes_reads))]
 pub fn perform<S: Shelf>(alloc: Global, shelf: &mut S, command: &Command) -> Result<Answer, Stop>
     requires { HasJobs command.now }
     ensures comes { Comes (S.held shelf.old) (performed command.now) (S.faults shelf.old)
@@ -211,5 +300,7 @@ pub fn perform<S: Shelf>(alloc: Global, shelf: &mut S, command: &Command) -> Res
     match command {
         Command::Run(words) => perform_run(alloc, Means::Code, shelf, words),
         Command::Single(words) => perform_run(alloc, Means::Source, shelf, words),
+        Command::List(name) => perform_list(alloc, shelf, name),
+        Command::Load(calls) => perform_load(alloc, *calls),
     }
 }

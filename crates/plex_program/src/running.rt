@@ -1,23 +1,26 @@
-// The single run of an exchange, by either means, and its report.
+// The single run of an exchange, by either means, and what is told of it; and the listing of the code that runs.
 ghost use Rattle.std.specs.Prelude.{◌≡◌, ◌≤◌, IfOk, map};
 ghost use Rattle.plex_limits.specs.declared.limits.TheConstants.{MOST_JOBS};
-ghost use Rattle.store_layout.specs.Laid.{IsLayout};
 ghost use Rattle.retire_order.specs.Events.{ending_of};
-ghost use Rattle.plex_program.specs.Answer.{ended_status, run_answer};
+ghost use Rattle.retire_order.specs.Lines.{coming_of};
+ghost use Rattle.exchange_run.specs.Runs.{ComesTo};
+ghost use Rattle.plex_program.specs.Answer.{ended_status, listing_answer, load_answer, run_answer};
 ghost use Rattle.plex_program.specs.Program.{IsEnding};
 ghost use Rattle.plex_program.specs.Runs.{AreRead};
 
+use crate::command::USUAL_JOBS;
 use crate::perform::Answer;
 use crate::program::Status;
 use code_gen::compile;
 use exchange_model::Exchange;
-use exchange_run::{ByCode, BySource, Runner, run_lines};
+use exchange_run::{ByCode, BySource, Ended, run_lines};
+use listing::print_code;
 use plex_num::{Memory, Seq};
-use report_text::report;
+use report_text::{load_summary, report};
 use retire_order::Ending;
 use signal_file::Line;
 use std::alloc::Global;
-use store_layout::{Layout, layout_of};
+use store_layout::layout_of;
 
 /// What runs the jobs of an exchange.
 #[derive(Clone, Copy)]
@@ -29,6 +32,7 @@ pub enum Means {
 }
 
 /// The answer of the single run of these lines, which ends after so many jobs at the latest.
+#[tactic(auto, using(crate::proofs::Answering::answer_is, crate::proofs::Answering::status_ends))]
 pub fn run_answer(
     alloc: Global,
     means: Means,
@@ -41,41 +45,86 @@ pub fn run_answer(
     ensures answer { IfOk result (λ a. a ≡ run_answer exchange.now lines jobs) }
     ensures ending { IfOk result (λ a. IsEnding a.status) }
 {
+    let end = run_to_end(alloc, means, exchange, lines, jobs)?;
+    let text = report(alloc, exchange, &end.books, &end.words, end.ending)?;
+    Ok(Answer {
+        status: status_of(end.ending),
+        text,
+    })
+}
+
+/// The answer of the single run of these lines of a load.
+#[tactic(auto, using(crate::proofs::Answering::status_ends))]
+pub fn load_answer(
+    alloc: Global,
+    calls: u32,
+    exchange: &Exchange,
+    lines: Seq<Line>,
+) -> Result<Answer, Memory>
+    requires lines { AreRead exchange.now lines }
+    ensures answer { IfOk result (λ a. a ≡ load_answer calls exchange.now lines) }
+    ensures ending { IfOk result (λ a. IsEnding a.status) }
+{
+    let end = run_to_end(alloc, Means::Code, exchange, lines, USUAL_JOBS)?;
+    let text = load_summary(alloc, calls, &end.books, end.ending)?;
+    Ok(Answer {
+        status: status_of(end.ending),
+        text,
+    })
+}
+
+/// The single run of these lines to its end, which comes after so many jobs at the latest.
+fn run_to_end(
+    alloc: Global,
+    means: Means,
+    exchange: &Exchange,
+    lines: Seq<Line>,
+    jobs: u32,
+) -> Result<Ended, Memory>
+    requires lines { AreRead exchange.now lines }
+    requires jobs { jobs ≤ MOST_JOBS }
+    ensures { IfOk result (λ end. ComesTo exchange.now (map coming_of lines) jobs
+        end.books.state end.words (ending_of end.ending)) }
+{
     let layout = layout_of(alloc, exchange)?;
     match means {
         Means::Source => {
             let mut runner = BySource::new(alloc);
-            answer_by(alloc, exchange, &layout, lines, jobs, &mut runner)
+            run_lines(
+                alloc,
+                exchange,
+                &layout,
+                lines,
+                u64::from(jobs),
+                &mut runner,
+            )
         }
         Means::Code => {
             let code = compile(alloc, exchange, &layout)?;
             let mut runner = ByCode::new(&code);
-            answer_by(alloc, exchange, &layout, lines, jobs, &mut runner)
+            run_lines(
+                alloc,
+                exchange,
+                &layout,
+                lines,
+                u64::from(jobs),
+                &mut runner,
+            )
         }
     }
 }
 
-/// The answer of the single run, each job by this runner.
-#[tactic(auto, using(crate::proofs::Answering::answer_is, crate::proofs::Answering::status_ends))]
-fn answer_by<R: Runner>(
-    alloc: Global,
-    exchange: &Exchange,
-    layout: &Layout,
-    lines: Seq<Line>,
-    jobs: u32,
-    runner: &mut R,
-) -> Result<Answer, Memory>
-    requires layout { IsLayout exchange.now.blocks layout.now }
-    requires lines { AreRead exchange.now lines }
-    requires jobs { jobs ≤ MOST_JOBS }
-    requires runner { R.runs runner.old exchange.now }
-    ensures answer { IfOk result (λ a. a ≡ run_answer exchange.now lines jobs) }
+/// The listing of the code of an exchange.
+#[tactic(auto, using(crate::proofs::Answering::listing_is))]
+pub fn listing_answer(alloc: Global, exchange: &Exchange) -> Result<Answer, Memory>
+    ensures answer { IfOk result (λ a. a ≡ listing_answer exchange.now) }
     ensures ending { IfOk result (λ a. IsEnding a.status) }
 {
-    let end = run_lines(alloc, exchange, layout, lines, u64::from(jobs), runner)?;
-    let text = report(alloc, exchange, &end.books, &end.words, end.ending)?;
+    let layout = layout_of(alloc, exchange)?;
+    let code = compile(alloc, exchange, &layout)?;
+    let text = print_code(alloc, &code)?;
     Ok(Answer {
-        status: status_of(end.ending),
+        status: Status::Done,
         text,
     })
 }

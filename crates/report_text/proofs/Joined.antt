@@ -5,6 +5,10 @@ use Rattle.std.proofs.lemmas.List.Concat.{flat_map-append}
 use Rattle.exchange_model.specs.declared.exchange.Exchange.{Exchange}
 use Rattle.source_meaning.specs.SingleRun.{Ending}
 use Rattle.source_meaning.specs.State.{State}
+use Rattle.std.specs.Fmt.{decimal}
+use Rattle.std.specs.List.{count_by}
+use Rattle.std.specs.Prelude.{codes}
+use Rattle.report_text.specs.Load.{is_lost, is_out, is_release, load_text}
 use Rattle.report_text.specs.Report.{end_line, event_line, field_lines, held_lines, jobs_line, report_text, text_of, variable_lines, written}
 
 joined : {text more : List ℕ} (lines others : List (List ℕ)) → text ≡ text_of lines → more ≡ text ++ text_of others → more ≡ text_of (lines ++ others)
@@ -27,3 +31,18 @@ whole x s ending empty events jobs variables fields holders all none a b c d e f
     let fourth = joined (lines ++ jobs_line s.ended ∷ [] ++ variable_lines x.blocks s.store) (field_lines x.blocks s.store) third d in
     let fifth = joined (lines ++ jobs_line s.ended ∷ [] ++ variable_lines x.blocks s.store ++ field_lines x.blocks s.store) (held_lines x.blocks s.chains) fourth e in
     joined_one (lines ++ jobs_line s.ended ∷ [] ++ variable_lines x.blocks s.store ++ field_lines x.blocks s.store ++ held_lines x.blocks s.chains) (end_line ending) fifth f
+
+-- the texts after each line of a summary
+pub summed : (calls : ℕ) (s : State) (ending : Ending) (empty first second third fourth fifth all : List ℕ) → empty ≡ [] → first ≡ empty ++ written (codes "LOAD " ++ decimal calls) → second ≡ first ++ written (jobs_line s.ended) → third ≡ second ++ written (codes "OUTS " ++ decimal (count_by is_out s.events)) → fourth ≡ third ++ written (codes "RELEASES " ++ decimal (count_by is_release s.events)) → fifth ≡ fourth ++ written (codes "LOST " ++ decimal (count_by is_lost s.events)) → all ≡ fifth ++ written (end_line ending) → all ≡ load_text calls s ending
+unfolding load_text
+summed calls s ending empty first second third fourth fifth all none a b c d e f =
+    let load = codes "LOAD " ++ decimal calls in
+    let outs = codes "OUTS " ++ decimal (count_by is_out s.events) in
+    let releases = codes "RELEASES " ++ decimal (count_by is_release s.events) in
+    let lost = codes "LOST " ++ decimal (count_by is_lost s.events) in
+    let to_load = joined_one [] load none a in
+    let to_jobs = joined_one (load ∷ []) (jobs_line s.ended) to_load b in
+    let to_outs = joined_one (load ∷ jobs_line s.ended ∷ []) outs to_jobs c in
+    let to_releases = joined_one (load ∷ jobs_line s.ended ∷ outs ∷ []) releases to_outs d in
+    let to_lost = joined_one (load ∷ jobs_line s.ended ∷ outs ∷ releases ∷ []) lost to_releases e in
+    joined_one (load ∷ jobs_line s.ended ∷ outs ∷ releases ∷ lost ∷ []) (end_line ending) to_lost f

@@ -43,7 +43,7 @@ fn add_jobs(text: &mut Seq<u8>, ended: u64) -> Result<(), Memory>
 }
 
 /// How the run ended.
-fn add_ending(text: &mut Seq<u8>, ending: Ending) -> Result<(), Memory>
+pub(crate) fn add_ending(text: &mut Seq<u8>, ending: Ending) -> Result<(), Memory>
     ensures { OnOk result (text.new ≡ text.old ++ written (end_line (ending_of ending))) }
 {
     match ending {
