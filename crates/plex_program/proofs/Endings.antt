@@ -1,10 +1,9 @@
 -- From what a command comes to, to the answer.
-use Rattle.std.proofs.Common.{◌≡◌, ℕ, List, Option, Some, None, Result, Ok, Err, IfSome, IsSomeAnd, ap, sym, subst, ◌∙◌, inr}
+use Rattle.std.proofs.Common.{◌≡◌, ℕ, List, Option, Some, None, Result, Ok, Err, IfSome, IsSomeAnd, ◌⊎◌, ap, refl, sym, subst, ◌∙◌, inl, inr}
 use Rattle.plex_io.specs.Files.{Files}
 use Rattle.plex_program.specs.Words.{Word, shape}
-use Rattle.plex_program.specs.Text.{usage_text}
-use Rattle.plex_program.specs.Answer.{Out, answer, answer_to, answer_of, refused_answer, refused_status, performed, Comes}
-use Rattle.plex_program.specs.Program.{Answers, IsAnswer, IsEnding, IsPlain, IsNotHeld, QuitsBy, Makes, Ends}
+use Rattle.plex_program.specs.Answer.{IsAnswer, IsAnswerBy, IsAnswerOf, Out, Performs, answer_of, performed, refused_answer, refused_status, usage_answer}
+use Rattle.plex_program.specs.Program.{Answers, Ends, EndsAs, EndsBy, HasStatus, IsComplete, IsEnding, IsMade, IsPlain, Makes, QuitsBy, WriteCause, not_held}
 use Rattle.plex_program.specs.declared.command.Command.{Command}
 use Rattle.plex_program.specs.declared.perform.Refused.{Refused}
 use Rattle.plex_program.specs.declared.perform.Refused.TheVariants.{Signals, Source}
@@ -23,22 +22,50 @@ some_none : (c : Command) → Some c ≡ None → ⊥
 unfolding IsSomething
 some_none c e = subst IsSomething e tt
 
--- an equal answer
-pub ends_same : (a b : Answer) (before after : Option (List ℕ)) (s : Status) → a ≡ b → Ends a before after s → Ends b before after s
-ends_same a b before after s e ends = let P : Answer → Type 0 = λ x. Ends x before after s in subst P e ends
+-- an end with an answer, as one of those that are such
+ends_as : (Is : Answer → Type 0) (a : Answer) (before after : Option (List ℕ)) (s : Status) → Is a → Ends a before after s → EndsAs Is before after s
+ends_as Is a before after status.Read is ends = tt
+ends_as Is a before after status.Memory is ends = tt
+ends_as Is a before after status.Write is ends = record { answer = a; is = is; ends = ends }
+ends_as Is a before after status.Done is ends = record { answer = a; is = is; ends = ends }
+ends_as Is a before after status.Usage is ends = record { answer = a; is = is; ends = ends }
+ends_as Is a before after status.Source is ends = record { answer = a; is = is; ends = ends }
+ends_as Is a before after status.Signals is ends = record { answer = a; is = is; ends = ends }
+ends_as Is a before after status.Restart is ends = record { answer = a; is = is; ends = ends }
+ends_as Is a before after status.Limit is ends = record { answer = a; is = is; ends = ends }
+
+pub ends_held : (held : Option Files) (words : List Word) (a : Answer) (before after : Option (List ℕ)) (s : Status) → IfSome held (λ files. IsAnswer words files a) → Ends a before after s → IfSome held (λ files. EndsAs (IsAnswer words files) before after s)
+ends_held None words a before after s is ends = tt
+ends_held (Some files) words a before after s is ends = ends_as (IsAnswer words files) a before after s is ends
+
+-- the answer was written, and then its status comes but where a write failed
+pub complete_written : (held : Option Files) (words : List Word) (a : Answer) (size : Option ℕ) (written : Option (List ℕ)) (shelf shelf' sink sink' : ℕ) (s : Status) → IfSome held (λ files. IsAnswer words files a) → (s ≡ status.Write → WriteCause size written sink sink') → (s ≡ status.Write) ⊎ (s ≡ a.status) → IfSome held (λ files. IsComplete (IsAnswer words files) shelf shelf' sink sink' s)
+complete_written None words a size written shelf shelf' sink sink' s is cause either = tt
+complete_written (Some files) words a size written shelf shelf' sink sink' s is cause (inl failed) = λ no_read no_write. absurd (no_write ((cause failed).cause))
+complete_written (Some files) words a size written shelf shelf' sink sink' s is cause (inr same) = λ no_read no_write. inl (record { answer = a; is = is; status = same })
+
+-- a read failed, or a file is not held
+pub complete_read : (held : Option Files) (words : List Word) (shelf shelf' sink sink' : ℕ) → QuitsBy held words shelf shelf' quit.Read → IfSome held (λ files. IsComplete (IsAnswer words files) shelf shelf' sink sink' status.Read)
+complete_read None words shelf shelf' sink sink' quits = tt
+complete_read (Some files) words shelf shelf' sink sink' (inl rose) = λ no_read no_write. absurd (no_read rose)
+complete_read (Some files) words shelf shelf' sink sink' (inr is) = λ no_read no_write. inl (record { answer = not_held; is = is; status = refl })
+
+pub complete_memory : (held : Option Files) (words : List Word) (shelf shelf' sink sink' : ℕ) → IfSome held (λ files. IsComplete (IsAnswer words files) shelf shelf' sink sink' status.Memory)
+complete_memory None words shelf shelf' sink sink' = tt
+complete_memory (Some files) words shelf shelf' sink sink' = λ no_read no_write. inr refl
 
 -- the answer to these words, where they are a command that comes to this
-answer_is : (words : List Word) (c : Command) (files : Files) (r : Out Answer) → Some c ≡ shape words → performed c files ≡ r → answer words files ≡ answer_of r
-unfolding answer
-answer_is words c files r e p = ap (λ o. answer_to o files) (sym e) ∙ ap answer_of p
+answer_is : (words : List Word) (c : Command) (files : Files) (o : Out Answer) → Some c ≡ shape words → performed c files o → IsAnswer words files (answer_of o)
+unfolding IsAnswer
+answer_is words c files o e p = subst (λ s. IsAnswerBy s files (answer_of o)) e (record { outcome = o; comes = p; told = refl })
 
 -- no words of a command
-pub answered_usage : (held : Option Files) (words : List Word) (b a : ℕ) (r : Result Answer Quit) → None ≡ shape words → Makes (record { status = status.Usage; text = usage_text }) r → Answers held words b a r
-unfolding answer
+pub answered_usage : (held : Option Files) (words : List Word) (b a : ℕ) (r : Result Answer Quit) → None ≡ shape words → Makes usage_answer r → Answers held words b a r
+unfolding IsAnswer
 answered_usage held words b a (Ok ans) e m = record { same = same held; plain = rw m tt; usage = λ _. sym e; unshaped = λ _. m } where
-  same : (h : Option Files) → IfSome h (λ files. answer words files ≡ ans)
+  same : (h : Option Files) → IfSome h (λ files. IsAnswer words files ans)
   same None = tt
-  same (Some files) = ap (λ o. answer_to o files) (sym e) ∙ sym m
+  same (Some files) = subst (λ s. IsAnswerBy s files ans) e (sym m)
 answered_usage held words b a (Err quit.Memory) e m = tt
 answered_usage held words b a (Err quit.Read) e m = absurd m
 
@@ -66,16 +93,16 @@ no_usage_ending : (s : Status) → IsEnding s → s ≡ status.Usage → ⊥
 no_usage_ending s e is = subst IsEnding is e
 
 -- a report
-pub answered_report : (held : Option Files) (words : List Word) (c : Command) (b a : ℕ) (ans : Answer) → Some c ≡ shape words → Comes held (performed c) b a (Ok ans) → IsEnding ans.status → IsAnswer held words ans
+pub answered_report : (held : Option Files) (words : List Word) (c : Command) (b a : ℕ) (ans : Answer) → Some c ≡ shape words → Performs held (performed c) b a (Ok ans) → IsEnding ans.status → IsMade held words ans
 answered_report held words c b a ans e comes ends = record { same = same held comes.ok; plain = plain_ending ans.status ends; usage = λ u. absurd (no_usage_ending ans.status ends u); unshaped = λ none. absurd (some_none c (e ∙ none)) } where
-  same : (h : Option Files) → IfSome h (λ files. performed c files ≡ Ok ans) → IfSome h (λ files. answer words files ≡ ans)
+  same : (h : Option Files) → IfSome h (λ files. performed c files (Ok ans)) → IfSome h (λ files. IsAnswer words files ans)
   same None p = tt
   same (Some files) p = answer_is words c files (Ok ans) e p
 
 -- a file that is not held
-pub answered_not_held : (held : Option Files) (words : List Word) (c : Command) (b a : ℕ) → Some c ≡ shape words → Comes {A = Answer} held (performed c) b a (Err stop.NotHeld) → QuitsBy held words b a quit.Read
-answered_not_held held words c b a e comes = inr (same held comes.stops) where
-  same : (h : Option Files) → IsSomeAnd h (λ files. performed c files ≡ Err None) → IsSomeAnd h (λ files. IsNotHeld (answer words files))
+pub answered_not_held : (held : Option Files) (words : List Word) (c : Command) (b a : ℕ) → Some c ≡ shape words → Performs held (performed c) b a (Err stop.NotHeld) → QuitsBy held words b a quit.Read
+answered_not_held held words c b a e comes = inr (same held comes.halts) where
+  same : (h : Option Files) → IsSomeAnd h (λ files. performed c files (Err None)) → IsSomeAnd h (λ files. IsAnswer words files not_held)
   same None p = absurd p
   same (Some files) p = answer_is words c files (Err None) e p
 
@@ -90,13 +117,15 @@ no_usage_refused (Source f) e = other status.Source (λ u. u) e
 no_usage_refused (Signals f) e = other status.Signals (λ u. u) e
 
 -- a refusal
-pub answered_refused : (held : Option Files) (words : List Word) (c : Command) (b a : ℕ) (r : Refused) (res : Result Answer Quit) → Some c ≡ shape words → Comes {A = Answer} held (performed c) b a (Err (stop.Refused r)) → Makes (refused_answer r) res → Answers held words b a res
+pub answered_refused : (held : Option Files) (words : List Word) (c : Command) (b a : ℕ) (r : Refused) (res : Result Answer Quit) → Some c ≡ shape words → Performs held (performed c) b a (Err (stop.Refused r)) → Makes (refused_answer r) res → Answers held words b a res
 unfolding IsUsage
-answered_refused held words c b a r (Ok ans) e comes m = record { same = same held comes.stops; plain = rw m (plain_refused r); usage = λ u. absurd (no_usage_refused r (sym (ap (λ x. x.status) m) ∙ u)); unshaped = λ none. absurd (some_none c (e ∙ none)) } where
-  same : (h : Option Files) → IfSome h (λ files. performed c files ≡ Err (Some r)) → IfSome h (λ files. answer words files ≡ ans)
+answered_refused held words c b a r (Ok ans) e comes m = record { same = same held comes.halts; plain = rw m (plain_refused r); usage = λ u. absurd (no_usage_refused r (sym (ap (λ x. x.status) m) ∙ u)); unshaped = λ none. absurd (some_none c (e ∙ none)) } where
+  same : (h : Option Files) → IfSome h (λ files. performed c files (Err (Some r))) → IfSome h (λ files. IsAnswer words files ans)
   same None p = tt
-  same (Some files) p = answer_is words c files (Err (Some r)) e p ∙ sym m
+  same (Some files) p = subst (IsAnswer words files) (sym m) (answer_is words c files (Err (Some r)) e p)
 answered_refused held words c b a r (Err quit.Memory) e comes m = tt
 answered_refused held words c b a r (Err quit.Read) e comes m = absurd m
 
 pub ruleset answering = (answered_usage, answered_report, answered_not_held, answered_refused)
+
+pub ruleset ending = (ends_held, complete_written, complete_read, complete_memory)

@@ -1,3 +1,4 @@
+pub mod Ordered
 pub mod Endings
 pub mod Resolving
 pub mod Answering

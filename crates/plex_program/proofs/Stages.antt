@@ -5,7 +5,9 @@ use Rattle.std.proofs.lemmas.Bool.{lt-ltb, le-ltb}
 use Rattle.plex_io.specs.Files.{Files, Gives, Lacks}
 use Rattle.plex_io.specs.Causes.{Rose}
 use Rattle.plex_limits.specs.declared.limits.TheConstants.{MOST_BYTES}
-use Rattle.plex_program.specs.Answer.{fitting, Out, goes_on, text_held, text_at, Comes, StopsBy, Reads}
+use Rattle.plex_program.specs.Answer.{FromExchange, OfExchange, exchange_at, fitting, Out, goes_on, text_held, text_at, Comes, StopsBy, Reads, HaltsBy, Performs}
+use Rattle.exchange_model.specs.declared.exchange.Exchange.{Exchange}
+use Rattle.plex_program.specs.declared.perform.Answer.{Answer}
 use Rattle.plex_program.specs.declared.perform.Stop.{Stop}
 use Rattle.plex_program.specs.declared.perform.Stop.TheVariants as stop
 
@@ -116,3 +118,35 @@ comes_reads (Some files) f n (Err (stop.Refused r)) s = record { ok = tt; stops 
 comes_reads held f n (Err stop.NotHeld) s = absurd s
 comes_reads held f n (Err stop.Failed) s = absurd s
 comes_reads held f n (Err stop.Memory) s = record { ok = tt; stops = tt; later = omega arith }
+
+-- a command that comes to what a stage comes to
+pub performs_comes : (held : Option Files) (f : Files → Out Answer) (b a : ℕ) (r : Result Answer Stop) → Comes held f b a r → Performs held (λ files o. f files ≡ o) b a r
+performs_comes held f b a (Ok v) c = record { ok = c.ok; halts = tt; later = c.later }
+performs_comes held f b a (Err e) c = record { ok = tt; halts = halts held f b a e c.stops; later = c.later } where
+  halts : (held : Option Files) (f : Files → Out Answer) (b a : ℕ) (e : Stop) → StopsBy held f b a e → HaltsBy held (λ files o. f files ≡ o) b a e
+  halts held f b a (stop.Refused r) s = s
+  halts held f b a stop.NotHeld s = s
+  halts held f b a stop.Failed s = s
+  halts held f b a stop.Memory s = tt
+
+pub performs_reads : (held : Option Files) (f : Out Answer) (n : ℕ) (r : Result Answer Stop) → Reads f r → Performs held (λ files o. f ≡ o) n n r
+performs_reads held f n r s = performs_comes held (λ files. f) n n r (comes_reads held f n r s)
+
+-- an answer of the exchange of a file
+pub performs_of : (held : Option Files) (name : List ℕ) (Is : Exchange → Answer → Type 0) (b a : ℕ) (x : Exchange) (v : Answer) → Comes held (exchange_at name) b a (Ok x) → Is x v → Performs held (FromExchange name Is) b a (Ok v)
+performs_of held name Is b a x v c is = record { ok = of held c.ok; halts = tt; later = c.later } where
+  of : (h : Option Files) → IfSome h (λ files. exchange_at name files ≡ Ok x) → IfSome h (λ files. OfExchange name Is files v)
+  of None comes = tt
+  of (Some files) comes = record { exchange = x; comes = comes; answers = is }
+
+pub performs_memory : (held : Option Files) (name : List ℕ) (Is : Exchange → Answer → Type 0) (b a : ℕ) (x : Exchange) → Comes held (exchange_at name) b a (Ok x) → Performs held (FromExchange name Is) b a (Err stop.Memory)
+performs_memory held name Is b a x c = record { ok = tt; halts = tt; later = c.later }
+
+-- a file that is none
+pub performs_stop : (held : Option Files) (name : List ℕ) (Is : Exchange → Answer → Type 0) (b a : ℕ) (e : Stop) → Comes {A = Exchange} held (exchange_at name) b a (Err e) → Performs held (FromExchange name Is) b a (Err e)
+performs_stop held name Is b a e c = record { ok = tt; halts = halts held b a e c.stops; later = c.later } where
+  halts : (held : Option Files) (b a : ℕ) (e : Stop) → StopsBy held (exchange_at name) b a e → HaltsBy held (FromExchange name Is) b a e
+  halts held b a (stop.Refused r) s = s
+  halts held b a stop.NotHeld s = s
+  halts held b a stop.Failed s = s
+  halts held b a stop.Memory s = tt

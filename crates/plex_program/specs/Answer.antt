@@ -20,13 +20,19 @@ use Rattle.load_maker.specs.Signals.{signals_text}
 use Rattle.machine_code.specs.declared.code.Code.{Code}
 use Rattle.stmt_code.specs.Whole.{entry_addresses, whole_code}
 use Rattle.listing.specs.Listing.{code_text}
+use Rattle.entry_summary.specs.declared.summary.Summary.{Summary}
+use Rattle.access_summary.specs.Least.{AreSummaries}
+use Rattle.analysis_text.specs.Analysis.{IsAnalysis}
+use Rattle.certificate_text.specs.declared.certificate.Certificate.{Certificate}
+use Rattle.certificate_text.specs.Text.{certificate_text}
+use Rattle.certificate.specs.Certified.{IsCertificate}
 use Rattle.plex_program.specs.Reading.{large_signals, resolve_fault, signals_fault, tree_of_file}
 use Rattle.plex_program.specs.Text.{refusal_text, usage_text}
 use Rattle.plex_program.specs.Words.{Word, shape}
 use Rattle.plex_program.specs.declared.fault.SourceFault.{SourceFault}
 use Rattle.plex_program.specs.declared.command.TheConstants.{USUAL_JOBS}
 use Rattle.plex_program.specs.declared.command.Command.{Command}
-use Rattle.plex_program.specs.declared.command.Command.TheVariants.{Run, Single, List as Listing, Load}
+use Rattle.plex_program.specs.declared.command.Command.TheVariants.{Run, Single, Analyse, Certify, List as Listing, Load}
 use Rattle.plex_program.specs.declared.command.RunWords.{RunWords}
 use Rattle.plex_program.specs.declared.perform.Answer.{Answer}
 use Rattle.plex_program.specs.declared.perform.Refused.{Refused}
@@ -149,12 +155,38 @@ load_of calls =
     goes_on (lines_of_file x (fitting MOST_BYTES (signals_text calls))) (λ lines.
     Ok (load_answer calls x lines)))
 
+-- the analysis of an exchange: what the summaries of its entries say, which are those by the least facts
+pub record AnswersAnalysis (x : Exchange) (a : Answer) : Type 0 where
+  pub status : a.status ≡ status.Done
+  pub summaries : List Summary
+  pub are : AreSummaries x summaries
+  pub told : IsAnalysis x summaries a.text
+
+-- the certificate of an exchange, which has its least facts
+pub record AnswersCertificate (x : Exchange) (a : Answer) : Type 0 where
+  pub status : a.status ≡ status.Done
+  pub certificate : Certificate
+  pub is : IsCertificate x certificate
+  pub told : a.text ≡ certificate_text certificate
+
+-- such an answer of the exchange of a file, or what keeps that file from being one
+pub record OfExchange (name : Word) (Is : Exchange → Answer → Type 0) (files : Files) (a : Answer) : Type 0 where
+  pub exchange : Exchange
+  pub comes : exchange_at name files ≡ Ok exchange
+  pub answers : Is exchange a
+
+abbrev pub FromExchange : Word → (Exchange → Answer → Type 0) → Files → Out Answer → Type 0
+FromExchange name Is files (Ok a) = OfExchange name Is files a
+FromExchange name Is files (Err r) = exchange_at name files ≡ Err r
+
 -- what a command comes to: what the compiled code leaves is what the source means
-abbrev pub performed : Command → Files → Out Answer
-performed (Run w) files = run_of w files
-performed (Single w) files = run_of w files
-performed (Listing name) files = list_of name files
-performed (Load calls) files = load_of calls
+abbrev pub performed : Command → Files → Out Answer → Type 0
+performed (Run w) files o = run_of w files ≡ o
+performed (Single w) files o = run_of w files ≡ o
+performed (Analyse name) files o = FromExchange name AnswersAnalysis files o
+performed (Certify name) files o = FromExchange name AnswersCertificate files o
+performed (Listing name) files o = list_of name files ≡ o
+performed (Load calls) files o = load_of calls ≡ o
 
 -- the status of a refusal
 abbrev pub refused_status : Refused → Status
@@ -171,13 +203,23 @@ answer_of (Ok a) = a
 answer_of (Err (Some r)) = refused_answer r
 answer_of (Err None) = record { status = status.Read; text = [] }
 
-abbrev pub answer_to : Option Command → Files → Answer
-answer_to None files = record { status = status.Usage; text = usage_text }
-answer_to (Some c) files = answer_of (performed c files)
+-- what a command comes to, and the answer then
+pub record IsAnswerOf (c : Command) (files : Files) (a : Answer) : Type 0 where
+  pub outcome : Out Answer
+  pub comes : performed c files outcome
+  pub told : answer_of outcome ≡ a
+
+-- the usage line
+abbrev pub usage_answer : Answer
+usage_answer = record { status = status.Usage; text = usage_text }
+
+abbrev pub IsAnswerBy : Option Command → Files → Answer → Type 0
+IsAnswerBy None files a = usage_answer ≡ a
+IsAnswerBy (Some c) files a = IsAnswerOf c files a
 
 -- the answer to these words over these files
-unfoldable pub answer : List Word → Files → Answer
-answer words files = answer_to (shape words) files
+unfoldable pub IsAnswer : List Word → Files → Answer → Type 0
+IsAnswer words files a = IsAnswerBy (shape words) files a
 
 -- why a stage stops
 abbrev pub StopsBy : {A : Type 0} → Option Files → (Files → Out A) → ℕ → ℕ → Stop → Type 0
@@ -190,6 +232,18 @@ StopsBy held stage before after stop.Memory = Unit {0}
 pub record Comes {A : Type 0} (held : Option Files) (stage : Files → Out A) (before after : ℕ) (result : Result A Stop) : Type 0 where
   pub ok : IfOk result (λ a. IfSome held (λ files. stage files ≡ Ok a))
   pub stops : IfErr result (StopsBy held stage before after)
+  pub later : before ≤ after
+
+-- a command comes to something, or its work stops with a cause
+abbrev pub HaltsBy : Option Files → (Files → Out Answer → Type 0) → ℕ → ℕ → Stop → Type 0
+HaltsBy held work before after (stop.Refused r) = IfSome held (λ files. work files (Err (Some r)))
+HaltsBy held work before after stop.NotHeld = IsSomeAnd held (λ files. work files (Err None))
+HaltsBy held work before after stop.Failed = Rose before after
+HaltsBy held work before after stop.Memory = Unit {0}
+
+pub record Performs (held : Option Files) (work : Files → Out Answer → Type 0) (before after : ℕ) (result : Result Answer Stop) : Type 0 where
+  pub ok : IfOk result (λ a. IfSome held (λ files. work files (Ok a)))
+  pub halts : IfErr result (HaltsBy held work before after)
   pub later : before ≤ after
 
 -- a value comes as said, or a refusal, or memory was refused; no file is read

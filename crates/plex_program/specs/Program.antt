@@ -4,8 +4,7 @@ use Rattle.plex_io.specs.Causes.{Rose}
 use Rattle.plex_io.specs.Files.{Files}
 use Rattle.plex_io.specs.Written.{appended, WroteLess, IsFull}
 use Rattle.plex_program.specs.Words.{Word, shape}
-use Rattle.plex_program.specs.Answer.{answer}
-use Rattle.plex_program.specs.Text.{usage_text}
+use Rattle.plex_program.specs.Answer.{IsAnswer, usage_answer}
 use Rattle.plex_program.specs.declared.perform.Answer.{Answer}
 use Rattle.plex_program.specs.declared.program.Quit.{Quit}
 use Rattle.plex_program.specs.declared.program.Quit.TheVariants as quit
@@ -24,13 +23,25 @@ Ends a before after status.Memory = Unit {0}
 Ends a before after status.Write = WroteLess before after a.text
 Ends a before after s = IsWritten a before after s
 
--- the answer is that a file is not held
-abbrev pub IsNotHeld : Answer → Type 0
-IsNotHeld a = a ≡ record { status = status.Read; text = [] }
+-- the answer is such a one, and the call ends with this status
+pub record EndsBy (Is : Answer → Type 0) (before after : Option (List ℕ)) (s : Status) : Type 0 where
+  pub answer : Answer
+  pub is : Is answer
+  pub ends : Ends answer before after s
+
+-- an end with this status, where the answer is such a one
+abbrev pub EndsAs : (Answer → Type 0) → Option (List ℕ) → Option (List ℕ) → Status → Type 0
+EndsAs Is before after status.Read = Unit {0}
+EndsAs Is before after status.Memory = Unit {0}
+EndsAs Is before after s = EndsBy Is before after s
+
+-- a file is not held
+abbrev pub not_held : Answer
+not_held = record { status = status.Read; text = [] }
 
 -- a read failed in this call, or the shelf tells its files and the answer is that one is not held; nothing was written
 pub record ReadCause (held : Option Files) (words : List Word) (faults faults' : ℕ) (before after : Option (List ℕ)) : Type 0 where
-  pub cause : Rose faults faults' ⊎ IsSomeAnd held (λ files. IsNotHeld (answer words files))
+  pub cause : Rose faults faults' ⊎ IsSomeAnd held (λ files. IsAnswer words files not_held)
   pub silent : after ≡ before
 
 -- a write failed in this call, and a sink that tells its size is full
@@ -38,13 +49,15 @@ pub record WriteCause (size : Option ℕ) (written : Option (List ℕ)) (faults 
   pub cause : Rose faults faults'
   pub full : IsFull size written
 
--- where neither count rose, the status is the answer's, or memory was refused
-abbrev pub IsComplete : Answer → ℕ → ℕ → ℕ → ℕ → Status → Type 0
-IsComplete a shelf shelf' sink sink' s = ¬ (Rose shelf shelf') → ¬ (Rose sink sink') → (s ≡ a.status) ⊎ (s ≡ status.Memory)
+-- the answer is such a one, of this status
+pub record HasStatus (Is : Answer → Type 0) (s : Status) : Type 0 where
+  pub answer : Answer
+  pub is : Is answer
+  pub status : s ≡ answer.status
 
--- the usage line
-abbrev pub usage_answer : Answer
-usage_answer = record { status = status.Usage; text = usage_text }
+-- where neither count rose, the status is the answer's, or memory was refused
+abbrev pub IsComplete : (Answer → Type 0) → ℕ → ℕ → ℕ → ℕ → Status → Type 0
+IsComplete Is shelf shelf' sink sink' s = ¬ (Rose shelf shelf') → ¬ (Rose sink sink') → HasStatus Is s ⊎ (s ≡ status.Memory)
 
 -- a status with which a text is written
 abbrev pub IsPlain : Status → Type 0
@@ -55,18 +68,18 @@ IsPlain s = Unit {0}
 
 -- what is written, or why nothing is
 abbrev pub QuitsBy : Option Files → List Word → ℕ → ℕ → Quit → Type 0
-QuitsBy held words faults faults' quit.Read = Rose faults faults' ⊎ IsSomeAnd held (λ files. IsNotHeld (answer words files))
+QuitsBy held words faults faults' quit.Read = Rose faults faults' ⊎ IsSomeAnd held (λ files. IsAnswer words files not_held)
 QuitsBy held words faults faults' quit.Memory = Unit {0}
 
 -- an answer that is to be written
-pub record IsAnswer (held : Option Files) (words : List Word) (a : Answer) : Type 0 where
-  pub same : IfSome held (λ files. answer words files ≡ a)
+pub record IsMade (held : Option Files) (words : List Word) (a : Answer) : Type 0 where
+  pub same : IfSome held (λ files. IsAnswer words files a)
   pub plain : IsPlain a.status
   pub usage : a.status ≡ status.Usage → shape words ≡ None
   pub unshaped : shape words ≡ None → a ≡ usage_answer
 
 abbrev pub Answers : Option Files → List Word → ℕ → ℕ → Result Answer Quit → Type 0
-Answers held words faults faults' (Ok a) = IsAnswer held words a
+Answers held words faults faults' (Ok a) = IsMade held words a
 Answers held words faults faults' (Err q) = QuitsBy held words faults faults' q
 
 -- this answer is made, or memory was refused

@@ -6,7 +6,7 @@ use Rattle.signal_file.specs.declared.line.Line.{Line}
 use Rattle.source_meaning.specs.Valid.{LinesFit}
 use Rattle.retire_order.specs.Lines.{coming_of}
 use Rattle.plex_program.specs.declared.command.Command.{Command}
-use Rattle.plex_program.specs.declared.command.Command.TheVariants.{Run, Single, List as Listing, Load}
+use Rattle.plex_program.specs.declared.command.Command.TheVariants.{Run, Single, Analyse, Certify, List as Listing, Load}
 
 -- the lines of a signal file fit the exchange, and are few
 pub record AreRead (x : Exchange) (lines : List Line) : Type 0 where
@@ -17,5 +17,7 @@ pub record AreRead (x : Exchange) (lines : List Line) : Type 0 where
 abbrev pub HasJobs : Command → Type 0
 HasJobs (Run w) = w.jobs ≤ MOST_JOBS
 HasJobs (Single w) = w.jobs ≤ MOST_JOBS
+HasJobs (Analyse name) = Unit {0}
+HasJobs (Certify name) = Unit {0}
 HasJobs (Listing name) = Unit {0}
 HasJobs (Load calls) = Unit {0}

@@ -59,4 +59,4 @@ refusal_text (Signals f) = signals_text f
 
 -- the usage line
 unfoldable pub usage_text : List ℕ
-usage_text = codes "usage: plex run E S [--jobs N] | plex single E S [--jobs N] | plex list E | plex load N" ++ LF
+usage_text = codes "usage: plex run E S [--jobs N] | plex single E S [--jobs N] | plex analyse E | plex certify E | plex list E | plex load N" ++ LF

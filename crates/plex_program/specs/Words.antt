@@ -6,7 +6,7 @@ use Rattle.plex_limits.specs.declared.limits.TheConstants.{MOST_JOBS}
 use Rattle.plex_num.specs.Number.{number_of}
 use Rattle.plex_program.specs.declared.command.TheConstants.{MOST_CALLS, USUAL_JOBS}
 use Rattle.plex_program.specs.declared.command.Command.{Command}
-use Rattle.plex_program.specs.declared.command.Command.TheVariants.{Run, Single, List as Listing, Load}
+use Rattle.plex_program.specs.declared.command.Command.TheVariants.{Run, Single, Analyse, Certify, List as Listing, Load}
 use Rattle.plex_program.specs.declared.command.RunWords.{RunWords}
 
 -- a word
@@ -54,6 +54,8 @@ shape [] = None
 shape (name ∷ rest) =
     (if bytes_eq name (codes "run") then option_map Run (run_words rest)
     else (if bytes_eq name (codes "single") then option_map Single (run_words rest)
+    else (if bytes_eq name (codes "analyse") then option_map Analyse (only_word rest)
+    else (if bytes_eq name (codes "certify") then option_map Certify (only_word rest)
     else (if bytes_eq name (codes "list") then option_map Listing (only_word rest)
     else (if bytes_eq name (codes "load") then option_map Load (calls_in rest)
-    else None))))
+    else None))))))

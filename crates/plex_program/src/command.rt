@@ -24,6 +24,10 @@ pub enum Command {
     Run(RunWords),
     /// `single E S [--jobs N]`: the same report, each job by the source itself.
     Single(RunWords),
+    /// `analyse E`: the analysis of an exchange file.
+    Analyse(Word),
+    /// `certify E`: the certificate of an exchange file.
+    Certify(Word),
     /// `list E`: the listing of the compiled code of an exchange file.
     List(Word),
     /// `load N`: the summary of the run of a load of so many calls, from 1 to 10,000.
@@ -53,6 +57,10 @@ pub fn read_command(alloc: Global, words: &[Word]) -> Result<Option<Command>, Me
         Ok(as_run(read_run(alloc, rest)?))
     } else if is_word(name.as_slice(), b"single") {
         Ok(as_single(read_run(alloc, rest)?))
+    } else if is_word(name.as_slice(), b"analyse") {
+        Ok(as_analyse(read_only(alloc, rest)?))
+    } else if is_word(name.as_slice(), b"certify") {
+        Ok(as_certify(read_only(alloc, rest)?))
     } else if is_word(name.as_slice(), b"list") {
         Ok(as_list(read_only(alloc, rest)?))
     } else if is_word(name.as_slice(), b"load") {
@@ -78,6 +86,26 @@ fn as_single(words: Option<RunWords>) -> Option<Command>
 {
     match words {
         Some(words) => Some(Command::Single(words)),
+        None => None,
+    }
+}
+
+fn as_analyse(name: Option<Word>) -> Option<Command>
+    ensures is { result ≡ option_map Command.Analyse name }
+    ensures jobs { IfSome result HasJobs }
+{
+    match name {
+        Some(name) => Some(Command::Analyse(name)),
+        None => None,
+    }
+}
+
+fn as_certify(name: Option<Word>) -> Option<Command>
+    ensures is { result ≡ option_map Command.Certify name }
+    ensures jobs { IfSome result HasJobs }
+{
+    match name {
+        Some(name) => Some(Command::Certify(name)),
         None => None,
     }
 }

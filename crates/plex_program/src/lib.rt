@@ -6,6 +6,7 @@
 // It knows no process: main gives it the real devices.
 #![tactic(auto)]
 
+mod analysing;
 mod command;
 mod fault;
 mod perform;

@@ -7,9 +7,10 @@ ghost use Rattle.plex_program.specs.Program.{IsEnding};
 ghost use Rattle.plex_program.specs.Reading.{IsSpelled, signals_fault};
 ghost use Rattle.load_maker.specs.Exchange.{exchange_text};
 ghost use Rattle.load_maker.specs.Signals.{signals_text};
-ghost use Rattle.plex_program.specs.Answer.{Comes, Reads, exchange_at, exchange_of_file, exchange_of_tree, fitting, lines_at, lines_of_file, list_of, listing_answer, load_answer, load_of, or_broken, or_unread, performed, run_answer, run_of, text_at};
+ghost use Rattle.plex_program.specs.Answer.{AnswersAnalysis, AnswersCertificate, Comes, FromExchange, Performs, Reads, exchange_at, exchange_of_file, exchange_of_tree, fitting, lines_at, lines_of_file, list_of, listing_answer, load_answer, load_of, or_broken, or_unread, performed, run_answer, run_of, text_at};
 ghost use Rattle.plex_program.specs.Runs.{AreRead, HasJobs};
 
+use crate::analysing::{analysis_answer, certificate_answer};
 use crate::command::{Command, RunWords};
 use crate::fault::{SignalsFault, SignalsRule, SourceFault};
 use crate::program::Status;
@@ -204,6 +205,34 @@ fn answer_run(
     }
 }
 
+/// `analyse`.
+#[tactic(auto, using(crate::proofs::Stages::performs_of, crate::proofs::Stages::performs_stop, crate::proofs::Stages::performs_memory))]
+fn perform_analysis<S: Shelf>(alloc: Global, shelf: &mut S, name: &Word) -> Result<Answer, Stop>
+    ensures comes { Performs (S.held shelf.old) (FromExchange name.now AnswersAnalysis)
+        (S.faults shelf.old) (S.faults shelf.new) result }
+    ensures ending { IfOk result (λ a. IsEnding a.status) }
+{
+    let exchange = exchange_in(alloc, shelf, name)?;
+    match analysis_answer(alloc, &exchange) {
+        Ok(answer) => Ok(answer),
+        Err(Memory) => Err(Stop::Memory),
+    }
+}
+
+/// `certify`.
+#[tactic(auto, using(crate::proofs::Stages::performs_of, crate::proofs::Stages::performs_stop, crate::proofs::Stages::performs_memory))]
+fn perform_certificate<S: Shelf>(alloc: Global, shelf: &mut S, name: &Word) -> Result<Answer, Stop>
+    ensures comes { Performs (S.held shelf.old) (FromExchange name.now AnswersCertificate)
+        (S.faults shelf.old) (S.faults shelf.new) result }
+    ensures ending { IfOk result (λ a. IsEnding a.status) }
+{
+    let exchange = exchange_in(alloc, shelf, name)?;
+    match certificate_answer(alloc, &exchange) {
+        Ok(answer) => Ok(answer),
+        Err(Memory) => Err(Stop::Memory),
+    }
+}
+
 /// `list`.
 #[tactic(auto, using(crate::proofs::Stages::comes_stop, crate::proofs::Stages::comes_go, crate::proofs::Stages::comes_reads))]
 fn perform_list<S: Shelf>(alloc: Global, shelf: &mut S, name: &Word) -> Result<Answer, Stop>
@@ -290,16 +319,18 @@ fn answer_load(
 }
 
 /// What a command comes to.
-#[tactic(auto, using(crate::proofs::Stages::comes_reads))]
+#[tactic(auto, using(crate::proofs::Stages::performs_comes, crate::proofs::Stages::performs_reads))]
 pub fn perform<S: Shelf>(alloc: Global, shelf: &mut S, command: &Command) -> Result<Answer, Stop>
     requires { HasJobs command.now }
-    ensures comes { Comes (S.held shelf.old) (performed command.now) (S.faults shelf.old)
+    ensures comes { Performs (S.held shelf.old) (performed command.now) (S.faults shelf.old)
         (S.faults shelf.new) result }
     ensures ending { IfOk result (λ a. IsEnding a.status) }
 {
     match command {
         Command::Run(words) => perform_run(alloc, Means::Code, shelf, words),
         Command::Single(words) => perform_run(alloc, Means::Source, shelf, words),
+        Command::Analyse(name) => perform_analysis(alloc, shelf, name),
+        Command::Certify(name) => perform_certificate(alloc, shelf, name),
         Command::List(name) => perform_list(alloc, shelf, name),
         Command::Load(calls) => perform_load(alloc, *calls),
     }

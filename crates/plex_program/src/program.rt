@@ -1,7 +1,7 @@
 // The program as one call.
 ghost use Rattle.std.specs.Prelude.{◌≡◌, IfSome, None, ◌⊎◌};
-ghost use Rattle.plex_program.specs.Answer.{answer, refused_answer, refused_status};
-ghost use Rattle.plex_program.specs.Program.{Answers, Ends, IsComplete, IsPlain, Makes, ReadCause, WriteCause, exit_number, usage_answer};
+ghost use Rattle.plex_program.specs.Answer.{IsAnswer, refused_answer, refused_status, usage_answer};
+ghost use Rattle.plex_program.specs.Program.{Answers, Ends, EndsAs, IsComplete, IsPlain, Makes, ReadCause, WriteCause, exit_number};
 ghost use Rattle.plex_program.specs.Words.{shape};
 
 use crate::command::read_command;
@@ -58,10 +58,10 @@ impl Status {
 /// The program: reads the files that the words name, and writes the answer.
 ///
 /// `words` are the command's words without the program's name. Where the shelf tells its files, the
-/// status and the text are those of `answer`, but for `Read` where a read failed, `Write` where the
+/// status and the text are those of the answer (`IsAnswer`), but for `Read` where a read failed, `Write` where the
 /// sink failed or is full, and then a proper front of the text was written, and `Memory`. The
 /// threads and the gate are not used yet: one job runs at a time.
-#[tactic(auto, using(crate::proofs::Endings::ends_same))]
+#[tactic(auto, using(crate::proofs::Endings::ending))]
 pub fn plex<R: Threads + Wait + Sync, S: Shelf, K: Sink, G: Gate + Sync>(
     rt: &R,
     alloc: Global,
@@ -71,7 +71,8 @@ pub fn plex<R: Threads + Wait + Sync, S: Shelf, K: Sink, G: Gate + Sync>(
     gate: &G,
 ) -> Status
     ensures answers { IfSome (S.held shelf.old)
-        (λ files. Ends (answer words.now files) (K.written sink.old) (K.written sink.new) result) }
+        (λ files. EndsAs (IsAnswer words.now files)
+        (K.written sink.old) (K.written sink.new) result) }
     ensures unshaped { shape words.now ≡ None →
         Ends usage_answer (K.written sink.old) (K.written sink.new) result }
     ensures usage { result ≡ Status.Usage → shape words.now ≡ None }
@@ -80,7 +81,7 @@ pub fn plex<R: Threads + Wait + Sync, S: Shelf, K: Sink, G: Gate + Sync>(
     ensures write { result ≡ Status.Write →
         WriteCause (K.size sink.old) (K.written sink.new) (K.faults sink.old) (K.faults sink.new) }
     ensures memory { result ≡ Status.Memory → K.written sink.new ≡ K.written sink.old }
-    ensures complete { IfSome (S.held shelf.old) (λ files. IsComplete (answer words.now files)
+    ensures complete { IfSome (S.held shelf.old) (λ files. IsComplete (IsAnswer words.now files)
         (S.faults shelf.old) (S.faults shelf.new) (K.faults sink.old) (K.faults sink.new) result) }
 {
     let _ = rt;

@@ -1,0 +1,102 @@
+-- What is made for one entry after the other.
+use Rattle.std.proofs.Common.{◌≡◌, ◌⊎◌, ◌↔◌, inl, inr, ⊎_elim, ℕ, zero, suc, Bool, true, false, nat_lt, ◌+◌, ◌<◌, ◌≤◌, List, [], ◌∷◌, ◌++◌, length, Some, slice_get, Contains, refl, sym, ap, ◌∙◌, subst, arith, length-append}
+use Rattle.std.proofs.lemmas.List.Elements.{Contains-append_left, Contains-append_right, Contains-append_cases}
+use Rattle.std.proofs.lemmas.Option.{none-some, same_Some, slice_get_within}
+use Rattle.std.specs.List.Sorted.{IsStrictlySortedBy}
+use Rattle.std.specs.declared.cmp.Ordering.TheVariants.{Less}
+use Rattle.std.specs.Ordering.{nat_cmp, ordering_then}
+use Rattle.std.proofs.lemmas.Bool.{ltb-true, ltb-false}
+use Rattle.flow_points.specs.contracts.fact.SlotOrd.TheImpl as slots
+use Rattle.flow_points.specs.contracts.fact.ValueOrd.TheImpl as values
+use Rattle.exchange_model.specs.declared.exchange.Exchange.{Exchange}
+use Rattle.flow_points.specs.declared.fact.Fact.{Fact}
+use Rattle.flow_points.specs.Facts.{Gives, IsLeast}
+use Rattle.flow_points.proofs.Least.{least_in}
+use Rattle.fact_rows.specs.Known.{Rows, Knows}
+use Rattle.fact_rows.specs.Orders.{fact_order}
+use Rattle.fact_rows.proofs.Listing.{nat_less, sorted_append, sorted_none}
+use Rattle.least_facts.specs.Least.{KnowLeast}
+use Rattle.entry_summary.specs.declared.summary.Summary.{Summary}
+use Rattle.entry_summary.specs.Summaries.{IsSummary}
+use Rattle.access_summary.specs.Least.{AreSummaries}
+use Rattle.access_summary.proofs.Alike.{OnEntry, summary_alike}
+
+-- a summary by what rows know of the entry is one by the least facts
+pub summary_of_least : (x : Exchange) (e : ℕ) (k : Rows) (s : Summary) → KnowLeast x e k → IsSummary x (Knows k) e s → IsSummary x (IsLeast x) e s
+summary_of_least x e k s know is = summary_alike x (Knows k) (IsLeast x) e s (record { each = λ f own there. ((know.exact f).0 there).1 }) (record { each = λ f own least. (know.exact f).1 (own, least) }) is
+
+-- summaries
+
+get_push : {A : Type 0} (xs : List A) (x y : A) (m : ℕ) → slice_get (xs ++ x ∷ []) m ≡ Some y → (slice_get xs m ≡ Some y) ⊎ ((m ≡ length xs) × (x ≡ y))
+get_push [] x y zero there = inr (refl, same_Some x y there)
+get_push [] x y (suc m) there = absurd (none-some y there)
+get_push (z ∷ xs) x y zero there = inl there
+get_push (z ∷ xs) x y (suc m) there = ⊎_elim inl (λ h. inr (let e = h.0 in omega arith, h.1)) (get_push xs x y m there)
+
+-- those of so many entries
+pub record SummariesGo (x : Exchange) (n : ℕ) (all : List Summary) : Type 0 where
+  pub long : length all ≡ n
+  pub is : (e : ℕ) (s : Summary) → slice_get all e ≡ Some s → IsSummary x (IsLeast x) e s
+
+pub summaries_begin : (x : Exchange) (all : List Summary) → all ≡ [] → SummariesGo x 0 all
+summaries_begin x all none = record {
+  long = ap length none;
+  is = λ e s there. absurd (none-some s (ap (λ (l : List Summary). slice_get l e) (sym none) ∙ there));
+}
+
+pub summaries_more : (x : Exchange) (n : ℕ) (one : Summary) (all new : List Summary) → IsSummary x (IsLeast x) n one → new ≡ all ++ one ∷ [] → SummariesGo x n all → SummariesGo x (n + 1) new
+summaries_more x n one all new is grown g = record {
+  long = (let l = ap length grown ∙ length-append all (one ∷ []) in let h = g.long in omega (arith, l, h));
+  is = λ e s there.
+      ⊎_elim (g.is e s)
+      (λ h. subst (λ k. IsSummary x (IsLeast x) k s) (sym (h.0 ∙ g.long)) (subst (IsSummary x (IsLeast x) n) h.1 is))
+      (get_push all one s e (ap (λ (l : List Summary). slice_get l e) (sym grown) ∙ there));
+}
+
+pub summaries_end : (x : Exchange) (n count : ℕ) (all : List Summary) → count ≡ length x.entries → n ≤ count → count ≤ n → SummariesGo x n all → AreSummaries x all
+summaries_end x n count all is low high g = (let h = g.long in record { each_entry = omega (arith, is, low, high, h); is = g.is })
+
+-- facts
+
+-- a least fact is of an entry
+least_of_entry : (x : Exchange) (f : Fact) → IsLeast x f → f.entry < length x.entries
+least_of_entry x f least =
+    least_in x (λ g. g.entry < length x.entries)
+    (λ g given. ⊎_elim (λ start. slice_get_within x.entries g.entry start.entry start.there) (λ point. point.1.flow.reached.1) given)
+    f least
+
+-- those of so many entries
+pub record FactsGo (x : Exchange) (n : ℕ) (facts : List Fact) : Type 0 where
+  pub each : (f : Fact) → Contains facts f → (f.entry < n) × IsLeast x f
+  pub listed : (f : Fact) → f.entry < n → IsLeast x f → Contains facts f
+  pub rising : IsStrictlySortedBy fact_order facts
+
+pub facts_begin : (x : Exchange) (facts : List Fact) → facts ≡ [] → FactsGo x 0 facts
+facts_begin x facts none = subst (FactsGo x 0) (sym none) (record {
+  each = λ f c. absurd (let lt = c.1 in omega arith);
+  listed = λ f lt least. absurd (omega (arith, lt));
+  rising = sorted_none fact_order;
+})
+
+entry_less : (f g : Fact) → f.entry < g.entry → fact_order f g ≡ Less
+entry_less f g lt = ap (λ o. ordering_then o (ordering_then (nat_cmp f.point g.point) (ordering_then (slots.ghosts.cmp f.slot g.slot) (values.ghosts.cmp f.value g.value)))) (nat_less f.entry g.entry lt)
+
+below_or_last : (m n : ℕ) → m < n + 1 → (m < n) ⊎ (m ≡ n)
+below_or_last m n lt = by (nat_lt m n) refl
+  where
+    by : (t : Bool) → nat_lt m n ≡ t → (m < n) ⊎ (m ≡ n)
+    by true is = inl (ltb-true m n is)
+    by false is = (let le = ltb-false m n is in inr (omega (arith, le, lt)))
+
+pub facts_more : (x : Exchange) (n : ℕ) (facts more new : List Fact) → ((f : Fact) → Contains more f ↔ ((f.entry ≡ n) × IsLeast x f)) → IsStrictlySortedBy fact_order more → new ≡ facts ++ more → FactsGo x n facts → FactsGo x (n + 1) new
+facts_more x n facts more new exact up grown g = subst (FactsGo x (n + 1)) (sym grown) (record {
+  each = λ f c. ⊎_elim (λ old. let lt = (g.each f old).0 in (omega (arith, lt), (g.each f old).1)) (λ here. let is = ((exact f).0 here).0 in (omega (arith, is), ((exact f).0 here).1)) (Contains-append_cases facts more f c);
+  listed = λ f lt least. ⊎_elim (λ below. Contains-append_left facts more f (g.listed f below least)) (λ is. Contains-append_right facts more f ((exact f).1 (is, least))) (below_or_last f.entry n lt);
+  rising = sorted_append fact_order facts more g.rising up (λ u v c d. let lt = (g.each u c).0 in let is = ((exact v).0 d).0 in entry_less u v (omega (arith, lt, is)));
+})
+
+pub facts_exact : (x : Exchange) (n count : ℕ) (facts : List Fact) → count ≡ length x.entries → count ≤ n → FactsGo x n facts → (f : Fact) → Contains facts f ↔ IsLeast x f
+facts_exact x n count facts is high g f = ((λ c. (g.each f c).1), (λ least. let lt = least_of_entry x f least in g.listed f (omega (arith, lt, is, high)) least))
+
+pub facts_rising : (x : Exchange) (n : ℕ) (facts : List Fact) → FactsGo x n facts → IsStrictlySortedBy fact_order facts
+facts_rising x n facts g = g.rising

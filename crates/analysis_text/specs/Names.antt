@@ -1,0 +1,64 @@
+-- How an analysis names what has a number. Variables, fields and files are numbered through the exchange, and a number that it
+-- does not have is named by no bytes.
+use Rattle.std.specs.Prelude.{ℕ, List, [], ◌++◌, codes, flat_map, map, slice_get}
+use Rattle.std.specs.Option.{option_map_or, unwrap_or}
+use Rattle.std.specs.Fmt.{decimal}
+use Rattle.plex_num.specs.declared.level.Level.{Level}
+use Rattle.plex_num.specs.declared.level.Level.TheVariants.{A, B, C, D}
+use Rattle.exchange_model.specs.declared.block.Block.{Block}
+use Rattle.exchange_model.specs.declared.block.File.{File}
+use Rattle.exchange_model.specs.declared.block.Variable.{Variable}
+use Rattle.exchange_model.specs.declared.entry.Entry.{Entry}
+use Rattle.exchange_model.specs.declared.exchange.Exchange.{Exchange}
+use Rattle.exchange_model.specs.Kept.{signal_name}
+use Rattle.flow_points.specs.declared.fact.Value.{Value}
+use Rattle.flow_points.specs.declared.fact.Value.TheVariants.{Arg, Const, Any}
+use Rattle.analysis_text.specs.declared.names.Names.{Names}
+
+-- `BLOCK.NAME`
+abbrev pub own_name : List ℕ → List ℕ → List ℕ
+own_name block name = block ++ codes "." ++ name
+
+-- those of the variables, the fields and the files of a block
+abbrev pub variables_of : Block → List (List ℕ)
+variables_of b = map (λ (v : Variable). own_name b.name v.name) b.variables
+
+abbrev pub fields_of_file : List ℕ → File → List (List ℕ)
+fields_of_file block f = map (λ (v : Variable). own_name block v.name) f.fields
+
+abbrev pub fields_of : Block → List (List ℕ)
+fields_of b = flat_map (fields_of_file b.name) b.files
+
+abbrev pub files_of : Block → List (List ℕ)
+files_of b = map (λ (f : File). own_name b.name f.name) b.files
+
+-- those of all blocks: what has number n is the n-th
+abbrev pub names_of : List Block → Names
+names_of blocks = record { variables = flat_map variables_of blocks; fields = flat_map fields_of blocks; files = flat_map files_of blocks }
+
+abbrev pub name_at : List (List ℕ) → ℕ → List ℕ
+name_at names n = unwrap_or (slice_get names n) []
+
+-- `SIG BLOCK` of an entry
+abbrev pub signal_at : Exchange → ℕ → List ℕ
+signal_at x n = option_map_or signal_name (slice_get x.signals n) []
+
+abbrev pub block_at : Exchange → ℕ → List ℕ
+block_at x n = option_map_or (λ (b : Block). b.name) (slice_get x.blocks n) []
+
+abbrev pub entry_words : Exchange → Entry → List ℕ
+entry_words x e = signal_at x e.signal ++ codes " " ++ block_at x e.block
+
+abbrev pub entry_at : Exchange → ℕ → List ℕ
+entry_at x n = option_map_or (entry_words x) (slice_get x.entries n) []
+
+abbrev pub level_word : Level → List ℕ
+level_word A = codes "A"
+level_word B = codes "B"
+level_word C = codes "C"
+level_word D = codes "D"
+
+abbrev pub value_words : Value → List ℕ
+value_words (Arg k) = codes "ARG " ++ decimal k
+value_words (Const c) = codes "CONST " ++ decimal c
+value_words Any = codes "ANY"

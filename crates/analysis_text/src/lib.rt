@@ -1,0 +1,13 @@
+// The text of the analysis.
+//
+// What goes in: an exchange, and the summaries of its entries in their order. What comes out: what the jobs of each entry may do,
+// and which pairs of entries never run at once or on which tests, byte for byte. It knows nothing of facts, and not how a
+// summary came about.
+#![tactic(auto)]
+
+mod entries;
+mod names;
+mod pairs;
+mod whole;
+
+pub use whole::analysis;

@@ -1,0 +1,192 @@
+// The lines of the pairs.
+ghost use Rattle.std.specs.Prelude.{◌≡◌, ◌++◌, OnOk, Some, map, slice_get, length};
+ghost use Rattle.std.specs.List.Sorted.{IsStrictlySortedBy};
+ghost use Rattle.entry_summary.specs.Orders.{access_order};
+ghost use Rattle.analysis_text.specs.Analysis.{AreInOrder};
+ghost use Rattle.analysis_text.specs.Lines.{conflict_words, if_line, never_line, pair_words, test_words, text_of, written};
+ghost use Rattle.analysis_text.specs.Pairs.{ArePairs, Grows, InTurn, IsPairText, IsTextWith};
+
+use crate::names::{Names, add_number, add_value, level_word, name_at};
+use entry_summary::Summary;
+use pair_tests::{Conflict, Test, Verdict, tests_of, verdict_of};
+use plex_num::{Memory, Seq};
+use std::alloc::Global;
+
+/// What is told of each pair.
+#[tactic(auto, using(crate::proofs::Turns::turns_begin, crate::proofs::Turns::rows_more, crate::proofs::Turns::turns_end))]
+pub fn add_pairs(
+    text: &mut Seq<u8>,
+    alloc: Global,
+    names: &Names,
+    summaries: &[Summary],
+) -> Result<(), Memory>
+    requires { AreInOrder summaries.now }
+    ensures { OnOk result (Grows (ArePairs names.now summaries.now) text.old text.new) }
+{
+    for (number, first) in summaries.iter().enumerate() {
+        add_row(text, alloc, names, number, first, summaries)?;
+    }
+    Ok(())
+}
+
+/// What is told of a first with each later one.
+#[tactic(auto, using(crate::proofs::Turns::turns_begin, crate::proofs::Turns::row_more, crate::proofs::Turns::turns_end, crate::proofs::Turns::item_in_order))]
+fn add_row(
+    text: &mut Seq<u8>,
+    alloc: Global,
+    names: &Names,
+    number: usize,
+    first: &Summary,
+    summaries: &[Summary],
+) -> Result<(), Memory>
+    requires { AreInOrder summaries.now }
+    ensures { OnOk result (Grows
+        (InTurn (IsTextWith names.now summaries.now number first.now) (length summaries.now))
+        text.old text.new) }
+{
+    for (other, later) in summaries.iter().enumerate() {
+        add_pair(text, alloc, names, number, other, first, later)?;
+    }
+    Ok(())
+}
+
+/// What is told of a pair.
+#[tactic(auto, using(crate::proofs::Turns::never_told, crate::proofs::Turns::tests_told))]
+fn add_pair(
+    text: &mut Seq<u8>,
+    alloc: Global,
+    names: &Names,
+    number: usize,
+    other: usize,
+    first: &Summary,
+    later: &Summary,
+) -> Result<(), Memory>
+    requires { IsStrictlySortedBy access_order later.now.accesses }
+    ensures { OnOk result (Grows (IsPairText names.now number other first.now later.now)
+        text.old text.new) }
+{
+    match verdict_of(first, later) {
+        Verdict::Never(conflict) => {
+            add_never(text, names, number, other, conflict)?;
+            Ok(())
+        }
+        Verdict::Tests => {
+            let tests = tests_of(alloc, first, later)?;
+            add_tests(text, names, number, other, tests.as_slice())?;
+            Ok(())
+        }
+    }
+}
+
+/// `PAIR i j NEVER` and the conflict.
+fn add_never(
+    text: &mut Seq<u8>,
+    names: &Names,
+    number: usize,
+    other: usize,
+    conflict: Conflict,
+) -> Result<(), Memory>
+    ensures { OnOk result
+        (text.new ≡ text.old ++ written (never_line names.now number other conflict)) }
+{
+    add_pair_words(text, number, other)?;
+    text.append(b" NEVER ")?;
+    add_conflict(text, names, conflict)?;
+    text.append(b"\n")
+}
+
+/// `PAIR i j`.
+fn add_pair_words(text: &mut Seq<u8>, number: usize, other: usize) -> Result<(), Memory>
+    ensures { OnOk result (text.new ≡ text.old ++ pair_words number other) }
+{
+    add_number(text, b"PAIR ", number as u64)?;
+    add_number(text, b" ", other as u64)
+}
+
+fn add_conflict(text: &mut Seq<u8>, names: &Names, conflict: Conflict) -> Result<(), Memory>
+    ensures { OnOk result (text.new ≡ text.old ++ conflict_words names.now conflict) }
+{
+    match conflict {
+        Conflict::Variable { number } => {
+            text.append(b"VARIABLE ")?;
+            text.append(name_at(&names.variables, number))
+        }
+        Conflict::Field {
+            number,
+            first,
+            later,
+        } => {
+            text.append(b"FIELD ")?;
+            text.append(name_at(&names.fields, number))?;
+            text.append(b" ")?;
+            add_value(text, first)?;
+            text.append(b" WITH ")?;
+            add_value(text, later)
+        }
+        Conflict::Seizing { file } => {
+            text.append(b"SEIZE ")?;
+            text.append(name_at(&names.files, file))
+        }
+        Conflict::Above { level } => {
+            text.append(b"LEVEL ")?;
+            text.append(level_word(level))
+        }
+    }
+}
+
+fn add_tests(
+    text: &mut Seq<u8>,
+    names: &Names,
+    number: usize,
+    other: usize,
+    tests: &[Test],
+) -> Result<(), Memory>
+    ensures { OnOk result
+        (text.new ≡ text.old ++ text_of (map (if_line names.now number other) tests.now)) }
+{
+    for test in tests {
+        add_if(text, names, number, other, *test)?;
+    }
+    Ok(())
+}
+
+/// `PAIR i j IF` and the test.
+fn add_if(
+    text: &mut Seq<u8>,
+    names: &Names,
+    number: usize,
+    other: usize,
+    test: Test,
+) -> Result<(), Memory>
+    ensures { OnOk result
+        (text.new ≡ text.old ++ written (if_line names.now number other test)) }
+{
+    add_pair_words(text, number, other)?;
+    text.append(b" IF ")?;
+    add_test(text, names, test)?;
+    text.append(b"\n")
+}
+
+fn add_test(text: &mut Seq<u8>, names: &Names, test: Test) -> Result<(), Memory>
+    ensures { OnOk result (text.new ≡ text.old ++ test_words names.now test) }
+{
+    match test {
+        Test::Differ { first, later } => {
+            add_number(text, b"FIRST ", u64::from(first))?;
+            add_number(text, b" NOT LATER ", u64::from(later))
+        }
+        Test::FirstNot { first, value } => {
+            add_number(text, b"FIRST ", u64::from(first))?;
+            add_number(text, b" NOT ", u64::from(value))
+        }
+        Test::LaterNot { later, value } => {
+            add_number(text, b"LATER ", u64::from(later))?;
+            add_number(text, b" NOT ", u64::from(value))
+        }
+        Test::InForlopp => text.append(b"FORLOPP"),
+        Test::HoldsNo { file } => {
+            text.append(b"FIRST HOLDS NO ")?;
+            text.append(name_at(&names.files, file))
+        }
+    }
+}

@@ -1,0 +1,31 @@
+// The text of an analysis.
+ghost use Rattle.std.specs.Prelude.{◌≡◌, IfOk};
+ghost use Rattle.analysis_text.specs.Analysis.{AreInOrder, IsAnalysis};
+
+use crate::entries::add_entries;
+use crate::names::names_of;
+use crate::pairs::add_pairs;
+use entry_summary::Summary;
+use exchange_model::Exchange;
+use plex_num::{Memory, Seq};
+use std::alloc::Global;
+
+/// The text of the analysis of an exchange whose entries have these summaries, in the order of the entries: what the jobs of each
+/// entry may do, and of each ordered pair of entries whether they never run at once, with the first conflict, or on which
+/// tests. Memory is the only reason for an error.
+#[tactic(auto, using(crate::proofs::Joined::whole))]
+pub fn analysis(
+    alloc: Global,
+    exchange: &Exchange,
+    summaries: &[Summary],
+) -> Result<Seq<u8>, Memory>
+    requires { AreInOrder summaries.now }
+    ensures { IfOk result (IsAnalysis exchange.now summaries.now) }
+{
+    let names = names_of(alloc, exchange)?;
+    let mut text = Seq::new(alloc);
+    add_entries(&mut text, exchange, &names, summaries)?;
+    add_pairs(&mut text, alloc, &names, summaries)?;
+    text.append(b"END PAIRS\n")?;
+    Ok(text)
+}

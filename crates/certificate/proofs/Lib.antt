@@ -1,0 +1,5 @@
+pub mod Counts
+pub mod Firsts
+pub mod Lowered
+pub mod Slotted
+pub mod Fitting

@@ -1,0 +1,4 @@
+pub mod Missing
+pub mod Shapes
+pub mod Strange
+pub mod Certified

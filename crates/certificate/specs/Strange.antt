@@ -1,0 +1,47 @@
+-- Facts that an exchange has not.
+use Rattle.std.specs.Prelude.{◌≡◌, ℕ, ◌<◌, List, ◌∷◌, ◌++◌, length, All}
+use Rattle.exchange_model.specs.declared.exchange.Exchange.{Exchange}
+use Rattle.source_meaning.specs.Valid.{entry_count}
+use Rattle.flow_points.specs.declared.fact.Fact.{Fact}
+use Rattle.flow_points.specs.declared.fact.Slot.{Slot}
+use Rattle.flow_points.specs.declared.fact.Slot.TheVariants.{Temp, Given, Answered, Depth, Awaits}
+use Rattle.flow_points.specs.declared.fact.Value.{Value}
+use Rattle.flow_points.specs.declared.fact.Value.TheVariants.{Arg, Const, Any}
+use Rattle.flow_points.specs.Places.{Place}
+use Rattle.flow_points.specs.Slots.{HasSlot}
+use Rattle.flow_table.specs.declared.row.Row.{Row}
+use Rattle.flow_table.specs.Texts.{ArePlaces}
+
+-- a value that a job of the entry may start with, or a number, or any number
+abbrev pub IsValueOf : Exchange → ℕ → Value → Type 0
+IsValueOf x e (Arg k) = k < entry_count x e
+IsValueOf x e (Const c) = Unit {0}
+IsValueOf x e Any = Unit {0}
+
+-- a fact is of the exchange where its entry, its point and its slot are there, and its value is one of the entry; any other is
+-- strange
+pub record IsOfExchange (x : Exchange) (f : Fact) : Type 0 where
+  pub entry : f.entry < length x.entries
+  pub slot : HasSlot x f.point f.slot
+  pub value : IsValueOf x f.entry f.value
+
+-- the first strange fact of a list
+pub record IsFirstStrange (x : Exchange) (facts : List Fact) (f : Fact) : Type 0 where
+  pub before : List Fact
+  pub after : List Fact
+  pub so : facts ≡ before ++ f ∷ after
+  pub others : All (IsOfExchange x) before
+  pub strange : IsOfExchange x f → ⊥
+
+-- all statements of the exchange are known
+pub record AreListed (x : Exchange) : Type 0 where
+  pub places : List Place
+  pub all : ArePlaces x places
+
+-- a row has the slot
+abbrev pub RowHas : Row → Slot → Type 0
+RowHas r (Temp t) = t < r.temps
+RowHas r (Given k) = k < r.given
+RowHas r (Answered k) = k < r.answered
+RowHas r Depth = Unit {0}
+RowHas r Awaits = Unit {0}

@@ -1,0 +1,9 @@
+pub mod Adding
+pub mod Numbering
+pub mod Naming
+pub mod Using
+pub mod Telling
+pub mod Selecting
+pub mod Placing
+pub mod Leveling
+pub mod Ordering

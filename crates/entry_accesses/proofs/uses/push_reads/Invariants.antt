@@ -1,0 +1,5 @@
+use Rattle.entry_accesses.proofs.Using.{ReadsGo}
+use Rattle.entry_accesses.proofs.uses.push_reads.Given as goal
+
+abbrev pub invariant-loop-name : goal.invariant-loop-name
+invariant-loop-name l = ReadsGo l.exchange l.block l.names l.name-index l.fn.uses l.uses

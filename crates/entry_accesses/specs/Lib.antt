@@ -1,0 +1,5 @@
+pub mod Numbered
+pub mod Operands
+pub mod Uses
+pub mod Adding
+pub mod Levels

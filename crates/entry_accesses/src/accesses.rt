@@ -1,0 +1,167 @@
+// The accesses of the statements that a job of an entry may reach.
+ghost use Rattle.std.specs.Prelude.{◌≡◌, ◌↔◌, ◌++◌, map, IfOk, OnOk};
+ghost use Rattle.std.specs.List.{Contains};
+ghost use Rattle.std.specs.List.Sorted.{IsStrictlySortedBy};
+ghost use Rattle.flow_points.specs.Places.{IsPlace};
+ghost use Rattle.flow_table.specs.Texts.{ArePlaces, seen};
+ghost use Rattle.entry_summary.specs.Accesses.{IsAccess};
+ghost use Rattle.entry_summary.specs.Orders.{access_order};
+ghost use Rattle.entry_summary.specs.declared.summary.Access.{Access as AccessType};
+ghost use Rattle.entry_summary.specs.declared.summary.Access.TheVariants as access;
+ghost use Rattle.entry_accesses.specs.Adding.{Adds, HasAccess, OneGives};
+ghost use Rattle.entry_accesses.specs.Numbered.{AreNumbers};
+ghost use Rattle.entry_accesses.specs.Uses.{UseGives};
+
+use crate::numbers::CellNumbers;
+use crate::uses::{Use, push_uses};
+use entry_summary::Access;
+use exchange_model::Exchange;
+use flow_points::Value;
+use flow_table::{KnownFacts, PlaceAt, values_from};
+use plex_num::{Memory, Seq};
+use std::alloc::Global;
+
+/// The accesses of the statements that a job of the entry may reach, in order, each once. The places and the numbers are
+/// those of the exchange.
+pub fn accesses_of<K: KnownFacts>(
+    alloc: Global,
+    exchange: &Exchange,
+    numbers: &CellNumbers,
+    places: &[PlaceAt<'_>],
+    known: &K,
+    entry: u32,
+) -> Result<Seq<Access>, Memory>
+    requires places { ArePlaces exchange.now (map seen places.now) }
+    requires numbers { AreNumbers exchange.now numbers.now }
+    ensures exact { IfOk result (λ accesses. (a : AccessType) → Contains accesses a
+        ↔ IsAccess exchange.now (K.knows known.now) entry a) }
+    ensures rising { IfOk result (λ accesses. IsStrictlySortedBy access_order accesses) }
+{
+    let found = found_of(alloc, exchange, numbers, places, known, entry)?;
+    Ok(in_order(found))
+}
+
+/// The same in the order of the text, some more than once.
+fn found_of<K: KnownFacts>(
+    alloc: Global,
+    exchange: &Exchange,
+    numbers: &CellNumbers,
+    places: &[PlaceAt<'_>],
+    known: &K,
+    entry: u32,
+) -> Result<Seq<Access>, Memory>
+    requires places { ArePlaces exchange.now (map seen places.now) }
+    requires numbers { AreNumbers exchange.now numbers.now }
+    ensures { IfOk result (λ found. (a : AccessType) → Contains found a
+        ↔ IsAccess exchange.now (K.knows known.now) entry a) }
+{
+    let mut found = Seq::new(alloc);
+    for at in places {
+        push_reached(alloc, exchange, numbers, known, entry, at, &mut found)?;
+    }
+    Ok(found)
+}
+
+/// Appends the accesses of a statement, if it is reached.
+fn push_reached<K: KnownFacts>(
+    alloc: Global,
+    exchange: &Exchange,
+    numbers: &CellNumbers,
+    known: &K,
+    entry: u32,
+    at: &PlaceAt<'_>,
+    accesses: &mut Seq<Access>,
+) -> Result<(), Memory>
+    requires place { IsPlace exchange.now (seen at.now) }
+    requires numbers { AreNumbers exchange.now numbers.now }
+    ensures { OnOk result (Adds accesses.old accesses.new
+        (HasAccess exchange.now (K.knows known.now) entry (seen at.now))) }
+{
+    exchange.kept();
+    if !known.is_reached(entry, at.point) {
+        return Ok(());
+    }
+    let mut uses = Seq::new(alloc);
+    push_uses(alloc, exchange, numbers, at.block, at.kind, &mut uses)?;
+    push_all(alloc, known, entry, at.point, uses.as_slice(), accesses)?;
+    Ok(())
+}
+
+/// Appends the accesses that these are before a point in a job of the entry.
+fn push_all<K: KnownFacts>(
+    alloc: Global,
+    known: &K,
+    entry: u32,
+    point: u32,
+    uses: &[Use],
+    accesses: &mut Seq<Access>,
+) -> Result<(), Memory>
+    ensures { OnOk result (Adds accesses.old accesses.new
+        (OneGives (UseGives (K.knows known.now) entry point) uses.now)) }
+{
+    for used in uses {
+        push_one(alloc, known, entry, point, *used, accesses)?;
+    }
+    Ok(())
+}
+
+fn push_one<K: KnownFacts>(
+    alloc: Global,
+    known: &K,
+    entry: u32,
+    point: u32,
+    used: Use,
+    accesses: &mut Seq<Access>,
+) -> Result<(), Memory>
+    ensures { OnOk result (Adds accesses.old accesses.new
+        (UseGives (K.knows known.now) entry point used)) }
+{
+    match used {
+        Use::Variable { write, number } => accesses.push(Access::Variable { write, number })?,
+        Use::Field {
+            write,
+            number,
+            selector,
+        } => {
+            let selectors = values_from(alloc, known, entry, point, selector)?;
+            push_selected(write, number, selectors.as_slice(), accesses)?;
+        }
+        Use::Own { write, number } => accesses.push(Access::Own { write, number })?,
+        Use::Seizes { file } => accesses.push(Access::Seizes { file })?,
+        Use::Frees { file } => accesses.push(Access::Frees { file })?,
+    }
+    Ok(())
+}
+
+/// Appends an access for each of these selectors.
+#[tactic(auto, using(crate::proofs::Selecting::selected_begin, crate::proofs::Selecting::selected_end))]
+fn push_selected(
+    write: bool,
+    number: u32,
+    selectors: &[Value],
+    accesses: &mut Seq<Access>,
+) -> Result<(), Memory>
+    ensures { OnOk result (accesses.new ≡ accesses.old
+        ++ map (access.Field write number) selectors.now) }
+{
+    for selector in selectors {
+        let selector = *selector;
+        accesses.push(Access::Field {
+            write,
+            number,
+            selector,
+        })?;
+    }
+    Ok(())
+}
+
+/// These accesses in order, each once.
+fn in_order(found: Seq<Access>) -> Seq<Access>
+    ensures same { (a : AccessType) → Contains result a ↔ Contains found a }
+    ensures rising { IsStrictlySortedBy access_order result }
+{
+    let mut accesses = found.into_vec();
+    accesses.sort_unstable();
+    accesses.dedup();
+    Seq::from_vec(accesses)
+}

@@ -1,0 +1,281 @@
+// What statements do to stored data, before facts tell which records pointers mean.
+ghost use Rattle.std.specs.Prelude.{◌≡◌, ◌-◌, ◌≤◌, ◌++◌, ◌∷◌, [], false, map, true, OnOk, slice_get};
+ghost use Rattle.std.specs.List.{AllByRecursion, range_with_len};
+ghost use Rattle.exchange_model.specs.declared.stmt.StmtKind.{out-StmtKind};
+ghost use Rattle.source_meaning.specs.Config.{files_of};
+ghost use Rattle.source_meaning.specs.Deeds.{receiver_in};
+ghost use Rattle.source_meaning.specs.Rests.{IsOfBlock};
+ghost use Rattle.flow_points.specs.declared.fact.Value.TheVariants as value;
+ghost use Rattle.flow_points.specs.declared.flow.Source.TheVariants as source;
+ghost use Rattle.entry_accesses.specs.declared.uses.Use.TheVariants as use_of;
+ghost use Rattle.entry_accesses.specs.Numbered.{AreNumbers, IsNumbered};
+ghost use Rattle.entry_accesses.specs.Operands.{named};
+ghost use Rattle.entry_accesses.specs.Uses.{OpensFew, done_uses, field_use as field_use_of, field_uses, holder_uses, layer_uses, named_uses, opened, read_uses};
+
+use crate::numbers::CellNumbers;
+use crate::operands::{Operand, push_layer};
+use exchange_model::{Exchange, Holder, Receiver, StmtKind};
+use flow_points::{Slot, Source, Value};
+use plex_num::{Memory, Seq};
+use std::alloc::Global;
+
+/// What a statement does to stored data, where facts have not yet told the values of pointers. Variables, fields and files
+/// are numbered through the exchange.
+#[derive(Clone, Copy)]
+pub enum Use {
+    Variable {
+        write: bool,
+        number: u32,
+    },
+    /// A field of a plain file, in the records whose numbers come from the source.
+    Field {
+        write: bool,
+        number: u32,
+        selector: Source,
+    },
+    /// A field of a forlopp file.
+    Own {
+        write: bool,
+        number: u32,
+    },
+    Seizes {
+        file: u32,
+    },
+    Frees {
+        file: u32,
+    },
+}
+
+/// Appends all that a statement of a block does.
+pub fn push_uses(
+    alloc: Global,
+    exchange: &Exchange,
+    numbers: &CellNumbers,
+    block: u32,
+    kind: &StmtKind,
+    uses: &mut Seq<Use>,
+) -> Result<(), Memory>
+    requires of_block { IsOfBlock exchange.now block (out-StmtKind kind.now) }
+    requires numbers { AreNumbers exchange.now numbers.now }
+    ensures { OnOk result
+        (uses.new ≡ uses.old ++ layer_uses exchange.now block (out-StmtKind kind.now)) }
+{
+    exchange.kept();
+    let mut names = Seq::new(alloc);
+    push_layer(kind, &mut names)?;
+    push_reads(exchange, numbers, block, names.as_slice(), uses)?;
+    push_held(exchange, numbers, block, kind, uses)?;
+    push_done(exchange, numbers, block, kind, uses)?;
+    Ok(())
+}
+
+/// Appends that these are read.
+#[tactic(auto, using(crate::proofs::Using::reads_begin))]
+fn push_reads(
+    exchange: &Exchange,
+    numbers: &CellNumbers,
+    block: u32,
+    names: &[Operand],
+    uses: &mut Seq<Use>,
+) -> Result<(), Memory>
+    requires numbered { AllByRecursion (IsNumbered exchange.now block) (map named names.now) }
+    requires numbers { AreNumbers exchange.now numbers.now }
+    ensures { OnOk result
+        (uses.new ≡ uses.old ++ read_uses exchange.now block (map named names.now)) }
+{
+    for name in names {
+        push_operand(exchange, numbers, block, *name, false, uses)?;
+    }
+    Ok(())
+}
+
+/// Appends that what a block names is read or written.
+fn push_operand(
+    exchange: &Exchange,
+    numbers: &CellNumbers,
+    block: u32,
+    operand: Operand,
+    write: bool,
+    uses: &mut Seq<Use>,
+) -> Result<(), Memory>
+    requires numbered { IsNumbered exchange.now block (named operand) }
+    requires numbers { AreNumbers exchange.now numbers.now }
+    ensures { OnOk result
+        (uses.new ≡ uses.old ++ named_uses exchange.now block write (named operand)) }
+{
+    match operand {
+        Operand::Variable(variable) => {
+            let number = numbers.variable(block, variable);
+            uses.push(Use::Variable { write, number })?;
+        }
+        Operand::Field {
+            file,
+            field,
+            pointer,
+        } => {
+            let number = numbers.field(file, field);
+            push_field(exchange, file, write, number, pointer, uses)?;
+        }
+    }
+    Ok(())
+}
+
+/// Appends that a field of a file, by its number through the exchange, is read or written.
+#[tactic(auto, using(crate::proofs::Using::field_nowhere))]
+fn push_field(
+    exchange: &Exchange,
+    file: u32,
+    write: bool,
+    number: u32,
+    pointer: u8,
+    uses: &mut Seq<Use>,
+) -> Result<(), Memory>
+    ensures { OnOk result (uses.new ≡ uses.old
+        ++ field_uses (slice_get (files_of exchange.now) file) write number pointer) }
+{
+    let Some(found) = exchange.file(file) else {
+        return Ok(());
+    };
+    uses.push(field_use(found.file.forlopp, write, number, pointer))?;
+    Ok(())
+}
+
+fn field_use(forlopp: bool, write: bool, number: u32, pointer: u8) -> Use
+    ensures { result ≡ field_use_of forlopp write number pointer }
+{
+    if forlopp {
+        return Use::Own { write, number };
+    }
+    Use::Field {
+        write,
+        number,
+        selector: Source::Of(Slot::Temp(pointer)),
+    }
+}
+
+/// Appends that a statement reads the variable in which the reference to its receiver is held, if it does.
+fn push_held(
+    exchange: &Exchange,
+    numbers: &CellNumbers,
+    block: u32,
+    kind: &StmtKind,
+    uses: &mut Seq<Use>,
+) -> Result<(), Memory>
+    requires of_block { IsOfBlock exchange.now block (out-StmtKind kind.now) }
+    requires numbers { AreNumbers exchange.now numbers.now }
+    ensures { OnOk result (uses.new ≡ uses.old
+        ++ holder_uses exchange.now block (receiver_in (out-StmtKind kind.now))) }
+{
+    exchange.kept();
+    if let Some(Receiver::Held(Holder::Variable(variable))) = receiver_of(kind) {
+        let holder = Operand::Variable(variable);
+        push_operand(exchange, numbers, block, holder, false, uses)?;
+    }
+    Ok(())
+}
+
+/// The receiver of a SEND or a TRANSFER; `None` of any other statement.
+fn receiver_of(kind: &StmtKind) -> Option<Receiver>
+    ensures { result ≡ receiver_in (out-StmtKind kind.now) }
+{
+    match kind {
+        StmtKind::Send { to, .. } => *to,
+        StmtKind::Transfer { to, .. } => *to,
+        _ => None,
+    }
+}
+
+/// Appends what a statement does besides reading: that it writes, searches, seizes or frees.
+fn push_done(
+    exchange: &Exchange,
+    numbers: &CellNumbers,
+    block: u32,
+    kind: &StmtKind,
+    uses: &mut Seq<Use>,
+) -> Result<(), Memory>
+    requires of_block { IsOfBlock exchange.now block (out-StmtKind kind.now) }
+    requires numbers { AreNumbers exchange.now numbers.now }
+    ensures { OnOk result
+        (uses.new ≡ uses.old ++ done_uses exchange.now block (out-StmtKind kind.now)) }
+{
+    exchange.kept();
+    match kind {
+        StmtKind::SetVariable { variable, .. } => {
+            let variable = Operand::Variable(*variable);
+            push_operand(exchange, numbers, block, variable, true, uses)?;
+        }
+        StmtKind::SetField {
+            file,
+            field,
+            pointer,
+            ..
+        } => {
+            let field = Operand::Field {
+                file: *file,
+                field: *field,
+                pointer: *pointer,
+            };
+            push_operand(exchange, numbers, block, field, true, uses)?;
+        }
+        StmtKind::ForFirst { file, field, .. } => {
+            let number = numbers.field(*file, *field);
+            push_search(number, uses)?;
+        }
+        StmtKind::Seize { file, .. } => uses.push(Use::Seizes { file: *file })?,
+        StmtKind::Free { file, .. } => {
+            let first = numbers.field(*file, 0);
+            push_opened(exchange, *file, first, uses)?;
+            uses.push(Use::Frees { file: *file })?;
+        }
+        _ => {}
+    }
+    Ok(())
+}
+
+/// Appends that a field of some record of its file is read.
+fn push_search(number: u32, uses: &mut Seq<Use>) -> Result<(), Memory>
+    ensures { OnOk result (uses.new ≡ uses.old
+        ++ use_of.Field false number (source.Is value.Any) ∷ []) }
+{
+    uses.push(Use::Field {
+        write: false,
+        number,
+        selector: Source::Is(Value::Any),
+    })
+}
+
+/// Appends that all fields of a file are written, of which the first has this number.
+#[tactic(auto, using(crate::proofs::Using::opened_nowhere))]
+fn push_opened(
+    exchange: &Exchange,
+    file: u32,
+    first: u32,
+    uses: &mut Seq<Use>,
+) -> Result<(), Memory>
+    requires { OpensFew first (slice_get (files_of exchange.now) file) }
+    ensures { OnOk result (uses.new ≡ uses.old
+        ++ opened first (slice_get (files_of exchange.now) file)) }
+{
+    let Some(found) = exchange.file(file) else {
+        return Ok(());
+    };
+    let end = first + found.file.fields.len() as u32;
+    push_written(first, end, uses)?;
+    Ok(())
+}
+
+/// Appends that the fields of these numbers are written, each in a record that the job holds.
+#[tactic(auto, using(crate::proofs::Using::written_begin))]
+fn push_written(first: u32, end: u32, uses: &mut Seq<Use>) -> Result<(), Memory>
+    requires { first ≤ end }
+    ensures { OnOk result (uses.new ≡ uses.old
+        ++ map (λ n. use_of.Own true n) (range_with_len first (end - first))) }
+{
+    for number in first..end {
+        uses.push(Use::Own {
+            write: true,
+            number,
+        })?;
+    }
+    Ok(())
+}

@@ -1,0 +1,10 @@
+pub mod Marking
+pub mod Passing
+pub mod Searching
+pub mod Rounding
+pub mod Asking
+pub mod Sending
+pub mod Dividing
+pub mod Reading
+pub mod Listing
+pub mod Faulting

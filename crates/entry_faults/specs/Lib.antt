@@ -1,0 +1,11 @@
+pub mod Marks
+pub mod Circles
+pub mod Frames
+pub mod Searches
+pub mod Reaching
+pub mod Asking
+pub mod Sends
+pub mod Divides
+pub mod Fields
+pub mod Exprs
+pub mod Statements

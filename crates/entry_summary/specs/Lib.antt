@@ -1,0 +1,5 @@
+pub mod Orders
+pub mod Numbers
+pub mod Accesses
+pub mod Faults
+pub mod Summaries

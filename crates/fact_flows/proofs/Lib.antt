@@ -1,0 +1,4 @@
+pub mod Peopled
+pub mod Slotting
+pub mod Gathering
+pub mod Flowing

@@ -1,0 +1,360 @@
+-- Where the planes of each point begin, and that each spot is that of one slot.
+use Rattle.std.proofs.Common.{◌≡◌, ◌⊎◌, inl, inr, ℕ, zero, suc, ◌+◌, ◌-◌, ◌^◌, ◌<◌, ◌≤◌, Bool, true, false, List, [], ◌∷◌, ◌++◌, length, get_or, set, take, map, replicate, Contains, ◌↔◌, Option, Some, None, Result, IfOk, slice_get, refl, sym, subst, ap, ◌∙◌, arith, length-append}
+use Rattle.std.specs.Prelude.{nat_lt, if◌then◌else◌, slice_index_or, IsTrue}
+use Rattle.std.specs.Bool.{MatchBool}
+use Rattle.std.specs.List.{All}
+use Rattle.std.proofs.lemmas.Bool.{cases_lt, cases_order, cond-true, cond-false, lt-ltb, le-ltb, ltb-true}
+use Rattle.std.proofs.lemmas.List.{get_or_default, take_more, map-append, length-replicate, get_or_append_left, get_or-append_right, take_all}
+use Rattle.std.proofs.lemmas.List.Elements.{All-append, All-nil, All-push, All-replicate}
+use Rattle.std.proofs.lemmas.Option.{none-some, same_Some, slice_get_within}
+use Rattle.flow_points.specs.declared.fact.Slot.{Slot}
+use Rattle.flow_points.specs.declared.fact.Slot.TheVariants.{Temp, Given, Answered, Depth, Awaits}
+use Rattle.flow_table.specs.declared.row.Row.{Row}
+use Rattle.fact_rows.specs.declared.place.Counts.{Counts}
+use Rattle.fact_rows.specs.declared.place.Spot.{Spot}
+use Rattle.fact_rows.specs.declared.place.Spot.TheVariants.{Plane, Awaited}
+use Rattle.fact_rows.specs.declared.value.TheConstants.{ANY_NUMBER, AWAITED_NUMBERS}
+use Rattle.fact_rows.specs.Values.{is_awaits, numbers_of}
+use Rattle.fact_rows.specs.Numbers.{AreNumbers}
+use Rattle.fact_rows.specs.Places.{Marks, HasPlace, at_spot, counts_of, numbers_at, size_of, start_of, spot_below, spot_in, spot_if, spot_of}
+use Rattle.fact_rows.specs.Grids.{IsLaid, IsBlank, IsSetAt}
+
+-- ---- where the planes of a point begin
+
+pub start_before : (slots : List Counts) (p q : ℕ) (c : Counts) → p < q → slice_get slots p ≡ Some c → start_of slots p + size_of c ≤ start_of slots q
+unfolding start_of
+start_before [] p q c lt there = absurd (none-some c there)
+start_before (d ∷ slots) zero zero c lt there = absurd (omega arith)
+start_before (d ∷ slots) zero (suc q) c lt there = (let same : size_of d ≡ size_of c = ap size_of (same_Some d c there) in omega arith)
+start_before (d ∷ slots) (suc p) zero c lt there = absurd (omega arith)
+start_before (d ∷ slots) (suc p) (suc q) c lt there = (let rest = start_before slots p q c (omega arith) there in omega arith)
+
+start_push : (slots : List Counts) (c : Counts) (p : ℕ) → p ≤ length slots → start_of (slots ++ c ∷ []) p ≡ start_of slots p
+unfolding start_of
+start_push [] c zero le = refl
+start_push [] c (suc p) le = absurd (omega arith)
+start_push (d ∷ slots) c zero le = refl
+start_push (d ∷ slots) c (suc p) le = ap (λ n. size_of d + n) (start_push slots c p (omega arith))
+
+start_last : (slots : List Counts) (c : Counts) → start_of (slots ++ c ∷ []) (suc (length slots)) ≡ start_of slots (length slots) + size_of c
+unfolding start_of
+start_last [] c = omega arith
+start_last (d ∷ slots) c = (let rest = start_last slots c in omega arith)
+
+-- ---- the spot of a slot
+
+below_is : (first k count i : ℕ) → spot_below first k count ≡ Some (Plane i) → (k < count) × (i ≡ first + k)
+below_is first k count i e = by (nat_lt k count) refl e
+  where
+    by : (t : Bool) → nat_lt k count ≡ t → (if t then Some (Plane (first + k)) else None) ≡ Some (Plane i) → (k < count) × (i ≡ first + k)
+    by true lt same = (ltb-true k count lt, cc)
+    by false lt none = absurd (none-some (Plane i) none)
+
+below_no : (first k count i : ℕ) → spot_below first k count ≡ Some (Awaited i) → ⊥
+below_no first k count i e = by (nat_lt k count) e
+  where
+    by : (t : Bool) → (if t then Some (Plane (first + k)) else None) ≡ Some (Awaited i) → ⊥
+    by true same = cc
+    by false none = none-some (Awaited i) none
+
+-- the slot of the k-th plane of a point
+abbrev slot_back : Counts → ℕ → Slot
+slot_back c k =
+    (if nat_lt k c.temps then Temp k
+    else (if nat_lt k (c.temps + c.given) then Given (k - c.temps)
+    else (if nat_lt k (c.temps + c.given + c.answered) then Answered (k - (c.temps + c.given)) else Depth)))
+
+abbrev after_temps : Counts → ℕ → Slot
+after_temps c k =
+    (if nat_lt k (c.temps + c.given) then Given (k - c.temps)
+    else (if nat_lt k (c.temps + c.given + c.answered) then Answered (k - (c.temps + c.given)) else Depth))
+
+abbrev after_given : Counts → ℕ → Slot
+after_given c k = (if nat_lt k (c.temps + c.given + c.answered) then Answered (k - (c.temps + c.given)) else Depth)
+
+-- the plane is one of a point whose planes begin so, and it is that of the slot
+record IsPlaneOf (start : ℕ) (c : Counts) (s : Slot) (i : ℕ) : Type 0 where
+  low : start ≤ i
+  high : i < start + size_of c
+  back : slot_back c (i - start) ≡ s
+
+plane_of : (start p : ℕ) (c : Counts) (s : Slot) (i : ℕ) → spot_in start p c s ≡ Some (Plane i) → IsPlaneOf start c s i
+plane_of start p c (Temp t) i e =
+    let b = below_is start t c.temps i e in
+    let lt = b.0 in
+    let is = b.1 in
+    let k : i - start ≡ t = omega arith in
+    record {
+      low = omega arith;
+      high = omega arith;
+      back = ap (slot_back c) k ∙ cond-true (nat_lt t c.temps) (Temp t) (after_temps c t) (lt-ltb t c.temps lt);
+    }
+plane_of start p c (Given t) i e =
+    let b = below_is (start + c.temps) t c.given i e in
+    let lt = b.0 in
+    let is = b.1 in
+    let n : ℕ = c.temps + t in
+    let k : i - start ≡ n = omega arith in
+    let own : n - c.temps ≡ t = omega arith in
+    record {
+      low = omega arith;
+      high = omega arith;
+      back = ap (slot_back c) k
+          ∙ cond-false (nat_lt n c.temps) (Temp n) (after_temps c n) (le-ltb n c.temps (omega arith))
+          ∙ cond-true (nat_lt n (c.temps + c.given)) (Given (n - c.temps)) (after_given c n) (lt-ltb n (c.temps + c.given) (omega arith))
+          ∙ ap Given own;
+    }
+plane_of start p c (Answered t) i e =
+    let b = below_is (start + c.temps + c.given) t c.answered i e in
+    let lt = b.0 in
+    let is = b.1 in
+    let n : ℕ = c.temps + c.given + t in
+    let k : i - start ≡ n = omega arith in
+    let own : n - (c.temps + c.given) ≡ t = omega arith in
+    record {
+      low = omega arith;
+      high = omega arith;
+      back = ap (slot_back c) k
+          ∙ cond-false (nat_lt n c.temps) (Temp n) (after_temps c n) (le-ltb n c.temps (omega arith))
+          ∙ cond-false (nat_lt n (c.temps + c.given)) (Given (n - c.temps)) (after_given c n) (le-ltb n (c.temps + c.given) (omega arith))
+          ∙ cond-true (nat_lt n (c.temps + c.given + c.answered)) (Answered (n - (c.temps + c.given))) Depth (lt-ltb n (c.temps + c.given + c.answered) (omega arith))
+          ∙ ap Answered own;
+    }
+plane_of start p c Depth i e =
+    let is : start + c.temps + c.given + c.answered ≡ i = cc in
+    let n : ℕ = c.temps + c.given + c.answered in
+    let k : i - start ≡ n = omega arith in
+    record {
+      low = omega arith;
+      high = omega arith;
+      back = ap (slot_back c) k
+          ∙ cond-false (nat_lt n c.temps) (Temp n) (after_temps c n) (le-ltb n c.temps (omega arith))
+          ∙ cond-false (nat_lt n (c.temps + c.given)) (Given (n - c.temps)) (after_given c n) (le-ltb n (c.temps + c.given) (omega arith))
+          ∙ cond-false (nat_lt n (c.temps + c.given + c.answered)) (Answered (n - (c.temps + c.given))) Depth (le-ltb n (c.temps + c.given + c.answered) (omega arith));
+    }
+plane_of start p c Awaits i e = absurd (cc)
+
+await_of : (start p : ℕ) (c : Counts) (s : Slot) (i : ℕ) → spot_in start p c s ≡ Some (Awaited i) → (s ≡ Awaits) × (p ≡ i)
+await_of start p c (Temp t) i e = absurd (below_no start t c.temps i e)
+await_of start p c (Given t) i e = absurd (below_no (start + c.temps) t c.given i e)
+await_of start p c (Answered t) i e = absurd (below_no (start + c.temps + c.given) t c.answered i e)
+await_of start p c Depth i e = absurd (cc)
+await_of start p c Awaits i e = (refl, cc)
+
+-- the point is there, and this is the spot of its slot
+record IsSpot (slots : List Counts) (p : ℕ) (s : Slot) (spot : Spot) : Type 0 where
+  counts : Counts
+  there : slice_get slots p ≡ Some counts
+  is : spot_in (start_of slots p) p counts s ≡ Some spot
+
+spot_there : (slots : List Counts) (p : ℕ) (s : Slot) (spot : Spot) → spot_of slots p s ≡ Some spot → IsSpot slots p s spot
+unfolding spot_of
+spot_there slots p s spot e = by (slice_get slots p) refl e
+  where
+    by : (o : Option Counts) → slice_get slots p ≡ o → spot_if o (start_of slots p) p s ≡ Some spot → IsSpot slots p s spot
+    by None here none = absurd (none-some spot none)
+    by (Some c) here is = record { counts = c; there = here; is = is }
+
+is_plain : (start p : ℕ) (c : Counts) (s : Slot) (i : ℕ) → spot_in start p c s ≡ Some (Plane i) → is_awaits s ≡ false
+is_plain start p c (Temp t) i e = refl
+is_plain start p c (Given t) i e = refl
+is_plain start p c (Answered t) i e = refl
+is_plain start p c Depth i e = refl
+is_plain start p c Awaits i e = absurd (cc)
+
+-- how many numbers its slot has
+pub plane_slot : (slots : List Counts) (p : ℕ) (s : Slot) (i : ℕ) → spot_of slots p s ≡ Some (Plane i) → numbers_of s ≡ ANY_NUMBER + 1
+plane_slot slots p s i e = (let a = spot_there slots p s (Plane i) e in cond-false (is_awaits s) AWAITED_NUMBERS (ANY_NUMBER + 1) (is_plain (start_of slots p) p a.counts s i a.is))
+
+pub await_slot : (slots : List Counts) (p : ℕ) (s : Slot) (i : ℕ) → spot_of slots p s ≡ Some (Awaited i) → numbers_of s ≡ AWAITED_NUMBERS
+await_slot slots p s i e = (let a = spot_there slots p s (Awaited i) e in ap numbers_of (await_of (start_of slots p) p a.counts s i a.is).0)
+
+pub spots_apart : (slots : List Counts) (p q : ℕ) (s t : Slot) (spot : Spot) → spot_of slots p s ≡ Some spot → spot_of slots q t ≡ Some spot → (p ≡ q) × (s ≡ t)
+spots_apart slots p q s t spot e f = by spot (spot_there slots p s spot e) (spot_there slots q t spot f)
+  where
+    by : (spot : Spot) → IsSpot slots p s spot → IsSpot slots q t spot → (p ≡ q) × (s ≡ t)
+    by (Plane i) a b =
+        let u = plane_of (start_of slots p) p a.counts s i a.is in
+        let v = plane_of (start_of slots q) q b.counts t i b.is in
+        let ul = u.low in
+        let uh = u.high in
+        let vl = v.low in
+        let vh = v.high in
+        elim (cases_order p q) [
+          | inl same ↦
+              (let counts : a.counts ≡ b.counts = same_Some a.counts b.counts (sym a.there ∙ ap (slice_get slots) same ∙ b.there) in
+              (same, sym u.back ∙ (λ j. slot_back (counts j) (i - start_of slots (same j))) ∙ v.back))
+          | inr (inl lt) ↦ absurd (let far = start_before slots p q a.counts lt a.there in omega arith)
+          | inr (inr gt) ↦ absurd (let far = start_before slots q p b.counts gt b.there in omega arith)
+        ]
+    by (Awaited i) a b =
+        let u = await_of (start_of slots p) p a.counts s i a.is in
+        let v = await_of (start_of slots q) q b.counts t i b.is in
+        (u.1 ∙ sym v.1, u.0 ∙ sym v.0)
+
+pub has_spot : (slots : List Counts) (p : ℕ) (c : Counts) (s : Slot) → slice_get slots p ≡ Some c → HasPlace c s → (spot : Spot) × (spot_of slots p s ≡ Some spot)
+unfolding spot_of
+has_spot slots p c s there place = (let f = found s place in (f.0, ap (λ o. spot_if o (start_of slots p) p s) there ∙ f.1))
+  where
+    start : ℕ
+    start = start_of slots p
+
+    found : (s : Slot) → HasPlace c s → (spot : Spot) × (spot_in start p c s ≡ Some spot)
+    found (Temp t) lt = (Plane (start + t), cond-true (nat_lt t c.temps) (Some (Plane (start + t))) None (lt-ltb t c.temps lt))
+    found (Given t) lt = (Plane (start + c.temps + t), cond-true (nat_lt t c.given) (Some (Plane (start + c.temps + t))) None (lt-ltb t c.given lt))
+    found (Answered t) lt = (Plane (start + c.temps + c.given + t), cond-true (nat_lt t c.answered) (Some (Plane (start + c.temps + c.given + t))) None (lt-ltb t c.answered lt))
+    found Depth u = (Plane (start + c.temps + c.given + c.answered), refl)
+    found Awaits u = (Awaited p, refl)
+
+-- ---- spots lie in the planes
+
+module _ (slots : List Counts) (starts : List ℕ) (planes awaits : ℕ) (laid : IsLaid slots starts planes awaits) where
+  pub start_fits : (p : ℕ) (c : Counts) → slice_get slots p ≡ Some c → start_of slots p + size_of c ≤ planes
+  start_fits p c there =
+      let inside = slice_get_within slots p c there in
+      let far = start_before slots p (length slots) c inside there in
+      let all = laid.each_plane in
+      omega arith
+
+  pub plane_within : (p : ℕ) (s : Slot) (i : ℕ) → spot_of slots p s ≡ Some (Plane i) → i < planes
+  plane_within p s i e =
+      let a = spot_there slots p s (Plane i) e in
+      let high = (plane_of (start_of slots p) p a.counts s i a.is).high in
+      let fits = start_fits p a.counts a.there in
+      omega arith
+
+  pub await_within : (p : ℕ) (s : Slot) (i : ℕ) → spot_of slots p s ≡ Some (Awaited i) → i < awaits
+  await_within p s i e =
+      let a = spot_there slots p s (Awaited i) e in
+      let same = (await_of (start_of slots p) p a.counts s i a.is).1 in
+      let inside = slice_get_within slots p a.counts a.there in
+      let all = laid.each_await in
+      omega arith
+
+-- ---- what is read of the rows of planes
+
+module _ (slots : List Counts) (p : ℕ) (s : Slot) where
+  pub spot_none : slice_get slots p ≡ None → None ≡ spot_of slots p s
+  unfolding spot_of
+  spot_none none = sym (ap (λ o. spot_if o (start_of slots p) p s) none)
+
+  pub spot_some : (c : Counts) (start : ℕ) (r : Option Spot) → slice_get slots p ≡ Some c → start ≡ start_of slots p → r ≡ spot_in start p c s → r ≡ spot_of slots p s
+  unfolding spot_of
+  spot_some c start r there from is = is ∙ ap (λ n. spot_in n p c s) from ∙ sym (ap (λ o. spot_if o (start_of slots p) p s) there)
+
+pub start_is : (slots : List Counts) (starts : List ℕ) (planes awaits p start : ℕ) (c : Counts) → IsLaid slots starts planes awaits → slice_get slots p ≡ Some c → start ≡ get_or starts p start → start ≡ start_of slots p
+start_is slots starts planes awaits p start c laid there is =
+    let inside = slice_get_within slots p c there in
+    is ∙ get_or_default starts p start 0 (omega (arith, laid.each_start)) ∙ laid.starts_so p inside
+
+pub start_small : (slots : List Counts) (starts : List ℕ) (planes awaits p start : ℕ) (c : Counts) → IsLaid slots starts planes awaits → planes < 2 ^ 64 → slice_get slots p ≡ Some c → start ≡ start_of slots p → start + size_of c < 2 ^ 64
+start_small slots starts planes awaits p start c laid few there is = (let fits = start_fits slots starts planes awaits laid p c there in omega arith)
+
+pub numbers_by : (m : Marks) (q : ℕ) (t : Slot) (o : Option Spot) → spot_of m.slots q t ≡ o → numbers_at m q t ≡ at_spot m o
+unfolding numbers_at
+numbers_by m q t o e = ap (at_spot m) e
+
+pub plane_read : (m : Marks) (planes : List (List ℕ)) (p : ℕ) (s : Slot) (i : ℕ) (ns : List ℕ) → m.planes ≡ planes → i < length planes → spot_of m.slots p s ≡ Some (Plane i) → ns ≡ get_or planes i ns → ns ≡ numbers_at m p s
+plane_read m planes p s i ns same lt spot is = is ∙ get_or_default planes i ns [] lt ∙ sym (numbers_by m p s (Some (Plane i)) spot ∙ ap (λ r. get_or r i []) same)
+
+pub await_read : (m : Marks) (awaits : List (List ℕ)) (p : ℕ) (s : Slot) (i : ℕ) (ns : List ℕ) → m.awaits ≡ awaits → i < length awaits → spot_of m.slots p s ≡ Some (Awaited i) → ns ≡ get_or awaits i ns → ns ≡ numbers_at m p s
+await_read m awaits p s i ns same lt spot is = is ∙ get_or_default awaits i ns [] lt ∙ sym (numbers_by m p s (Some (Awaited i)) spot ∙ ap (λ r. get_or r i []) same)
+
+pub none_read : (m : Marks) (p : ℕ) (s : Slot) (ns : List ℕ) → spot_of m.slots p s ≡ None → ns ≡ [] → ns ≡ numbers_at m p s
+none_read m p s ns spot none = none ∙ sym (numbers_by m p s None spot)
+
+pub empty_as : (m : Marks) (p : ℕ) (s : Slot) (r : Bool) (ns : List ℕ) → ns ≡ numbers_at m p s → (IsTrue r ↔ (ns ≡ [])) → IsTrue r ↔ (numbers_at m p s ≡ [])
+empty_as m p s r ns is h = subst (λ l. IsTrue r ↔ (l ≡ [])) is h
+
+pub list_as : {E : Type 0} (m : Marks) (p : ℕ) (s : Slot) (r : Result (List ℕ) E) (ns : List ℕ) → ns ≡ numbers_at m p s → IfOk r (λ list. list ≡ ns) → IfOk r (λ list. list ≡ numbers_at m p s)
+list_as m p s r ns is h = subst (λ l. IfOk r (λ list. list ≡ l)) is h
+
+pub set_is : (rows : List (List ℕ)) (i n : ℕ) (old list : List ℕ) (added : Bool) → i < length rows → old ≡ get_or rows i old → AreNumbers (λ m. (m ≡ n) ⊎ Contains old m) list → (IsTrue added ↔ (Contains old n → ⊥))
+    → MatchBool added (length list ≡ length old + 1) (list ≡ old) → IsSetAt rows i n added (set rows i list)
+set_is rows i n old list added lt is numbers fresh more =
+    let e : old ≡ get_or rows i [] = is ∙ get_or_default rows i old [] lt in
+    record {
+      within = lt;
+      list = list;
+      is = refl;
+      numbers = subst (λ o. AreNumbers (λ m. (m ≡ n) ⊎ Contains o m) list) e numbers;
+      fresh = subst (λ o. IsTrue added ↔ (Contains o n → ⊥)) e fresh;
+      counted = subst (λ o. MatchBool added (length list ≡ length o + 1) (list ≡ o)) e more;
+    }
+
+-- ---- planes for the rows of a table, one point after the other
+
+pub record IsLaying (rows : List Row) (i : ℕ) (slots : List Counts) (starts : List ℕ) (planes awaits : List (List ℕ)) : Type 0 where
+  pub slots_so : slots ≡ map counts_of (take i rows)
+  pub laid : IsLaid slots starts (length planes) (length awaits)
+  pub planes_blank : All (λ ns. ns ≡ []) planes
+  pub awaits_blank : All (λ ns. ns ≡ []) awaits
+
+pub laying_begin : (rows : List Row) → IsLaying rows 0 [] [] [] []
+unfolding start_of
+laying_begin rows = record {
+  slots_so = refl;
+  laid = record { each_start = refl; starts_so = λ p lt. absurd (omega arith); each_plane = refl; each_await = refl };
+  planes_blank = All-nil (λ ns. ns ≡ []);
+  awaits_blank = All-nil (λ ns. ns ≡ []);
+}
+
+pub laying_more : (rows : List Row) (i : ℕ) (row : Row) (slots new_slots : List Counts) (starts new_starts : List ℕ) (planes new_planes awaits new_awaits : List (List ℕ))
+    → IsLaying rows i slots starts planes awaits → i < length rows → row ≡ get_or rows i row
+    → new_slots ≡ slots ++ counts_of row ∷ [] → new_starts ≡ starts ++ length planes ∷ [] → new_planes ≡ planes ++ replicate (size_of (counts_of row)) [] → new_awaits ≡ awaits ++ [] ∷ []
+    → IsLaying rows (i + 1) new_slots new_starts new_planes new_awaits
+laying_more rows i row slots new_slots starts new_starts planes new_planes awaits new_awaits l lt is slots_are starts_are planes_are awaits_are = record {
+  slots_so =
+      slots_are ∙ ap (λ k. k ++ counts_of row ∷ []) l.slots_so ∙ ap (λ r. map counts_of (take i rows) ++ counts_of r ∷ []) is
+      ∙ sym (ap (map counts_of) (take_more rows i row lt) ∙ map-append counts_of (take i rows) (get_or rows i row ∷ []));
+  laid = record {
+    each_start = omega (arith, ap length starts_are, ap length slots_are, length-append starts (length planes ∷ []), length-append slots (counts_of row ∷ []), l.laid.each_start);
+    starts_so = λ p below. subst (λ k. slice_index_or new_starts p 0 ≡ start_of k p) (sym slots_are) (subst (λ k. slice_index_or k p 0 ≡ start_of (slots ++ counts_of row ∷ []) p) (sym starts_are) (start_at p (omega (arith, ap length slots_are, length-append slots (counts_of row ∷ [])))));
+    each_plane = subst (λ k. length new_planes ≡ start_of k (length k)) (sym slots_are) (omega (arith, ap length planes_are, length-append planes (replicate (size_of (counts_of row)) []), length-replicate {A = List ℕ} (size_of (counts_of row)) [], l.laid.each_plane, all_slots, start_last slots (counts_of row)));
+    each_await = omega (arith, ap length awaits_are, ap length slots_are, length-append awaits ([] ∷ []), length-append slots (counts_of row ∷ []), l.laid.each_await);
+  };
+  planes_blank = subst (All (λ ns. ns ≡ [])) (sym planes_are) (All-append (λ ns. ns ≡ []) planes (replicate (size_of (counts_of row)) []) l.planes_blank (All-replicate (λ ns. ns ≡ []) (size_of (counts_of row)) [] refl));
+  awaits_blank = subst (All (λ ns. ns ≡ [])) (sym awaits_are) (All-push (λ ns. ns ≡ []) awaits [] l.awaits_blank refl);
+}
+  where
+    all_slots : start_of (slots ++ counts_of row ∷ []) (length (slots ++ counts_of row ∷ [])) ≡ start_of (slots ++ counts_of row ∷ []) (suc (length slots))
+    all_slots = ap (start_of (slots ++ counts_of row ∷ [])) (let long = length-append slots (counts_of row ∷ []) in omega arith)
+
+    start_at : (p : ℕ) → p < suc (length slots) → slice_index_or (starts ++ length planes ∷ []) p 0 ≡ start_of (slots ++ counts_of row ∷ []) p
+    start_at p below = elim (cases_lt p (length slots)) as (λ _. slice_index_or (starts ++ length planes ∷ []) p 0 ≡ start_of (slots ++ counts_of row ∷ []) p) [
+      | inl old ↦
+          get_or_append_left starts (length planes ∷ []) 0 p (omega (arith, l.laid.each_start))
+          ∙ l.laid.starts_so p old ∙ sym (start_push slots (counts_of row) p (omega arith))
+      | inr last ↦
+          (let here : p ≡ length slots = omega arith in
+          let first : p - length slots ≡ 0 = omega arith in
+          get_or-append_right starts (length planes ∷ []) (length slots) p 0 l.laid.each_start last
+          ∙ ap (λ n. get_or (length planes ∷ []) n 0) first
+          ∙ l.laid.each_plane ∙ sym (ap (start_of (slots ++ counts_of row ∷ [])) here ∙ start_push slots (counts_of row) (length slots) (omega arith)))
+    ]
+
+pub laying_end : (rows : List Row) (i : ℕ) (slots : List Counts) (starts : List ℕ) (planes awaits : List (List ℕ)) → IsLaying rows i slots starts planes awaits → length rows ≤ i
+    → IsBlank (map counts_of rows) (record { slots = slots; planes = planes; awaits = awaits })
+laying_end rows i slots starts planes awaits l past = record {
+  slots_so = l.slots_so ∙ ap (map counts_of) (take_all i rows past);
+  planes = l.planes_blank;
+  awaits = l.awaits_blank;
+}
+
+pub laying_step : (rows : List Row) (i : ℕ) (row : Row) (counts : Counts) (size start : ℕ) (slots new_slots : List Counts) (starts new_starts : List ℕ) (planes new_planes awaits new_awaits : List (List ℕ))
+    → i < length rows → row ≡ get_or rows i row → counts ≡ counts_of row → size ≡ size_of counts → start ≡ length planes
+    → new_slots ≡ slots ++ counts ∷ [] → new_starts ≡ starts ++ start ∷ [] → new_planes ≡ planes ++ replicate size [] → new_awaits ≡ awaits ++ [] ∷ []
+    → IsLaying rows i slots starts planes awaits → IsLaying rows (i + 1) new_slots new_starts new_planes new_awaits
+laying_step rows i row counts size start slots new_slots starts new_starts planes new_planes awaits new_awaits lt is counts_are size_is start_is slots_are starts_are planes_are awaits_are l =
+    laying_more rows i row slots new_slots starts new_starts planes new_planes awaits new_awaits l lt is
+    (slots_are ∙ ap (λ c. slots ++ c ∷ []) counts_are)
+    (starts_are ∙ ap (λ n. starts ++ n ∷ []) start_is)
+    (planes_are ∙ ap (λ n. planes ++ replicate n []) (size_is ∙ ap size_of counts_are))
+    awaits_are
+
+pub laying_first : (rows : List Row) (slots : List Counts) (starts : List ℕ) (planes awaits : List (List ℕ)) → slots ≡ [] → starts ≡ [] → planes ≡ [] → awaits ≡ [] → IsLaying rows 0 slots starts planes awaits
+laying_first rows slots starts planes awaits a b c d =
+    subst (λ l. IsLaying rows 0 l starts planes awaits) (sym a)
+    (subst (λ l. IsLaying rows 0 [] l planes awaits) (sym b)
+    (subst (λ l. IsLaying rows 0 [] [] l awaits) (sym c)
+    (subst (λ l. IsLaying rows 0 [] [] [] l) (sym d) (laying_begin rows))))

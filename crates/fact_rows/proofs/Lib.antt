@@ -1,0 +1,6 @@
+pub mod Numbering
+pub mod Laying
+pub mod Valuing
+pub mod Holding
+pub mod Listing
+pub mod Fitting

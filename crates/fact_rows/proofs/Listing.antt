@@ -1,0 +1,285 @@
+-- Facts in their order: slot by slot, and of each slot by their numbers.
+use Rattle.std.proofs.Common.{◌≡◌, inl, inr, ⊎_elim, ℕ, suc, ◌+◌, ◌-◌, ◌<◌, ◌≤◌, true, List, [], ◌∷◌, ◌++◌, length, get_or, drop, map, Contains, Result, IfOk, Ok, Err, refl, sym, subst, ap, ◌∙◌, arith, append-nil, append_assoc}
+use Rattle.std.specs.declared.cmp.Ordering.{Ordering}
+use Rattle.std.specs.declared.cmp.Ordering.TheVariants.{Less, Equal, Greater}
+use Rattle.std.specs.List.{dedup}
+use Rattle.std.specs.List.Retain.{IsFiltered, DiffersFromLast}
+use Rattle.std.specs.List.Sorted.{IsPermutation, IsSorted, IsStrictlySortedBy}
+use Rattle.std.specs.Ordering.{eq_by_cmp, is_eq, nat_cmp, ordering_then}
+use Rattle.std.specs.Prelude.{nat_lt, nat_eq, if◌then◌else◌}
+use Rattle.std.proofs.lemmas.Bool.{cases_lt, cond-true, lt-ltb}
+use Rattle.std.specs.Cmp.{IsEquivalence}
+use Rattle.std.proofs.lemmas.Cmp.{eq_by_cmp_equiv, nat_cmp_total, ranked, tied_itself}
+use Rattle.std.proofs.lemmas.List.{get_or_default}
+use Rattle.std.proofs.lemmas.List.Elements.{All-contains, All-from_recursion, recursion_from_All, Contains-append_cases, Contains-append_left, Contains-append_right, Contains-get_or}
+use Rattle.std.proofs.lemmas.List.Filters.{dedup_is}
+use Rattle.std.proofs.lemmas.List.Kept.{Contains-dedup, Contains-from_dedup, IsStrictlySortedBy-dedup}
+use Rattle.std.proofs.lemmas.List.Sorted.{Contains-permutation, IsPermutation-sym}
+use Rattle.std.proofs.lemmas.Map.Keys.{sorted_head, sorted_tail}
+use Rattle.std.proofs.Math.ListN.{drop_of_length-le}
+use Rattle.plex_limits.specs.declared.limits.TheConstants.{MOST_VALUES}
+use Rattle.flow_points.specs.declared.fact.Slot.{Slot}
+use Rattle.flow_points.specs.declared.fact.Slot.TheVariants.{Temp, Given, Answered, Depth, Awaits}
+use Rattle.flow_points.specs.declared.fact.Value.{Value}
+use Rattle.flow_points.specs.declared.fact.Fact.{Fact}
+use Rattle.flow_points.specs.Facts.{fact}
+use Rattle.flow_points.specs.contracts.fact.SlotOrd.TheImpl as slots
+use Rattle.flow_points.specs.contracts.fact.SlotOrd.TheImpl.Laws as slot_laws
+use Rattle.flow_points.specs.contracts.fact.ValueOrd.TheImpl as values
+use Rattle.fact_rows.specs.declared.rows.Key.{Key}
+use Rattle.fact_rows.specs.contracts.rows.KeyPartialEq.TheImpl as same_keys
+use Rattle.fact_rows.specs.contracts.rows.KeyOrd.TheImpl.Laws as key_laws
+use Rattle.fact_rows.specs.declared.value.TheConstants.{ANY_NUMBER}
+use Rattle.fact_rows.specs.Places.{Marks, numbers_at}
+use Rattle.fact_rows.specs.Values.{numbered_value, value_in, numbers_of}
+use Rattle.fact_rows.specs.Orders.{fact_order}
+use Rattle.fact_rows.specs.Known.{Rows, Knows, AreFacts}
+use Rattle.fact_rows.specs.Touched.{key_order, key, IsKept, AreKeys, facts_at, facts_of}
+use Rattle.fact_rows.proofs.Valuing.{arg_is, const_is, any_is}
+use Rattle.fact_rows.proofs.Holding.{from_map, to_map, first_or_rest, rising_past, slot_below, none_in, opens}
+
+-- ---- lists that rise
+
+in_more : {X : Type 0} (x : X) (xs : List X) (y : X) → Contains xs y → Contains (x ∷ xs) y
+in_more x xs y c = (let lt = c.1 in (suc c.0, omega arith, c.2))
+
+module _ {X : Type 0} (cmp : X → X → Ordering) where
+  pub sorted_none : IsStrictlySortedBy cmp []
+  unfolding IsStrictlySortedBy
+  sorted_none = tt
+
+  sorted_cons : (x : X) (xs : List X) → ((y : X) → Contains xs y → cmp x y ≡ Less) → IsStrictlySortedBy cmp xs → IsStrictlySortedBy cmp (x ∷ xs)
+  unfolding IsStrictlySortedBy
+  sorted_cons x xs h up = (recursion_from_All (λ y. cmp x y ≡ Less) xs (λ k d lt. h (get_or xs k d) (Contains-get_or xs k d lt)), up)
+
+  before_rest : (x : X) (xs : List X) → IsStrictlySortedBy cmp (x ∷ xs) → (y : X) → Contains xs y → cmp x y ≡ Less
+  before_rest x xs up y c = All-contains (λ z. cmp x z ≡ Less) xs y (All-from_recursion (λ z. cmp x z ≡ Less) xs (sorted_head cmp x xs up)) c
+
+  pub sorted_append : (xs ys : List X) → IsStrictlySortedBy cmp xs → IsStrictlySortedBy cmp ys → ((x y : X) → Contains xs x → Contains ys y → cmp x y ≡ Less) → IsStrictlySortedBy cmp (xs ++ ys)
+  sorted_append [] ys up_x up_y h = up_y
+  sorted_append (x ∷ xs) ys up_x up_y h =
+      sorted_cons x (xs ++ ys)
+      (λ y c. ⊎_elim (λ left. before_rest x xs up_x y left) (λ right. h x y (0, omega arith, refl) right) (Contains-append_cases xs ys y c))
+      (sorted_append xs ys (sorted_tail cmp x xs up_x) up_y (λ u v c d. h u v (in_more x xs u c) d))
+
+  sorted_map : (f : ℕ → X) (bound : ℕ) → ((a b : ℕ) → a < b → b < bound → cmp (f a) (f b) ≡ Less) → (ns : List ℕ) → IsStrictlySortedBy nat_cmp ns → ((n : ℕ) → Contains ns n → n < bound) → IsStrictlySortedBy cmp (map f ns)
+  sorted_map f bound less [] up below = sorted_none
+  sorted_map f bound less (n ∷ ns) up below =
+      sorted_cons (f n) (map f ns)
+      (λ y c. let there = from_map f ns y c in subst (λ z. cmp (f n) z ≡ Less) there.2 (less n there.0 (rising_past n ns up there.0 there.1) (below there.0 (in_more n ns there.0 there.1))))
+      (sorted_map f bound less ns (sorted_tail nat_cmp n ns up) (λ m c. below m (in_more n ns m c)))
+
+-- ---- the order of facts
+
+then_less : (a b c : Ordering) → ordering_then a b ≡ Less → ordering_then a (ordering_then b c) ≡ Less
+then_less Less b c e = refl
+then_less Equal Less c e = refl
+then_less Equal Equal c e = absurd (cc)
+then_less Equal Greater c e = absurd (cc)
+then_less Greater b c e = absurd (cc)
+
+fact_less_key : (e p q : ℕ) (s t : Slot) (v w : Value) → key_order (key p s) (key q t) ≡ Less → fact_order (fact e p s v) (fact e q t w) ≡ Less
+fact_less_key e p q s t v w h =
+    ap (λ o. ordering_then o (ordering_then (nat_cmp p q) (ordering_then (slots.ghosts.cmp s t) (values.ghosts.cmp v w)))) (tied_itself nat_cmp_total e)
+    ∙ then_less (nat_cmp p q) (slots.ghosts.cmp s t) (values.ghosts.cmp v w) h
+
+fact_less_value : (e p : ℕ) (s : Slot) (v w : Value) → values.ghosts.cmp v w ≡ Less → fact_order (fact e p s v) (fact e p s w) ≡ Less
+fact_less_value e p s v w h =
+    let entry = tied_itself nat_cmp_total e in
+    let point = tied_itself nat_cmp_total p in
+    let slot = tied_itself slot_laws.total-law s in
+    λ i. ordering_then (entry i) (ordering_then (point i) (ordering_then (slot i) (h i)))
+
+pub nat_less : (a b : ℕ) → a < b → nat_cmp a b ≡ Less
+nat_less a b lt = cond-true (nat_lt a b) Less (if nat_eq a b then Equal else Greater) (lt-ltb a b lt)
+
+numbered_less : (a b : ℕ) → a < b → b < ANY_NUMBER + 1 → values.ghosts.cmp (numbered_value a) (numbered_value b) ≡ Less
+numbered_less a b lt upto =
+    elim (cases_lt a MOST_VALUES) as (λ _. values.ghosts.cmp (numbered_value a) (numbered_value b) ≡ Less) [
+      | inl arg ↦ elim (cases_lt b MOST_VALUES) as (λ _. values.ghosts.cmp (numbered_value a) (numbered_value b) ≡ Less) [
+        | inl args ↦ (λ i. values.ghosts.cmp (arg_is a arg i) (arg_is b args i)) ∙ nat_less a b lt
+        | inr past ↦ elim (cases_lt b ANY_NUMBER) as (λ _. values.ghosts.cmp (numbered_value a) (numbered_value b) ≡ Less) [
+          | inl small ↦ (λ i. values.ghosts.cmp (arg_is a arg i) (const_is b past small i))
+          | inr last ↦ (λ i. values.ghosts.cmp (arg_is a arg i) (any_is b last i))
+        ]
+      ]
+      | inr const ↦ elim (cases_lt b ANY_NUMBER) as (λ _. values.ghosts.cmp (numbered_value a) (numbered_value b) ≡ Less) [
+        | inl small ↦ (λ i. values.ghosts.cmp (const_is a const (below_last a b lt small) i) (const_is b (past_args a b const lt) small i)) ∙ nat_less (a - MOST_VALUES) (b - MOST_VALUES) (omega arith)
+        | inr last ↦ (λ i. values.ghosts.cmp (const_is a const (before_last a b lt upto) i) (any_is b last i))
+      ]
+    ]
+  where
+    below_last : (a b : ℕ) → a < b → b < ANY_NUMBER → a < ANY_NUMBER
+    below_last a b lt small = omega arith
+
+    before_last : (a b : ℕ) → a < b → b < ANY_NUMBER + 1 → a < ANY_NUMBER
+    before_last a b lt upto = omega arith
+
+    past_args : (a b : ℕ) → MOST_VALUES ≤ a → a < b → MOST_VALUES ≤ b
+    past_args a b le lt = omega arith
+
+value_less : (s : Slot) (a b : ℕ) → a < b → b < numbers_of s → values.ghosts.cmp (value_in s a) (value_in s b) ≡ Less
+value_less (Temp t) a b lt upto = numbered_less a b lt upto
+value_less (Given k) a b lt upto = numbered_less a b lt upto
+value_less (Answered k) a b lt upto = numbered_less a b lt upto
+value_less Depth a b lt upto = numbered_less a b lt upto
+value_less Awaits a b lt upto = nat_less a b lt
+
+-- ---- the facts of slots
+
+record IsListed (e : ℕ) (m : Marks) (ks : List Key) (f : Fact) : Type 0 where
+  own : Key
+  one : Contains ks own
+  number : ℕ
+  there : Contains (numbers_at m own.point own.slot) number
+  is : fact e own.point own.slot (value_in own.slot number) ≡ f
+
+listed_from : (e : ℕ) (m : Marks) (ks : List Key) (f : Fact) → Contains (facts_of e m ks) f → IsListed e m ks f
+listed_from e m [] f c = absurd (none_in f c)
+listed_from e m (k ∷ ks) f c =
+    ⊎_elim
+    (λ here. let there = from_map (λ n. fact e k.point k.slot (value_in k.slot n)) (numbers_at m k.point k.slot) f here in
+    record { own = k; one = (0, omega arith, refl); number = there.0; there = there.1; is = there.2 })
+    (λ later. let l = listed_from e m ks f later in record { own = l.own; one = in_more k ks l.own l.one; number = l.number; there = l.there; is = l.is })
+    (Contains-append_cases (facts_at e k (numbers_at m k.point k.slot)) (facts_of e m ks) f c)
+
+listed_to : (e : ℕ) (m : Marks) (ks : List Key) (k : Key) (n : ℕ) → Contains ks k → Contains (numbers_at m k.point k.slot) n → Contains (facts_of e m ks) (fact e k.point k.slot (value_in k.slot n))
+listed_to e m [] k n c there = absurd (none_in k c)
+listed_to e m (j ∷ ks) k n c there =
+    ⊎_elim
+    (λ (same : j ≡ k). Contains-append_left (facts_at e j (numbers_at m j.point j.slot)) (facts_of e m ks) (fact e k.point k.slot (value_in k.slot n))
+    (subst (λ (h : Key). Contains (facts_at e h (numbers_at m h.point h.slot)) (fact e k.point k.slot (value_in k.slot n))) (sym same) (to_map (λ i. fact e k.point k.slot (value_in k.slot i)) (numbers_at m k.point k.slot) n there)))
+    (λ rest. Contains-append_right (facts_at e j (numbers_at m j.point j.slot)) (facts_of e m ks) (fact e k.point k.slot (value_in k.slot n)) (listed_to e m ks k n rest there))
+    (first_or_rest j ks k c)
+
+module _ (e : ℕ) (m : Marks) (touched : List Key) (kept : IsKept m touched) where
+  abbrev rows : Rows
+  rows = record { entry = e; marks = m }
+
+  facts_rise : (ks : List Key) → IsStrictlySortedBy key_order ks → IsStrictlySortedBy fact_order (facts_of e m ks)
+  facts_rise [] up = sorted_none fact_order
+  facts_rise (k ∷ ks) up =
+      let planed = slot_below m touched kept k.point k.slot in
+      sorted_append fact_order (facts_at e k (numbers_at m k.point k.slot)) (facts_of e m ks)
+      (sorted_map fact_order (λ n. fact e k.point k.slot (value_in k.slot n)) (numbers_of k.slot)
+      (λ a b lt upto. fact_less_value e k.point k.slot (value_in k.slot a) (value_in k.slot b) (value_less k.slot a b lt upto))
+      (numbers_at m k.point k.slot) planed.rising
+      (λ n c. All-contains (λ i. i < numbers_of k.slot) (numbers_at m k.point k.slot) n planed.below c))
+      (facts_rise ks (sorted_tail key_order k ks up))
+      (λ f g c d.
+      let here = from_map (λ n. fact e k.point k.slot (value_in k.slot n)) (numbers_at m k.point k.slot) f c in
+      let later = listed_from e m ks g d in
+      subst (λ (u : Fact). fact_order u g ≡ Less) here.2
+      (subst (λ (u : Fact). fact_order (fact e k.point k.slot (value_in k.slot here.0)) u ≡ Less) later.is
+      (fact_less_key e k.point later.own.point k.slot later.own.slot (value_in k.slot here.0) (value_in later.own.slot later.number)
+      (before_rest key_order k ks up later.own later.one))))
+
+  pub facts_exact : (ks : List Key) → AreKeys touched ks → AreFacts (Knows rows) (facts_of e m ks)
+  facts_exact ks are = record { rising = facts_rise ks are.rising; each = each_known; listed = all_listed }
+    where
+      each_known : (f : Fact) → Contains (facts_of e m ks) f → Knows rows f
+      each_known f c =
+          let l = listed_from e m ks f c in
+          subst (Knows rows) l.is (record { entry = refl; value = to_map (value_in l.own.slot) (numbers_at m l.own.point l.own.slot) l.number l.there })
+
+      all_listed : (f : Fact) → Knows rows f → Contains (facts_of e m ks) f
+      all_listed f known =
+          let there = from_map (value_in f.slot) (numbers_at m f.point f.slot) f.value known.value in
+          let key_there : Contains ks (key f.point f.slot) = ⊎_elim
+          (λ none. absurd (none_in there.0 (subst (λ l. Contains l there.0) none there.1)))
+          (λ touched_one. are.listed (key f.point f.slot) touched_one)
+          (kept.listed f.point f.slot) in
+          let is : fact e f.point f.slot (value_in f.slot there.0) ≡ f = (λ i. record { entry = sym known.entry i; point = f.point; slot = f.slot; value = there.2 i }) in
+          subst (Contains (facts_of e m ks)) is (listed_to e m ks (key f.point f.slot) there.0 key_there there.1)
+
+-- ---- the slots in order
+
+pub nat_same : (a b : ℕ) → nat_cmp a b ≡ Equal → a ≡ b
+nat_same a b e = ranked a b Equal (sym e)
+
+pub slot_same : (s t : Slot) → slots.ghosts.cmp s t ≡ Equal → s ≡ t
+slot_same (Temp a) (Temp b) e = ap Temp (nat_same a b e)
+slot_same (Temp a) (Given b) e = absurd (cc)
+slot_same (Temp a) (Answered b) e = absurd (cc)
+slot_same (Temp a) Depth e = absurd (cc)
+slot_same (Temp a) Awaits e = absurd (cc)
+slot_same (Given a) (Temp b) e = absurd (cc)
+slot_same (Given a) (Given b) e = ap Given (nat_same a b e)
+slot_same (Given a) (Answered b) e = absurd (cc)
+slot_same (Given a) Depth e = absurd (cc)
+slot_same (Given a) Awaits e = absurd (cc)
+slot_same (Answered a) (Temp b) e = absurd (cc)
+slot_same (Answered a) (Given b) e = absurd (cc)
+slot_same (Answered a) (Answered b) e = ap Answered (nat_same a b e)
+slot_same (Answered a) Depth e = absurd (cc)
+slot_same (Answered a) Awaits e = absurd (cc)
+slot_same Depth (Temp b) e = absurd (cc)
+slot_same Depth (Given b) e = absurd (cc)
+slot_same Depth (Answered b) e = absurd (cc)
+slot_same Depth Depth e = refl
+slot_same Depth Awaits e = absurd (cc)
+slot_same Awaits (Temp b) e = absurd (cc)
+slot_same Awaits (Given b) e = absurd (cc)
+slot_same Awaits (Answered b) e = absurd (cc)
+slot_same Awaits Depth e = absurd (cc)
+slot_same Awaits Awaits e = refl
+
+equal_ties : (j k : Key) → same_keys.ghosts.eq j k ≡ eq_by_cmp key_order j k
+equal_ties j k = key_laws.matches_eq-law j k
+
+equal_keys : IsEquivalence same_keys.ghosts.eq
+equal_keys = record {
+  refl = λ j. equal_ties j j ∙ by_order.refl j;
+  symm = λ j k. equal_ties j k ∙ by_order.symm j k ∙ sym (equal_ties k j);
+  congr = λ j k i h. equal_ties j i ∙ by_order.congr j k i (sym (equal_ties j k) ∙ h) ∙ sym (equal_ties k i);
+}
+  where
+    by_order : IsEquivalence (eq_by_cmp key_order)
+    by_order = eq_by_cmp_equiv key_laws.total-law
+
+key_same : (j k : Key) → same_keys.ghosts.eq j k ≡ true → j ≡ k
+key_same j k e = by (nat_cmp j.point k.point) refl (is_equal (key_order j k) (sym (equal_ties j k) ∙ e))
+  where
+    is_equal : (o : Ordering) → is_eq o ≡ true → o ≡ Equal
+    is_equal Less e = absurd (cc)
+    is_equal Equal e = refl
+    is_equal Greater e = absurd (cc)
+
+    by : (o : Ordering) → nat_cmp j.point k.point ≡ o → ordering_then o (slots.ghosts.cmp j.slot k.slot) ≡ Equal → j ≡ k
+    by Less p s = absurd (cc)
+    by Equal p s = (λ i. record { point = nat_same j.point k.point p i; slot = slot_same j.slot k.slot s i })
+    by Greater p s = absurd (cc)
+
+pub keys_in_order : (keys copy sorted once : List Key) → copy ≡ keys → IsPermutation copy sorted → IsSorted key_order sorted → IsFiltered (DiffersFromLast same_keys.ghosts.eq) [] sorted once → AreKeys keys once
+keys_in_order keys copy sorted once same moved up kept = record {
+  rising = subst (IsStrictlySortedBy key_order) (sym is) (IsStrictlySortedBy-dedup key_laws.total-law equal_ties sorted up);
+  each = λ k c. subst (λ l. Contains l k) same (Contains-permutation sorted copy k (IsPermutation-sym copy sorted moved) (Contains-from_dedup same_keys.ghosts.eq sorted k (subst (λ l. Contains l k) is c)));
+  listed = λ k c. subst (λ l. Contains l k) (sym is) (Contains-dedup equal_keys key_same sorted k (Contains-permutation copy sorted k moved (subst (λ l. Contains l k) (sym same) c)));
+}
+  where
+    is : once ≡ dedup same_keys.ghosts.eq sorted
+    is = dedup_is same_keys.ghosts.eq sorted once kept
+
+-- ---- the list of facts grows by a slot
+
+pub facts_begin : (e : ℕ) (m : Marks) (ks : List Key) (now : List Fact) → now ≡ [] → now ++ facts_of e m ks ≡ facts_of e m ks
+facts_begin e m ks now none = ap (λ l. l ++ facts_of e m ks) none
+
+pub facts_more : (e : ℕ) (m : Marks) (ks : List Key) (i : ℕ) (d : Key) (numbers : List ℕ) (now new all : List Fact) → i < length ks → numbers ≡ numbers_at m (get_or ks i d).point (get_or ks i d).slot → new ≡ now ++ facts_at e (get_or ks i d) numbers
+    → now ++ facts_of e m (drop i ks) ≡ all → new ++ facts_of e m (drop (i + 1) ks) ≡ all
+facts_more e m ks i d numbers now new all lt are to h =
+    let k : Key = get_or ks i d in
+    let is : k ≡ get_or ks i k = get_or_default ks i d k lt in
+    ap (λ l. l ++ facts_of e m (drop (i + 1) ks)) (to ∙ ap (λ l. now ++ facts_at e k l) are)
+    ∙ append_assoc now (facts_at e k (numbers_at m k.point k.slot)) (facts_of e m (drop (i + 1) ks))
+    ∙ ap (λ l. now ++ facts_of e m l) (sym (opens ks i k lt is)) ∙ h
+
+pub facts_end : (e : ℕ) (m : Marks) (ks : List Key) (i : ℕ) (now all : List Fact) → length ks ≤ i → now ++ facts_of e m (drop i ks) ≡ all → now ≡ all
+facts_end e m ks i now all past h = sym (append-nil now) ∙ sym (ap (λ l. now ++ facts_of e m l) (drop_of_length-le ks past)) ∙ h
+
+pub facts_ok : {E : Type 0} (k : Rows) (e : ℕ) (m : Marks) (touched seen once keys : List Key) (r : Result (List Fact) E) → record { entry = e; marks = m } ≡ k → IsKept m touched → seen ≡ touched → AreKeys seen once → keys ≡ once
+    → IfOk r (λ facts. facts ≡ facts_of e m keys) → IfOk r (AreFacts (Knows k))
+facts_ok k e m touched seen once keys (Ok facts) same kept are_touched are are_once h =
+    let all : AreKeys touched keys = subst (AreKeys touched) (sym are_once) (subst (λ l. AreKeys l once) are_touched are) in
+    subst (λ (rows : Rows). AreFacts (Knows rows) facts) same (subst (AreFacts (Knows (record { entry = e; marks = m }))) (sym h) (facts_exact e m touched kept keys all))
+facts_ok k e m touched seen once keys (Err x) same kept are_touched are are_once h = h

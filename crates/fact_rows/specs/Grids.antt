@@ -1,0 +1,53 @@
+-- What changes in the planes of all slots.
+use Rattle.std.specs.Prelude.{◌≡◌, ◌⊎◌, ◌↔◌, ℕ, ◌+◌, ◌<◌, Bool, List, [], length, Option, Some, None, IsTrue, slice_index_or, slice_set}
+use Rattle.std.specs.Bool.{MatchBool}
+use Rattle.std.specs.List.{All, Contains}
+use Rattle.fact_rows.specs.declared.place.Counts.{Counts}
+use Rattle.fact_rows.specs.declared.place.Spot.{Spot}
+use Rattle.fact_rows.specs.declared.place.Spot.TheVariants.{Plane, Awaited}
+use Rattle.fact_rows.specs.Numbers.{AreNumbers}
+use Rattle.fact_rows.specs.Places.{Marks, start_of}
+
+-- the row of planes has its place for each slot before each point
+pub record IsLaid (slots : List Counts) (starts : List ℕ) (planes awaits : ℕ) : Type 0 where
+  pub each_start : length starts ≡ length slots
+  pub starts_so : (p : ℕ) → p < length slots → slice_index_or starts p 0 ≡ start_of slots p
+  pub each_plane : planes ≡ start_of slots (length slots)
+  pub each_await : awaits ≡ length slots
+
+-- planes for these slots that have no numbers
+pub record IsBlank (slots : List Counts) (m : Marks) : Type 0 where
+  pub slots_so : m.slots ≡ slots
+  pub planes : All (λ ns. ns ≡ []) m.planes
+  pub awaits : All (λ ns. ns ≡ []) m.awaits
+
+-- a number more in one plane of a row, if it was not there
+pub record IsSetAt (old : List (List ℕ)) (i n : ℕ) (added : Bool) (new : List (List ℕ)) : Type 0 where
+  pub within : i < length old
+  pub list : List ℕ
+  pub is : new ≡ slice_set old i list
+  pub numbers : AreNumbers (λ m. (m ≡ n) ⊎ Contains (slice_index_or old i []) m) list
+  pub fresh : IsTrue added ↔ (Contains (slice_index_or old i []) n → ⊥)
+  pub counted : MatchBool added (length list ≡ length (slice_index_or old i []) + 1) (list ≡ slice_index_or old i [])
+
+-- a number more at a spot, if it was not there
+pub record SetsPlane (old : Marks) (n : ℕ) (added : Bool) (i : ℕ) (new : Marks) : Type 0 where
+  pub slots : new.slots ≡ old.slots
+  pub planes : IsSetAt old.planes i n added new.planes
+  pub awaits : new.awaits ≡ old.awaits
+
+pub record SetsAwaited (old : Marks) (n : ℕ) (added : Bool) (i : ℕ) (new : Marks) : Type 0 where
+  pub slots : new.slots ≡ old.slots
+  pub planes : new.planes ≡ old.planes
+  pub awaits : IsSetAt old.awaits i n added new.awaits
+
+abbrev pub SetsAt : Marks → ℕ → Bool → Option Spot → Marks → Type 0
+SetsAt old n added None new = ⊥
+SetsAt old n added (Some (Plane i)) new = SetsPlane old n added i new
+SetsAt old n added (Some (Awaited i)) new = SetsAwaited old n added i new
+
+-- a spot without numbers, and the others as they were
+abbrev pub cleared_at : Marks → Option Spot → Marks
+cleared_at m None = m
+cleared_at m (Some (Plane i)) = record { slots = m.slots; planes = slice_set m.planes i []; awaits = m.awaits }
+cleared_at m (Some (Awaited i)) = record { slots = m.slots; planes = m.planes; awaits = slice_set m.awaits i [] }

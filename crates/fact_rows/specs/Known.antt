@@ -1,0 +1,56 @@
+-- What rows of bits know: facts of one entry, and how many more there are that they could know.
+use Rattle.std.specs.Prelude.{◌≡◌, ◌⊎◌, ◌↔◌, ℕ, ◌+◌, ◌*◌, ◌-◌, List, length, map, Some, slice_get}
+use Rattle.std.specs.List.{Contains, sum_by}
+use Rattle.std.specs.List.Sorted.{IsStrictlySortedBy}
+use Rattle.flow_points.specs.declared.fact.Fact.{Fact}
+use Rattle.flow_table.specs.declared.row.FlowTable.{FlowTable}
+use Rattle.fact_rows.specs.declared.place.Counts.{Counts}
+use Rattle.fact_rows.specs.declared.value.TheConstants.{ANY_NUMBER, AWAITED_NUMBERS}
+use Rattle.fact_rows.specs.Places.{Marks, HasPlace, counts_of, numbers_at}
+use Rattle.fact_rows.specs.Values.{HasNumber, value_in}
+use Rattle.fact_rows.specs.Orders.{fact_order}
+
+-- rows of bits: whose facts they are, and the numbers in their planes
+pub record Rows : Type 0 where
+  pub entry : ℕ
+  pub marks : Marks
+
+-- the rows know the fact: it is of their entry, and the number of its value is in the plane of its slot and point
+pub record Knows (k : Rows) (f : Fact) : Type 0 where
+  pub entry : f.entry ≡ k.entry
+  pub value : Contains (map (value_in f.slot) (numbers_at k.marks f.point f.slot)) f.value
+
+-- a fact has a place in the rows: its slot stands before its point, and its value has a number there
+pub record Fits (slots : List Counts) (f : Fact) : Type 0 where
+  pub counts : Counts
+  pub there : slice_get slots f.point ≡ Some counts
+  pub slot : HasPlace counts f.slot
+  pub number : HasNumber f.slot f.value
+
+-- the slots before each point of a table
+abbrev pub slots_of : FlowTable → List Counts
+slots_of t = map counts_of t.rows
+
+-- rows of an entry, for these slots before each point, that know nothing
+pub record KnowNothing (entry : ℕ) (slots : List Counts) (k : Rows) : Type 0 where
+  pub of_entry : k.entry ≡ entry
+  pub of_slots : k.marks.slots ≡ slots
+  pub nothing : (f : Fact) → Knows k f → ⊥
+
+-- exactly one fact more is known, if it was not known before
+pub record Adds (f : Fact) (old new : Rows) : Type 0 where
+  pub entry : new.entry ≡ old.entry
+  pub slots : new.marks.slots ≡ old.marks.slots
+  pub knows : (g : Fact) → Knows new g ↔ ((g ≡ f) ⊎ Knows old g)
+
+-- how many facts are not known
+unfoldable pub missing : Rows → ℕ
+missing k =
+    ((ANY_NUMBER + 1) * length k.marks.planes + AWAITED_NUMBERS * length k.marks.awaits)
+    - (sum_by length k.marks.planes + sum_by length k.marks.awaits)
+
+-- exactly these facts, in their order
+pub record AreFacts (P : Fact → Type 0) (facts : List Fact) : Type 0 where
+  pub rising : IsStrictlySortedBy fact_order facts
+  pub each : (f : Fact) → Contains facts f → P f
+  pub listed : (f : Fact) → P f → Contains facts f

@@ -1,0 +1,7 @@
+pub mod Numbers
+pub mod Places
+pub mod Values
+pub mod Orders
+pub mod Known
+pub mod Grids
+pub mod Touched

@@ -1,0 +1,113 @@
+// Numbers as bits of words, 64 to a word.
+ghost use Rattle.std.specs.Prelude.{◌≡◌, ◌⊎◌, ◌↔◌, ℕ, ◌+◌, ◌*◌, ◌<◌, ◌≤◌, ◌^◌, ◌++◌, ◌==◌, [], length, IfOk, OnOk, IsTrue};
+ghost use Rattle.std.specs.Bool.{MatchBool};
+ghost use Rattle.std.specs.List.{Contains, list_all};
+ghost use Rattle.fact_rows.specs.Numbers.{AreNumbers, bit_number, bits_of, numbers};
+
+use plex_num::{Memory, Seq};
+use std::alloc::Global;
+
+/// Whether the bit of a number is set.
+pub(crate) fn has_bit(words: &[u64], i: u32) -> bool
+    requires { i < 64 * length words.now }
+    ensures { IsTrue result ↔ Contains (numbers words.now) i }
+{
+    let word = words[i as usize / 64];
+    (word >> (i % 64)) & 1 == 1
+}
+
+/// Sets the bit of a number; true exactly where it was not set.
+pub(crate) fn set_bit(words: &mut [u64], i: u32) -> bool
+    requires { i < 64 * length words.old }
+    ensures numbers { AreNumbers
+        (λ n. (n ≡ i) ⊎ Contains (numbers words.old) n) (numbers words.new) }
+    ensures added { IsTrue result ↔ (Contains (numbers words.old) i → ⊥) }
+    ensures counted { MatchBool result
+        (length (numbers words.new) ≡ length (numbers words.old) + 1)
+        (numbers words.new ≡ numbers words.old) }
+{
+    let place = i as usize / 64;
+    let bit = 1u64 << (i % 64);
+    let word = words[place];
+    words[place] = word | bit;
+    word & bit == 0
+}
+
+/// Sets the bits that are set in as many other words; true exactly where one of them was not set.
+pub(crate) fn join_words(words: &mut [u64], others: &[u64]) -> bool
+    requires { length others.now ≡ length words.old }
+    ensures numbers { AreNumbers
+        (λ n. Contains (numbers words.old) n ⊎ Contains (numbers others.now) n)
+        (numbers words.new) }
+    ensures added { IsTrue result ↔ ((n : ℕ)
+        × Contains (numbers others.now) n × (Contains (numbers words.old) n → ⊥)) }
+{
+    let mut added = false;
+    for place in 0..words.len() {
+        let word = words[place];
+        let joined = word | others[place];
+        words[place] = joined;
+        added = grown(added, word, joined);
+    }
+    added
+}
+
+fn grown(before: bool, word: u64, joined: u64) -> bool
+    ensures { IsTrue result ↔ (IsTrue before ⊎ (joined ≡ word → ⊥)) }
+{
+    if before {
+        return true;
+    }
+    joined != word
+}
+
+/// Whether no bit is set.
+pub(crate) fn are_zero(words: &[u64]) -> bool
+    ensures { IsTrue result ↔ (numbers words.now ≡ []) }
+{
+    all_zero(words)
+}
+
+fn all_zero(words: &[u64]) -> bool
+    ensures { result ≡ list_all (λ w. w == 0) words.now }
+{
+    words.iter().all(|word| *word == 0)
+}
+
+/// The numbers of all bits that are set, rising.
+pub(crate) fn numbers_in(alloc: Global, words: &[u64]) -> Result<Seq<u32>, Memory>
+    requires { 64 * length words.now ≤ 2 ^ 32 }
+    ensures { IfOk result (λ list. list ≡ numbers words.now) }
+{
+    let mut list = Seq::new(alloc);
+    for place in 0..words.len() {
+        push_bits(words[place], 64 * place as u32, &mut list)?;
+    }
+    Ok(list)
+}
+
+/// Appends the numbers of the bits of a word, the lowest of which has this number.
+fn push_bits(word: u64, first: u32, list: &mut Seq<u32>) -> Result<(), Memory>
+    requires { first + 64 ≤ 2 ^ 32 }
+    ensures { OnOk result (list.new ≡ list.old ++ bits_of word first 64) }
+{
+    if word == 0 {
+        return Ok(());
+    }
+    for bit in 0..64 {
+        push_bit(word, bit, first, list)?;
+    }
+    Ok(())
+}
+
+/// Appends the number of a bit, if it is set.
+fn push_bit(word: u64, bit: u32, first: u32, list: &mut Seq<u32>) -> Result<(), Memory>
+    requires within { bit < 64 }
+    requires fits { first + 64 ≤ 2 ^ 32 }
+    ensures { OnOk result (list.new ≡ list.old ++ bit_number word first bit) }
+{
+    if (word >> bit) & 1 == 1 {
+        list.push(first + bit)?;
+    }
+    Ok(())
+}

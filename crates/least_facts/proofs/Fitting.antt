@@ -1,0 +1,97 @@
+-- Each least fact has its place in the rows.
+use Rattle.std.proofs.Common.{◌≡◌, inl, inr, ℕ, ◌<◌, List, length, map, Some, slice_get, sym, ap, subst, arith, zero, suc, [], ◌∷◌}
+use Rattle.std.proofs.lemmas.List.{length-map}
+use Rattle.std.proofs.lemmas.Option.{none-some, same_Some}
+use Rattle.exchange_model.specs.declared.exchange.Exchange.{Exchange}
+use Rattle.exchange_model.specs.Kept.{IsExchange}
+use Rattle.flow_points.specs.declared.fact.Fact.{Fact}
+use Rattle.flow_points.specs.declared.fact.Slot.{Slot}
+use Rattle.flow_points.specs.declared.fact.Slot.TheVariants.{Temp, Given, Answered, Depth, Awaits}
+use Rattle.flow_points.specs.declared.fact.Value.{Value}
+use Rattle.flow_points.specs.declared.flow.Source.{Source}
+use Rattle.flow_points.specs.declared.flow.Source.TheVariants.{Of, Is, Deeper, Nothing}
+use Rattle.flow_points.specs.Facts.{Facts, SourceGives, IsClosed, IsLeast}
+use Rattle.flow_points.specs.Places.{Place}
+use Rattle.flow_points.specs.Slots.{IsSlotOf, HasSlot}
+use Rattle.flow_points.specs.Sources.{source_of, start_source}
+use Rattle.flow_points.proofs.Least.{least_in}
+use Rattle.flow_table.specs.declared.row.Row.{Row}
+use Rattle.flow_table.specs.declared.row.FlowTable.{FlowTable}
+use Rattle.flow_table.specs.Rows.{IsRowOf, IsTable}
+use Rattle.flow_table.proofs.Rowing.{place_fits}
+use Rattle.fact_rows.specs.Known.{Fits, slots_of}
+use Rattle.fact_rows.specs.Places.{HasPlace, counts_of}
+use Rattle.fact_rows.specs.Values.{HasNumber, IsNumbered, IsAwaited}
+use Rattle.least_facts.proofs.Numbering.{Numbered, Awaited, SourceFits, leads_fit, start_fits}
+
+-- values
+
+module _ (t : FlowTable) where
+  abbrev InRows : Facts
+  InRows f = Fits (slots_of t) f
+
+  numbered_gives : (e p : ℕ) (source : Source) (v : Value) → Numbered source → SourceGives InRows e p source v → IsNumbered v
+  numbered_gives e p (Of s) v h g = h v g.number
+  numbered_gives e p (Is w) v h g = subst IsNumbered (sym g) h
+  numbered_gives e p Deeper v h g = subst IsNumbered (sym g.2) (let lt = g.1 in omega (arith, lt))
+  numbered_gives e p Nothing v h g = absurd g
+
+  awaited_gives : (e p : ℕ) (source : Source) (v : Value) → Awaited source → SourceGives InRows e p source v → IsAwaited v
+  awaited_gives e p (Of s) v h g = h v g.number
+  awaited_gives e p (Is w) v h g = subst IsAwaited (sym g) h
+  awaited_gives e p Deeper v h g = absurd h
+  awaited_gives e p Nothing v h g = absurd g
+
+  value_numbered : (e p : ℕ) (s : Slot) (source : Source) (v : Value) → SourceFits s source → SourceGives InRows e p source v → HasNumber s v
+  value_numbered e p (Temp k) source v h g = numbered_gives e p source v h g
+  value_numbered e p (Given k) source v h g = numbered_gives e p source v h g
+  value_numbered e p (Answered k) source v h g = numbered_gives e p source v h g
+  value_numbered e p Depth source v h g = numbered_gives e p source v h g
+  value_numbered e p Awaits source v h g = awaited_gives e p source v h g
+
+  -- slots
+
+  get_map : {A B : Type 0} (f : A → B) (xs : List A) (i : ℕ) (a : A) → slice_get xs i ≡ Some a → slice_get (map f xs) i ≡ Some (f a)
+  get_map f [] i a there = absurd (none-some a there)
+  get_map f (y ∷ xs) zero a there = ap (λ z. Some (f z)) (same_Some y a there)
+  get_map f (y ∷ xs) (suc i) a there = get_map f xs i a there
+
+  slot_placed : (x : Exchange) (at : Place) (r : Row) (s : Slot) → IsRowOf x at r → IsSlotOf x at s → HasPlace (counts_of r) s
+  slot_placed x at r (Temp k) is h = subst (λ n. k < n) (sym is.temps) h
+  slot_placed x at r (Given k) is h = subst (λ n. k < n) (sym is.given) h
+  slot_placed x at r (Answered k) is h = subst (λ n. k < n) (sym is.answered) h
+  slot_placed x at r Depth is h = tt
+  slot_placed x at r Awaits is h = tt
+
+  fits : (x : Exchange) (f : Fact) → IsTable x t → HasSlot x f.point f.slot → HasNumber f.slot f.value → Fits (slots_of t) f
+  fits x f table slot number =
+      let r = table.rows.each f.point slot.place slot.stands in
+      record {
+        counts = counts_of r.row;
+        there = get_map counts_of t.rows f.point r.row r.there;
+        slot = slot_placed x slot.place r.row f.slot r.is slot.slot;
+        number = number;
+      }
+
+  rows_closed : (x : Exchange) → IsExchange x → IsTable x t → IsClosed x InRows
+  rows_closed x kept table f (inl g) = fits x f table g.slot (value_numbered f.entry f.point f.slot (start_source _ f.slot) f.value (start_fits x kept g.entry.signal f.slot) g.gives)
+  rows_closed x kept table f (inr (p, g)) =
+      let w = g.flow in
+      fits x f table w.slot
+      (value_numbered f.entry g.at.point f.slot (source_of g.how f.slot) f.value (leads_fit x kept g.at.block g.at.point g.at.next g.at.layer f.point g.how (place_fits x g.at kept g.stands.place) w.leads f.slot) w.gives)
+
+  pub least_fits : (x : Exchange) → IsExchange x → IsTable x t → (f : Fact) → IsLeast x f → Fits (slots_of t) f
+  least_fits x kept table f h = least_in x InRows (rows_closed x kept table) f h
+
+  got_below : {A : Type 0} (xs : List A) (i : ℕ) (a : A) → slice_get xs i ≡ Some a → i < length xs
+  got_below [] i a there = absurd (none-some a there)
+  got_below (y ∷ xs) zero a there = omega arith
+  got_below (y ∷ xs) (suc i) a there = (let lt = got_below xs i a there in omega arith)
+
+  pub least_below : (x : Exchange) → IsExchange x → IsTable x t → (f : Fact) → IsLeast x f → f.point < length x.points
+  least_below x kept table f h =
+      let fit = least_fits x kept table f h in
+      let lt = got_below (slots_of t) f.point fit.counts fit.there in
+      let long : length (slots_of t) ≡ length t.rows = length-map t.rows counts_of in
+      let each = table.rows.each_point in
+      omega (arith, lt, long, each)

@@ -1,0 +1,272 @@
+-- Each source over a flow gives values that have a number in the plane of the slot.
+use Rattle.std.proofs.Common.{◌≡◌, inl, inr, ℕ, zero, suc, ◌+◌, ◌<◌, ◌≤◌, Bool, true, false, nat_lt, nat_eq, if◌then◌else◌, List, [], ◌∷◌, length, map, Option, Some, None, slice_get, refl, sym, subst, arith}
+use Rattle.std.proofs.lemmas.Bool.{ltb-true}
+use Rattle.std.proofs.lemmas.Option.{none-some, same_Some}
+use Rattle.std.specs.List.{AllByRecursion}
+use Rattle.std.specs.Option.{option_map_or}
+use Rattle.plex_limits.specs.declared.limits.TheConstants.{MOST_BLOCKS, MOST_SIGNALS, MOST_VALUES}
+use Rattle.exchange_model.specs.declared.exchange.Exchange.{Exchange}
+use Rattle.exchange_model.specs.declared.expr.Expr.{Expr, out-Expr}
+use Rattle.exchange_model.specs.declared.expr.Term.{Term, out-Term}
+use Rattle.exchange_model.specs.declared.expr.Joined.{Joined}
+use Rattle.exchange_model.specs.declared.expr.Factor.{Factor}
+use Rattle.exchange_model.specs.declared.expr.Factor.TheOpen as layer
+use Rattle.exchange_model.specs.declared.expr.Factor.TheVariants as factor
+use Rattle.exchange_model.specs.declared.signal.SignalKind.{SignalKind}
+use Rattle.exchange_model.specs.declared.signal.SignalKind.TheVariants.{Buffered, Direct, Combined, Outside}
+use Rattle.exchange_model.specs.declared.stmt.Receiver.{Receiver}
+use Rattle.exchange_model.specs.declared.stmt.StmtKind.TheOpen as stmt
+use Rattle.exchange_model.specs.Fits.{Scope, ExprFits, FactorFits}
+use Rattle.exchange_model.specs.Kept.{IsExchange, IsAnswerOf, signal_count, scope_of}
+use Rattle.exchange_model.specs.PartFits.{TermFits, JoinedFits, FactorOwnFits, InsideFits}
+use Rattle.exchange_model.proofs.Layers.{expr_fits-out, term_fits-out, joined_fits-out, factor_fits-out}
+use Rattle.source_meaning.specs.Changes.{value_count}
+use Rattle.source_meaning.specs.Named.{Layer}
+use Rattle.source_meaning.specs.Rests.{IsOfBlock}
+use Rattle.source_meaning.proofs.Parts.{Parts, every_expr}
+use Rattle.flow_points.specs.declared.limits.TheConstants.{SMALL_NUMBERS}
+use Rattle.flow_points.specs.declared.fact.Slot.{Slot}
+use Rattle.flow_points.specs.declared.fact.Slot.TheVariants.{Temp, Given, Answered, Depth, Awaits}
+use Rattle.flow_points.specs.declared.fact.Value.{Value}
+use Rattle.flow_points.specs.declared.fact.Value.TheVariants.{Arg, Const, Any}
+use Rattle.flow_points.specs.declared.flow.Passing.{Passing}
+use Rattle.flow_points.specs.declared.flow.Passing.TheVariants.{Kept, Sets, Takes, Retrieves, Begins, Passes, Calls, Answers}
+use Rattle.flow_points.specs.declared.flow.Source.{Source}
+use Rattle.flow_points.specs.declared.flow.Source.TheVariants.{Of, Is, Deeper, Nothing}
+use Rattle.flow_points.specs.Flows.{Leads, Goes, SendLeads}
+use Rattle.flow_points.specs.Sources.{alone, at_place, expr_source, kept, named, source_of, start_source}
+use Rattle.flow_table.specs.Alone.{term_source, joined_source, own_source}
+use Rattle.flow_table.proofs.Sourcing.{expr_source-out, term_source-out, joined_source-out, factor_as}
+use Rattle.fact_rows.specs.Values.{HasNumber, IsAwaited, IsNumbered}
+
+-- sources of slots other than AWAITS, and of AWAITS
+
+abbrev pub Numbered : Source → Type 0
+Numbered (Of s) = (v : Value) → HasNumber s v → IsNumbered v
+Numbered (Is v) = IsNumbered v
+Numbered Deeper = Unit {0}
+Numbered Nothing = Unit {0}
+
+abbrev pub Awaited : Source → Type 0
+Awaited (Of s) = (v : Value) → HasNumber s v → IsAwaited v
+Awaited (Is v) = IsAwaited v
+Awaited Deeper = ⊥
+Awaited Nothing = Unit {0}
+
+abbrev pub SourceFits : Slot → Source → Type 0
+SourceFits (Temp t) source = Numbered source
+SourceFits (Given k) source = Numbered source
+SourceFits (Answered k) source = Numbered source
+SourceFits Depth source = Numbered source
+SourceFits Awaits source = Awaited source
+
+abbrev pub HowFits : Passing → Type 0
+HowFits how = (s : Slot) → SourceFits s (source_of how s)
+
+no_number : Numbered (Is (Const 0))
+no_number = omega arith
+
+-- expressions
+
+module _ (s : Scope) (few : length s.blocks ≤ MOST_BLOCKS) where
+  abbrev ExprNumbered : Expr → Type 0
+  ExprNumbered e = ExprFits s e → Numbered (expr_source e)
+
+  abbrev TermNumbered : Term → Type 0
+  TermNumbered t = TermFits s t → Numbered (term_source t)
+
+  abbrev FactorNumbered : Factor → Type 0
+  FactorNumbered f = FactorOwnFits s f → Numbered (own_source f)
+
+  alone_term : (ts : List Term) → AllByRecursion TermNumbered ts → AllByRecursion (TermFits s) ts → Numbered (alone (map term_source ts))
+  alone_term [] each fit = tt
+  alone_term (t ∷ []) each fit = each.0 fit.0
+  alone_term (t ∷ u ∷ ts) each fit = tt
+
+  alone_factor : (js : List Joined) → AllByRecursion (λ (j : Joined). FactorNumbered j.factor) js → AllByRecursion (JoinedFits s) js → Numbered (alone (map joined_source js))
+  alone_factor [] each fit = tt
+  alone_factor (j ∷ []) each fit = subst Numbered (sym (joined_source-out j)) (each.0 (joined_fits-out s j fit.0))
+  alone_factor (j ∷ k ∷ js) each fit = tt
+
+  small_number : (n : ℕ) (t : Bool) → nat_lt n SMALL_NUMBERS ≡ t → Numbered (if t then Is (Const n) else Is Any)
+  small_number n true is = ltb-true n SMALL_NUMBERS is
+  small_number n false is = tt
+
+  numbered_parts : Parts ExprNumbered TermNumbered FactorNumbered
+  numbered_parts = record {
+    expr = λ e each fit. subst Numbered (sym (expr_source-out e)) (alone_term (out-Expr e).terms each (expr_fits-out s e fit).1);
+    term = λ t each fit. subst Numbered (sym (term_source-out t)) (alone_factor (out-Term t).factors each (term_fits-out s t fit).1);
+    number = λ n fit. subst Numbered (factor_as (factor.Number n) (layer.Number n) (factor.outs-Number n)) (small_number n (nat_lt n SMALL_NUMBERS) refl);
+    variable = λ v fit. subst Numbered (factor_as (factor.Variable v) (layer.Variable v) (factor.outs-Variable v)) tt;
+    temporary = λ t fit. subst Numbered (factor_as (factor.Temporary t) (layer.Temporary t) (factor.outs-Temporary t)) (λ v h. h);
+    field = λ file field pointer fit. subst Numbered (factor_as (factor.Field file field pointer) (layer.Field file field pointer) (factor.outs-Field file field pointer)) tt;
+    bracket = λ e inside fit. subst Numbered (factor_as (factor.Bracket e) (layer.Bracket e) (factor.outs-Bracket e)) (inside (subst (InsideFits s) (factor.outs-Bracket e) (factor_fits-out s (factor.Bracket e) fit).1));
+    reference = λ b fit.
+        subst Numbered (factor_as (factor.Reference b) (layer.Reference b) (factor.outs-Reference b))
+        (let below : b < length s.blocks = subst (FactorFits s) (factor.outs-Reference b) (factor_fits-out s (factor.Reference b) fit).0 in omega (arith, below, few));
+  }
+
+  expr_numbered : (e : Expr) → ExprFits s e → Numbered (expr_source e)
+  expr_numbered e = every_expr numbered_parts e
+
+  exprs_numbered : (es : List Expr) → AllByRecursion (ExprFits s) es → AllByRecursion Numbered (map expr_source es)
+  exprs_numbered [] fit = tt
+  exprs_numbered (e ∷ es) fit = (expr_numbered e fit.0, exprs_numbered es fit.1)
+
+-- flows
+
+either : (t : Bool) (a b : Source) → Numbered a → Numbered b → Numbered (if t then a else b)
+either true a b h k = h
+either false a b h k = k
+
+kept_fits : (s : Slot) → SourceFits s (kept s)
+kept_fits (Temp t) = λ v h. h
+kept_fits (Given k) = λ v h. h
+kept_fits (Answered k) = tt
+kept_fits Depth = λ v h. h
+kept_fits Awaits = λ v h. h
+
+sets_fit : (temp : ℕ) (source : Source) → Numbered source → HowFits (Sets temp source)
+sets_fit temp source h (Temp t) = either (nat_eq t temp) source (Of (Temp t)) h (λ v k. k)
+sets_fit temp source h (Given k) = λ v h. h
+sets_fit temp source h (Answered k) = tt
+sets_fit temp source h Depth = λ v h. h
+sets_fit temp source h Awaits = λ v h. h
+
+named_fits : (names : List ℕ) (slot : ℕ → Slot) → ((k : ℕ) → Numbered (Of (slot k))) → (k t : ℕ) (before : Source) → Numbered before → Numbered (named names slot k t before)
+named_fits [] slot each k t before h = h
+named_fits (name ∷ names) slot each k t before h = named_fits names slot each (k + 1) t (if nat_eq t name then Of (slot k) else before) (either (nat_eq t name) (Of (slot k)) before (each k) h)
+
+takes_fit : (names : List ℕ) → HowFits (Takes names)
+takes_fit names (Temp t) = named_fits names (λ k. Given k) (λ k v h. h) 0 t (Of (Temp t)) (λ v h. h)
+takes_fit names (Given k) = λ v h. h
+takes_fit names (Answered k) = tt
+takes_fit names Depth = λ v h. h
+takes_fit names Awaits = λ v h. h
+
+retrieves_fit : (names : List ℕ) → HowFits (Retrieves names)
+retrieves_fit names (Temp t) = named_fits names (λ k. Answered k) (λ k v h. h) 0 t (Of (Temp t)) (λ v h. h)
+retrieves_fit names (Given k) = λ v h. h
+retrieves_fit names (Answered k) = tt
+retrieves_fit names Depth = λ v h. h
+retrieves_fit names Awaits = λ v h. h
+
+at_fits : (values : List Source) (k : ℕ) (past : Source) → AllByRecursion Numbered values → Numbered past → Numbered (at_place values k past)
+at_fits [] k past each h = h
+at_fits (v ∷ values) zero past each h = each.0
+at_fits (v ∷ values) (suc k) past each h = at_fits values k past each.1 h
+
+begins_fit : (values : List Source) → AllByRecursion Numbered values → HowFits (Begins values)
+begins_fit values each (Temp t) = no_number
+begins_fit values each (Given k) = at_fits values k (Is (Const 0)) each no_number
+begins_fit values each (Answered k) = tt
+begins_fit values each Depth = λ v h. h
+begins_fit values each Awaits = λ v h. h
+
+passes_fit : (count : ℕ) → HowFits (Passes count)
+passes_fit count (Temp t) = no_number
+passes_fit count (Given k) = either (nat_lt k count) (Of (Given k)) (Is (Const 0)) (λ v h. h) no_number
+passes_fit count (Answered k) = tt
+passes_fit count Depth = λ v h. h
+passes_fit count Awaits = λ v h. h
+
+calls_fit : (values : List Source) (answer : ℕ) → AllByRecursion Numbered values → answer < MOST_SIGNALS → HowFits (Calls values answer)
+calls_fit values answer each lt (Temp t) = no_number
+calls_fit values answer each lt (Given k) = at_fits values k (Is (Const 0)) each no_number
+calls_fit values answer each lt (Answered k) = tt
+calls_fit values answer each lt Depth = tt
+calls_fit values answer each lt Awaits = omega (arith, lt)
+
+answers_fit : (values : List Source) → AllByRecursion Numbered values → HowFits (Answers values)
+answers_fit values each (Temp t) = tt
+answers_fit values each (Given k) = tt
+answers_fit values each (Answered k) = at_fits values k Nothing each tt
+answers_fit values each Depth = tt
+answers_fit values each Awaits = tt
+
+-- statements
+
+got_below : {A : Type 0} (xs : List A) (i : ℕ) (x : A) → slice_get xs i ≡ Some x → i < length xs
+got_below [] i x there = absurd (none-some x there)
+got_below (y ∷ xs) zero x there = omega arith
+got_below (y ∷ xs) (suc i) x there = (let lt = got_below xs i x there in omega arith)
+
+answer_some : (signals : List SignalKind) (combined answer : ℕ) (o : Option SignalKind) → slice_get signals answer ≡ o → IsAnswerOf combined o → answer < length signals
+answer_some signals combined answer None there is = absurd is
+answer_some signals combined answer (Some s) there is = got_below signals answer s there
+
+as_made : (how made : Passing) → how ≡ made → HowFits made → HowFits how
+as_made how made is h = λ s. subst (λ (k : Passing). SourceFits s (source_of k s)) (sym is) (h s)
+
+goes_fit : (to : Option ℕ) (made : Passing) (q : ℕ) (how : Passing) → HowFits made → Goes to made q how → HowFits how
+goes_fit to made q how h g = as_made how made g.is h
+
+kept_all : HowFits Kept
+kept_all = λ s. kept_fits s
+
+module _ (x : Exchange) (exchange : IsExchange x) where
+  send_fits : (o : Option SignalKind) (next : Option ℕ) (signal : ℕ) (to : Option Receiver) (values : List Expr) (q : ℕ) (how : Passing) → slice_get x.signals signal ≡ o → AllByRecursion Numbered (map expr_source values) → SendLeads x o next signal to values q how → HowFits how
+  send_fits (Some (Buffered name level count)) next signal to values q how there each g = goes_fit next Kept q how kept_all g
+  send_fits (Some (Direct name count)) next signal to values q how there each g = as_made how (Begins (map expr_source values)) g.goes.is (begins_fit (map expr_source values) each)
+  send_fits (Some (Combined name count answer)) next signal to values q how there each (inl g) =
+      let is = exchange.signals.answers signal (Combined name count answer) there in
+      let below = answer_some x.signals signal answer (slice_get x.signals answer) refl is.1 in
+      let few = exchange.signals.few in
+      as_made how (Calls (map expr_source values) answer) g.goes.is (calls_fit (map expr_source values) answer each (omega (arith, below, few)))
+  send_fits (Some (Combined name count answer)) next signal to values q how there each (inr g) = goes_fit next Kept q how kept_all g
+  send_fits (Some (Outside name count)) next signal to values q how there each g = goes_fit next Kept q how kept_all g
+  send_fits _ next signal to values q how there each g = absurd g
+
+  pub leads_fit : (b p : ℕ) (next : Option ℕ) (l : Layer) (q : ℕ) (how : Passing) → IsOfBlock x b l → Leads x b p next l q how → HowFits how
+  leads_fit b p next (stmt.Enter signal temps) q how of g = goes_fit next (Takes temps) q how (takes_fit temps) g
+  leads_fit b p next (stmt.SetTemp temp e) q how of g =
+      goes_fit next (Sets temp (expr_source e)) q how (sets_fit temp (expr_source e) (expr_numbered (scope_of x b of.block) exchange.blocks.few e of.fits.exprs.each.0)) g
+  leads_fit b p next (stmt.SetVariable variable e) q how of g = goes_fit next Kept q how kept_all g
+  leads_fit b p next (stmt.SetField file field pointer e) q how of g = goes_fit next Kept q how kept_all g
+  leads_fit b p next (stmt.Goto label) q how of g = as_made how Kept g.is kept_all
+  leads_fit b p next (stmt.IfGoto cond label) q how of (inl g) = as_made how Kept g.is kept_all
+  leads_fit b p next (stmt.IfGoto cond label) q how of (inr g) = as_made how Kept g.is kept_all
+  leads_fit b p next (stmt.If cond yes_part no_part) q how of (inl g) = as_made how Kept g.is kept_all
+  leads_fit b p next (stmt.If cond yes_part no_part) q how of (inr g) = as_made how Kept g.is kept_all
+  leads_fit b p next (stmt.Case e whens otherwise) q how of (inl g) = as_made how Kept g.goes.is kept_all
+  leads_fit b p next (stmt.Case e whens otherwise) q how of (inr g) = as_made how Kept g.is kept_all
+  leads_fit b p next (stmt.On temp from upto body) q how of (inl g) = as_made how (Sets temp (Is Any)) g.is (sets_fit temp (Is Any) tt)
+  leads_fit b p next (stmt.On temp from upto body) q how of (inr g) = as_made how Kept g.is kept_all
+  leads_fit b p next (stmt.ForFirst temp file field rel e label) q how of (inl g) = as_made how (Sets temp (Is Any)) g.is (sets_fit temp (Is Any) tt)
+  leads_fit b p next (stmt.ForFirst temp file field rel e label) q how of (inr g) = as_made how Kept g.is kept_all
+  leads_fit b p next (stmt.Send signal to values fresh) q how of g =
+      send_fits (slice_get x.signals signal) next signal to values q how refl (exprs_numbered (scope_of x b of.block) exchange.blocks.few values of.fits.exprs.each) g
+  leads_fit b p next (stmt.Retrieve answer temps) q how of g = goes_fit next (Retrieves temps) q how (retrieves_fit temps) g
+  leads_fit b p next (stmt.Return answer values) q how of g =
+      as_made how (Answers (map expr_source values)) g.is (answers_fit (map expr_source values) (exprs_numbered (scope_of x b of.block) exchange.blocks.few values of.fits.exprs.each))
+  leads_fit b p next (stmt.Transfer signal to) q how of g = as_made how _ g.goes.is (passes_fit _)
+  leads_fit b p next (stmt.Seize temp file label) q how of (inl g) = as_made how (Sets temp (Is Any)) g.is (sets_fit temp (Is Any) tt)
+  leads_fit b p next (stmt.Seize temp file label) q how of (inr g) = as_made how Kept g.is kept_all
+  leads_fit b p next (stmt.Free temp file) q how of g = as_made how Kept g.is kept_all
+  leads_fit b p next stmt.Exit q how of g = absurd g
+  leads_fit b p next stmt.Finish q how of g = absurd g
+
+  -- the start
+
+  all_at : {A : Type 0} (P : A → Type 0) (xs : List A) (i : ℕ) (a : A) → AllByRecursion P xs → slice_get xs i ≡ Some a → P a
+  all_at P [] i a all there = absurd (none-some a there)
+  all_at P (y ∷ xs) zero a all there = subst P (same_Some y a there) all.0
+  all_at P (y ∷ xs) (suc i) a all there = all_at P xs i a all.1 there
+
+  count_few : (signal : ℕ) → value_count x signal ≤ MOST_VALUES
+  count_few signal = by (slice_get x.signals signal) refl
+    where
+      by : (o : Option SignalKind) → slice_get x.signals signal ≡ o → option_map_or signal_count o 0 ≤ MOST_VALUES
+      by None there = omega arith
+      by (Some s) there = all_at (λ k. signal_count k ≤ MOST_VALUES) x.signals signal s exchange.signals.values there
+
+  given_start : (count k : ℕ) (t : Bool) → count ≤ MOST_VALUES → nat_lt k count ≡ t → Numbered (if t then Is (Arg k) else Is (Const 0))
+  given_start count k true few is = (let lt = ltb-true k count is in omega (arith, few, lt))
+  given_start count k false few is = no_number
+
+  pub start_fits : (signal : ℕ) (s : Slot) → SourceFits s (start_source (value_count x signal) s)
+  start_fits signal (Temp t) = no_number
+  start_fits signal (Given k) = given_start (value_count x signal) k (nat_lt k (value_count x signal)) (count_few signal) refl
+  start_fits signal (Answered k) = tt
+  start_fits signal Depth = no_number
+  start_fits signal Awaits = omega arith

@@ -1,0 +1,5 @@
+use Rattle.least_facts.proofs.Growing.{found_exact}
+use Rattle.least_facts.proofs.analyser.Analyser.facts_of.Goals as goal
+
+pub returns-clause-exact : goal.returns-clause-exact
+returns-clause-exact c = found_exact c.args.exchange.now c.args.table.now c.args.entry c.find.new.rows c.in_ok-facts.facts c.in_ok-find.ensures c.in_ok-facts.ensures

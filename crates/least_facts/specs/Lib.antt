@@ -1,0 +1,4 @@
+pub mod Answers
+pub mod Marks
+pub mod Growing
+pub mod Least

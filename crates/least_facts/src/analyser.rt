@@ -1,0 +1,101 @@
+// The least facts of an entry.
+ghost use Rattle.std.specs.Prelude.{◌≡◌, ◌↔◌, ℕ, IfOk, OnOk};
+ghost use Rattle.std.specs.List.{Contains};
+ghost use Rattle.std.specs.List.Sorted.{IsStrictlySortedBy};
+ghost use Rattle.flow_points.specs.declared.fact.Fact.{Fact};
+ghost use Rattle.flow_points.specs.Facts.{IsLeast};
+ghost use Rattle.flow_table.specs.Rows.{IsTable};
+ghost use Rattle.fact_rows.specs.Orders.{fact_order};
+ghost use Rattle.exchange_model.specs.declared.exchange.Exchange.{Exchange as ExchangeType};
+ghost use Rattle.least_facts.specs.Least.{HasLearned, IsFor, KnowLeast};
+
+use crate::answers::{AnswerTable, answers_of};
+use crate::finding::find;
+use exchange_model::Exchange;
+use fact_rows::FactRows;
+use flow_points::Fact;
+use flow_table::FlowTable;
+use plex_num::{Memory, Seq};
+use std::alloc::Global;
+
+/// What the least facts of entries are found with. It is made once for an exchange, so that each entry takes the time of its own
+/// facts and of the flows between them.
+#[derive(Drop)]
+pub struct Analyser {
+    answers: AnswerTable,
+    rows: FactRows,
+}
+
+impl Analyser {
+    /// The analyser of an exchange, of which this is the table.
+    pub fn new(alloc: Global, exchange: &Exchange, table: &FlowTable) -> Result<Analyser, Memory>
+        ensures { IfOk result (IsFor exchange.now table.now) }
+    {
+        Ok(Analyser {
+            answers: answers_of(alloc, exchange)?,
+            rows: FactRows::new(alloc, table)?,
+        })
+    }
+
+    /// Learns the least facts of an entry, in place of what it has learned before. After `Memory` the analyser is of no more use.
+    pub fn learn(
+        &mut self,
+        alloc: Global,
+        exchange: &Exchange,
+        table: &FlowTable,
+        entry: u32,
+    ) -> Result<(), Memory>
+        requires table { IsTable exchange.now table.now }
+        requires own { IsFor exchange.now table.now self.old }
+        ensures learned { OnOk result (HasLearned exchange.now entry self.new) }
+        ensures own { OnOk result (IsFor exchange.now table.now self.new) }
+    {
+        find(alloc, exchange, table, &self.answers, entry, &mut self.rows)?;
+        Ok(())
+    }
+
+    /// The facts that it has learned.
+    pub fn known(&self) -> &FactRows
+        ensures { (x : ExchangeType) (e : ℕ) → HasLearned x e self.now → KnowLeast x e result.now }
+    {
+        &self.rows
+    }
+
+    /// The least facts of an entry, in order. After `Memory` the analyser is of no more use.
+    #[tactic(auto, using(crate::proofs::Growing::found_rising))]
+    pub fn facts_of(
+        &mut self,
+        alloc: Global,
+        exchange: &Exchange,
+        table: &FlowTable,
+        entry: u32,
+    ) -> Result<Seq<Fact>, Memory>
+        requires table { IsTable exchange.now table.now }
+        requires own { IsFor exchange.now table.now self.old }
+        ensures exact { IfOk result (λ facts. (f : Fact)
+            → Contains facts f ↔ ((f.entry ≡ entry) × IsLeast exchange.now f)) }
+        ensures order { IfOk result (λ facts. IsStrictlySortedBy fact_order facts) }
+        ensures own { OnOk result (IsFor exchange.now table.now self.new) }
+    {
+        find(alloc, exchange, table, &self.answers, entry, &mut self.rows)?;
+        let facts = self.rows.facts(alloc)?;
+        Ok(facts)
+    }
+}
+
+/// The least facts of one entry of an exchange, of which this is the table, in order. For several entries an `Analyser` is made
+/// once.
+pub fn facts_of(
+    alloc: Global,
+    exchange: &Exchange,
+    table: &FlowTable,
+    entry: u32,
+) -> Result<Seq<Fact>, Memory>
+    requires table { IsTable exchange.now table.now }
+    ensures exact { IfOk result (λ facts. (f : Fact)
+        → Contains facts f ↔ ((f.entry ≡ entry) × IsLeast exchange.now f)) }
+    ensures order { IfOk result (λ facts. IsStrictlySortedBy fact_order facts) }
+{
+    let mut analyser = Analyser::new(alloc, exchange, table)?;
+    analyser.facts_of(alloc, exchange, table, entry)
+}

@@ -1,0 +1,5 @@
+pub mod Orders
+pub mod Pairs
+pub mod Clashes
+pub mod Nearby
+pub mod Asked

@@ -1,0 +1,40 @@
+-- The accesses that are of one number with an access, in a list in order: those that read it, and those that write it. For files:
+-- those that seize it, and those that free it.
+use Rattle.std.specs.Prelude.{◌≡◌, ℕ, Bool, true, false, List}
+use Rattle.std.specs.List.{Contains}
+use Rattle.flow_points.specs.declared.fact.Value.{Value}
+use Rattle.flow_points.specs.declared.fact.Value.TheVariants.{Arg, Any}
+use Rattle.entry_summary.specs.declared.summary.Access.{Access}
+use Rattle.entry_summary.specs.declared.summary.Access.TheVariants.{Variable, Field, Own, Seizes, Frees}
+
+-- the first and the last access of the number that may be
+abbrev pub file_access : ℕ → Bool → Access
+file_access f false = Seizes f
+file_access f true = Frees f
+
+abbrev pub lowest : Access → Bool → Access
+lowest (Variable w n) v = Variable v n
+lowest (Field w n u) v = Field v n (Arg 0)
+lowest (Own w n) v = Own v n
+lowest (Seizes f) v = file_access f v
+lowest (Frees f) v = file_access f v
+
+abbrev pub highest : Access → Bool → Access
+highest (Variable w n) v = Variable v n
+highest (Field w n u) v = Field v n Any
+highest (Own w n) v = Own v n
+highest (Seizes f) v = file_access f v
+highest (Frees f) v = file_access f v
+
+-- an access of the number, that writes or does not
+abbrev pub IsNear : Access → Bool → Access → Type 0
+IsNear (Variable w n) v b = b ≡ Variable v n
+IsNear (Field w n u) v b = (z : Value) × (b ≡ Field v n z)
+IsNear (Own w n) v b = b ≡ Own v n
+IsNear (Seizes f) v b = b ≡ file_access f v
+IsNear (Frees f) v b = b ≡ file_access f v
+
+-- some of these accesses, and all that are near
+pub record AreNear (one : Access) (write : Bool) (all some : List Access) : Type 0 where
+  pub each : (b : Access) → Contains some b → Contains all b
+  pub near : (b : Access) → Contains all b → IsNear one write b → Contains some b

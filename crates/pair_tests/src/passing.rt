@@ -1,0 +1,169 @@
+// Whether two jobs may run at once.
+ghost use Rattle.std.specs.Prelude.{◌≡◌, ◌≢◌, ◌↔◌, IsTrue, Some, slice_index};
+ghost use Rattle.std.specs.List.{All, Contains};
+ghost use Rattle.std.specs.List.Sorted.{IsStrictlySortedBy};
+ghost use Rattle.job_types.specs.declared.chain.Held.{Held};
+ghost use Rattle.entry_summary.specs.Orders.{access_order};
+ghost use Rattle.pair_tests.specs.declared.pair.Test.{Test};
+ghost use Rattle.pair_tests.specs.Asked.{AllHold, Asked, AskedRelease, AskedSeizing, AskedWith};
+ghost use Rattle.pair_tests.specs.Pairs.{Holds, IsTest, Passes};
+
+use crate::asking::{asked, release_test};
+use crate::near::near;
+use crate::pair::Test;
+use crate::verdict::first_conflict;
+use entry_summary::{Access, Summary};
+use job_types::{Held, JobStart};
+
+/// The value at a place, 0 where there is none.
+fn value_at(values: &[u32], place: u8) -> u32
+    ensures { result ≡ slice_index values.now place }
+{
+    match values.get(place as usize) {
+        Some(value) => *value,
+        None => 0,
+    }
+}
+
+/// Whether all records of a chain are of other files.
+fn are_of_others(chain: &[Held], file: u32) -> bool
+    ensures { IsTrue result ↔ All (λ (h : Held). h.file ≢ file) chain.now }
+{
+    chain.iter().all(|held| held.file != file)
+}
+
+/// Whether a chain has no record of a file.
+fn holds_none(chain: &[Held], file: u32) -> bool
+    ensures { IsTrue result ↔ ((h : Held) → Contains chain.now h → h.file ≢ file) }
+{
+    are_of_others(chain, file)
+}
+
+/// Whether a test holds of these two jobs.
+fn holds(test: Test, a: &JobStart, b: &JobStart) -> bool
+    ensures { IsTrue result ↔ Holds a.now b.now test }
+{
+    match test {
+        Test::Differ { first, later } => {
+            value_at(a.job.values.as_slice(), first) != value_at(b.job.values.as_slice(), later)
+        }
+        Test::FirstNot { first, value } => value_at(a.job.values.as_slice(), first) != value,
+        Test::LaterNot { later, value } => value_at(b.job.values.as_slice(), later) != value,
+        Test::InForlopp => a.job.forlopp != 0,
+        Test::HoldsNo { file } => holds_none(a.chain.as_slice(), file),
+    }
+}
+
+/// Whether a test holds, if there is one.
+#[tactic(auto, using(crate::proofs::Holding::none_asked, crate::proofs::Holding::one_asked))]
+fn holds_if(test: Option<Test>, a: &JobStart, b: &JobStart) -> bool
+    ensures { IsTrue result ↔ AllHold (λ (t : Test). test ≡ Some t) a.now b.now }
+{
+    match test {
+        None => true,
+        Some(test) => holds(test, a, b),
+    }
+}
+
+/// Whether the tests of an access of the first with these of the later hold.
+#[tactic(auto, using(crate::proofs::Holding::with_begin, crate::proofs::Holding::with_fails, crate::proofs::Holding::with_end))]
+fn hold_among(one: Access, others: &[Access], a: &JobStart, b: &JobStart) -> bool
+    ensures { IsTrue result ↔ AllHold (AskedWith one others.now) a.now b.now }
+{
+    for other in others {
+        if !holds_if(asked(one, *other), a, b) {
+            return false;
+        }
+    }
+    true
+}
+
+/// Whether the tests of an access of the first with one of the later hold.
+#[tactic(auto, using(crate::proofs::Holding::with_near))]
+fn hold_with(one: Access, others: &[Access], a: &JobStart, b: &JobStart) -> bool
+    requires { IsStrictlySortedBy access_order others.now }
+    ensures { IsTrue result ↔ AllHold (AskedWith one others.now) a.now b.now }
+{
+    let reads = hold_among(one, near(others, one, false), a, b);
+    let writes = hold_among(one, near(others, one, true), a, b);
+    reads & writes
+}
+
+/// Whether the tests of accesses of the first with those of the later hold.
+#[tactic(auto, using(crate::proofs::Holding::all_begin, crate::proofs::Holding::all_more, crate::proofs::Holding::all_fails, crate::proofs::Holding::all_end))]
+fn fields_hold(ones: &[Access], others: &[Access], a: &JobStart, b: &JobStart) -> bool
+    requires { IsStrictlySortedBy access_order others.now }
+    ensures { IsTrue result ↔ AllHold (Asked ones.now others.now) a.now b.now }
+{
+    for one in ones {
+        if !hold_with(*one, others, a, b) {
+            return false;
+        }
+    }
+    true
+}
+
+/// Whether the first holds no record of a file that the later one may seize.
+#[tactic(auto, using(crate::proofs::Holding::seizing_begin, crate::proofs::Holding::seizing_fails, crate::proofs::Holding::seizing_end))]
+fn seizing_holds(others: &[Access], a: &JobStart, b: &JobStart) -> bool
+    ensures { IsTrue result ↔ AllHold (AskedSeizing others.now) a.now b.now }
+{
+    for other in others {
+        if !holds_if(release_test(*other), a, b) {
+            return false;
+        }
+    }
+    true
+}
+
+/// Whether the tests of a first job that may fault hold.
+#[tactic(auto, using(crate::proofs::Holding::no_fault, crate::proofs::Holding::no_forlopp, crate::proofs::Holding::released))]
+fn release_holds(fault: bool, others: &[Access], a: &JobStart, b: &JobStart) -> bool
+    ensures { IsTrue result ↔ AllHold (AskedRelease fault others.now) a.now b.now }
+{
+    if !fault {
+        return true;
+    }
+    if a.job.forlopp == 0 {
+        return false;
+    }
+    seizing_holds(others, a, b)
+}
+
+/// Whether all tests of two summaries hold.
+#[tactic(auto, using(crate::proofs::Holding::tests_are))]
+fn tests_hold(first: &Summary, later: &Summary, a: &JobStart, b: &JobStart) -> bool
+    requires { IsStrictlySortedBy access_order later.now.accesses }
+    ensures { IsTrue result ↔ AllHold (IsTest first.now later.now) a.now b.now }
+{
+    let others = later.accesses.as_slice();
+    let fields = fields_hold(first.accesses.as_slice(), others, a, b);
+    let release = release_holds(first.fault, others, a, b);
+    fields & release
+}
+
+/// Whether two jobs are not of one forlopp other than 0.
+fn are_apart(a: &JobStart, b: &JobStart) -> bool
+    ensures { IsTrue result
+        ↔ (a.now.job.forlopp ≡ b.now.job.forlopp → a.now.job.forlopp ≡ 0) }
+{
+    if a.job.forlopp == 0 {
+        return true;
+    }
+    a.job.forlopp != b.job.forlopp
+}
+
+/// Whether the two jobs may run at once, the first before the later one in the single run: no conflict of their summaries, all
+/// tests hold, and they are not of one forlopp other than 0.
+#[tactic(auto, using(crate::proofs::Holding::passing))]
+pub fn passes(first: &Summary, later: &Summary, a: &JobStart, b: &JobStart) -> bool
+    requires { IsStrictlySortedBy access_order later.now.accesses }
+    ensures { IsTrue result ↔ Passes first.now later.now a.now b.now }
+{
+    if first_conflict(first, later).is_some() {
+        return false;
+    }
+    let hold = tests_hold(first, later, a, b);
+    let apart = are_apart(a, b);
+    hold & apart
+}

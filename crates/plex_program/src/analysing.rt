@@ -1,0 +1,41 @@
+// What the analysis of an exchange says, and its certificate.
+ghost use Rattle.std.specs.Prelude.{◌≡◌, IfOk};
+ghost use Rattle.plex_program.specs.Answer.{AnswersAnalysis, AnswersCertificate};
+ghost use Rattle.plex_program.specs.Program.{IsEnding};
+
+use crate::perform::Answer;
+use crate::program::Status;
+use access_summary::summaries_of;
+use analysis_text::analysis;
+use certificate::certificate_of;
+use certificate_text::print_certificate;
+use exchange_model::Exchange;
+use plex_num::Memory;
+use std::alloc::Global;
+
+/// The answer with the analysis of an exchange.
+#[tactic(auto, using(crate::proofs::Ordered::in_order))]
+pub fn analysis_answer(alloc: Global, exchange: &Exchange) -> Result<Answer, Memory>
+    ensures answer { IfOk result (AnswersAnalysis exchange.now) }
+    ensures ending { IfOk result (λ a. IsEnding a.status) }
+{
+    let summaries = summaries_of(alloc, exchange)?;
+    let text = analysis(alloc, exchange, summaries.as_slice())?;
+    Ok(Answer {
+        status: Status::Done,
+        text,
+    })
+}
+
+/// The answer with the certificate of an exchange.
+pub fn certificate_answer(alloc: Global, exchange: &Exchange) -> Result<Answer, Memory>
+    ensures answer { IfOk result (AnswersCertificate exchange.now) }
+    ensures ending { IfOk result (λ a. IsEnding a.status) }
+{
+    let certificate = certificate_of(alloc, exchange)?;
+    let text = print_certificate(alloc, &certificate)?;
+    Ok(Answer {
+        status: Status::Done,
+        text,
+    })
+}
