@@ -37,9 +37,6 @@ wide_is false n width h = ap not (below (nat_lt n (2 ^ width)) refl)
     below true is = h.1 (ltb-true n (2 ^ width) is) ∙ sym is
     below false is = sym is
 
-pub not_below : (b : Bool) (n least : ℕ) → b ≡ nat_lt n least → not b ≡ not (nat_lt n least)
-not_below b n least is = ap not is
-
 pub other_is : (b : Bool) (n answer : ℕ) → b ≡ nat_eq n (answer + 1) → not b ≡ not (nat_eq n (answer + 1))
 other_is b n answer is = ap not is
 

@@ -377,6 +377,3 @@ circles_end t r i m past g = (λ clash. absurd (let e : false ≡ true = clash i
     never c (inl is_new) = (let within = in_within r c.point (leaves t r c.point c.point c.route) in g.seen c.point (omega (arith, within, past)) is_new)
     never c (inr (inl is_open)) = g.sound.opened c.point is_open
     never c (inr (inr is_closed)) = g.sound.none c.point is_closed c.route
-
-pub circles_found : (t : FlowTable) (r : List Bool) → Circles t r → (true ≡ true) ↔ Circles t r
-circles_found t r c = (λ _. c, λ _. refl)

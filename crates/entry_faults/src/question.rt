@@ -57,12 +57,12 @@ fn lacks_receiver(exchange: &Exchange, signal: u32, reference: u32) -> bool
 }
 
 /// Whether a number is as asked.
-#[tactic(auto, using(crate::proofs::Asking::wide_is, crate::proofs::Asking::not_below, crate::proofs::Asking::other_is))]
+#[tactic(auto, using(crate::proofs::Asking::wide_is, crate::proofs::Asking::other_is))]
 fn number_meets(exchange: &Exchange, asked: Asked, number: u32) -> bool
     ensures { result ≡ number_is exchange.now asked number }
 {
     match asked {
-        Asked::AtLeast(least) => !(number < least),
+        Asked::AtLeast(least) => number >= least,
         Asked::TooWide(width) => !fits(number, width),
         Asked::Equal(wanted) => number == wanted,
         Asked::OtherAnswer(answer) => !is_answer(number, answer),

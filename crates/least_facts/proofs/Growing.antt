@@ -1,12 +1,13 @@
 -- What is known grows until nothing is marked; then it is all that is least.
-use Rattle.std.proofs.Common.{◌≡◌, ◌⊎◌, inl, inr, ⊎_elim, ℕ, zero, suc, ◌+◌, ◌*◌, ◌<◌, ◌≤◌, Bool, true, false, nat_eq, nat_lt, if◌then◌else◌, List, [], ◌∷◌, ◌++◌, length, drop, get_or, is_some, Option, Some, None, slice_get, refl, sym, ap, ◌∙◌, subst, arith, add-one, drop-cons}
+use Rattle.std.proofs.Common.{◌≡◌, ◌⊎◌, inl, inr, ⊎_elim, ℕ, zero, suc, ◌+◌, ◌*◌, ◌<◌, ◌≤◌, Bool, true, false, nat_eq, nat_lt, if◌then◌else◌, List, [], ◌∷◌, ◌++◌, length, drop, get_or, Option, Some, slice_get, refl, sym, ap, ◌∙◌, subst, arith, add-one, drop-cons, length-append}
 use Rattle.std.specs.Prelude.{◌↔◌}
 use Rattle.std.specs.List.{All, Contains}
 use Rattle.std.specs.List.Sorted.{IsStrictlySortedBy}
 use Rattle.std.specs.Ordering.{nat_cmp}
 use Rattle.std.proofs.Math.ListN.{drop_of_length-le}
 use Rattle.std.proofs.Math.Nat.{mul-le-mul_right, suc-mul}
-use Rattle.std.proofs.lemmas.Bool.{eqb-true, eqb-false, false≢true}
+use Rattle.std.proofs.lemmas.Bool.{eqb-true, eqb-false}
+use Rattle.std.proofs.lemmas.List.Elements.{Contains-append_left, Contains-append_right}
 use Rattle.std.proofs.lemmas.Map.Views.{length-le_from_below}
 use Rattle.std.proofs.lemmas.Option.{none-some, same_Some, slice_get_past}
 use Rattle.exchange_model.specs.declared.exchange.Exchange.{Exchange}
@@ -338,14 +339,22 @@ less_sum a b c m n is most few = omega (arith, is, most, few)
 less_more : (a b m : ℕ) → a < b + 0 → a < b + m
 less_more a b m lt = omega (arith, lt)
 
-pub visit_less : (x : Exchange) (t : FlowTable) (e : ℕ) (k new_k : Rows) (p : ℕ) (all old new : List ℕ) → all ≡ p ∷ old → Went x t e k old new_k new → IsStrictlySortedBy nat_cmp new → missing new_k * (length x.points + 1) + length new < missing k * (length x.points + 1) + length all
-visit_less x t e k new_k p all old new is went rising = subst (λ l. missing new_k * (n + 1) + length new < missing k * (n + 1) + length l) (sym is) (by went.change)
+pub visit_less : (x : Exchange) (t : FlowTable) (e : ℕ) (k new_k : Rows) (p : ℕ) (all old m r : List ℕ) → all ≡ p ∷ old → Went x t e k old new_k (m ++ r) → IsStrictlySortedBy nat_cmp m → IsStrictlySortedBy nat_cmp r
+    → missing new_k * (length x.points + length x.points + 1) + length (m ++ r) < missing k * (length x.points + length x.points + 1) + length all
+visit_less x t e k new_k p all old m r is went rising returning = subst (λ l. missing new_k * (n + 1) + length new < missing k * (n + 1) + length l) (sym is) (by went.change)
   where
     n : ℕ
-    n = length x.points
+    n = length x.points + length x.points
+
+    new : List ℕ
+    new = m ++ r
 
     few : length new ≤ n
-    few = length-le_from_below n new rising (all_below n new went.grows.below)
+    few =
+        let a : length m ≤ length x.points = length-le_from_below (length x.points) m rising (all_below (length x.points) m (λ q c. went.grows.below q (Contains-append_left m r q c))) in
+        let b : length r ≤ length x.points = length-le_from_below (length x.points) r returning (all_below (length x.points) r (λ q c. went.grows.below q (Contains-append_right m r q c))) in
+        let long : length (m ++ r) ≡ length m + length r = length-append m r in
+        omega (arith, a, b, long)
 
     by : IsSame k new_k old new ⊎ (missing new_k < missing k) → missing new_k * (n + 1) + length new < missing k * (n + 1) + length (p ∷ old)
     by (inl s) =
@@ -355,14 +364,6 @@ visit_less x t e k new_k p all old new is went rising = subst (λ l. missing new
         let up : suc (missing new_k) ≤ missing k = omega (arith, lt) in
         less_more (missing new_k * (n + 1) + length new) (missing k * (n + 1)) (length (p ∷ old))
         (less_sum (missing new_k * (n + 1)) (missing k * (n + 1)) (suc (missing new_k) * (n + 1)) (length new) n (suc-mul (missing new_k) (n + 1)) (mul-le-mul_right (n + 1) up) few)
-
-none_left : (keys : List ℕ) → (0 < length keys → ⊥) → keys ≡ []
-none_left [] none = refl
-none_left (k ∷ keys) none = absurd (none (omega arith))
-
-pub none_popped : (r : Option ℕ) (keys : List ℕ) → ((p : ℕ) → r ≡ Some p → ⊥) → (0 < length keys → is_some r ≡ true) → keys ≡ []
-none_popped None keys not_some some = none_left keys (λ lt. let clash : false ≡ true = some lt in absurd (false≢true clash))
-none_popped (Some p) keys not_some some = absurd (not_some p refl)
 
 -- what is found is listed
 

@@ -1,18 +1,20 @@
 -- Points that are marked.
-use Rattle.std.proofs.Common.{◌≡◌, ◌⊎◌, inl, inr, ⊎_elim, ℕ, zero, suc, ◌+◌, ◌<◌, ◌≤◌, List, [], ◌∷◌, length, drop, get_or, Option, Some, None, slice_get, refl, sym, ap, ◌∙◌, subst, arith, add-one, drop-cons}
+use Rattle.std.proofs.Common.{◌≡◌, ◌⊎◌, inl, inr, ⊎_elim, ℕ, zero, suc, ◌+◌, ◌<◌, ◌≤◌, List, [], ◌∷◌, ◌++◌, length, drop, get_or, true, is_some, if◌then◌else◌, IfSome, Option, Some, None, slice_get, refl, sym, ap, ◌∙◌, subst, arith, add-one, drop-cons}
 use Rattle.std.specs.declared.cmp.Ordering.{Ordering}
 use Rattle.std.specs.declared.cmp.Ordering.TheVariants.{Less, Equal, Greater}
 use Rattle.std.specs.BTreeSet.{insert_key}
 use Rattle.std.specs.Ordering.{match_ordering, nat_cmp}
 use Rattle.std.specs.List.{Contains}
 use Rattle.std.proofs.Math.ListN.{drop_of_length-le}
+use Rattle.std.proofs.lemmas.Bool.{false≢true}
+use Rattle.std.proofs.lemmas.List.Elements.{Contains-append_left, Contains-append_right, Contains-append_cases}
 use Rattle.std.proofs.lemmas.Map.Lookups.{exact_unsigned}
 use Rattle.std.proofs.lemmas.Option.{none-some, same_Some, slice_get_past}
 use Rattle.source_meaning.proofs.Lists.{first_is, later_is}
 use Rattle.flow_table.proofs.Telling.{first_or_later}
 use Rattle.least_facts.specs.declared.answers.AnswerTable.{AnswerTable}
 use Rattle.least_facts.specs.Answers.{Returns, awaited_at, known_answer}
-use Rattle.least_facts.specs.Marks.{IsThis, Marks}
+use Rattle.least_facts.specs.Marks.{IsThis, Marks, Takes}
 
 none_in : {A : Type 0} (x : A) → Contains [] x → ⊥
 none_in x c = (let lt = c.1 in omega arith)
@@ -122,4 +124,44 @@ returns_marked t point answer o listed points old new at some there same h = rec
       let own : r.answer ≡ answer = same_Some r.answer answer (sym r.awaits ∙ sym at ∙ some) in
       let list : r.points ≡ listed = same_Some r.points listed (sym r.there ∙ ap (slice_get t.returns) own ∙ there) in
       h.all p (subst (λ xs. Contains xs p) (list ∙ sym same) r.among);
+}
+
+-- the next point
+
+pub none_marked : (m r : List ℕ) → m ≡ [] → r ≡ [] → m ++ r ≡ []
+none_marked m r empty none = ap (λ l. l ++ r) empty ∙ none
+
+no_length : (ms : List ℕ) → length ms ≡ 0 → ms ≡ []
+no_length [] e = refl
+no_length (m ∷ ms) e = absurd (omega (arith, e))
+
+pub first_taken : (o : Option ℕ) (old new : List ℕ) → (0 < length old → is_some o ≡ true) → IfSome o (λ k. old ≡ k ∷ new) → length new + (if is_some o then 1 else 0) ≡ length old → Takes o old new
+first_taken None [] new some removal long = (refl, no_length new (omega (arith, long)))
+first_taken None (m ∷ old) new some removal long = absurd (false≢true (some (omega arith)))
+first_taken (Some p) old new some removal long = removal
+
+pub point_taken : (m r new_m : List ℕ) (o : Option ℕ) (p : ℕ) → o ≡ Some p → Takes o m new_m → m ++ r ≡ p ∷ (new_m ++ r)
+point_taken m r new_m o p is h = (let first : m ≡ p ∷ new_m = subst (λ q. Takes q m new_m) is h in ap (λ l. l ++ r) first)
+
+pub return_taken : (m r new_m new_r : List ℕ) (first o : Option ℕ) → first ≡ None → Takes first m new_m → Takes o r new_r → Takes o (m ++ r) (new_m ++ new_r)
+return_taken m r new_m new_r first o none f h = by o (subst (λ q. Takes q m new_m) none f) h
+  where
+    by : (q : Option ℕ) → Takes None m new_m → Takes q r new_r → Takes q (m ++ r) (new_m ++ new_r)
+    by None e g = (ap (λ l. l ++ r) e.0 ∙ g.0, ap (λ l. l ++ new_r) e.1 ∙ g.1)
+    by (Some p) e g = ap (λ l. l ++ r) e.0 ∙ g ∙ ap (λ l. p ∷ (l ++ new_r)) (sym e.1)
+
+pub taken : (o : Option ℕ) (p : ℕ) (old new : List ℕ) → o ≡ Some p → Takes o old new → old ≡ p ∷ new
+taken o p old new is h = subst (λ q. Takes q old new) is h
+
+pub none_taken : (o : Option ℕ) (old new : List ℕ) → ((p : ℕ) → o ≡ Some p → ⊥) → Takes o old new → old ≡ []
+none_taken None old new not_some h = h.0
+none_taken (Some p) old new not_some h = absurd (not_some p refl)
+
+-- marks of two lists
+
+pub left_marked : (m r new_m : List ℕ) (G : ℕ → Type 0) → Marks m new_m G → Marks (m ++ r) (new_m ++ r) G
+left_marked m r new_m G h = record {
+  still = λ p c. ⊎_elim (λ l. Contains-append_left new_m r p (h.still p l)) (λ l. Contains-append_right new_m r p l) (Contains-append_cases m r p c);
+  each = λ p c. ⊎_elim (λ l. ⊎_elim (λ o. inl (Contains-append_left m r p o)) inr (h.each p l)) (λ l. inl (Contains-append_right m r p l)) (Contains-append_cases new_m r p c);
+  all = λ p g. Contains-append_left new_m r p (h.all p g);
 }

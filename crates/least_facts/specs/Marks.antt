@@ -1,6 +1,16 @@
 -- Points that are marked.
-use Rattle.std.specs.Prelude.{◌≡◌, ◌⊎◌, ℕ, List}
+use Rattle.std.specs.Prelude.{◌≡◌, ◌⊎◌, ℕ, List, [], ◌∷◌, ◌++◌, Option, Some, None}
 use Rattle.std.specs.List.{Contains}
+use Rattle.least_facts.specs.declared.marks.Marked.{Marked}
+
+-- all points that are marked, in the order in which they are looked at
+abbrev pub marks_of : Marked → List ℕ
+marks_of m = m.points.keys ++ m.returning.keys
+
+-- the first of these is taken, if there is one
+abbrev pub Takes : Option ℕ → List ℕ → List ℕ → Type 0
+Takes None old new = (old ≡ []) × (new ≡ [])
+Takes (Some p) old new = old ≡ p ∷ new
 
 abbrev pub IsThis : ℕ → ℕ → Type 0
 IsThis point p = p ≡ point

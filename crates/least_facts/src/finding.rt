@@ -5,10 +5,11 @@ ghost use Rattle.std.specs.BTreeSet.{IsOrdered};
 ghost use Rattle.flow_table.specs.Rows.{IsTable};
 ghost use Rattle.fact_rows.specs.Known.{Fits, slots_of};
 ghost use Rattle.least_facts.specs.Answers.{AreAnswers};
+ghost use Rattle.least_facts.specs.Marks.{marks_of};
 ghost use Rattle.least_facts.specs.Growing.{AreFound, Grows, IsAdded, MarksAwaiting, Went};
 
 use crate::answers::AnswerTable;
-use crate::marks::{mark, mark_returns};
+use crate::marks::{Marked, mark, mark_returns, take};
 use exchange_model::Exchange;
 use fact_flows::{push_given_at, push_given_at_start};
 use fact_rows::FactRows;
@@ -34,7 +35,7 @@ pub(crate) fn find(
 {
     exchange.kept();
     rows.begin(entry);
-    let mut marked = BTreeSet::new(alloc);
+    let mut marked = Marked::new(alloc);
     let mut facts = Seq::new(alloc);
     push_given_at_start(alloc, exchange, table, &*rows, entry, &mut facts)?;
     add_all(
@@ -46,7 +47,7 @@ pub(crate) fn find(
         rows,
         &mut marked,
     )?;
-    while let Some(point) = marked.pop_first() {
+    while let Some(point) = take(&mut marked) {
         visit(
             alloc,
             exchange,
@@ -70,14 +71,15 @@ fn visit(
     entry: u32,
     point: u32,
     rows: &mut FactRows,
-    marked: &mut BTreeSet<u32>,
+    marked: &mut Marked,
 ) -> Result<(), Memory>
     requires table { IsTable exchange.now table.now }
     requires answers { AreAnswers exchange.now answers.now }
-    requires grows { Grows exchange.now table.now entry rows.old (point ∷ marked.old.keys) [] }
-    ensures went { OnOk result
-        (Went exchange.now table.now entry rows.old marked.old.keys rows.new marked.new.keys) }
-    ensures ordered { OnOk result (IsOrdered nat_cmp marked.new) }
+    requires grows { Grows exchange.now table.now entry rows.old (point ∷ marks_of marked.old) [] }
+    ensures went { OnOk result (Went exchange.now table.now entry
+        rows.old (marks_of marked.old) rows.new (marks_of marked.new)) }
+    ensures points { OnOk result (IsOrdered nat_cmp marked.new.points) }
+    ensures returning { OnOk result (IsOrdered nat_cmp marked.new.returning) }
 {
     exchange.kept();
     let mut facts = Seq::new(alloc);
@@ -91,7 +93,8 @@ fn visit(
         rows,
         marked,
     )?;
-    let _ = marked.len();
+    let _ = marked.points.len();
+    let _ = marked.returning.len();
     Ok(())
 }
 
@@ -103,13 +106,13 @@ fn add_all(
     entry: u32,
     facts: &[Fact],
     rows: &mut FactRows,
-    marked: &mut BTreeSet<u32>,
+    marked: &mut Marked,
 ) -> Result<(), Memory>
     requires table { IsTable exchange.now table.now }
     requires answers { AreAnswers exchange.now answers.now }
-    requires grows { Grows exchange.now table.now entry rows.old marked.old.keys facts.now }
-    ensures { OnOk result
-        (Went exchange.now table.now entry rows.old marked.old.keys rows.new marked.new.keys) }
+    requires grows { Grows exchange.now table.now entry rows.old (marks_of marked.old) facts.now }
+    ensures { OnOk result (Went exchange.now table.now entry
+        rows.old (marks_of marked.old) rows.new (marks_of marked.new)) }
 {
     exchange.kept();
     let _ = &table.rows;
@@ -121,27 +124,27 @@ fn add_all(
 }
 
 /// Adds a fact, and marks its point if it is new, and the RETURNs of the answer where a RETRIEVE is reached by it.
-#[tactic(auto, using(crate::proofs::Searching::not_added, crate::proofs::Searching::added_again, crate::proofs::Searching::added_first))]
+#[tactic(auto, using(crate::proofs::Searching::not_added))]
 fn add(
     answers: &AnswerTable,
     fact: Fact,
     rows: &mut FactRows,
-    marked: &mut BTreeSet<u32>,
+    marked: &mut Marked,
 ) -> Result<(), Memory>
     requires entry { fact.entry ≡ rows.old.entry }
     requires place { Fits rows.old.marks.slots fact }
     ensures { OnOk result
-        (IsAdded answers.now fact rows.old rows.new marked.old.keys marked.new.keys) }
+        (IsAdded answers.now fact rows.old rows.new (marks_of marked.old) (marks_of marked.new)) }
 {
     let reached = rows.is_reached(fact.entry, fact.point);
     if !rows.add(fact)? {
         return Ok(());
     }
-    mark(marked, fact.point)?;
+    mark(&mut marked.points, fact.point)?;
     if reached {
         return Ok(());
     }
-    mark_awaiting(answers, fact, marked)?;
+    mark_awaiting(answers, fact, &mut marked.returning)?;
     Ok(())
 }
 

@@ -1,12 +1,52 @@
 // The points that are to be looked at.
-ghost use Rattle.std.specs.Prelude.{◌≡◌, OnOk};
+ghost use Rattle.std.specs.Prelude.{◌≡◌, [], OnOk};
 ghost use Rattle.std.specs.List.{Contains};
 ghost use Rattle.least_facts.specs.Answers.{Returns, awaited_at};
-ghost use Rattle.least_facts.specs.Marks.{IsThis, Marks};
+ghost use Rattle.least_facts.specs.Marks.{IsThis, Marks, Takes, marks_of};
 
 use crate::answers::AnswerTable;
 use plex_num::Memory;
+use std::alloc::Global;
 use std::collections::BTreeSet;
+
+/// The points that are to be looked at: those at which something new came to be known, the lowest first; and after them the
+/// RETURNs whose answers reach one more RETRIEVE, so that they are looked at once for many.
+#[derive(Drop)]
+pub struct Marked {
+    pub points: BTreeSet<u32>,
+    pub returning: BTreeSet<u32>,
+}
+
+impl Marked {
+    /// Nothing is marked.
+    #[tactic(auto, using(crate::proofs::Marking::none_marked))]
+    pub(crate) fn new(alloc: Global) -> Marked
+        ensures { marks_of result ≡ [] }
+    {
+        Marked {
+            points: BTreeSet::new(alloc),
+            returning: BTreeSet::new(alloc),
+        }
+    }
+}
+
+/// Takes the point that is to be looked at next; `None` exactly where none is marked.
+#[tactic(auto, using(crate::proofs::Marking::point_taken, crate::proofs::Marking::return_taken))]
+pub(crate) fn take(marked: &mut Marked) -> Option<u32>
+    ensures { Takes result (marks_of marked.old) (marks_of marked.new) }
+{
+    match take_first(&mut marked.points) {
+        Some(point) => Some(point),
+        None => take_first(&mut marked.returning),
+    }
+}
+
+/// Takes the lowest of these points; `None` exactly where there is none.
+fn take_first(points: &mut BTreeSet<u32>) -> Option<u32>
+    ensures { Takes result points.old.keys points.new.keys }
+{
+    points.pop_first()
+}
 
 /// Marks a point.
 #[tactic(auto, using(crate::proofs::Marking::one_marked))]

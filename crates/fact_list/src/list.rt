@@ -1,0 +1,95 @@
+// A list of facts that rises.
+ghost use Rattle.std.specs.Prelude.{◌≡◌, ◌↔◌, IsTrue, IfOk};
+ghost use Rattle.std.specs.List.{Contains};
+ghost use Rattle.std.specs.List.Sorted.{IsStrictlySortedBy};
+ghost use Rattle.flow_points.specs.declared.fact.Fact.{Fact};
+ghost use Rattle.flow_points.specs.Facts.{Reached, fact};
+ghost use Rattle.flow_table.specs.Giving.{AreValues};
+ghost use Rattle.fact_rows.specs.Orders.{fact_order};
+
+use crate::search::{between, span_of, values_of};
+use flow_points::{Fact, Slot, Value};
+use flow_table::KnownFacts;
+use plex_num::{Memory, Seq};
+use std::alloc::Global;
+use std::marker::Model;
+
+/// Facts in their order, each once, which contracts see as the list of them.
+#[derive(Drop)]
+pub struct FactList {
+    facts: Seq<Fact>,
+}
+
+impl Model for FactList {
+    ghost use Rattle.std.specs.Prelude.{List};
+    ghost use Rattle.std.specs.List.Sorted.{IsStrictlySortedBy};
+    ghost use Rattle.flow_points.specs.declared.fact.Fact.{Fact};
+    ghost use Rattle.fact_rows.specs.Orders.{fact_order};
+
+    ghost Value = { List Fact };
+
+    ghost view = { λ l. l.facts };
+
+    ghost invariant = { λ l. IsStrictlySortedBy fact_order l.facts };
+}
+
+impl FactList {
+    /// The list of these facts, which must stand in their order, each once.
+    pub fn new(facts: Seq<Fact>) -> FactList
+        requires { IsStrictlySortedBy fact_order facts }
+        ensures { result ≡ facts }
+    {
+        FactList { facts }
+    }
+
+    /// The facts, in their order, each once.
+    pub fn facts(&self) -> &Seq<Fact>
+        ensures facts { result.now ≡ self.now }
+        ensures rising { IsStrictlySortedBy fact_order self.now }
+    {
+        &self.facts
+    }
+
+    /// Whether a fact is among them.
+    pub fn has(&self, fact: Fact) -> bool
+        ensures { IsTrue result ↔ Contains self.now fact }
+    {
+        let span = span_of(self.facts.as_slice(), fact);
+        span.from < span.to
+    }
+}
+
+impl KnownFacts for FactList {
+    ghost knows = { Contains };
+
+    fn values(
+        &self,
+        alloc: Global,
+        entry: u32,
+        point: u32,
+        slot: Slot,
+    ) -> Result<Seq<Value>, Memory> {
+        let facts = self.facts.as_slice();
+        let least = span_of(facts, fact_of(entry, point, slot, Value::Arg(0)));
+        let greatest = span_of(facts, fact_of(entry, point, slot, Value::Any));
+        values_of(alloc, between(facts, least.from, greatest.to))
+    }
+
+    fn is_reached(&self, entry: u32, point: u32) -> bool {
+        let facts = self.facts.as_slice();
+        let least = span_of(facts, fact_of(entry, point, Slot::Depth, Value::Arg(0)));
+        let greatest = span_of(facts, fact_of(entry, point, Slot::Depth, Value::Any));
+        least.from < greatest.to
+    }
+}
+
+fn fact_of(entry: u32, point: u32, slot: Slot, value: Value) -> Fact
+    ensures { result ≡ fact entry point slot value }
+{
+    Fact {
+        entry,
+        point,
+        slot,
+        value,
+    }
+}
