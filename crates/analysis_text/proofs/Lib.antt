@@ -2,3 +2,4 @@ pub mod Left
 pub mod Named
 pub mod Turns
 pub mod Joined
+pub mod Numbered

@@ -6,8 +6,10 @@
 #![tactic(auto)]
 
 mod entries;
+mod laws;
 mod names;
 mod pairs;
 mod whole;
 
+pub use laws::names_stand_by_their_numbers;
 pub use whole::analysis;

@@ -10,6 +10,7 @@ ghost use Rattle.certificate.specs.Strange.{AreListed, IsOfExchange};
 
 use exchange_model::Exchange;
 use fact_flows::{push_given_at, push_given_at_start};
+use fact_list::FactList;
 use flow_points::{Fact, Slot};
 use flow_table::{FlowTable, KnownFacts};
 use plex_num::{Memory, Seq};
@@ -20,6 +21,12 @@ pub trait ListedFacts: KnownFacts {
     /// Whether the fact is known.
     fn has(&self, fact: Fact) -> bool
         ensures { IsTrue result ↔ Self.knows self.now fact };
+}
+
+impl ListedFacts for FactList {
+    fn has(&self, fact: Fact) -> bool {
+        FactList::has(self, fact)
+    }
 }
 
 /// The fact that was looked at last, and the least so far that is missing.

@@ -6,7 +6,7 @@ use Rattle.plex_program.specs.Answer.{IsAnswer, IsAnswerBy, IsAnswerOf, Out, Per
 use Rattle.plex_program.specs.Program.{Answers, Ends, EndsAs, EndsBy, HasStatus, IsComplete, IsEnding, IsMade, IsPlain, Makes, QuitsBy, WriteCause, not_held}
 use Rattle.plex_program.specs.declared.command.Command.{Command}
 use Rattle.plex_program.specs.declared.perform.Refused.{Refused}
-use Rattle.plex_program.specs.declared.perform.Refused.TheVariants.{Signals, Source}
+use Rattle.plex_program.specs.declared.perform.Refused.TheVariants.{Certificate, Signals, Source}
 use Rattle.plex_program.specs.declared.perform.Answer.{Answer}
 use Rattle.plex_program.specs.declared.perform.Stop.TheVariants as stop
 use Rattle.plex_program.specs.declared.program.Quit.{Quit}
@@ -33,6 +33,7 @@ ends_as Is a before after status.Source is ends = record { answer = a; is = is; 
 ends_as Is a before after status.Signals is ends = record { answer = a; is = is; ends = ends }
 ends_as Is a before after status.Restart is ends = record { answer = a; is = is; ends = ends }
 ends_as Is a before after status.Limit is ends = record { answer = a; is = is; ends = ends }
+ends_as Is a before after status.Certificate is ends = record { answer = a; is = is; ends = ends }
 
 pub ends_held : (held : Option Files) (words : List Word) (a : Answer) (before after : Option (List ℕ)) (s : Status) → IfSome held (λ files. IsAnswer words files a) → Ends a before after s → IfSome held (λ files. EndsAs (IsAnswer words files) before after s)
 ends_held None words a before after s is ends = tt
@@ -88,6 +89,7 @@ plain_ending status.Signals e = absurd e
 plain_ending status.Read e = absurd e
 plain_ending status.Write e = absurd e
 plain_ending status.Memory e = absurd e
+plain_ending status.Certificate e = absurd e
 
 no_usage_ending : (s : Status) → IsEnding s → s ≡ status.Usage → ⊥
 no_usage_ending s e is = subst IsEnding is e
@@ -110,11 +112,13 @@ answered_not_held held words c b a e comes = inr (same held comes.halts) where
 plain_refused : (r : Refused) → IsPlain (refused_status r)
 plain_refused (Source f) = tt
 plain_refused (Signals f) = tt
+plain_refused (Certificate f) = tt
 
 no_usage_refused : (r : Refused) → refused_status r ≡ status.Usage → ⊥
 unfolding IsUsage
 no_usage_refused (Source f) e = other status.Source (λ u. u) e
 no_usage_refused (Signals f) e = other status.Signals (λ u. u) e
+no_usage_refused (Certificate f) e = other status.Certificate (λ u. u) e
 
 -- a refusal
 pub answered_refused : (held : Option Files) (words : List Word) (c : Command) (b a : ℕ) (r : Refused) (res : Result Answer Quit) → Some c ≡ shape words → Performs held (performed c) b a (Err (stop.Refused r)) → Makes (refused_answer r) res → Answers held words b a res

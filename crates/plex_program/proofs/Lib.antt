@@ -1,3 +1,4 @@
+pub mod Certified
 pub mod Ordered
 pub mod Endings
 pub mod Resolving

@@ -1,13 +1,14 @@
 -- Stages, one after the other.
-use Rattle.std.proofs.Common.{◌≡◌, ℕ, ◌+◌, ◌<◌, ◌≤◌, List, length, take, Option, Some, None, Result, Ok, Err, IfSome, IsSomeAnd, refl, sym, ap, ◌∙◌, arith, min}
+use Rattle.std.proofs.Common.{◌≡◌, ℕ, ◌+◌, ◌<◌, ◌≤◌, List, length, take, Option, Some, None, Result, Ok, Err, IfSome, IsSomeAnd, refl, sym, subst, ap, ◌∙◌, arith, min}
 use Rattle.std.proofs.lemmas.List.{take_all, length-take}
 use Rattle.std.proofs.lemmas.Bool.{lt-ltb, le-ltb}
 use Rattle.plex_io.specs.Files.{Files, Gives, Lacks}
 use Rattle.plex_io.specs.Causes.{Rose}
 use Rattle.plex_limits.specs.declared.limits.TheConstants.{MOST_BYTES}
-use Rattle.plex_program.specs.Answer.{FromExchange, OfExchange, exchange_at, fitting, Out, goes_on, text_held, text_at, Comes, StopsBy, Reads, HaltsBy, Performs}
+use Rattle.plex_program.specs.Answer.{FromExchange, OfExchange, GoesOn, Tells, exchange_at, fitting, Out, goes_on, text_held, text_at, Comes, StopsBy, Reads, HaltsBy, Performs}
 use Rattle.exchange_model.specs.declared.exchange.Exchange.{Exchange}
 use Rattle.plex_program.specs.declared.perform.Answer.{Answer}
+use Rattle.plex_program.specs.declared.perform.Refused.{Refused}
 use Rattle.plex_program.specs.declared.perform.Stop.{Stop}
 use Rattle.plex_program.specs.declared.perform.Stop.TheVariants as stop
 
@@ -150,3 +151,47 @@ performs_stop held name Is b a e c = record { ok = tt; halts = halts held b a e 
   halts held b a stop.NotHeld s = s
   halts held b a stop.Failed s = s
   halts held b a stop.Memory s = tt
+
+-- what comes of a value
+goes_ok : {A : Type 0} (s : Out A) (Go : A → Out Answer → Type 0) (v : A) (o : Out Answer) → s ≡ Ok v → Go v o → GoesOn s Go o
+goes_ok s Go v o is go = subst (λ s. GoesOn s Go o) (sym is) go
+
+-- a refusal
+goes_err : {A : Type 0} (s : Out A) (Go : A → Out Answer → Type 0) (r : Option Refused) → s ≡ Err r → GoesOn s Go (Err r)
+goes_err s Go r is = subst (λ s. GoesOn s Go (Err r)) (sym is) refl
+
+-- a stage that stops, before what comes of its value
+pub performs_halt : {A : Type 0} (held : Option Files) (f : Files → Out A) (Go : Files → A → Out Answer → Type 0) (b a : ℕ) (e : Stop) → Comes held f b a (Err e) → Performs held (λ files. GoesOn (f files) (Go files)) b a (Err e)
+performs_halt {A = A} held f Go b a e c = record { ok = tt; halts = halts held f Go b a e c.stops; later = c.later } where
+  halts : (held : Option Files) (f : Files → Out A) (Go : Files → A → Out Answer → Type 0) (b a : ℕ) (e : Stop) → StopsBy held f b a e → HaltsBy held (λ files. GoesOn (f files) (Go files)) b a e
+  halts None f Go b a (stop.Refused r) s = tt
+  halts (Some files) f Go b a (stop.Refused r) s = goes_err (f files) (Go files) (Some r) s
+  halts None f Go b a stop.NotHeld s = s
+  halts (Some files) f Go b a stop.NotHeld s = goes_err (f files) (Go files) None s
+  halts held f Go b a stop.Failed s = s
+  halts held f Go b a stop.Memory s = tt
+
+-- a stage, and what comes of its value
+pub performs_go : {A : Type 0} (held : Option Files) (f : Files → Out A) (Go : Files → A → Out Answer → Type 0) (b m a : ℕ) (v : A) (r : Result Answer Stop) → Comes held f b m (Ok v) → Performs held (λ files. Go files v) m a r → Performs held (λ files. GoesOn (f files) (Go files)) b a r
+performs_go {A = A} held f Go b m a v (Ok w) c d = record { ok = goes held f Go v w c.ok d.ok; halts = tt; later = omega (arith, c.later, d.later) } where
+  goes : (held : Option Files) (f : Files → Out A) (Go : Files → A → Out Answer → Type 0) (v : A) (w : Answer) → IfSome held (λ files. f files ≡ Ok v) → IfSome held (λ files. Go files v (Ok w)) → IfSome held (λ files. GoesOn (f files) (Go files) (Ok w))
+  goes None f Go v w c d = tt
+  goes (Some files) f Go v w c d = goes_ok (f files) (Go files) v (Ok w) c d
+performs_go {A = A} held f Go b m a v (Err e) c d = record { ok = tt; halts = halts held f Go b m a v e c.ok c.later d.halts; later = omega (arith, c.later, d.later) } where
+  halts : (held : Option Files) (f : Files → Out A) (Go : Files → A → Out Answer → Type 0) (b m a : ℕ) (v : A) (e : Stop) → IfSome held (λ files. f files ≡ Ok v) → b ≤ m → HaltsBy held (λ files. Go files v) m a e → HaltsBy held (λ files. GoesOn (f files) (Go files)) b a e
+  halts None f Go b m a v (stop.Refused r) c le s = tt
+  halts (Some files) f Go b m a v (stop.Refused r) c le s = goes_ok (f files) (Go files) v (Err (Some r)) c s
+  halts None f Go b m a v stop.NotHeld c le s = s
+  halts (Some files) f Go b m a v stop.NotHeld c le s = goes_ok (f files) (Go files) v (Err None) c s
+  halts held f Go b m a v stop.Failed c le s = rose_on b m a le s
+  halts held f Go b m a v stop.Memory c le s = tt
+
+-- an outcome that needs no file
+pub performs_told : (held : Option Files) (Is : Out Answer → Type 0) (n : ℕ) (r : Result Answer Stop) → Tells Is r → Performs held (λ files. Is) n n r
+performs_told None Is n (Ok v) s = record { ok = tt; halts = tt; later = omega arith }
+performs_told (Some files) Is n (Ok v) s = record { ok = s; halts = tt; later = omega arith }
+performs_told None Is n (Err (stop.Refused r)) s = record { ok = tt; halts = tt; later = omega arith }
+performs_told (Some files) Is n (Err (stop.Refused r)) s = record { ok = tt; halts = s; later = omega arith }
+performs_told held Is n (Err stop.NotHeld) s = absurd s
+performs_told held Is n (Err stop.Failed) s = absurd s
+performs_told held Is n (Err stop.Memory) s = record { ok = tt; halts = tt; later = omega arith }

@@ -27,8 +27,10 @@ use Rattle.certificate_text.specs.declared.certificate.Certificate.{Certificate}
 use Rattle.certificate_text.specs.Text.{certificate_text}
 use Rattle.certificate.specs.Certified.{IsCertificate}
 use Rattle.plex_program.specs.Reading.{large_signals, resolve_fault, signals_fault, tree_of_file}
+use Rattle.plex_program.specs.Certificates.{IsJudged}
 use Rattle.plex_program.specs.Text.{refusal_text, usage_text}
 use Rattle.plex_program.specs.Words.{Word, shape}
+use Rattle.plex_program.specs.declared.fault.CertificateFault.{CertificateFault}
 use Rattle.plex_program.specs.declared.fault.SourceFault.{SourceFault}
 use Rattle.plex_program.specs.declared.command.TheConstants.{USUAL_JOBS}
 use Rattle.plex_program.specs.declared.command.Command.{Command}
@@ -36,7 +38,7 @@ use Rattle.plex_program.specs.declared.command.Command.TheVariants.{Run, Single,
 use Rattle.plex_program.specs.declared.command.RunWords.{RunWords}
 use Rattle.plex_program.specs.declared.perform.Answer.{Answer}
 use Rattle.plex_program.specs.declared.perform.Refused.{Refused}
-use Rattle.plex_program.specs.declared.perform.Refused.TheVariants.{Signals, Source}
+use Rattle.plex_program.specs.declared.perform.Refused.TheVariants.{Certificate as Uncertified, Signals, Source}
 use Rattle.plex_program.specs.declared.perform.Stop.{Stop}
 use Rattle.plex_program.specs.declared.perform.Stop.TheVariants as stop
 use Rattle.plex_program.specs.declared.program.Status.{Status}
@@ -130,6 +132,35 @@ run_of w files =
     goes_on (lines_at x w.signals files) (λ lines.
     Ok (run_answer x lines w.jobs)))
 
+-- what comes of the value, or the refusal
+abbrev pub GoesOn : {A : Type 0} → Out A → (A → Out Answer → Type 0) → Out Answer → Type 0
+GoesOn (Ok a) Go o = Go a o
+GoesOn (Err r) Go o = Err r ≡ o
+
+-- the answer, or the refusal of the certificate
+abbrev pub or_uncertified : Option CertificateFault → Answer → Out Answer
+or_uncertified None a = Ok a
+or_uncertified (Some f) a = Err (Some (Uncertified f))
+
+-- a run with this answer comes to this where its certificate has such a text: a certificate of the exchange changes nothing
+pub record IsCertifiedRun (x : Exchange) (text : Option (List ℕ)) (a : Answer) (o : Out Answer) : Type 0 where
+  pub fault : Option CertificateFault
+  pub judged : IsJudged x text fault
+  pub comes : or_uncertified fault a ≡ o
+
+-- a run with the certificate of a file, which is read behind the signal file
+abbrev pub RunsWith : RunWords → Word → Files → Out Answer → Type 0
+RunsWith w name files =
+    GoesOn (exchange_at w.exchange files) (λ x.
+    GoesOn (lines_at x w.signals files) (λ lines.
+    GoesOn (text_at name files) (λ text.
+    IsCertifiedRun x text (run_answer x lines w.jobs))))
+
+-- a run with this certificate, or without one
+abbrev pub RunComes : RunWords → Option Word → Files → Out Answer → Type 0
+RunComes w None files o = run_of w files ≡ o
+RunComes w (Some name) files o = RunsWith w name files o
+
 -- the compiled code of an exchange, which leaves what the source means
 abbrev pub code_of : Exchange → Code
 code_of x = record { ops = whole_code x; entries = entry_addresses x }
@@ -181,7 +212,7 @@ FromExchange name Is files (Err r) = exchange_at name files ≡ Err r
 
 -- what a command comes to: what the compiled code leaves is what the source means
 abbrev pub performed : Command → Files → Out Answer → Type 0
-performed (Run w) files o = run_of w files ≡ o
+performed (Run w) files o = RunComes w w.certificate files o
 performed (Single w) files o = run_of w files ≡ o
 performed (Analyse name) files o = FromExchange name AnswersAnalysis files o
 performed (Certify name) files o = FromExchange name AnswersCertificate files o
@@ -192,6 +223,7 @@ performed (Load calls) files o = load_of calls ≡ o
 abbrev pub refused_status : Refused → Status
 refused_status (Source f) = status.Source
 refused_status (Signals f) = status.Signals
+refused_status (Uncertified f) = status.Certificate
 
 -- the status and the text of a refusal
 abbrev pub refused_answer : Refused → Answer
@@ -245,6 +277,14 @@ pub record Performs (held : Option Files) (work : Files → Out Answer → Type 
   pub ok : IfOk result (λ a. IfSome held (λ files. work files (Ok a)))
   pub halts : IfErr result (HaltsBy held work before after)
   pub later : before ≤ after
+
+-- an outcome comes that is such a one, or memory was refused; no file is read
+abbrev pub Tells : (Out Answer → Type 0) → Result Answer Stop → Type 0
+Tells Is (Ok a) = Is (Ok a)
+Tells Is (Err (stop.Refused r)) = Is (Err (Some r))
+Tells Is (Err stop.NotHeld) = ⊥
+Tells Is (Err stop.Failed) = ⊥
+Tells Is (Err stop.Memory) = Unit {0}
 
 -- a value comes as said, or a refusal, or memory was refused; no file is read
 abbrev pub Reads : {A : Type 0} → Out A → Result A Stop → Type 0

@@ -1,4 +1,5 @@
 pub mod Answer
+pub mod Certificates
 pub mod Program
 pub mod Reading
 pub mod Text

@@ -99,6 +99,7 @@ exit_number status.Limit = 5
 exit_number status.Read = 6
 exit_number status.Write = 7
 exit_number status.Memory = 8
+exit_number status.Certificate = 9
 
 -- the status of a run
 abbrev pub IsEnding : Status → Type 0

@@ -1,6 +1,12 @@
 -- The lines that are written in place of a report.
 use Rattle.std.specs.Prelude.{List, ℕ, [], ◌∷◌, ◌++◌, codes}
 use Rattle.std.specs.Fmt.{decimal}
+use Rattle.std.specs.List.{flat_map}
+use Rattle.flow_points.specs.declared.fact.Fact.{Fact}
+use Rattle.certificate_text.specs.declared.certificate.Shape.{Shape}
+use Rattle.certificate_text.specs.Text.{fact_line}
+use Rattle.plex_program.specs.declared.fault.CertificateFault.{CertificateFault}
+use Rattle.plex_program.specs.declared.fault.CertificateFault.TheVariants as certificate
 use Rattle.plex_program.specs.declared.fault.SourceFault.{SourceFault}
 use Rattle.plex_program.specs.declared.fault.Rule.{Rule}
 use Rattle.plex_program.specs.declared.fault.Rule.TheVariants as rule
@@ -8,7 +14,7 @@ use Rattle.plex_program.specs.declared.fault.SignalsFault.{SignalsFault}
 use Rattle.plex_program.specs.declared.fault.SignalsRule.{SignalsRule}
 use Rattle.plex_program.specs.declared.fault.SignalsRule.TheVariants as signals_rule
 use Rattle.plex_program.specs.declared.perform.Refused.{Refused}
-use Rattle.plex_program.specs.declared.perform.Refused.TheVariants.{Signals, Source}
+use Rattle.plex_program.specs.declared.perform.Refused.TheVariants.{Certificate, Signals, Source}
 
 -- the end of a line
 abbrev pub LF : List ℕ
@@ -52,11 +58,44 @@ signals_rule_name signals_rule.BadAs = codes "BADAS"
 abbrev pub signals_text : SignalsFault → List ℕ
 signals_text f = codes "SIGNALS line " ++ decimal f.line ++ codes " " ++ signals_rule_name f.rule ++ LF
 
--- the first fault of the exchange text or of the signal file
+-- a number behind a space
+abbrev pub spaced : ℕ → List ℕ
+spaced n = codes " " ++ decimal n
+
+-- the six numbers of a shape
+abbrev pub shape_numbers : Shape → List ℕ
+shape_numbers s = s.signals ∷ s.blocks ∷ s.points ∷ s.cells ∷ s.entries ∷ s.references ∷ []
+
+abbrev pub large_text : List ℕ
+large_text = codes "CERTIFICATE line 0 TOOLARGE" ++ LF
+
+-- `CERTIFICATE line L BADTEXT`
+abbrev pub bad_text : ℕ → List ℕ
+bad_text line = codes "CERTIFICATE line " ++ decimal line ++ (codes " BADTEXT" ++ LF)
+
+-- the numbers of the exchange, then those of the certificate
+abbrev pub other_exchange : Shape → Shape → List ℕ
+other_exchange x c =
+    codes "CERTIFICATE WRONGEXCHANGE" ++ flat_map spaced (shape_numbers x) ++ codes " AND" ++ flat_map spaced (shape_numbers c) ++ LF
+
+-- the line of a fact behind these words
+abbrev pub fact_text : List ℕ → Fact → List ℕ
+fact_text words f = words ++ fact_line f ++ LF
+
+-- the first fault of a certificate
+abbrev pub certificate_text : CertificateFault → List ℕ
+certificate_text certificate.TooLarge = large_text
+certificate_text (certificate.BadText line) = bad_text line
+certificate_text (certificate.WrongExchange x c) = other_exchange x c
+certificate_text (certificate.Strange f) = fact_text (codes "CERTIFICATE STRANGE ") f
+certificate_text (certificate.Missing f) = fact_text (codes "CERTIFICATE MISSING ") f
+
+-- the first fault of the exchange text, of the signal file or of the certificate
 unfoldable pub refusal_text : Refused → List ℕ
 refusal_text (Source f) = fault_text f
 refusal_text (Signals f) = signals_text f
+refusal_text (Certificate f) = certificate_text f
 
 -- the usage line
 unfoldable pub usage_text : List ℕ
-usage_text = codes "usage: plex run E S [--jobs N] | plex single E S [--jobs N] | plex analyse E | plex certify E | plex list E | plex load N" ++ LF
+usage_text = codes "usage: plex run E S [--jobs N] [--cert F] | plex single E S [--jobs N] | plex analyse E | plex certify E | plex list E | plex load N" ++ LF

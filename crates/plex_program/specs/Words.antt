@@ -1,5 +1,5 @@
 -- What the words of the command ask for.
-use Rattle.std.specs.Prelude.{ℕ, nat_le, ◌&&◌, List, [], ◌∷◌, Option, Some, None, if◌then◌else◌, codes}
+use Rattle.std.specs.Prelude.{ℕ, ◌+◌, nat_eq, nat_le, ◌&&◌, List, [], ◌∷◌, length, Option, Some, None, if◌then◌else◌, codes}
 use Rattle.std.specs.Option.{option_map}
 use Rattle.std.specs.Str.{bytes_eq}
 use Rattle.plex_limits.specs.declared.limits.TheConstants.{MOST_JOBS}
@@ -18,18 +18,44 @@ abbrev pub allowed_jobs : Option ℕ → Option ℕ
 allowed_jobs None = None
 allowed_jobs (Some n) = (if nat_le 1 n && nat_le n MOST_JOBS then Some n else None)
 
--- after how many jobs the run ends, by these options
-abbrev pub jobs_in : List Word → Option ℕ
-jobs_in [] = Some USUAL_JOBS
-jobs_in (name ∷ []) = None
-jobs_in (name ∷ value ∷ []) = (if bytes_eq name (codes "--jobs") then allowed_jobs (number_of value) else None)
-jobs_in (name ∷ value ∷ more ∷ rest) = None
+-- behind the files stand options, each a name and a value
+
+-- the value of the first option of this name
+abbrev pub value_of : List ℕ → List Word → Option Word
+value_of name [] = None
+value_of name (n ∷ []) = None
+value_of name (n ∷ value ∷ rest) = (if bytes_eq n name then Some value else value_of name rest)
+
+-- how many words an option takes: two where it is given
+abbrev pub words_of : Option Word → ℕ
+words_of None = 0
+words_of (Some value) = 2
+
+-- after how many jobs the run ends, where its option has this value
+abbrev pub jobs_told : Option Word → Option ℕ
+jobs_told None = Some USUAL_JOBS
+jobs_told (Some value) = allowed_jobs (number_of value)
+
+-- the same of options that are these two, in whichever order, and no others: their words are as many as those of the two
+abbrev pub jobs_beside : List Word → Option Word → Option Word → Option ℕ
+jobs_beside options limit certificate =
+    (if nat_eq (length options) (words_of limit + words_of certificate) then jobs_told limit else None)
 
 -- an exchange file, a signal file and options
 abbrev pub run_words : List Word → Option RunWords
 run_words [] = None
 run_words (e ∷ []) = None
-run_words (e ∷ s ∷ options) = option_map (λ jobs. record { exchange = e; signals = s; jobs = jobs }) (jobs_in options)
+run_words (e ∷ s ∷ options) =
+    option_map (λ jobs. record { exchange = e; signals = s; jobs = jobs; certificate = value_of (codes "--cert") options })
+    (jobs_beside options (value_of (codes "--jobs") options) (value_of (codes "--cert") options))
+
+-- the same without a certificate
+abbrev pub single_words : List Word → Option RunWords
+single_words [] = None
+single_words (e ∷ []) = None
+single_words (e ∷ s ∷ options) =
+    option_map (λ jobs. record { exchange = e; signals = s; jobs = jobs; certificate = None })
+    (jobs_beside options (value_of (codes "--jobs") options) None)
 
 -- the only one of these words
 abbrev pub only_word : List Word → Option Word
@@ -53,7 +79,7 @@ abbrev pub shape : List Word → Option Command
 shape [] = None
 shape (name ∷ rest) =
     (if bytes_eq name (codes "run") then option_map Run (run_words rest)
-    else (if bytes_eq name (codes "single") then option_map Single (run_words rest)
+    else (if bytes_eq name (codes "single") then option_map Single (single_words rest)
     else (if bytes_eq name (codes "analyse") then option_map Analyse (only_word rest)
     else (if bytes_eq name (codes "certify") then option_map Certify (only_word rest)
     else (if bytes_eq name (codes "list") then option_map Listing (only_word rest)

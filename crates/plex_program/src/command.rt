@@ -1,10 +1,10 @@
 // The words of the command.
-ghost use Rattle.std.specs.Prelude.{◌≡◌, ◌≤◌, IfOk, IfSome};
+ghost use Rattle.std.specs.Prelude.{◌≡◌, ◌≤◌, IfOk, IfSome, None};
 ghost use Rattle.std.specs.Option.{option_map};
 ghost use Rattle.std.specs.Str.{bytes_eq};
 ghost use Rattle.plex_limits.specs.declared.limits.TheConstants.{MOST_JOBS};
 ghost use Rattle.plex_program.specs.Runs.{HasJobs};
-ghost use Rattle.plex_program.specs.Words.{allowed_calls, allowed_jobs, calls_in, jobs_in, only_word, run_words, shape};
+ghost use Rattle.plex_program.specs.Words.{allowed_calls, allowed_jobs, calls_in, jobs_beside, jobs_told, only_word, run_words, shape, single_words, value_of, words_of};
 
 use plex_io::Word;
 use plex_limits::MOST_JOBS;
@@ -20,7 +20,8 @@ pub const MOST_CALLS: u32 = 10_000;
 /// What the words ask for.
 #[derive(Drop)]
 pub enum Command {
-    /// `run E S [--jobs N]`: the report of the run of an exchange file and a signal file.
+    /// `run E S [--jobs N] [--cert F]`: the report of the run of an exchange file and a signal file, where the certificate is one
+    /// of the exchange.
     Run(RunWords),
     /// `single E S [--jobs N]`: the same report, each job by the source itself.
     Single(RunWords),
@@ -43,6 +44,8 @@ pub struct RunWords {
     pub signals: Word,
     /// After how many jobs the run ends at the latest, from 1 to 10,000,000.
     pub jobs: u32,
+    /// The name of the file with the certificate, where one is given.
+    pub certificate: Option<Word>,
 }
 
 /// The command that these words are; `None` where they are none.
@@ -56,7 +59,7 @@ pub fn read_command(alloc: Global, words: &[Word]) -> Result<Option<Command>, Me
     if is_word(name.as_slice(), b"run") {
         Ok(as_run(read_run(alloc, rest)?))
     } else if is_word(name.as_slice(), b"single") {
-        Ok(as_single(read_run(alloc, rest)?))
+        Ok(as_single(read_single(alloc, rest)?))
     } else if is_word(name.as_slice(), b"analyse") {
         Ok(as_analyse(read_only(alloc, rest)?))
     } else if is_word(name.as_slice(), b"certify") {
@@ -154,29 +157,89 @@ fn read_run(alloc: Global, rest: &[Word]) -> Result<Option<RunWords>, Memory>
     let Some((signals, options)) = after.split_first() else {
         return Ok(None);
     };
-    let Some(jobs) = jobs_in(options) else {
+    let certificate = value_of(alloc, options, b"--cert")?;
+    let limit = value_of(alloc, options, b"--jobs")?;
+    let Some(jobs) = jobs_beside(options, &limit, &certificate) else {
         return Ok(None);
     };
     Ok(Some(RunWords {
         exchange: Seq::copied(alloc, exchange.as_slice())?,
         signals: Seq::copied(alloc, signals.as_slice())?,
         jobs,
+        certificate,
     }))
 }
 
-/// After how many jobs the run ends, by these options; `None` where they are none.
-fn jobs_in(options: &[Word]) -> Option<u32>
-    ensures is { result ≡ jobs_in options.now }
+/// The words of a run by the source after its name; `None` where they are none.
+fn read_single(alloc: Global, rest: &[Word]) -> Result<Option<RunWords>, Memory>
+    ensures words { IfOk result (λ words. words ≡ single_words rest.now) }
+    ensures jobs { IfOk result (λ words. IfSome words (λ w. w.jobs ≤ MOST_JOBS)) }
+{
+    let Some((exchange, after)) = rest.split_first() else {
+        return Ok(None);
+    };
+    let Some((signals, options)) = after.split_first() else {
+        return Ok(None);
+    };
+    let limit = value_of(alloc, options, b"--jobs")?;
+    let Some(jobs) = jobs_beside(options, &limit, &None) else {
+        return Ok(None);
+    };
+    Ok(Some(RunWords {
+        exchange: Seq::copied(alloc, exchange.as_slice())?,
+        signals: Seq::copied(alloc, signals.as_slice())?,
+        jobs,
+        certificate: None,
+    }))
+}
+
+/// The value of the first option of this name; options are names and values in turn.
+fn value_of(alloc: Global, options: &[Word], name: &[u8]) -> Result<Option<Word>, Memory>
+    ensures { IfOk result (λ value. value ≡ value_of name.now options.now) }
+{
+    let mut rest = options;
+    while let [first, value, more @ ..] = rest {
+        if is_word(first.as_slice(), name) {
+            return Ok(Some(Seq::copied(alloc, value.as_slice())?));
+        }
+        rest = more;
+    }
+    Ok(None)
+}
+
+/// After how many jobs the run ends, by options among which that of the jobs has this value and that of the certificate this one;
+/// `None` where other words stand among them.
+fn jobs_beside(options: &[Word], limit: &Option<Word>, certificate: &Option<Word>) -> Option<u32>
+    ensures is { result ≡ jobs_beside options.now limit.now certificate.now }
     ensures few { IfSome result (λ n. n ≤ MOST_JOBS) }
 {
-    let Some((name, after)) = options.split_first() else {
-        return Some(USUAL_JOBS);
-    };
-    let (value, more) = after.split_first()?;
-    if !more.is_empty() || !is_word(name.as_slice(), b"--jobs") {
-        return None;
+    if options.len() == words_of(limit) + words_of(certificate) {
+        jobs_told(limit)
+    } else {
+        None
     }
-    allowed_jobs(read_number(value.as_slice()))
+}
+
+/// How many words an option takes that has this value.
+fn words_of(value: &Option<Word>) -> usize
+    ensures is { result ≡ words_of value.now }
+    ensures few { result ≤ 2 }
+{
+    match value {
+        Some(_) => 2,
+        None => 0,
+    }
+}
+
+/// After how many jobs the run ends, where its option has this value; `None` where it may not be told so.
+fn jobs_told(limit: &Option<Word>) -> Option<u32>
+    ensures is { result ≡ jobs_told limit.now }
+    ensures few { IfSome result (λ n. n ≤ MOST_JOBS) }
+{
+    match limit {
+        Some(value) => allowed_jobs(read_number(value.as_slice())),
+        None => Some(USUAL_JOBS),
+    }
 }
 
 /// The number, where a run may be told to end after so many jobs.

@@ -1,4 +1,7 @@
-// The first fault of an exchange text, and of a signal file.
+// The first fault of an exchange text, of a signal file, and of a certificate.
+
+use certificate_text::Shape;
+use flow_points::Fact;
 
 /// Why an exchange text is refused, and where.
 #[derive(Clone, Copy, Debug)]
@@ -68,4 +71,19 @@ pub enum SignalsRule {
     FallingCount,
     /// The number after AS is that of no earlier signal line, or of one that ends in NONE.
     BadAs,
+}
+
+/// Why a certificate is refused, by the first of these that is so.
+#[derive(Clone, Copy)]
+pub enum CertificateFault {
+    /// The text has more than 16,777,216 bytes.
+    TooLarge,
+    /// The line, from 1, is not as those of a certificate are, or the text ends before it.
+    BadText { line: u32 },
+    /// The exchange has another shape than the certificate tells.
+    WrongExchange { exchange: Shape, certificate: Shape },
+    /// The first fact that the exchange cannot have.
+    Strange { fact: Fact },
+    /// The least fact that follows from the certificate's by one rule and is not among them.
+    Missing { fact: Fact },
 }

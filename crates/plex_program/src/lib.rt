@@ -7,6 +7,7 @@
 #![tactic(auto)]
 
 mod analysing;
+mod certifying;
 mod command;
 mod fault;
 mod perform;
@@ -18,6 +19,6 @@ mod tests;
 mod text;
 
 pub use command::{Command, RunWords};
-pub use fault::{Rule, SignalsFault, SignalsRule, SourceFault};
+pub use fault::{CertificateFault, Rule, SignalsFault, SignalsRule, SourceFault};
 pub use perform::{Answer, Refused, Stop};
 pub use program::{Quit, Status, plex};

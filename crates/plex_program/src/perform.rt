@@ -7,12 +7,13 @@ ghost use Rattle.plex_program.specs.Program.{IsEnding};
 ghost use Rattle.plex_program.specs.Reading.{IsSpelled, signals_fault};
 ghost use Rattle.load_maker.specs.Exchange.{exchange_text};
 ghost use Rattle.load_maker.specs.Signals.{signals_text};
-ghost use Rattle.plex_program.specs.Answer.{AnswersAnalysis, AnswersCertificate, Comes, FromExchange, Performs, Reads, exchange_at, exchange_of_file, exchange_of_tree, fitting, lines_at, lines_of_file, list_of, listing_answer, load_answer, load_of, or_broken, or_unread, performed, run_answer, run_of, text_at};
+ghost use Rattle.plex_program.specs.Answer.{AnswersAnalysis, AnswersCertificate, Comes, FromExchange, IsCertifiedRun, Performs, Reads, RunComes, RunsWith, Tells, exchange_at, exchange_of_file, exchange_of_tree, fitting, lines_at, lines_of_file, list_of, listing_answer, load_answer, load_of, or_broken, or_unread, performed, run_answer, run_of, text_at};
 ghost use Rattle.plex_program.specs.Runs.{AreRead, HasJobs};
 
 use crate::analysing::{analysis_answer, certificate_answer};
+use crate::certifying::certificate_fault;
 use crate::command::{Command, RunWords};
-use crate::fault::{SignalsFault, SignalsRule, SourceFault};
+use crate::fault::{CertificateFault, SignalsFault, SignalsRule, SourceFault};
 use crate::program::Status;
 use crate::reading::{refused, rule_of, tree_of_file};
 use crate::running::{Means, listing_answer, load_answer, run_answer};
@@ -27,12 +28,14 @@ use signal_file::{Line, SignalFault, read_signals};
 use std::alloc::Global;
 
 /// The first refusal.
-#[derive(Clone, Copy, Debug)]
+#[derive(Clone, Copy)]
 pub enum Refused {
     /// The exchange text has a fault.
     Source(SourceFault),
     /// The signal file has a fault.
     Signals(SignalsFault),
+    /// The certificate is none of the exchange.
+    Certificate(CertificateFault),
 }
 
 /// What the program writes and ends with.
@@ -43,7 +46,7 @@ pub struct Answer {
 }
 
 /// Why the work stops.
-#[derive(Clone, Copy, Debug)]
+#[derive(Clone, Copy)]
 pub enum Stop {
     Refused(Refused),
     /// The shelf holds no file of this name.
@@ -168,7 +171,7 @@ fn unread(line: u32, rule: SignalsRule) -> Stop
     Stop::Refused(Refused::Signals(SignalsFault { line, rule }))
 }
 
-/// `run` and `single`.
+/// `run` without a certificate, and `single`.
 #[tactic(auto, using(crate::proofs::Stages::comes_stop, crate::proofs::Stages::comes_go, crate::proofs::Stages::comes_reads))]
 fn perform_run<S: Shelf>(
     alloc: Global,
@@ -184,6 +187,62 @@ fn perform_run<S: Shelf>(
     let exchange = exchange_in(alloc, shelf, &words.exchange)?;
     let lines = lines_in(alloc, shelf, &exchange, &words.signals)?;
     answer_run(alloc, means, &exchange, lines, words.jobs)
+}
+
+/// `run` with a certificate.
+#[tactic(auto, using(crate::proofs::Stages::performs_go, crate::proofs::Stages::performs_halt, crate::proofs::Stages::performs_told))]
+fn perform_certified<S: Shelf>(
+    alloc: Global,
+    shelf: &mut S,
+    words: &RunWords,
+    name: &Word,
+) -> Result<Answer, Stop>
+    requires { words.now.jobs ≤ MOST_JOBS }
+    ensures comes { Performs (S.held shelf.old) (RunsWith words.now name.now)
+        (S.faults shelf.old) (S.faults shelf.new) result }
+    ensures ending { IfOk result (λ a. IsEnding a.status) }
+{
+    let exchange = exchange_in(alloc, shelf, &words.exchange)?;
+    let lines = lines_in(alloc, shelf, &exchange, &words.signals)?;
+    let text = text_in(alloc, shelf, name)?;
+    answer_certified(alloc, &exchange, &text, lines, words.jobs)
+}
+
+/// The answer of a run whose certificate has this text, which may be too large.
+#[tactic(auto, using(crate::proofs::Certified::certified_runs, crate::proofs::Certified::certified_refused))]
+fn answer_certified(
+    alloc: Global,
+    exchange: &Exchange,
+    text: &Option<Seq<u8>>,
+    lines: Seq<Line>,
+    jobs: u32,
+) -> Result<Answer, Stop>
+    requires text { IfSome text.now (λ t. length t ≤ MOST_BYTES) }
+    requires lines { AreRead exchange.now lines }
+    requires jobs { jobs ≤ MOST_JOBS }
+    ensures told { Tells
+        (IsCertifiedRun exchange.now text.now (run_answer exchange.now lines jobs)) result }
+    ensures ending { IfOk result (λ a. IsEnding a.status) }
+{
+    match certificate_fault(alloc, exchange, text) {
+        Ok(None) => answer_run(alloc, Means::Code, exchange, lines, jobs),
+        Ok(Some(fault)) => Err(Stop::Refused(Refused::Certificate(fault))),
+        Err(Memory) => Err(Stop::Memory),
+    }
+}
+
+/// `run`, with a certificate or without one.
+#[tactic(auto, using(crate::proofs::Stages::performs_comes))]
+fn perform_code<S: Shelf>(alloc: Global, shelf: &mut S, words: &RunWords) -> Result<Answer, Stop>
+    requires { words.now.jobs ≤ MOST_JOBS }
+    ensures comes { Performs (S.held shelf.old) (RunComes words.now words.now.certificate)
+        (S.faults shelf.old) (S.faults shelf.new) result }
+    ensures ending { IfOk result (λ a. IsEnding a.status) }
+{
+    match &words.certificate {
+        Some(name) => perform_certified(alloc, shelf, words, name),
+        None => perform_run(alloc, Means::Code, shelf, words),
+    }
 }
 
 /// The answer of a run, as a stage.
@@ -327,7 +386,7 @@ pub fn perform<S: Shelf>(alloc: Global, shelf: &mut S, command: &Command) -> Res
     ensures ending { IfOk result (λ a. IsEnding a.status) }
 {
     match command {
-        Command::Run(words) => perform_run(alloc, Means::Code, shelf, words),
+        Command::Run(words) => perform_code(alloc, shelf, words),
         Command::Single(words) => perform_run(alloc, Means::Source, shelf, words),
         Command::Analyse(name) => perform_analysis(alloc, shelf, name),
         Command::Certify(name) => perform_certificate(alloc, shelf, name),

@@ -34,6 +34,8 @@ pub enum Status {
     Write,
     /// Memory was refused; nothing was written.
     Memory,
+    /// The certificate is none of the exchange; the line that tells why was written.
+    Certificate,
 }
 
 impl Status {
@@ -51,6 +53,7 @@ impl Status {
             Status::Read => 6,
             Status::Write => 7,
             Status::Memory => 8,
+            Status::Certificate => 9,
         }
     }
 }
@@ -139,6 +142,7 @@ fn refused_status(refused: Refused) -> Status
     match refused {
         Refused::Source(_) => Status::Source,
         Refused::Signals(_) => Status::Signals,
+        Refused::Certificate(_) => Status::Certificate,
     }
 }
 

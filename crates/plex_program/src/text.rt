@@ -1,9 +1,12 @@
 // The lines that are written in place of a report.
 ghost use Rattle.std.specs.Prelude.{◌≡◌, ◌++◌, IfOk, OnOk};
-ghost use Rattle.plex_program.specs.Text.{fault_text, numbered_name, refusal_text, rule_name, signals_rule_name, signals_text, usage_text};
+ghost use Rattle.std.specs.List.{flat_map};
+ghost use Rattle.plex_program.specs.Text.{bad_text, certificate_text, fact_text, fault_text, numbered_name, other_exchange, refusal_text, rule_name, shape_numbers, signals_rule_name, signals_text, spaced, usage_text};
 
-use crate::fault::{Rule, SignalsFault, SignalsRule, SourceFault};
+use crate::fault::{CertificateFault, Rule, SignalsFault, SignalsRule, SourceFault};
 use crate::perform::Refused;
+use certificate_text::{Shape, print_fact};
+use flow_points::Fact;
 use plex_num::{Memory, Seq, print_number};
 use std::alloc::Global;
 
@@ -12,7 +15,7 @@ use std::alloc::Global;
 pub fn usage_line() -> &'static [u8]
     ensures { result.now ≡ usage_text }
 {
-    b"usage: plex run E S [--jobs N] | plex single E S [--jobs N] | plex analyse E | plex certify E | plex list E | plex load N\n"
+    b"usage: plex run E S [--jobs N] [--cert F] | plex single E S [--jobs N] | plex analyse E | plex certify E | plex list E | plex load N\n"
 }
 
 /// The line of a refusal.
@@ -23,6 +26,7 @@ pub fn refusal_line(alloc: Global, refused: Refused) -> Result<Seq<u8>, Memory>
     match refused {
         Refused::Source(fault) => fault_line(alloc, fault),
         Refused::Signals(fault) => signals_line(alloc, fault),
+        Refused::Certificate(fault) => certificate_line(alloc, fault),
     }
 }
 
@@ -46,6 +50,93 @@ fn signals_line(alloc: Global, fault: SignalsFault) -> Result<Seq<u8>, Memory>
     print_number(u64::from(fault.line), &mut text)?;
     text.append(b" ")?;
     add_signals_rule(&mut text, fault.rule)?;
+    text.append(b"\n")?;
+    Ok(text)
+}
+
+/// The line of a certificate's refusal.
+fn certificate_line(alloc: Global, fault: CertificateFault) -> Result<Seq<u8>, Memory>
+    ensures { IfOk result (λ text. text ≡ certificate_text fault) }
+{
+    match fault {
+        CertificateFault::TooLarge => Seq::copied(alloc, b"CERTIFICATE line 0 TOOLARGE\n"),
+        CertificateFault::BadText { line } => bad_line(alloc, line),
+        CertificateFault::WrongExchange {
+            exchange,
+            certificate,
+        } => other_exchange_line(alloc, exchange, certificate),
+        CertificateFault::Strange { fact } => fact_line(alloc, b"CERTIFICATE STRANGE ", fact),
+        CertificateFault::Missing { fact } => fact_line(alloc, b"CERTIFICATE MISSING ", fact),
+    }
+}
+
+/// `CERTIFICATE line L BADTEXT`.
+fn bad_line(alloc: Global, line: u32) -> Result<Seq<u8>, Memory>
+    ensures { IfOk result (λ text. text ≡ bad_text line) }
+{
+    let mut text = Seq::copied(alloc, b"CERTIFICATE line ")?;
+    print_number(u64::from(line), &mut text)?;
+    text.append(b" BADTEXT\n")?;
+    Ok(text)
+}
+
+/// `CERTIFICATE WRONGEXCHANGE` and the numbers of two shapes.
+fn other_exchange_line(
+    alloc: Global,
+    exchange: Shape,
+    certificate: Shape,
+) -> Result<Seq<u8>, Memory>
+    ensures { IfOk result (λ text. text ≡ other_exchange exchange certificate) }
+{
+    let mut text = Seq::copied(alloc, b"CERTIFICATE WRONGEXCHANGE")?;
+    add_shape(&mut text, exchange)?;
+    text.append(b" AND")?;
+    add_shape(&mut text, certificate)?;
+    text.append(b"\n")?;
+    Ok(text)
+}
+
+/// Appends the numbers of a shape, each behind a space.
+fn add_shape(text: &mut Seq<u8>, shape: Shape) -> Result<(), Memory>
+    ensures { OnOk result (text.new ≡ text.old ++ flat_map spaced (shape_numbers shape)) }
+{
+    let numbers = [
+        shape.signals,
+        shape.blocks,
+        shape.points,
+        shape.cells,
+        shape.entries,
+        shape.references,
+    ];
+    add_numbers(text, &numbers)
+}
+
+/// Appends numbers, each behind a space.
+fn add_numbers(text: &mut Seq<u8>, numbers: &[u32]) -> Result<(), Memory>
+    ensures { OnOk result (text.new ≡ text.old ++ flat_map spaced numbers.now) }
+{
+    for number in numbers {
+        add_spaced(text, *number)?;
+    }
+    Ok(())
+}
+
+/// Appends a number behind a space.
+#[tactic(auto, using(crate::proofs::Words::two_pieces))]
+fn add_spaced(text: &mut Seq<u8>, number: u32) -> Result<(), Memory>
+    ensures { OnOk result (text.new ≡ text.old ++ spaced number) }
+{
+    text.append(b" ")?;
+    print_number(u64::from(number), text)?;
+    Ok(())
+}
+
+/// The line of a fact behind these words.
+fn fact_line(alloc: Global, words: &[u8], fact: Fact) -> Result<Seq<u8>, Memory>
+    ensures { IfOk result (λ text. text ≡ fact_text words.now fact) }
+{
+    let mut text = Seq::copied(alloc, words)?;
+    print_fact(&mut text, fact)?;
     text.append(b"\n")?;
     Ok(text)
 }

@@ -1,4 +1,4 @@
-use Rattle.plex_program.proofs.Endings.{answered_report, answered_not_held}
+use Rattle.plex_program.proofs.Endings.{answered_report, answered_not_held, answered_refused}
 use Rattle.plex_program.proofs.program.answered.Goals as goal
 
 pub returns-in-Ok : goal.returns-in-Ok
@@ -9,4 +9,9 @@ returns-in-Ok g c = record {
 pub returns-in-Err-NotHeld : goal.returns-in-Err-NotHeld
 returns-in-Err-NotHeld g c = record {
   answers = answered_not_held _ _ c.in-Ok-Some.command _ _ (rw c.in-Ok-Some.field-0-is at c.in-Ok-Some.ensures.command) (rw c.in-Err-NotHeld.field-0-is at c.in-Err-NotHeld.ensures.comes);
+}
+
+pub returns-in-Err-Refused : goal.returns-in-Err-Refused
+returns-in-Err-Refused g c = record {
+  answers = answered_refused _ _ c.in-Ok-Some.command _ _ c.in-Err-Refused.refused _ (rw c.in-Ok-Some.field-0-is at c.in-Ok-Some.ensures.command) (rw c.in-Err-Refused.field-0-is at c.in-Err-Refused.ensures.comes) c.refused_answer.ensures;
 }

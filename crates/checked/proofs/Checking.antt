@@ -1,0 +1,92 @@
+-- Which way a check goes.
+use Rattle.std.proofs.Common.{◌≡◌, ◌↔◌, ℕ, suc, Bool, true, false, IsTrue, List, [], ◌∷◌, length, map, Contains, All, Option, Some, None, slice_get, refl, sym, ap, ◌∙◌, subst, arith}
+use Rattle.std.specs.List.{count_by}
+use Rattle.std.proofs.lemmas.Bool.{true≢false}
+use Rattle.std.proofs.lemmas.Option.{same_Some, none-some}
+use Rattle.std.proofs.lemmas.List.Elements.{All-contains, Contains-append_right}
+use Rattle.exchange_model.specs.declared.exchange.Exchange.{Exchange}
+use Rattle.flow_points.specs.declared.fact.Fact.{Fact}
+use Rattle.flow_points.specs.Facts.{Gives, IsClosed}
+use Rattle.flow_points.specs.Places.{Place}
+use Rattle.flow_table.specs.declared.place.PlaceAt.{PlaceAt}
+use Rattle.flow_table.specs.Texts.{ArePlaces, seen}
+use Rattle.entry_summary.specs.declared.summary.Summary.{Summary}
+use Rattle.certificate_text.specs.declared.certificate.Certificate.{Certificate}
+use Rattle.certificate_text.specs.declared.certificate.Shape.{Shape}
+use Rattle.certificate.specs.Missing.{LeastIn}
+use Rattle.certificate.specs.Shapes.{HasReferences, IsShapeOf, refers}
+use Rattle.certificate.specs.Strange.{AreListed, IsOfExchange}
+use Rattle.checked.specs.declared.fault.CertFault.{CertFault}
+use Rattle.checked.specs.declared.fault.CertFault.TheVariants.{WrongExchange, StrangeFact, MissingFact, Memory}
+use Rattle.checked.specs.Kept.{AreSummariesBy, Kept}
+use Rattle.checked.specs.Verdicts.{Accepts, AreShapes, IsClosedCertificate, Refuses}
+
+pub listed_by : (x : Exchange) (places : List PlaceAt) → ArePlaces x (map seen places) → AreListed x
+listed_by x places all = record { places = map seen places; all = all }
+
+-- an exchange has one shape
+
+same_items : {A : Type 0} (xs ys : List A) → length xs ≡ length ys → ((i : ℕ) (a : A) → slice_get xs i ≡ Some a → slice_get ys i ≡ Some a) → xs ≡ ys
+same_items [] [] long each = refl
+same_items [] (y ∷ ys) long each = absurd (omega (arith, long))
+same_items (x ∷ xs) [] long each = absurd (none-some x (each 0 x refl))
+same_items (x ∷ xs) (y ∷ ys) long each =
+    ap (λ z. z ∷ xs) (sym (same_Some y x (each 0 x refl)))
+    ∙ ap (λ zs. y ∷ zs) (same_items xs ys (omega (arith, long)) (λ i a there. each (suc i) a there))
+
+same_places : (x : Exchange) (ps qs : List Place) → ArePlaces x ps → ArePlaces x qs → ps ≡ qs
+same_places x ps qs one other = same_items ps qs (one.each_point ∙ sym other.each_point) (λ i at there. other.listed i at (one.stands i at there))
+
+same_count : (x : Exchange) (n m : ℕ) → HasReferences x n → HasReferences x m → n ≡ m
+same_count x n m one other = one.so ∙ ap (count_by (λ (p : Place). refers p.layer)) (same_places x one.places other.places one.all other.all) ∙ sym other.so
+
+same_shape : (x : Exchange) (s t : Shape) → IsShapeOf x s → IsShapeOf x t → s ≡ t
+same_shape x s t one other =
+    let signals : s.signals ≡ t.signals = one.signals ∙ sym other.signals in
+    let blocks : s.blocks ≡ t.blocks = one.blocks ∙ sym other.blocks in
+    let points : s.points ≡ t.points = one.points ∙ sym other.points in
+    let cells : s.cells ≡ t.cells = one.cells ∙ sym other.cells in
+    let entries : s.entries ≡ t.entries = one.entries ∙ sym other.entries in
+    let references : s.references ≡ t.references = same_count x s.references t.references one.references other.references in
+    λ i. record { signals = signals i; blocks = blocks i; points = points i; cells = cells i; entries = entries i; references = references i }
+
+-- the four ends of a check
+
+pub wrong_shape : (x : Exchange) (c : Certificate) (own : Shape) (b : Bool) → IsShapeOf x own → (IsTrue b ↔ (own ≡ c.shape)) → b ≡ false → AreShapes x c own c.shape
+wrong_shape x c own b is tells down = record {
+  own = is;
+  told = refl;
+  differ = λ also. true≢false (sym (tells.1 (same_shape x own c.shape is also)) ∙ down);
+}
+
+-- the way to the end, by what each stage tells
+pub accepted : (x : Exchange) (c : Certificate) (k : Kept) (own : Shape) (b : Bool) (first known : List Fact) (found : Option Fact) (summaries : List Summary)
+    → IsShapeOf x own → (IsTrue b ↔ (own ≡ c.shape)) → b ≡ true
+    → first ≡ c.facts → All (IsOfExchange x) first
+    → known ≡ c.facts → LeastIn (Contains known) (Gives x (Contains known)) found → found ≡ None
+    → AreSummariesBy x (Contains known) summaries → k.facts ≡ known → k.summaries ≡ summaries
+    → Accepts x c k
+accepted x c k own b first known found summaries shape tells up first_is of_it known_is least none by_facts facts_are summaries_are =
+    let kept_is : k.facts ≡ c.facts = facts_are ∙ known_is in
+    let all_own : All (IsOfExchange x) c.facts = subst (All (IsOfExchange x)) first_is of_it in
+    let closed : IsClosed x (Contains known) = subst (LeastIn (Contains known) (Gives x (Contains known))) none least in
+    record {
+      is = record { shape = subst (IsShapeOf x) (tells.0 up) shape; own = all_own; closed = subst (λ l. IsClosed x (Contains l)) known_is closed };
+      facts = kept_is;
+      checked = record {
+        own = subst (All (IsOfExchange x)) (sym kept_is) all_own;
+        closed = subst (λ l. IsClosed x (Contains l)) (sym facts_are) closed;
+        by_facts = subst (λ l. AreSummariesBy x (Contains l) k.summaries) (sym facts_are) (subst (AreSummariesBy x (Contains known)) (sym summaries_are) by_facts);
+      };
+    }
+
+-- a refusal is right
+
+pub never_closed : (x : Exchange) (c : Certificate) (fault : CertFault) → Refuses x c fault → IsClosedCertificate x c → fault ≡ Memory
+never_closed x c (WrongExchange exchange certificate) r is = absurd (r.differ is.shape)
+never_closed x c (StrangeFact f) r is =
+    let first = r.first in
+    let here : Contains c.facts f = subst (λ l. Contains l f) (sym first.so) (Contains-append_right first.before (f ∷ first.after) f (0, omega arith, refl)) in
+    absurd (first.strange (All-contains (IsOfExchange x) c.facts f is.own here))
+never_closed x c (MissingFact f) r is = (let l = r.least in absurd (l.missing (is.closed f l.given)))
+never_closed x c Memory r is = refl

@@ -1,0 +1,93 @@
+// Whether a certificate is one of an exchange.
+ghost use Rattle.std.specs.Prelude.{◌≡◌, ◌↔◌, Contains, IfOk, IsTrue, MatchResult, map};
+ghost use Rattle.std.specs.List.Sorted.{IsStrictlySortedBy};
+ghost use Rattle.flow_table.specs.Rows.{IsTable};
+ghost use Rattle.flow_table.specs.Texts.{ArePlaces, seen};
+ghost use Rattle.fact_rows.specs.Orders.{fact_order};
+ghost use Rattle.checked.specs.Kept.{AreSummariesBy};
+ghost use Rattle.checked.specs.Verdicts.{Accepts, Refuses};
+
+use crate::checked::Checked;
+use crate::fault::CertFault;
+use access_summary::summary_of;
+use certificate::{first_strange, least_missing, shape_over};
+use certificate_text::{Certificate, Shape};
+use entry_accesses::numbers_of;
+use entry_summary::Summary;
+use exchange_model::Exchange;
+use fact_list::FactList;
+use flow_table::{FlowTable, PlaceAt, places_of, table_of};
+use plex_num::{Memory, Seq};
+use std::alloc::Global;
+
+/// What a certificate says of the entries, where it is one of the exchange; else why it is none. Its facts must stand in their
+/// order, each once, as those that are read do. A certificate that is refused is given up.
+#[tactic(auto, using(crate::proofs::Checking::listed_by))]
+pub fn check(
+    alloc: Global,
+    exchange: &Exchange,
+    certificate: Certificate,
+) -> Result<Checked, CertFault>
+    requires { IsStrictlySortedBy fact_order certificate.facts }
+    ensures { MatchResult result
+        (Accepts exchange.now certificate)
+        (Refuses exchange.now certificate) }
+{
+    exchange.kept();
+    let Certificate { shape, facts } = certificate;
+    let places = places_of(alloc, exchange)?;
+    let own = shape_over(exchange, places.as_slice());
+    if !is_same(own, shape) {
+        return Err(CertFault::WrongExchange {
+            exchange: own,
+            certificate: shape,
+        });
+    }
+    let table = table_of(alloc, exchange)?;
+    if let Some(fact) = first_strange(exchange, &table, facts.as_slice()) {
+        return Err(CertFault::StrangeFact { fact });
+    }
+    let known = FactList::new(facts);
+    if let Some(fact) = least_missing(alloc, exchange, &table, &known, known.facts().as_slice())? {
+        return Err(CertFault::MissingFact { fact });
+    }
+    let summaries = summaries_by(alloc, exchange, &table, places.as_slice(), &known)?;
+    Ok(Checked::new(known, summaries))
+}
+
+fn is_same(one: Shape, other: Shape) -> bool
+    ensures { IsTrue result ↔ (one ≡ other) }
+{
+    one == other
+}
+
+/// The summary of each entry, by these facts.
+#[tactic(auto, using(crate::proofs::Summing::summaries_begin, crate::proofs::Summing::summaries_end))]
+fn summaries_by(
+    alloc: Global,
+    exchange: &Exchange,
+    table: &FlowTable,
+    places: &[PlaceAt<'_>],
+    known: &FactList,
+) -> Result<Seq<Summary>, Memory>
+    requires table { IsTable exchange.now table.now }
+    requires places { ArePlaces exchange.now (map seen places.now) }
+    ensures { IfOk result (AreSummariesBy exchange.now (Contains known.now)) }
+{
+    exchange.kept();
+    let numbers = numbers_of(alloc, exchange)?;
+    let mut summaries = Seq::new(alloc);
+    for entry in 0..exchange.entries.len() {
+        let one = summary_of(
+            alloc,
+            exchange,
+            table,
+            places,
+            &numbers,
+            known,
+            entry as u32,
+        )?;
+        summaries.push(one)?;
+    }
+    Ok(summaries)
+}

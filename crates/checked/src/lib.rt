@@ -1,0 +1,16 @@
+// Whether a certificate is one of an exchange, and what it says of the entries then.
+//
+// What goes in: an exchange and a certificate whose facts rise. What comes out: the facts and the summary of each entry by them,
+// where the certificate has the shape of the exchange, no strange fact, and all facts that one rule gives from its own; else the
+// first of these that is not so. It does not know how certificates are written, nor what summaries are for.
+#![tactic(auto)]
+
+mod checked;
+mod deciding;
+mod fault;
+mod laws;
+
+pub use checked::Checked;
+pub use deciding::check;
+pub use fault::CertFault;
+pub use laws::refused_is_not_closed;

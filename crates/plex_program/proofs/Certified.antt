@@ -1,0 +1,44 @@
+-- A run with a certificate, and its refusals.
+use Rattle.std.proofs.Common.{◌≡◌, ℕ, List, Option, Some, None, Result, Ok, Err, refl, ap}
+use Rattle.std.specs.List.Sorted.{IsStrictlySortedBy}
+use Rattle.exchange_model.specs.declared.exchange.Exchange.{Exchange}
+use Rattle.certificate_text.specs.declared.certificate.Certificate.{Certificate}
+use Rattle.certificate_text.specs.Lines.{HasBadLine, IsTextOf}
+use Rattle.certificate_text.specs.Text.{fact_order}
+use Rattle.checked.specs.Kept.{Kept}
+use Rattle.checked.specs.Verdicts.{Accepts}
+use Rattle.plex_program.specs.Answer.{IsCertifiedRun, Reads, Tells}
+use Rattle.plex_program.specs.Certificates.{IsJudged, large, bad, read, Judges}
+use Rattle.plex_program.specs.declared.fault.CertificateFault.{CertificateFault}
+use Rattle.plex_program.specs.declared.fault.CertificateFault.TheVariants.{BadText, TooLarge}
+use Rattle.plex_program.specs.declared.perform.Answer.{Answer}
+use Rattle.plex_program.specs.declared.perform.Refused.TheVariants.{Certificate as Uncertified}
+use Rattle.plex_program.specs.declared.perform.Stop.{Stop}
+use Rattle.plex_program.specs.declared.perform.Stop.TheVariants as stop
+
+pub judged_large : (x : Exchange) → IsJudged x None (Some TooLarge)
+judged_large x = large
+
+pub judged_bad : (x : Exchange) (text : List ℕ) (line : ℕ) → HasBadLine text line → IsJudged x (Some text) (Some (BadText line))
+judged_bad x text line is = bad text line is
+
+pub judged_read : (x : Exchange) (text : List ℕ) (c : Certificate) (o : Option CertificateFault) → IsTextOf text c → Judges x c o → IsJudged x (Some text) o
+judged_read x text c o is judges = read text c o is judges
+
+pub read_rises : (text : List ℕ) (c : Certificate) → IsTextOf text c → IsStrictlySortedBy fact_order c.facts
+read_rises text c is = is.fits.rises
+
+pub judges_taken : (x : Exchange) (c : Certificate) (k : Kept) → Accepts x c k → Judges x c None
+judges_taken x c k taken = taken.is
+
+-- the run itself
+pub certified_runs : (x : Exchange) (text : Option (List ℕ)) (a : Answer) (r : Result Answer Stop) → IsJudged x text None → Reads (Ok a) r → Tells (IsCertifiedRun x text a) r
+certified_runs x text a (Ok v) judged reads = record { fault = None; judged = judged; comes = reads }
+certified_runs x text a (Err (stop.Refused r)) judged reads = record { fault = None; judged = judged; comes = reads }
+certified_runs x text a (Err stop.NotHeld) judged reads = absurd reads
+certified_runs x text a (Err stop.Failed) judged reads = absurd reads
+certified_runs x text a (Err stop.Memory) judged reads = tt
+
+-- a refusal
+pub certified_refused : (x : Exchange) (text : Option (List ℕ)) (a : Answer) (f : CertificateFault) → IsJudged x text (Some f) → Tells (IsCertifiedRun x text a) (Err (stop.Refused (Uncertified f)))
+certified_refused x text a f judged = record { fault = Some f; judged = judged; comes = refl }
