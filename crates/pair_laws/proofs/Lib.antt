@@ -1,0 +1,11 @@
+pub mod Lists
+pub mod Carrying
+pub mod Rows
+pub mod Standing
+pub mod Beginning
+pub mod Values
+pub mod Pairing
+pub mod Going
+pub mod Leaving
+pub mod Moves
+pub mod Covering

@@ -1,0 +1,4 @@
+pub mod Gaining
+pub mod Choosing
+pub mod Rowing
+pub mod Tabled
