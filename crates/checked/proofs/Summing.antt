@@ -48,7 +48,3 @@ summaries_end x P n count all is low high g = (let h = g.long in record { each_e
 -- those by facts can be kept
 pub can_be_kept : (x : Exchange) (P : Facts) (all : List Summary) → length x.entries ≤ MOST_ENTRIES → AreSummariesBy x P all → AreKept all
 can_be_kept x P all few are = (let each = are.each_entry in record { few = omega (arith, few, each); rising = λ e s there. (are.is e s there).rising })
-
--- one of them
-pub kept_one : (all : List Summary) (e : ℕ) (s : Summary) → AreKept all → slice_get all e ≡ Some s → IsStrictlySortedBy access_order s.accesses
-kept_one all e s kept there = kept.rising e s there

@@ -1,9 +1,12 @@
 // Whether a certificate is one of an exchange.
-ghost use Rattle.std.specs.Prelude.{◌≡◌, ◌↔◌, Contains, IfOk, IsTrue, MatchResult, map};
+ghost use Rattle.std.specs.Prelude.{◌≡◌, ◌↔◌, All, Contains, IfOk, IsTrue, MatchResult, map};
 ghost use Rattle.std.specs.List.Sorted.{IsStrictlySortedBy};
+ghost use Rattle.flow_points.specs.Facts.{Gives};
 ghost use Rattle.flow_table.specs.Rows.{IsTable};
 ghost use Rattle.flow_table.specs.Texts.{ArePlaces, seen};
 ghost use Rattle.fact_rows.specs.Orders.{fact_order};
+ghost use Rattle.certificate.specs.Missing.{LeastIn};
+ghost use Rattle.certificate.specs.Strange.{AreListed, IsOfExchange};
 ghost use Rattle.checked.specs.Kept.{AreSummariesBy};
 ghost use Rattle.checked.specs.Verdicts.{Accepts, Refuses};
 
@@ -16,6 +19,7 @@ use entry_accesses::numbers_of;
 use entry_summary::Summary;
 use exchange_model::Exchange;
 use fact_list::FactList;
+use flow_points::Fact;
 use flow_table::{FlowTable, PlaceAt, places_of, table_of};
 use plex_num::{Memory, Seq};
 use std::alloc::Global;
@@ -48,7 +52,7 @@ pub fn check(
         return Err(CertFault::StrangeFact { fact });
     }
     let known = FactList::new(facts);
-    if let Some(fact) = least_missing(alloc, exchange, &table, &known, known.facts().as_slice())? {
+    if let Some(fact) = missing_from(alloc, exchange, &table, &known)? {
         return Err(CertFault::MissingFact { fact });
     }
     let summaries = summaries_by(alloc, exchange, &table, places.as_slice(), &known)?;
@@ -59,6 +63,23 @@ fn is_same(one: Shape, other: Shape) -> bool
     ensures { IsTrue result ↔ (one ≡ other) }
 {
     one == other
+}
+
+/// The least fact that one rule gives from these facts and that is not among them; `None` exactly where they are closed.
+fn missing_from(
+    alloc: Global,
+    exchange: &Exchange,
+    table: &FlowTable,
+    known: &FactList,
+) -> Result<Option<Fact>, Memory>
+    requires table { IsTable exchange.now table.now }
+    requires listed { AreListed exchange.now }
+    requires fit { All (IsOfExchange exchange.now) known.now }
+    ensures { IfOk result (LeastIn (Contains known.now) (Gives exchange.now (Contains known.now))) }
+{
+    let facts = known.facts().as_slice();
+    let missing = least_missing(alloc, exchange, table, known, facts)?;
+    Ok(missing)
 }
 
 /// The summary of each entry, by these facts.

@@ -168,7 +168,8 @@ fn seized_runs(
     size: u32,
 ) -> Result<Seq<Run>, Memory>
     ensures exact { IfOk result (λ runs. (chains : ChainMap) → held.now ≡ all_records chains →
-        AreRuns size (λ n. Contains accesses.now (access.Seizes file) × IsFree chains file n) runs) }
+        AreRuns size
+        (λ n. Contains accesses.now (access.Seizes file) × IsFree chains file n) runs) }
     ensures below { IfOk result (AreBelow size) }
 {
     if may_seize(accesses, file) {

@@ -86,7 +86,8 @@ fn push_files(files: &[File], places: &mut Seq<FieldPlace>) -> Result<(), Memory
 
 /// Appends the places of so many fields of a file.
 fn push_places(file: u32, count: u32, places: &mut Seq<FieldPlace>) -> Result<(), Memory>
-    ensures { OnOk result (places.new ≡ places.old ++ map (place_at file) (range_with_len 0 count)) }
+    ensures { OnOk result
+        (places.new ≡ places.old ++ map (place_at file) (range_with_len 0 count)) }
 {
     for field in 0..count {
         places.push(FieldPlace { file, field })?;
