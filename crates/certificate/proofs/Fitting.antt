@@ -1,5 +1,5 @@
 -- Each least fact can be told in a certificate.
-use Rattle.std.proofs.Common.{◌≡◌, ◌↔◌, inl, inr, ℕ, zero, suc, ◌+◌, ◌<◌, ◌≤◌, max, List, [], ◌∷◌, length, map, Option, None, Some, slice_get, get_or, Contains, All, refl, sym, subst, arith}
+use Rattle.std.proofs.Common.{◌≡◌, ◌↔◌, inl, inr, ℕ, zero, suc, ◌<◌, ◌≤◌, max, List, [], ◌∷◌, length, map, Option, None, Some, slice_get, get_or, Contains, All, refl, sym, subst, arith}
 use Rattle.std.specs.List.{AllByRecursion}
 use Rattle.std.specs.Option.{option_map_or}
 use Rattle.std.proofs.lemmas.List.Elements.{Contains-get_or}
@@ -20,7 +20,7 @@ use Rattle.flow_points.specs.declared.fact.Value.{Value}
 use Rattle.flow_points.specs.declared.fact.Value.TheVariants.{Arg, Const, Any}
 use Rattle.flow_points.specs.declared.flow.Source.{Source}
 use Rattle.flow_points.specs.declared.flow.Source.TheVariants.{Of, Is, Deeper, Nothing}
-use Rattle.flow_points.specs.Facts.{Facts, Gives, IsClosed, IsLeast, SourceGives}
+use Rattle.flow_points.specs.Facts.{Facts, IsClosed, IsLeast, SourceGives}
 use Rattle.flow_points.specs.Places.{Place}
 use Rattle.flow_points.specs.Slots.{HasSlot, IsSlotOf, answer_count, given_count, temp_count}
 use Rattle.flow_points.specs.Sources.{source_of, start_source}

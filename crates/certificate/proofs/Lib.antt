@@ -3,3 +3,4 @@ pub mod Firsts
 pub mod Lowered
 pub mod Slotted
 pub mod Fitting
+pub mod Told

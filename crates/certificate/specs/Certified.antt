@@ -1,11 +1,11 @@
 -- The certificate of an exchange.
-use Rattle.std.specs.Prelude.{◌↔◌, All, Contains}
+use Rattle.std.specs.Prelude.{◌≡◌, ◌↔◌, ℕ, List, All, Contains}
 use Rattle.std.specs.List.Sorted.{IsStrictlySortedBy}
 use Rattle.exchange_model.specs.declared.exchange.Exchange.{Exchange}
 use Rattle.flow_points.specs.declared.fact.Fact.{Fact}
 use Rattle.flow_points.specs.Facts.{IsLeast}
 use Rattle.certificate_text.specs.declared.certificate.Certificate.{Certificate}
-use Rattle.certificate_text.specs.Text.{FactFits, fact_order}
+use Rattle.certificate_text.specs.Text.{FactFits, certificate_text, fact_order}
 use Rattle.certificate.specs.Shapes.{IsShapeOf}
 
 -- it has the exchange's shape and exactly its least facts, in order, and a text can tell them
@@ -14,3 +14,9 @@ pub record IsCertificate (x : Exchange) (c : Certificate) : Type 0 where
   pub exact : (f : Fact) → Contains c.facts f ↔ IsLeast x f
   pub rising : IsStrictlySortedBy fact_order c.facts
   pub fits : All FactFits c.facts
+
+-- the text of its certificate
+pub record IsTextOfCertificate (x : Exchange) (text : List ℕ) : Type 0 where
+  pub certificate : Certificate
+  pub is : IsCertificate x certificate
+  pub told : text ≡ certificate_text certificate

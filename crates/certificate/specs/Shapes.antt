@@ -9,7 +9,7 @@ use Rattle.exchange_model.specs.declared.stmt.StmtKind.TheOpen as stmt
 use Rattle.source_meaning.specs.Named.{Layer}
 use Rattle.flow_points.specs.Places.{Place}
 use Rattle.flow_table.specs.declared.place.PlaceAt.{PlaceAt}
-use Rattle.flow_table.specs.Texts.{ArePlaces, seen}
+use Rattle.flow_table.specs.Texts.{ArePlaces}
 use Rattle.certificate_text.specs.declared.certificate.Shape.{Shape}
 
 abbrev pub is_held : Option Receiver → Bool

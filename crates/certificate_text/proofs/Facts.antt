@@ -8,11 +8,13 @@ use Rattle.flow_points.specs.declared.fact.Slot.{Slot}
 use Rattle.flow_points.specs.declared.fact.Slot.TheVariants.{Temp, Given, Answered, Depth, Awaits}
 use Rattle.flow_points.specs.declared.fact.Value.{Value}
 use Rattle.flow_points.specs.declared.fact.Value.TheVariants.{Arg, Const, Any}
-use Rattle.certificate_text.specs.Parts.{HasNo, IsFactAt, IsNumbered, IsSlotAt, IsValueAt}
-use Rattle.certificate_text.specs.Text.{FactFits, FactNumbers, HasNumber, SlotFits, ValueFits, ended, fact_line, last_line, slot_word, value_word}
-use Rattle.certificate_text.proofs.Cuts.{HasNo-append, HasNo-cons, cut_once}
+use Rattle.certificate_text.specs.Parts.{IsFactAt, IsNumbered, IsSlotAt, IsValueAt}
+use Rattle.certificate_text.specs.Text.{FactFits, FactNumbers, HasNumber, SlotFits, ValueFits, fact_line, last_line, slot_word, value_word}
 use Rattle.certificate_text.proofs.Numbers.{NoNumber, none_here, numbered_once, numbered_same}
-use Rattle.certificate_text.proofs.Numerals.{HasNo-decimal, decimal_no_letter}
+use Rattle.text_lines.proofs.Cuts.{HasNo-append, HasNo-cons, cut_once}
+use Rattle.text_lines.proofs.Numerals.{HasNo-decimal, decimal_no_letter}
+use Rattle.text_lines.specs.Lines.{ended}
+use Rattle.text_lines.specs.Parts.{HasNo}
 
 -- a slot and a value have one word each, and the word tells them
 

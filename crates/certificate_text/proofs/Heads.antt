@@ -4,9 +4,11 @@ use Rattle.std.proofs.lemmas.List.{append_cancel_left}
 use Rattle.certificate_text.specs.declared.certificate.Shape.{Shape}
 use Rattle.certificate_text.specs.declared.version.Version.{Version}
 use Rattle.certificate_text.specs.declared.version.Version.TheVariants.{One, Two}
-use Rattle.certificate_text.specs.Parts.{AreLast, HasNo, IsNumbered, IsShapeAt, IsVersionAt}
-use Rattle.certificate_text.specs.Text.{ended, reference_words, shape_line, version_line}
+use Rattle.certificate_text.specs.Parts.{AreLast, IsNumbered, IsShapeAt, IsVersionAt}
+use Rattle.certificate_text.specs.Text.{reference_words, shape_line, version_line}
 use Rattle.certificate_text.proofs.Numbers.{NoNumber, none_here, numbered_once, numbered_same}
+use Rattle.text_lines.specs.Lines.{ended}
+use Rattle.text_lines.specs.Parts.{HasNo}
 
 -- versions
 

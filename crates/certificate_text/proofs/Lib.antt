@@ -1,9 +1,7 @@
-pub mod Cuts
 pub mod Facts
 pub mod Heads
 pub mod LineEnds
 pub mod Numbers
-pub mod Numerals
 pub mod Once
 pub mod Orders
 pub mod Printed

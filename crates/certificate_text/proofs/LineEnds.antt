@@ -7,13 +7,13 @@ use Rattle.certificate_text.specs.declared.certificate.Certificate.{Certificate}
 use Rattle.certificate_text.specs.declared.certificate.Shape.{Shape}
 use Rattle.certificate_text.specs.declared.version.Version.{Version}
 use Rattle.certificate_text.specs.declared.version.Version.TheVariants.{One, Two}
-use Rattle.certificate_text.specs.Parts.{HasNo}
 use Rattle.certificate_text.specs.Text.{CertificateFits, FactFits, FactNumbers, IsNumber, ShapeNumbers, certificate_lines, fact_line, last_line, reference_words, shape_line, slot_word, value_word}
-use Rattle.certificate_text.proofs.Cuts.{HasNo-append}
 use Rattle.certificate_text.proofs.Facts.{Good, HasNo-slot, HasNo-value, all_good}
 use Rattle.certificate_text.proofs.Heads.{HasNo-version}
-use Rattle.certificate_text.proofs.Numerals.{HasNo-decimal}
-use Rattle.certificate_text.proofs.Texts.{HaveNoEnd}
+use Rattle.text_lines.proofs.Cuts.{HasNo-append}
+use Rattle.text_lines.proofs.Numerals.{HasNo-decimal}
+use Rattle.text_lines.proofs.Texts.{HaveNoEnd}
+use Rattle.text_lines.specs.Parts.{HasNo}
 
 both : (xs ys : List ℕ) → HasNo 10 xs → HasNo 10 ys → HasNo 10 (xs ++ ys)
 both xs ys = HasNo-append 10 xs ys

@@ -2,9 +2,10 @@
 use Rattle.std.proofs.Common.{◌≡◌, ◌≢◌, ℕ, ◌^◌, ◌<◌, ◌≤◌, List, [], ◌∷◌, ◌++◌, decimal, refl, sym, ap, subst, ◌∙◌, arith}
 use Rattle.std.proofs.lemmas.Fmt.{decimal_injective}
 use Rattle.std.proofs.lemmas.List.{append_cancel_left}
-use Rattle.certificate_text.specs.Parts.{HasNo, IsCut, IsNumbered}
-use Rattle.certificate_text.proofs.Cuts.{HasNo-head, HasNo-tail, cut_once}
-use Rattle.certificate_text.proofs.Numerals.{HasNo-decimal}
+use Rattle.certificate_text.specs.Parts.{IsNumbered}
+use Rattle.text_lines.proofs.Cuts.{HasNo-head, HasNo-tail, cut_once}
+use Rattle.text_lines.proofs.Numerals.{HasNo-decimal}
+use Rattle.text_lines.specs.Parts.{HasNo, IsCut}
 
 -- no number behind the label
 abbrev pub NoNumber : List ℕ → ℕ → List ℕ → Type 0

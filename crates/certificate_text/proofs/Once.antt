@@ -10,13 +10,15 @@ use Rattle.certificate_text.specs.declared.fault.TextFault.{TextFault}
 use Rattle.certificate_text.specs.declared.fault.TextFault.TheVariants.{BadText, Memory}
 use Rattle.certificate_text.specs.declared.version.Version.{Version}
 use Rattle.certificate_text.specs.declared.version.Version.TheVariants.{One, Two}
-use Rattle.certificate_text.specs.Lines.{BeginText, HasBadLine, IsTextOf, IsUnlessMemory, Tells, lines_in, whole}
-use Rattle.certificate_text.specs.Text.{certificate_text, ShapeNumbers, CanTell, certificate_lines, ended, fact_line, shape_line, text_in, version_line, last_line, CertificateFits}
+use Rattle.certificate_text.specs.Lines.{BeginText, HasBadLine, IsTextOf, IsUnlessMemory, Tells, whole}
+use Rattle.certificate_text.specs.Text.{certificate_text, ShapeNumbers, CanTell, certificate_lines, fact_line, shape_line, text_in, version_line, last_line, CertificateFits}
 use Rattle.certificate_text.proofs.Facts.{Good, fact_line_once, fact_no_last}
 use Rattle.certificate_text.proofs.Heads.{shape_once, version_line_once}
 use Rattle.certificate_text.proofs.LineEnds.{lines_no_end}
 use Rattle.certificate_text.proofs.Stated.{closing, front, good_facts, tails, whole-front}
-use Rattle.certificate_text.proofs.Texts.{ended_once, lines_in-whole}
+use Rattle.certificate_text.proofs.Texts.{lines_in-whole}
+use Rattle.text_lines.proofs.Texts.{ended_once}
+use Rattle.text_lines.specs.Lines.{lines_in, ended}
 
 -- the lines of the text of a certificate
 lines_of_text : (text : List ℕ) (c : Certificate) → (is : IsTextOf text c) → lines_in text ≡ whole (certificate_lines is.version c)

@@ -9,14 +9,16 @@ use Rattle.certificate_text.specs.declared.certificate.Certificate.{Certificate}
 use Rattle.certificate_text.specs.declared.certificate.Shape.{Shape}
 use Rattle.certificate_text.specs.declared.version.Version.{Version}
 use Rattle.certificate_text.specs.declared.version.Version.TheVariants.{One, Two}
-use Rattle.certificate_text.specs.Lines.{BeginText, HasBadLine, IsTextOf, lines_in, whole}
+use Rattle.certificate_text.specs.Lines.{BeginText, HasBadLine, IsTextOf, whole}
 use Rattle.certificate_text.specs.Parts.{Begun, IsFactAt, IsShapeAt, IsVersionAt}
-use Rattle.certificate_text.specs.Text.{CanTell, CertificateFits, FactFits, FactNumbers, certificate_lines, ended, fact_line, last_line, shape_line, text_in, version_line}
+use Rattle.certificate_text.specs.Text.{CanTell, CertificateFits, FactFits, FactNumbers, certificate_lines, fact_line, last_line, shape_line, text_in, version_line}
 use Rattle.certificate_text.proofs.Facts.{Good, NoFact, all_good, fact_line_once, fact_no_last}
 use Rattle.certificate_text.proofs.Heads.{HasNo-version, NoShape, version_line_once}
 use Rattle.certificate_text.proofs.LineEnds.{HasNo-fact, HasNo-last, HasNo-shape}
 use Rattle.certificate_text.proofs.Orders.{Rise, rise_nil, rise_up_to}
-use Rattle.certificate_text.proofs.Texts.{ended_once, first_in_front, lines_in-ended, no_line, some_line, text-lines}
+use Rattle.certificate_text.proofs.Texts.{first_in_front, no_line, some_line}
+use Rattle.text_lines.proofs.Texts.{ended_once, lines_in-ended, text-lines}
+use Rattle.text_lines.specs.Lines.{lines_in, ended}
 
 abbrev pub certificate : Shape → List Fact → Certificate
 certificate s facts = record { shape = s; facts = facts }

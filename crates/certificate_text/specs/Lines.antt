@@ -3,13 +3,13 @@
 -- The lines of a text stand in a list, each with its LF, and behind them what follows the last LF, which is nothing in a text that is ended
 -- well. So a text that breaks off, a last line without its LF and bytes after the last line are all at fault at a line: the one
 -- that no certificate has at its place behind the lines before it.
-use Rattle.std.specs.Prelude.{◌≡◌, ℕ, ◌-◌, nat_eq, List, [], ◌∷◌, ◌++◌, map, take, Result, Ok, Err, if◌then◌else◌}
-use Rattle.std.specs.List.{onto_first}
+use Rattle.std.specs.Prelude.{◌≡◌, ℕ, ◌-◌, List, [], ◌∷◌, ◌++◌, map, take, Result, Ok, Err}
 use Rattle.certificate_text.specs.declared.certificate.Certificate.{Certificate}
 use Rattle.certificate_text.specs.declared.fault.TextFault.{TextFault}
 use Rattle.certificate_text.specs.declared.fault.TextFault.TheVariants.{BadText, Memory}
 use Rattle.certificate_text.specs.declared.version.Version.{Version}
-use Rattle.certificate_text.specs.Text.{CanTell, CertificateFits, certificate_lines, ended, text_in}
+use Rattle.certificate_text.specs.Text.{CanTell, CertificateFits, certificate_lines, text_in}
+use Rattle.text_lines.specs.Lines.{ended, lines_in}
 
 -- the text is that of the certificate, in one of the versions that can tell it
 pub record IsTextOf (text : List ℕ) (c : Certificate) : Type 0 where
@@ -17,12 +17,6 @@ pub record IsTextOf (text : List ℕ) (c : Certificate) : Type 0 where
   pub tells : CanTell version c.shape.references
   pub fits : CertificateFits c
   pub so : text ≡ text_in version c
-
--- the lines of a text, each with its LF, and what follows the last LF
-unfoldable pub lines_in : List ℕ → List (List ℕ)
-lines_in [] = [] ∷ []
-lines_in (b ∷ rest) =
-    (if nat_eq b 10 then (b ∷ []) ∷ lines_in rest else onto_first b (lines_in rest))
 
 -- these lines, each with its end, as they stand in a text with nothing after them
 abbrev pub whole : List (List ℕ) → List (List ℕ)

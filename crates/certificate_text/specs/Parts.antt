@@ -1,33 +1,13 @@
 -- Words, numbers and lines as they are read from the front of a text.
-use Rattle.std.specs.Prelude.{◌≡◌, ℕ, Bool, true, false, not, nat_eq, List, [], ◌∷◌, ◌++◌, codes}
+use Rattle.std.specs.Prelude.{◌≡◌, ℕ, List, ◌∷◌, ◌++◌, codes}
 use Rattle.std.specs.Fmt.{decimal}
-use Rattle.std.specs.List.{list_all}
 use Rattle.flow_points.specs.declared.fact.Fact.{Fact}
 use Rattle.flow_points.specs.declared.fact.Slot.{Slot}
 use Rattle.flow_points.specs.declared.fact.Value.{Value}
 use Rattle.certificate_text.specs.declared.certificate.Shape.{Shape}
 use Rattle.certificate_text.specs.declared.version.Version.{Version}
-use Rattle.certificate_text.specs.Text.{CanTell, FactFits, FactNumbers, HasNumber, IsNumber, ShapeNumbers, SlotFits, ValueFits, ended, fact_line, reference_words, shape_line, slot_word, value_word, version_line}
-
--- the first digit is 0 only where it is the only one
-abbrev pub begins_rightly : List ℕ → Bool
-begins_rightly [] = false
-begins_rightly (b ∷ []) = true
-begins_rightly (b ∷ c ∷ rest) = not (nat_eq b 48)
-
--- the byte does not stand in these
-unfoldable pub HasNo : ℕ → List ℕ → Type 0
-HasNo end bytes = list_all (λ b. not (nat_eq b end)) bytes ≡ true
-
--- these are no bytes, or begin with this one
-abbrev pub StartsWith : ℕ → List ℕ → Type 0
-StartsWith end [] = Unit {0}
-StartsWith end (b ∷ rest) = b ≡ end
-
--- the word goes up to the first such byte, and rest follows that
-pub record IsCut (end : ℕ) (text word rest : List ℕ) : Type 0 where
-  pub apart : HasNo end word
-  pub so : text ≡ word ++ end ∷ rest
+use Rattle.certificate_text.specs.Text.{CanTell, FactFits, FactNumbers, HasNumber, IsNumber, ShapeNumbers, SlotFits, ValueFits, fact_line, reference_words, shape_line, slot_word, value_word, version_line}
+use Rattle.text_lines.specs.Lines.{ended}
 
 -- the text begins with a label, a number and a byte
 pub record IsNumbered (label : List ℕ) (n end : ℕ) (text rest : List ℕ) : Type 0 where

@@ -15,6 +15,7 @@ use Rattle.flow_points.specs.declared.fact.Slot.TheVariants.{Temp, Given, Answer
 use Rattle.flow_points.specs.declared.fact.Value.{Value}
 use Rattle.flow_points.specs.declared.fact.Value.TheVariants.{Arg, Const, Any}
 use Rattle.flow_points.specs.contracts.fact.FactOrd.TheImpl as facts
+use Rattle.text_lines.specs.Lines.{ended}
 use Rattle.certificate_text.specs.declared.certificate.Certificate.{Certificate}
 use Rattle.certificate_text.specs.declared.certificate.Shape.{Shape}
 use Rattle.certificate_text.specs.declared.version.Version.{Version}
@@ -60,10 +61,6 @@ version_line Two = codes "PLEX CERTIFICATE 2"
 abbrev pub last_line : List ℕ
 last_line = codes "END CERTIFICATE"
 
--- a line with its end
-abbrev pub ended : List ℕ → List ℕ
-ended line = line ++ 10 ∷ []
-
 -- the lines of a certificate in a version
 abbrev pub certificate_lines : Version → Certificate → List (List ℕ)
 certificate_lines v c = version_line v ∷ shape_line v c.shape ∷ map fact_line c.facts ++ last_line ∷ []
@@ -74,6 +71,16 @@ text_in v c = flat_map ended (certificate_lines v c)
 
 abbrev pub certificate_text : Certificate → List ℕ
 certificate_text c = text_in Two c
+
+-- what is printed: the lines before the facts, those of facts, and the last one
+abbrev pub head_text : Shape → List ℕ
+head_text s = ended (version_line Two) ++ ended (shape_line Two s)
+
+abbrev pub facts_text : List Fact → List ℕ
+facts_text facts = flat_map ended (map fact_line facts)
+
+abbrev pub last_text : List ℕ
+last_text = ended last_line
 
 -- what a text can tell
 

@@ -1,10 +1,11 @@
 // What the words of the definitions mean, for every text and every certificate.
 ghost use Rattle.std.specs.Prelude.{◌≡◌, ◌≢◌, ◌≤◌, ◌↔◌, ◌⊎◌, List, ℕ, length};
 ghost use Rattle.std.specs.List.{flat_map};
-ghost use Rattle.certificate_text.specs.Lines.{HasBadLine, IsTextOf, lines_in};
+ghost use Rattle.certificate_text.specs.Lines.{HasBadLine, IsTextOf};
 ghost use Rattle.certificate_text.specs.Text.{CertificateFits, certificate_text, text_in};
 ghost use Rattle.certificate_text.specs.declared.certificate.Certificate.{Certificate};
 ghost use Rattle.certificate_text.specs.declared.version.Version.TheVariants.{One};
+ghost use Rattle.text_lines.specs.Lines.{lines_in};
 
 /// What is printed is the text of the certificate that was printed.
 pub fn printed_is_read()

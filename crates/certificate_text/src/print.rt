@@ -1,10 +1,10 @@
 // A certificate as text.
-ghost use Rattle.std.specs.Prelude.{◌≡◌, ◌++◌, ◌∷◌, All, IfOk, OnOk, codes, map};
+ghost use Rattle.std.specs.Prelude.{◌≡◌, ◌++◌, ◌∷◌, All, IfOk, OnOk, codes};
 ghost use Rattle.std.specs.Fmt.{decimal};
-ghost use Rattle.std.specs.List.{flat_map};
 ghost use Rattle.std.specs.List.Sorted.{IsStrictlySortedBy};
-ghost use Rattle.certificate_text.specs.Text.{FactFits, certificate_text, ended, fact_line, fact_order, shape_line, slot_word, value_word};
+ghost use Rattle.certificate_text.specs.Text.{FactFits, certificate_text, fact_line, fact_order, facts_text, head_text, last_text, shape_line, slot_word, value_word};
 ghost use Rattle.certificate_text.specs.declared.version.Version.TheVariants.{Two};
+ghost use Rattle.text_lines.specs.Lines.{ended};
 
 use crate::certificate::{Certificate, Shape};
 use flow_points::{Fact, Slot, Value};
@@ -19,11 +19,38 @@ pub fn print_certificate(alloc: Global, certificate: &Certificate) -> Result<Seq
     ensures { IfOk result (λ text. text ≡ certificate_text certificate.now) }
 {
     let mut text = Seq::new(alloc);
-    text.append(b"PLEX CERTIFICATE 2\n")?;
-    add_shape(&mut text, certificate.shape)?;
-    add_facts(&mut text, certificate.facts.as_slice())?;
-    text.append(b"END CERTIFICATE\n")?;
+    print_head(&mut text, certificate.shape)?;
+    print_facts(&mut text, certificate.facts.as_slice())?;
+    print_end(&mut text)?;
     Ok(text)
+}
+
+/// Appends the lines before the facts: of the version and of the shape. With `print_facts` and `print_end` a certificate is written
+/// whose facts come part by part.
+pub fn print_head(text: &mut Seq<u8>, shape: Shape) -> Result<(), Memory>
+    ensures { OnOk result (text.new ≡ text.old ++ head_text shape) }
+{
+    text.append(b"PLEX CERTIFICATE 2\n")?;
+    add_shape(text, shape)?;
+    Ok(())
+}
+
+/// Appends the lines of facts.
+pub fn print_facts(text: &mut Seq<u8>, facts: &[Fact]) -> Result<(), Memory>
+    ensures { OnOk result (text.new ≡ text.old ++ facts_text facts.now) }
+{
+    for fact in facts {
+        add_fact(text, *fact)?;
+    }
+    Ok(())
+}
+
+/// Appends the last line, behind all facts.
+pub fn print_end(text: &mut Seq<u8>) -> Result<(), Memory>
+    ensures { OnOk result (text.new ≡ text.old ++ last_text) }
+{
+    text.append(b"END CERTIFICATE\n")?;
+    Ok(())
 }
 
 /// Appends the line of a fact, without its end.
@@ -35,16 +62,6 @@ pub fn print_fact(text: &mut Seq<u8>, fact: Fact) -> Result<(), Memory>
     add_number(text, b" ", fact.point)?;
     add_slot(text, fact.slot)?;
     add_value(text, fact.value)?;
-    Ok(())
-}
-
-/// Appends the lines of the facts.
-fn add_facts(text: &mut Seq<u8>, facts: &[Fact]) -> Result<(), Memory>
-    ensures { OnOk result (text.new ≡ text.old ++ flat_map ended (map fact_line facts.now)) }
-{
-    for fact in facts {
-        add_fact(text, *fact)?;
-    }
     Ok(())
 }
 

@@ -5,7 +5,6 @@ pub mod Searches
 pub mod Reaching
 pub mod Asking
 pub mod Sends
-pub mod Divides
 pub mod Fields
 pub mod Exprs
 pub mod Statements

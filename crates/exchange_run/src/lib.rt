@@ -13,4 +13,4 @@ mod turns;
 pub use by_code::ByCode;
 pub use by_source::BySource;
 pub use runner::Runner;
-pub use turns::{Ended, run_lines};
+pub use turns::{Ended, let_arrive, run_lines};

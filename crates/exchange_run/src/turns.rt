@@ -91,7 +91,7 @@ fn make_turn<R: Runner>(
 }
 
 /// One line after the other arrives, as long as the next one is due. No job may run.
-fn let_arrive(exchange: &Exchange, books: &mut Books) -> Result<(), Memory>
+pub fn let_arrive(exchange: &Exchange, books: &mut Books) -> Result<(), Memory>
     requires nobody { books.old.running ≡ 0 }
     ensures { OnOk result
         (books.new ≡ record books.old { state = arrivals exchange.now books.old.state }) }

@@ -9,11 +9,10 @@ use Rattle.std.specs.List.Sorted.{IsStrictlySortedBy}
 use Rattle.std.specs.Ordering.{nat_cmp}
 use Rattle.std.proofs.lemmas.Bool.{cases_eq, cases_lt, true≢false}
 use Rattle.std.proofs.lemmas.Cmp.{ranked}
-use Rattle.std.proofs.lemmas.List.{get_or_default, get_or-map, get_or_past, length-map, set-get_or}
+use Rattle.std.proofs.lemmas.List.{get_or-map, get_or_past, length-map, set-get_or}
 use Rattle.std.proofs.lemmas.List.Elements.{All-contains, All-from_recursion, All-get_or, All-head, All-nil, All-set, All-tail, All-weaker, Contains-get_or}
 use Rattle.std.proofs.lemmas.List.Sums.{sum_by-cons, sum_by-set}
 use Rattle.std.proofs.lemmas.Map.Keys.{sorted_head, sorted_tail}
-use Rattle.std.proofs.Math.ListN.{drop_of_length-le}
 use Rattle.flow_points.specs.declared.fact.Slot.{Slot}
 use Rattle.flow_points.specs.declared.fact.Slot.TheVariants.{Depth}
 use Rattle.flow_points.specs.declared.fact.Value.{Value}
@@ -30,8 +29,8 @@ use Rattle.fact_rows.specs.Numbers.{AreNumbers}
 use Rattle.fact_rows.specs.Places.{Marks, at_spot, counts_of, spot_of, numbers_at}
 use Rattle.fact_rows.specs.Values.{number_in, value_in, numbers_of}
 use Rattle.fact_rows.specs.Known.{Rows, Knows, Fits, KnowNothing, Adds, missing}
-use Rattle.fact_rows.specs.Grids.{IsBlank, IsSetAt, SetsPlane, SetsAwaited, SetsAt, cleared_at}
-use Rattle.fact_rows.specs.Touched.{key, ArePlaned, IsKept, IsTouched, cleared}
+use Rattle.fact_rows.specs.Grids.{IsBlank, IsSetAt, SetsPlane, SetsAwaited, SetsAt}
+use Rattle.fact_rows.specs.Touched.{key, ArePlaned, IsKept, IsTouched}
 use Rattle.fact_rows.proofs.Laying.{has_spot, numbers_by, spots_apart, plane_slot, await_slot}
 use Rattle.fact_rows.proofs.Valuing.{value_back, number_same}
 
@@ -347,6 +346,14 @@ pub rows_kept : (m new : Marks) (p : ℕ) (s : Slot) (n : ℕ) (added fresh : Bo
 rows_kept m new p s n added fresh touched later kept lt sets empty touch =
     still_kept m p s n added new touched later fresh kept (spot_more m p s n added new lt kept.planes kept.awaits sets) empty touch
 
+-- where a slot is listed and no number comes to it, all is kept
+pub touch_kept : (m : Marks) (touched later : List Key) (fresh : Bool) (k : Key) → IsKept m touched → IsTouched touched fresh k later → IsKept m later
+touch_kept m touched later fresh k kept touch = record {
+  planes = kept.planes;
+  awaits = kept.awaits;
+  listed = λ p s. ⊎_elim inl (λ there. inr (touch.still (key p s) there)) (kept.listed p s);
+}
+
 pub has_place : (k : Rows) (e : ℕ) (m : Marks) (f : Fact) → record { entry = e; marks = m } ≡ k → Fits k.marks.slots f → IsSome (spot_of m.slots f.point f.slot)
 has_place k e m f same fits =
     let own : Fits m.slots f = subst (λ (r : Rows). Fits r.marks.slots f) (sym same) fits in
@@ -372,8 +379,8 @@ blank_numbers slots m b p s = by (spot_of m.slots p s) refl
     by (Some (Plane i)) e = numbers_by m p s (Some (Plane i)) e ∙ blank_row m.planes i b.planes
     by (Some (Awaited i)) e = numbers_by m p s (Some (Awaited i)) e ∙ blank_row m.awaits i b.awaits
 
-pub blank_knows : (slots : List Counts) (m : Marks) → IsBlank slots m → KnowNothing 0 slots (record { entry = 0; marks = m })
-blank_knows slots m b = known_nothing 0 m slots b.slots_so (blank_numbers slots m b)
+pub blank_knows : (e : ℕ) (slots : List Counts) (m : Marks) → IsBlank slots m → KnowNothing e slots (record { entry = e; marks = m })
+blank_knows e slots m b = known_nothing e m slots b.slots_so (blank_numbers slots m b)
 
 blank_planed : (bound : ℕ) (rows : List (List ℕ)) → All (λ ns. ns ≡ []) rows → All (ArePlaned bound) rows
 blank_planed bound rows all = All-weaker (λ ns. ns ≡ []) (ArePlaned bound) (λ ns none. subst (ArePlaned bound) (sym none) (no_planed bound)) rows all
@@ -384,110 +391,6 @@ blank_kept slots m b = record {
   awaits = blank_planed AWAITED_NUMBERS m.awaits b.awaits;
   listed = λ p s. inl (blank_numbers slots m b p s);
 }
-
--- ---- slots are cleared, one after the other
-
-cleared_row : (rows : List (List ℕ)) (i : ℕ) → get_or (set rows i []) i [] ≡ []
-cleared_row rows i = elim (cases_lt i (length rows)) [
-  | inl lt ↦ get_or-set_same rows i [] [] lt
-  | inr past ↦ get_or_past (set rows i []) i [] (omega (arith, length-set rows i []))
-]
-
-module _ (m : Marks) (p : ℕ) (s : Slot) where
-  abbrev less : Option Spot → Marks
-  less o = cleared_at m o
-
-  less_slots : (o : Option Spot) → (less o).slots ≡ m.slots
-  less_slots None = refl
-  less_slots (Some (Plane i)) = refl
-  less_slots (Some (Awaited i)) = refl
-
-  less_planes : (bound : ℕ) (o : Option Spot) → All (ArePlaned bound) m.planes → All (ArePlaned bound) (less o).planes
-  less_planes bound None all = all
-  less_planes bound (Some (Plane i)) all = All-set (ArePlaned bound) m.planes i [] (no_planed bound) all
-  less_planes bound (Some (Awaited i)) all = all
-
-  less_awaits : (bound : ℕ) (o : Option Spot) → All (ArePlaned bound) m.awaits → All (ArePlaned bound) (less o).awaits
-  less_awaits bound None all = all
-  less_awaits bound (Some (Plane i)) all = all
-  less_awaits bound (Some (Awaited i)) all = All-set (ArePlaned bound) m.awaits i [] (no_planed bound) all
-
-  row_less : (rows : List (List ℕ)) (i j : ℕ) → (get_or (set rows i []) j [] ≡ []) ⊎ (get_or (set rows i []) j [] ≡ get_or rows j [])
-  row_less rows i j = elim (cases_eq j i) [
-    | inl same ↦ inl (ap (λ k. get_or (set rows i []) k []) same ∙ cleared_row rows i)
-    | inr apart ↦ inr (get_or-set_other rows i j [] [] apart)
-  ]
-
-  spot_less : (o w : Option Spot) → (at_spot (less o) w ≡ []) ⊎ (at_spot (less o) w ≡ at_spot m w)
-  spot_less o None = inl refl
-  spot_less None (Some (Plane j)) = inr refl
-  spot_less None (Some (Awaited j)) = inr refl
-  spot_less (Some (Plane i)) (Some (Plane j)) = row_less m.planes i j
-  spot_less (Some (Plane i)) (Some (Awaited j)) = inr refl
-  spot_less (Some (Awaited i)) (Some (Plane j)) = inr refl
-  spot_less (Some (Awaited i)) (Some (Awaited j)) = row_less m.awaits i j
-
-  own_less : (o : Option Spot) → at_spot (less o) o ≡ []
-  own_less None = refl
-  own_less (Some (Plane i)) = cleared_row m.planes i
-  own_less (Some (Awaited i)) = cleared_row m.awaits i
-
-  pub others_less : (q : ℕ) (t : Slot) → (numbers_at (cleared_at m (spot_of m.slots p s)) q t ≡ []) ⊎ (numbers_at (cleared_at m (spot_of m.slots p s)) q t ≡ numbers_at m q t)
-  unfolding numbers_at
-  others_less q t =
-      let o : Option Spot = spot_of m.slots p s in
-      let alike : spot_of (less o).slots q t ≡ spot_of m.slots q t = ap (λ k. spot_of k q t) (less_slots o) in
-      ⊎_elim (λ none. inl (ap (at_spot (less o)) alike ∙ none)) (λ same. inr (ap (at_spot (less o)) alike ∙ same)) (spot_less o (spot_of m.slots q t))
-
-  pub own_cleared : numbers_at (cleared_at m (spot_of m.slots p s)) p s ≡ []
-  unfolding numbers_at
-  own_cleared = (let o : Option Spot = spot_of m.slots p s in ap (at_spot (less o)) (ap (λ k. spot_of k p s) (less_slots o)) ∙ own_less o)
-
-pub cleared_slots : (ks : List Key) (m : Marks) → (cleared ks m).slots ≡ m.slots
-cleared_slots [] m = refl
-cleared_slots (k ∷ ks) m = cleared_slots ks (cleared_at m (spot_of m.slots k.point k.slot)) ∙ less_slots m k.point k.slot (spot_of m.slots k.point k.slot)
-
-cleared_numbers : (ks : List Key) (m : Marks) → ((p : ℕ) (s : Slot) → (numbers_at m p s ≡ []) ⊎ Contains ks (key p s)) → (p : ℕ) (s : Slot) → numbers_at (cleared ks m) p s ≡ []
-cleared_numbers [] m h p s = ⊎_elim (λ none. none) (λ c. absurd (none_in (key p s) c)) (h p s)
-cleared_numbers (k ∷ ks) m h p s = cleared_numbers ks (cleared_at m (spot_of m.slots k.point k.slot)) (λ q t.
-    let less : Marks = cleared_at m (spot_of m.slots k.point k.slot) in
-    ⊎_elim
-    (λ none. inl none)
-    (λ (same : numbers_at less q t ≡ numbers_at m q t). ⊎_elim
-    (λ none. inl (same ∙ none))
-    (λ c. ⊎_elim
-    (λ (is : k ≡ key q t). inl (subst (λ (j : Key). numbers_at less j.point j.slot ≡ []) is (own_cleared m k.point k.slot)))
-    (λ rest. inr rest)
-    (first_or_rest k ks (key q t) c))
-    (h q t))
-    (others_less m k.point k.slot q t)) p s
-
-pub cleared_knows : (e : ℕ) (m : Marks) (touched : List Key) → IsKept m touched → KnowNothing e m.slots (record { entry = e; marks = cleared touched m })
-cleared_knows e m touched kept = known_nothing e (cleared touched m) m.slots (cleared_slots touched m) (cleared_numbers touched m kept.listed)
-
-cleared_planes : (ks : List Key) (m : Marks) → All (ArePlaned (ANY_NUMBER + 1)) m.planes → All (ArePlaned (ANY_NUMBER + 1)) (cleared ks m).planes
-cleared_planes [] m all = all
-cleared_planes (k ∷ ks) m all = cleared_planes ks (cleared_at m (spot_of m.slots k.point k.slot)) (less_planes m k.point k.slot (ANY_NUMBER + 1) (spot_of m.slots k.point k.slot) all)
-
-cleared_awaits : (ks : List Key) (m : Marks) → All (ArePlaned AWAITED_NUMBERS) m.awaits → All (ArePlaned AWAITED_NUMBERS) (cleared ks m).awaits
-cleared_awaits [] m all = all
-cleared_awaits (k ∷ ks) m all = cleared_awaits ks (cleared_at m (spot_of m.slots k.point k.slot)) (less_awaits m k.point k.slot AWAITED_NUMBERS (spot_of m.slots k.point k.slot) all)
-
-pub cleared_kept : (m : Marks) (touched : List Key) → IsKept m touched → IsKept (cleared touched m) []
-cleared_kept m touched kept = record {
-  planes = cleared_planes touched m kept.planes;
-  awaits = cleared_awaits touched m kept.awaits;
-  listed = λ p s. inl (cleared_numbers touched m kept.listed p s);
-}
-
-pub cleared_begin : (ks : List Key) (m now : Marks) → now ≡ m → cleared ks now ≡ cleared ks m
-cleared_begin ks m now same = ap (cleared ks) same
-
-pub cleared_more : (ks : List Key) (i : ℕ) (d : Key) (now next all : Marks) → i < length ks → next ≡ cleared_at now (spot_of now.slots (get_or ks i d).point (get_or ks i d).slot) → cleared (drop i ks) now ≡ all → cleared (drop (i + 1) ks) next ≡ all
-cleared_more ks i d now next all lt to h = ap (cleared (drop (i + 1) ks)) to ∙ sym (ap (λ l. cleared l now) (opens ks i (get_or ks i d) lt (get_or_default ks i d (get_or ks i d) lt))) ∙ h
-
-pub cleared_end : (ks : List Key) (i : ℕ) (now all : Marks) → length ks ≤ i → cleared (drop i ks) now ≡ all → now ≡ all
-cleared_end ks i now all past h = sym (ap (λ l. cleared l now) (drop_of_length-le ks past)) ∙ h
 
 -- ---- what is read
 
@@ -532,17 +435,11 @@ reached_ok k e m_entry p m empty same of_entry h = subst (λ (r : Rows). IsTrue 
 pub unreached_ok : (k : Rows) (e m_entry p : ℕ) (m : Marks) → record { entry = m_entry; marks = m } ≡ k → (e ≡ m_entry → ⊥) → IsTrue false ↔ Reached (Knows k) e p
 unreached_ok k e m_entry p m same apart = subst (λ (r : Rows). IsTrue false ↔ Reached (Knows r) e p) same (not_reached (record { entry = m_entry; marks = m }) e p apart)
 
-pub begun_ok : (k : Rows) (e m_entry : ℕ) (m new : Marks) (touched seen : List Key) → record { entry = m_entry; marks = m } ≡ k → IsKept m touched → seen ≡ touched → new ≡ cleared seen m → KnowNothing e k.marks.slots (record { entry = e; marks = new })
-begun_ok k e m_entry m new touched seen same kept are is =
-    subst (λ (r : Rows). KnowNothing e r.marks.slots (record { entry = e; marks = new })) same
-    (subst (λ (n : Marks). KnowNothing e m.slots (record { entry = e; marks = n })) (sym (is ∙ ap (λ l. cleared l m) are)) (cleared_knows e m touched kept))
+pub begun_ok : (k : Rows) (e m_entry : ℕ) (m new : Marks) → record { entry = m_entry; marks = m } ≡ k → IsBlank m.slots new → KnowNothing e k.marks.slots (record { entry = e; marks = new })
+begun_ok k e m_entry m new same blank = subst (λ (r : Rows). KnowNothing e r.marks.slots (record { entry = e; marks = new })) same (blank_knows e m.slots new blank)
 
-pub begun_kept : (m new : Marks) (touched seen later : List Key) → IsKept m touched → seen ≡ touched → new ≡ cleared seen m → later ≡ [] → IsKept new later
-begun_kept m new touched seen later kept are is none =
-    subst (IsKept new) (sym none) (subst (λ (n : Marks). IsKept n []) (sym (is ∙ ap (λ l. cleared l m) are)) (cleared_kept m touched kept))
+pub begun_kept : (slots : List Counts) (new : Marks) (touched : List Key) → IsBlank slots new → touched ≡ [] → IsKept new touched
+begun_kept slots new touched blank none = subst (IsKept new) (sym none) (blank_kept slots new blank)
 
 pub new_ok : (slots : List Counts) (rows seen : List Row) (m : Marks) → slots ≡ map counts_of rows → seen ≡ rows → IsBlank (map counts_of seen) m → KnowNothing 0 slots (record { entry = 0; marks = m })
-new_ok slots rows seen m are same blank = blank_knows slots m (subst (λ l. IsBlank l m) (ap (map counts_of) same ∙ sym are) blank)
-
-pub new_kept : (seen : List Row) (m : Marks) (touched : List Key) → IsBlank (map counts_of seen) m → touched ≡ [] → IsKept m touched
-new_kept seen m touched blank none = subst (IsKept m) (sym none) (blank_kept (map counts_of seen) m blank)
+new_ok slots rows seen m are same blank = blank_knows 0 slots m (subst (λ l. IsBlank l m) (ap (map counts_of) same ∙ sym are) blank)

@@ -1,11 +1,8 @@
 -- Where the planes of each point begin, and that each spot is that of one slot.
-use Rattle.std.proofs.Common.{◌≡◌, ◌⊎◌, inl, inr, ℕ, zero, suc, ◌+◌, ◌-◌, ◌^◌, ◌<◌, ◌≤◌, Bool, true, false, List, [], ◌∷◌, ◌++◌, length, get_or, set, take, map, replicate, Contains, ◌↔◌, Option, Some, None, Result, IfOk, slice_get, refl, sym, subst, ap, ◌∙◌, arith, length-append}
-use Rattle.std.specs.Prelude.{nat_lt, if◌then◌else◌, slice_index_or, IsTrue}
-use Rattle.std.specs.Bool.{MatchBool}
-use Rattle.std.specs.List.{All}
+use Rattle.std.proofs.Common.{◌≡◌, inl, inr, ℕ, zero, suc, ◌+◌, ◌-◌, ◌^◌, ◌<◌, ◌≤◌, Bool, true, false, List, [], ◌∷◌, ◌++◌, length, get_or, take, map, Option, Some, None, Result, IfOk, OnErr, Ok, Err, slice_get, refl, sym, subst, ap, ◌∙◌, arith, length-append}
+use Rattle.std.specs.Prelude.{nat_lt, if◌then◌else◌, slice_index_or}
 use Rattle.std.proofs.lemmas.Bool.{cases_lt, cases_order, cond-true, cond-false, lt-ltb, le-ltb, ltb-true}
-use Rattle.std.proofs.lemmas.List.{get_or_default, take_more, map-append, length-replicate, get_or_append_left, get_or-append_right, take_all}
-use Rattle.std.proofs.lemmas.List.Elements.{All-append, All-nil, All-push, All-replicate}
+use Rattle.std.proofs.lemmas.List.{get_or_default, take_more, map-append, length-map, get_or_append_left, get_or-append_right, take_all}
 use Rattle.std.proofs.lemmas.Option.{none-some, same_Some, slice_get_within}
 use Rattle.flow_points.specs.declared.fact.Slot.{Slot}
 use Rattle.flow_points.specs.declared.fact.Slot.TheVariants.{Temp, Given, Answered, Depth, Awaits}
@@ -15,9 +12,11 @@ use Rattle.fact_rows.specs.declared.place.Spot.{Spot}
 use Rattle.fact_rows.specs.declared.place.Spot.TheVariants.{Plane, Awaited}
 use Rattle.fact_rows.specs.declared.value.TheConstants.{ANY_NUMBER, AWAITED_NUMBERS}
 use Rattle.fact_rows.specs.Values.{is_awaits, numbers_of}
-use Rattle.fact_rows.specs.Numbers.{AreNumbers}
 use Rattle.fact_rows.specs.Places.{Marks, HasPlace, at_spot, counts_of, numbers_at, size_of, start_of, spot_below, spot_in, spot_if, spot_of}
-use Rattle.fact_rows.specs.Grids.{IsLaid, IsBlank, IsSetAt}
+use Rattle.plex_num.specs.declared.seq.Memory.{Memory}
+use Rattle.fact_rows.specs.Spread.{Laid, row_of}
+use Rattle.fact_rows.specs.Grids.{IsLaid, IsBlank, IsSetAt, SetsAt}
+use Rattle.fact_rows.proofs.Spreading.{row_none}
 
 -- ---- where the planes of a point begin
 
@@ -254,107 +253,137 @@ pub numbers_by : (m : Marks) (q : ℕ) (t : Slot) (o : Option Spot) → spot_of 
 unfolding numbers_at
 numbers_by m q t o e = ap (at_spot m) e
 
-pub plane_read : (m : Marks) (planes : List (List ℕ)) (p : ℕ) (s : Slot) (i : ℕ) (ns : List ℕ) → m.planes ≡ planes → i < length planes → spot_of m.slots p s ≡ Some (Plane i) → ns ≡ get_or planes i ns → ns ≡ numbers_at m p s
-plane_read m planes p s i ns same lt spot is = is ∙ get_or_default planes i ns [] lt ∙ sym (numbers_by m p s (Some (Plane i)) spot ∙ ap (λ r. get_or r i []) same)
+module _ (now : Marks) (slots : List Counts) (planes awaits : List (List ℕ)) (p : ℕ) (s : Slot) (view : record { slots = slots; planes = planes; awaits = awaits } ≡ now) where
+  module _ (starts : List ℕ) (all_planes all_awaits : ℕ) (laid : IsLaid slots starts all_planes all_awaits) (i : ℕ) where
+    pub plane_inside : spot_of now.slots p s ≡ Some (Plane i) → i < all_planes
+    plane_inside spot = plane_within slots starts all_planes all_awaits laid p s i (ap (λ (m : Marks). spot_of m.slots p s) view ∙ spot)
 
-pub await_read : (m : Marks) (awaits : List (List ℕ)) (p : ℕ) (s : Slot) (i : ℕ) (ns : List ℕ) → m.awaits ≡ awaits → i < length awaits → spot_of m.slots p s ≡ Some (Awaited i) → ns ≡ get_or awaits i ns → ns ≡ numbers_at m p s
-await_read m awaits p s i ns same lt spot is = is ∙ get_or_default awaits i ns [] lt ∙ sym (numbers_by m p s (Some (Awaited i)) spot ∙ ap (λ r. get_or r i []) same)
+    pub await_inside : spot_of now.slots p s ≡ Some (Awaited i) → i < all_awaits
+    await_inside spot = await_within slots starts all_planes all_awaits laid p s i (ap (λ (m : Marks). spot_of m.slots p s) view ∙ spot)
 
-pub none_read : (m : Marks) (p : ℕ) (s : Slot) (ns : List ℕ) → spot_of m.slots p s ≡ None → ns ≡ [] → ns ≡ numbers_at m p s
-none_read m p s ns spot none = none ∙ sym (numbers_by m p s None spot)
+  pub plane_numbers : (seen : List (List ℕ)) (i : ℕ) → seen ≡ planes → spot_of now.slots p s ≡ Some (Plane i) → get_or seen i [] ≡ numbers_at now p s
+  plane_numbers seen i same spot = ap (λ ps. get_or ps i []) same ∙ ap (λ (m : Marks). get_or m.planes i []) view ∙ sym (numbers_by now p s (Some (Plane i)) spot)
 
-pub empty_as : (m : Marks) (p : ℕ) (s : Slot) (r : Bool) (ns : List ℕ) → ns ≡ numbers_at m p s → (IsTrue r ↔ (ns ≡ [])) → IsTrue r ↔ (numbers_at m p s ≡ [])
-empty_as m p s r ns is h = subst (λ l. IsTrue r ↔ (l ≡ [])) is h
+  pub await_numbers : (seen : List (List ℕ)) (i : ℕ) → seen ≡ awaits → spot_of now.slots p s ≡ Some (Awaited i) → get_or seen i [] ≡ numbers_at now p s
+  await_numbers seen i same spot = ap (λ ps. get_or ps i []) same ∙ ap (λ (m : Marks). get_or m.awaits i []) view ∙ sym (numbers_by now p s (Some (Awaited i)) spot)
 
-pub list_as : {E : Type 0} (m : Marks) (p : ℕ) (s : Slot) (r : Result (List ℕ) E) (ns : List ℕ) → ns ≡ numbers_at m p s → IfOk r (λ list. list ≡ ns) → IfOk r (λ list. list ≡ numbers_at m p s)
-list_as m p s r ns is h = subst (λ l. IfOk r (λ list. list ≡ l)) is h
+pub no_numbers : (m : Marks) (p : ℕ) (s : Slot) → spot_of m.slots p s ≡ None → [] ≡ numbers_at m p s
+no_numbers m p s spot = sym (numbers_by m p s None spot)
 
-pub set_is : (rows : List (List ℕ)) (i n : ℕ) (old list : List ℕ) (added : Bool) → i < length rows → old ≡ get_or rows i old → AreNumbers (λ m. (m ≡ n) ⊎ Contains old m) list → (IsTrue added ↔ (Contains old n → ⊥))
-    → MatchBool added (length list ≡ length old + 1) (list ≡ old) → IsSetAt rows i n added (set rows i list)
-set_is rows i n old list added lt is numbers fresh more =
-    let e : old ≡ get_or rows i [] = is ∙ get_or_default rows i old [] lt in
-    record {
-      within = lt;
-      list = list;
-      is = refl;
-      numbers = subst (λ o. AreNumbers (λ m. (m ≡ n) ⊎ Contains o m) list) e numbers;
-      fresh = subst (λ o. IsTrue added ↔ (Contains o n → ⊥)) e fresh;
-      counted = subst (λ o. MatchBool added (length list ≡ length o + 1) (list ≡ o)) e more;
-    }
+-- ---- a number more, unless memory is refused
+
+module _ (old : Marks) (slots : List Counts) (planes awaits new : List (List ℕ)) (p i n : ℕ) (s : Slot) (view : record { slots = slots; planes = planes; awaits = awaits } ≡ old) where
+  pub plane_set : (r : Result Bool Memory) → spot_of old.slots p s ≡ Some (Plane i) → IfOk r (λ added. IsSetAt planes i n added new)
+      → IfOk r (λ added. SetsAt old n added (spot_of old.slots p s) (record { slots = slots; planes = new; awaits = awaits }))
+  plane_set (Ok added) spot h = subst (λ o. SetsAt old n added o (record { slots = slots; planes = new; awaits = awaits })) (sym spot) (record {
+    slots = ap (λ (m : Marks). m.slots) view;
+    planes = subst (λ ps. IsSetAt ps i n added new) (ap (λ (m : Marks). m.planes) view) h;
+    awaits = ap (λ (m : Marks). m.awaits) view;
+  })
+  plane_set (Err e) spot u = u
+
+  pub await_set : (r : Result Bool Memory) → spot_of old.slots p s ≡ Some (Awaited i) → IfOk r (λ added. IsSetAt awaits i n added new)
+      → IfOk r (λ added. SetsAt old n added (spot_of old.slots p s) (record { slots = slots; planes = planes; awaits = new }))
+  await_set (Ok added) spot h = subst (λ o. SetsAt old n added o (record { slots = slots; planes = planes; awaits = new })) (sym spot) (record {
+    slots = ap (λ (m : Marks). m.slots) view;
+    planes = ap (λ (m : Marks). m.planes) view;
+    awaits = subst (λ ps. IsSetAt ps i n added new) (ap (λ (m : Marks). m.awaits) view) h;
+  })
+  await_set (Err e) spot u = u
+
+-- what memory refused leaves
+module _ (old : Marks) (slots : List Counts) (laid new_laid : List Laid) (places new_places : List ℕ) (awaits new_awaits : List Laid) (awaited new_awaited : List ℕ)
+    (view : record { slots = slots; planes = row_of laid places; awaits = row_of awaits awaited } ≡ old) where
+  pub plane_refused : (r : Result Bool Memory) → OnErr r (new_places ≡ places) → OnErr r (new_laid ≡ laid) → OnErr r (record { slots = slots; planes = row_of new_laid new_places; awaits = row_of awaits awaited } ≡ old)
+  plane_refused (Ok added) u v = u
+  plane_refused (Err e) same_places same_laid = (λ j. record { slots = slots; planes = row_of (same_laid j) (same_places j); awaits = row_of awaits awaited }) ∙ view
+
+  pub await_refused : (r : Result Bool Memory) → OnErr r (new_awaited ≡ awaited) → OnErr r (new_awaits ≡ awaits) → OnErr r (record { slots = slots; planes = row_of laid places; awaits = row_of new_awaits new_awaited } ≡ old)
+  await_refused (Ok added) u v = u
+  await_refused (Err e) same_places same_laid = (λ j. record { slots = slots; planes = row_of laid places; awaits = row_of (same_laid j) (same_places j) }) ∙ view
 
 -- ---- planes for the rows of a table, one point after the other
 
-pub record IsLaying (rows : List Row) (i : ℕ) (slots : List Counts) (starts : List ℕ) (planes awaits : List (List ℕ)) : Type 0 where
+pub record IsLaying (rows : List Row) (i : ℕ) (slots : List Counts) (starts : List ℕ) (size : ℕ) : Type 0 where
   pub slots_so : slots ≡ map counts_of (take i rows)
-  pub laid : IsLaid slots starts (length planes) (length awaits)
-  pub planes_blank : All (λ ns. ns ≡ []) planes
-  pub awaits_blank : All (λ ns. ns ≡ []) awaits
+  pub laid : IsLaid slots starts size i
 
-pub laying_begin : (rows : List Row) → IsLaying rows 0 [] [] [] []
+pub laying_begin : (rows : List Row) → IsLaying rows 0 [] [] 0
 unfolding start_of
 laying_begin rows = record {
   slots_so = refl;
   laid = record { each_start = refl; starts_so = λ p lt. absurd (omega arith); each_plane = refl; each_await = refl };
-  planes_blank = All-nil (λ ns. ns ≡ []);
-  awaits_blank = All-nil (λ ns. ns ≡ []);
 }
 
-pub laying_more : (rows : List Row) (i : ℕ) (row : Row) (slots new_slots : List Counts) (starts new_starts : List ℕ) (planes new_planes awaits new_awaits : List (List ℕ))
-    → IsLaying rows i slots starts planes awaits → i < length rows → row ≡ get_or rows i row
-    → new_slots ≡ slots ++ counts_of row ∷ [] → new_starts ≡ starts ++ length planes ∷ [] → new_planes ≡ planes ++ replicate (size_of (counts_of row)) [] → new_awaits ≡ awaits ++ [] ∷ []
-    → IsLaying rows (i + 1) new_slots new_starts new_planes new_awaits
-laying_more rows i row slots new_slots starts new_starts planes new_planes awaits new_awaits l lt is slots_are starts_are planes_are awaits_are = record {
+laying_more : (rows : List Row) (i : ℕ) (row : Row) (slots new_slots : List Counts) (starts new_starts : List ℕ) (size new_size : ℕ)
+    → IsLaying rows i slots starts size → i < length rows → row ≡ get_or rows i row
+    → new_slots ≡ slots ++ counts_of row ∷ [] → new_starts ≡ starts ++ size ∷ [] → new_size ≡ size + size_of (counts_of row)
+    → IsLaying rows (i + 1) new_slots new_starts new_size
+laying_more rows i row slots new_slots starts new_starts size new_size l lt is slots_are starts_are size_is = record {
   slots_so =
       slots_are ∙ ap (λ k. k ++ counts_of row ∷ []) l.slots_so ∙ ap (λ r. map counts_of (take i rows) ++ counts_of r ∷ []) is
       ∙ sym (ap (map counts_of) (take_more rows i row lt) ∙ map-append counts_of (take i rows) (get_or rows i row ∷ []));
   laid = record {
-    each_start = omega (arith, ap length starts_are, ap length slots_are, length-append starts (length planes ∷ []), length-append slots (counts_of row ∷ []), l.laid.each_start);
+    each_start = omega (arith, ap length starts_are, ap length slots_are, length-append starts (size ∷ []), length-append slots (counts_of row ∷ []), l.laid.each_start);
     starts_so = λ p below. subst (λ k. slice_index_or new_starts p 0 ≡ start_of k p) (sym slots_are) (subst (λ k. slice_index_or k p 0 ≡ start_of (slots ++ counts_of row ∷ []) p) (sym starts_are) (start_at p (omega (arith, ap length slots_are, length-append slots (counts_of row ∷ [])))));
-    each_plane = subst (λ k. length new_planes ≡ start_of k (length k)) (sym slots_are) (omega (arith, ap length planes_are, length-append planes (replicate (size_of (counts_of row)) []), length-replicate {A = List ℕ} (size_of (counts_of row)) [], l.laid.each_plane, all_slots, start_last slots (counts_of row)));
-    each_await = omega (arith, ap length awaits_are, ap length slots_are, length-append awaits ([] ∷ []), length-append slots (counts_of row ∷ []), l.laid.each_await);
+    each_plane = subst (λ k. new_size ≡ start_of k (length k)) (sym slots_are) (omega (arith, size_is, l.laid.each_plane, all_slots, start_last slots (counts_of row)));
+    each_await = omega (arith, ap length slots_are, length-append slots (counts_of row ∷ []), l.laid.each_await);
   };
-  planes_blank = subst (All (λ ns. ns ≡ [])) (sym planes_are) (All-append (λ ns. ns ≡ []) planes (replicate (size_of (counts_of row)) []) l.planes_blank (All-replicate (λ ns. ns ≡ []) (size_of (counts_of row)) [] refl));
-  awaits_blank = subst (All (λ ns. ns ≡ [])) (sym awaits_are) (All-push (λ ns. ns ≡ []) awaits [] l.awaits_blank refl);
 }
   where
     all_slots : start_of (slots ++ counts_of row ∷ []) (length (slots ++ counts_of row ∷ [])) ≡ start_of (slots ++ counts_of row ∷ []) (suc (length slots))
     all_slots = ap (start_of (slots ++ counts_of row ∷ [])) (let long = length-append slots (counts_of row ∷ []) in omega arith)
 
-    start_at : (p : ℕ) → p < suc (length slots) → slice_index_or (starts ++ length planes ∷ []) p 0 ≡ start_of (slots ++ counts_of row ∷ []) p
-    start_at p below = elim (cases_lt p (length slots)) as (λ _. slice_index_or (starts ++ length planes ∷ []) p 0 ≡ start_of (slots ++ counts_of row ∷ []) p) [
+    start_at : (p : ℕ) → p < suc (length slots) → slice_index_or (starts ++ size ∷ []) p 0 ≡ start_of (slots ++ counts_of row ∷ []) p
+    start_at p below = elim (cases_lt p (length slots)) as (λ _. slice_index_or (starts ++ size ∷ []) p 0 ≡ start_of (slots ++ counts_of row ∷ []) p) [
       | inl old ↦
-          get_or_append_left starts (length planes ∷ []) 0 p (omega (arith, l.laid.each_start))
+          get_or_append_left starts (size ∷ []) 0 p (omega (arith, l.laid.each_start))
           ∙ l.laid.starts_so p old ∙ sym (start_push slots (counts_of row) p (omega arith))
       | inr last ↦
           (let here : p ≡ length slots = omega arith in
           let first : p - length slots ≡ 0 = omega arith in
-          get_or-append_right starts (length planes ∷ []) (length slots) p 0 l.laid.each_start last
-          ∙ ap (λ n. get_or (length planes ∷ []) n 0) first
+          get_or-append_right starts (size ∷ []) (length slots) p 0 l.laid.each_start last
+          ∙ ap (λ n. get_or (size ∷ []) n 0) first
           ∙ l.laid.each_plane ∙ sym (ap (start_of (slots ++ counts_of row ∷ [])) here ∙ start_push slots (counts_of row) (length slots) (omega arith)))
     ]
 
-pub laying_end : (rows : List Row) (i : ℕ) (slots : List Counts) (starts : List ℕ) (planes awaits : List (List ℕ)) → IsLaying rows i slots starts planes awaits → length rows ≤ i
-    → IsBlank (map counts_of rows) (record { slots = slots; planes = planes; awaits = awaits })
-laying_end rows i slots starts planes awaits l past = record {
-  slots_so = l.slots_so ∙ ap (map counts_of) (take_all i rows past);
-  planes = l.planes_blank;
-  awaits = l.awaits_blank;
-}
-
-pub laying_step : (rows : List Row) (i : ℕ) (row : Row) (counts : Counts) (size start : ℕ) (slots new_slots : List Counts) (starts new_starts : List ℕ) (planes new_planes awaits new_awaits : List (List ℕ))
-    → i < length rows → row ≡ get_or rows i row → counts ≡ counts_of row → size ≡ size_of counts → start ≡ length planes
-    → new_slots ≡ slots ++ counts ∷ [] → new_starts ≡ starts ++ start ∷ [] → new_planes ≡ planes ++ replicate size [] → new_awaits ≡ awaits ++ [] ∷ []
-    → IsLaying rows i slots starts planes awaits → IsLaying rows (i + 1) new_slots new_starts new_planes new_awaits
-laying_step rows i row counts size start slots new_slots starts new_starts planes new_planes awaits new_awaits lt is counts_are size_is start_is slots_are starts_are planes_are awaits_are l =
-    laying_more rows i row slots new_slots starts new_starts planes new_planes awaits new_awaits l lt is
+pub laying_step : (rows : List Row) (i : ℕ) (row : Row) (counts : Counts) (more : ℕ) (slots new_slots : List Counts) (starts new_starts : List ℕ) (size new_size : ℕ)
+    → i < length rows → row ≡ get_or rows i row → counts ≡ counts_of row → more ≡ size_of counts
+    → new_slots ≡ slots ++ counts ∷ [] → new_starts ≡ starts ++ size ∷ [] → new_size ≡ size + more
+    → IsLaying rows i slots starts size → IsLaying rows (i + 1) new_slots new_starts new_size
+laying_step rows i row counts more slots new_slots starts new_starts size new_size lt is counts_are more_is slots_are starts_are size_is l =
+    laying_more rows i row slots new_slots starts new_starts size new_size l lt is
     (slots_are ∙ ap (λ c. slots ++ c ∷ []) counts_are)
-    (starts_are ∙ ap (λ n. starts ++ n ∷ []) start_is)
-    (planes_are ∙ ap (λ n. planes ++ replicate n []) (size_is ∙ ap size_of counts_are))
-    awaits_are
+    starts_are
+    (size_is ∙ ap (λ n. size + n) (more_is ∙ ap size_of counts_are))
 
-pub laying_first : (rows : List Row) (slots : List Counts) (starts : List ℕ) (planes awaits : List (List ℕ)) → slots ≡ [] → starts ≡ [] → planes ≡ [] → awaits ≡ [] → IsLaying rows 0 slots starts planes awaits
-laying_first rows slots starts planes awaits a b c d =
-    subst (λ l. IsLaying rows 0 l starts planes awaits) (sym a)
-    (subst (λ l. IsLaying rows 0 [] l planes awaits) (sym b)
-    (subst (λ l. IsLaying rows 0 [] [] l awaits) (sym c)
-    (subst (λ l. IsLaying rows 0 [] [] [] l) (sym d) (laying_begin rows))))
+pub laying_first : (rows : List Row) (slots : List Counts) (starts : List ℕ) → slots ≡ [] → starts ≡ [] → IsLaying rows 0 slots starts 0
+laying_first rows slots starts a b = subst (λ l. IsLaying rows 0 l starts 0) (sym a) (subst (λ l. IsLaying rows 0 [] l 0) (sym b) (laying_begin rows))
+
+-- all planes of the rows, which have no numbers
+module _ (rows : List Row) (i size count : ℕ) (slots : List Counts) (starts : List ℕ) (l : IsLaying rows i slots starts size) (past : length rows ≤ i) where
+  pub laying_blank : (laid : List Laid) (places : List ℕ) (awaits : List Laid) (awaited : List ℕ) → laid ≡ [] → awaits ≡ []
+      → IsBlank (map counts_of rows) (record { slots = slots; planes = row_of laid places; awaits = row_of awaits awaited })
+  laying_blank laid places awaits awaited no_plane no_await = record {
+    slots_so = l.slots_so ∙ ap (map counts_of) (take_all i rows past);
+    planes = row_none laid places no_plane;
+    awaits = row_none awaits awaited no_await;
+  }
+
+  pub laying_laid : (items : List ℕ) (planes awaits : ℕ) → items ≡ starts → planes ≡ size → awaits ≡ count → count ≡ length rows → IsLaid slots items planes awaits
+  laying_laid items planes awaits same planes_are awaits_are all = subst (λ k. IsLaid slots k planes awaits) (sym same) (record {
+    each_start = l.laid.each_start;
+    starts_so = l.laid.starts_so;
+    each_plane = planes_are ∙ l.laid.each_plane;
+    each_await = awaits_are ∙ all ∙ sym (ap length (l.slots_so ∙ ap (map counts_of) (take_all i rows past)) ∙ length-map rows counts_of);
+  })
+
+-- all planes are cleared
+pub cleared_blank : (old : Marks) (slots : List Counts) (laid new_laid : List Laid) (places : List ℕ) (awaits new_awaits : List Laid) (awaited : List ℕ)
+    → record { slots = slots; planes = row_of laid places; awaits = row_of awaits awaited } ≡ old → new_laid ≡ [] → new_awaits ≡ []
+    → IsBlank old.slots (record { slots = slots; planes = row_of new_laid places; awaits = row_of new_awaits awaited })
+cleared_blank old slots laid new_laid places awaits new_awaits awaited view no_plane no_await = record {
+  slots_so = ap (λ (m : Marks). m.slots) view;
+  planes = row_none new_laid places no_plane;
+  awaits = row_none new_awaits awaited no_await;
+}

@@ -1,4 +1,5 @@
 pub mod Numbering
+pub mod Spreading
 pub mod Laying
 pub mod Valuing
 pub mod Holding

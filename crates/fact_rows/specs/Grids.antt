@@ -45,9 +45,3 @@ abbrev pub SetsAt : Marks → ℕ → Bool → Option Spot → Marks → Type 0
 SetsAt old n added None new = ⊥
 SetsAt old n added (Some (Plane i)) new = SetsPlane old n added i new
 SetsAt old n added (Some (Awaited i)) new = SetsAwaited old n added i new
-
--- a spot without numbers, and the others as they were
-abbrev pub cleared_at : Marks → Option Spot → Marks
-cleared_at m None = m
-cleared_at m (Some (Plane i)) = record { slots = m.slots; planes = slice_set m.planes i []; awaits = m.awaits }
-cleared_at m (Some (Awaited i)) = record { slots = m.slots; planes = m.planes; awaits = slice_set m.awaits i [] }

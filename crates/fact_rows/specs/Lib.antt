@@ -4,4 +4,5 @@ pub mod Values
 pub mod Orders
 pub mod Known
 pub mod Grids
+pub mod Spread
 pub mod Touched

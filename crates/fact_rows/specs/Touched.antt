@@ -10,9 +10,8 @@ use Rattle.flow_points.specs.Facts.{fact}
 use Rattle.fact_rows.specs.declared.rows.Key.{Key}
 use Rattle.fact_rows.specs.contracts.rows.KeyOrd.TheImpl as keys
 use Rattle.fact_rows.specs.declared.value.TheConstants.{ANY_NUMBER, AWAITED_NUMBERS}
-use Rattle.fact_rows.specs.Places.{Marks, numbers_at, spot_of}
+use Rattle.fact_rows.specs.Places.{Marks, numbers_at}
 use Rattle.fact_rows.specs.Values.{value_in}
-use Rattle.fact_rows.specs.Grids.{cleared_at}
 
 abbrev pub key_order : Key → Key → Ordering
 key_order = keys.ghosts.cmp
@@ -35,11 +34,6 @@ pub record IsKept (m : Marks) (touched : List Key) : Type 0 where
 pub record IsTouched (old : List Key) (fresh : Bool) (k : Key) (new : List Key) : Type 0 where
   pub still : (j : Key) → Contains old j → Contains new j
   pub there : fresh ≡ true → Contains new k
-
--- without the numbers of these slots
-abbrev pub cleared : List Key → Marks → Marks
-cleared [] m = m
-cleared (k ∷ ks) m = cleared ks (cleared_at m (spot_of m.slots k.point k.slot))
 
 -- the same slots in order, each once
 pub record AreKeys (keys list : List Key) : Type 0 where

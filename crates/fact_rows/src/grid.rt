@@ -1,13 +1,12 @@
 // A plane for each slot before each point.
-ghost use Rattle.std.specs.Prelude.{◌≡◌, ◌↔◌, ◌*◌, ◌<◌, ◌≤◌, ◌^◌, ◌++◌, ◌∷◌, [], length, map, IfOk, IsTrue, OnOk, replicate, slice_index_or, slice_set};
+ghost use Rattle.std.specs.Prelude.{◌≡◌, ◌↔◌, ◌+◌, ◌<◌, [], map, IfOk, OnErr, IsTrue};
 ghost use Rattle.std.specs.Option.{IsSome};
 ghost use Rattle.fact_rows.specs.Places.{counts_of as counts_of_row, numbers_at, spot_of as spot_of_slots};
 ghost use Rattle.fact_rows.specs.Values.{numbers_of};
-ghost use Rattle.fact_rows.specs.Grids.{IsBlank, IsLaid, IsSetAt, SetsAt, cleared_at};
+ghost use Rattle.fact_rows.specs.Grids.{IsBlank, SetsAt};
 
 use crate::place::{Counts, Spot, spot_in};
-use crate::plane::Plane;
-use crate::value::AWAITED_NUMBERS;
+use crate::planes::{Planes, is_blank, row_numbers, set_number};
 use flow_points::Slot;
 use flow_table::Row;
 use plex_num::{Memory, Seq};
@@ -19,50 +18,49 @@ use std::marker::Model;
 pub(crate) struct Grid {
     slots: Seq<Counts>,
     starts: Vec<usize>,
-    planes: Vec<Plane<5>>,
-    awaits: Vec<Plane<16>>,
+    planes: Planes<5>,
+    awaits: Planes<16>,
 }
 
 impl Model for Grid {
     ghost use Rattle.std.specs.Prelude.{length};
     ghost use Rattle.fact_rows.specs.Places.{Marks};
+    ghost use Rattle.fact_rows.specs.Grids.{IsLaid};
+    ghost use Rattle.fact_rows.specs.Spread.{row_of};
 
     ghost Value = { Marks };
 
-    ghost use Rattle.fact_rows.specs.Grids.{IsLaid};
-
     ghost view = { λ g. record {
       slots = g.slots;
-      planes = g.planes.items;
-      awaits = g.awaits.items;
+      planes = row_of g.planes.laid.items g.planes.places.items;
+      awaits = row_of g.awaits.laid.items g.awaits.places.items;
     } };
 
-    ghost invariant = { λ g. IsLaid
-        g.slots g.starts.items (length g.planes.items) (length g.awaits.items) };
+    ghost invariant = { λ g. IsLaid g.slots g.starts.items
+        (length g.planes.places.items) (length g.awaits.places.items) };
 }
 
 impl Grid {
     /// Planes with no numbers for the points of these rows.
-    #[tactic(auto, using(crate::proofs::Laying::laying_end))]
     pub(crate) fn new(alloc: Global, rows: &[Row]) -> Result<Grid, Memory>
         ensures { IfOk result (IsBlank (map counts_of_row rows.now)) }
     {
         let mut slots = Seq::new(alloc);
         let mut starts = Seq::new(alloc);
-        let mut planes = Seq::new(alloc);
-        let mut awaits = Seq::new(alloc);
+        let mut size = 0;
         for row in rows {
             let counts = counts_of(row);
-            starts.push(planes.len())?;
-            push_planes(counts.size(), &mut planes)?;
-            awaits.push(Plane::new())?;
+            starts.push(size)?;
+            size = sum(size, counts.size())?;
             slots.push(counts)?;
         }
+        let planes = Planes::new(alloc, size)?;
+        let awaits = Planes::new(alloc, rows.len())?;
         Ok(Grid {
             slots,
             starts: starts.into_vec(),
-            planes: planes.into_vec(),
-            awaits: awaits.into_vec(),
+            planes,
+            awaits,
         })
     }
 
@@ -71,7 +69,7 @@ impl Grid {
         ensures { result ≡ spot_of_slots self.now.slots point slot }
     {
         let point = point as usize;
-        let _ = self.planes.len();
+        let _ = self.planes.places.len();
         match self.slots.get(point) {
             Some(counts) => spot_in(self.starts[point], point, *counts, slot),
             None => None,
@@ -83,8 +81,8 @@ impl Grid {
         ensures { IsTrue result ↔ (numbers_at self.now point slot ≡ []) }
     {
         match self.spot_of(point, slot) {
-            Some(Spot::Plane(i)) => self.planes[i].is_empty(),
-            Some(Spot::Awaited(i)) => self.awaits[i].is_empty(),
+            Some(Spot::Plane(i)) => is_blank(&self.planes.places, &self.planes.laid, i),
+            Some(Spot::Awaited(i)) => is_blank(&self.awaits.places, &self.awaits.laid, i),
             None => true,
         }
     }
@@ -94,34 +92,38 @@ impl Grid {
         ensures { IfOk result (λ list. list ≡ numbers_at self.now point slot) }
     {
         match self.spot_of(point, slot) {
-            Some(Spot::Plane(i)) => self.planes[i].numbers(alloc),
-            Some(Spot::Awaited(i)) => self.awaits[i].numbers(alloc),
+            Some(Spot::Plane(i)) => row_numbers(alloc, &self.planes.places, &self.planes.laid, i),
+            Some(Spot::Awaited(i)) => row_numbers(alloc, &self.awaits.places, &self.awaits.laid, i),
             None => Ok(Seq::new(alloc)),
         }
     }
 
-    /// Adds a number to those of a slot before a point, which must be there; true exactly where it was not among them.
-    pub(crate) fn set(&mut self, point: u32, slot: Slot, number: u32) -> bool
+    /// Adds a number to those of a slot before a point, which must be there; true exactly where it was not among them. Where
+    /// memory is refused, all stays as it was.
+    pub(crate) fn set(&mut self, point: u32, slot: Slot, number: u32) -> Result<bool, Memory>
         requires there { IsSome (spot_of_slots self.old.slots point slot) }
         requires number { number < numbers_of slot }
-        ensures { SetsAt self.old number result (spot_of_slots self.old.slots point slot) self.new }
+        ensures ok { IfOk result (λ added.
+            SetsAt self.old number added (spot_of_slots self.old.slots point slot) self.new) }
+        ensures err { OnErr result (self.new ≡ self.old) }
     {
         match self.spot_of(point, slot) {
-            Some(Spot::Plane(i)) => set_at(&mut self.planes, i, number),
-            Some(Spot::Awaited(i)) => set_at(&mut self.awaits, i, number),
-            None => false,
+            Some(Spot::Plane(i)) => {
+                set_number(&mut self.planes.places, &mut self.planes.laid, i, number)
+            }
+            Some(Spot::Awaited(i)) => {
+                set_number(&mut self.awaits.places, &mut self.awaits.laid, i, number)
+            }
+            None => Ok(false),
         }
     }
 
-    /// Leaves a slot before a point without numbers, if it is there.
-    pub(crate) fn clear(&mut self, point: u32, slot: Slot)
-        ensures { self.new ≡ cleared_at self.old (spot_of_slots self.old.slots point slot) }
+    /// Leaves all slots without numbers, in the time of those that had some.
+    pub(crate) fn clear(&mut self)
+        ensures { IsBlank self.old.slots self.new }
     {
-        match self.spot_of(point, slot) {
-            Some(Spot::Plane(i)) => self.planes[i] = Plane::new(),
-            Some(Spot::Awaited(i)) => self.awaits[i] = Plane::new(),
-            None => {}
-        }
+        self.planes.laid.clear();
+        self.awaits.laid.clear();
     }
 }
 
@@ -135,21 +137,12 @@ fn counts_of(row: &Row) -> Counts
     }
 }
 
-/// Appends so many planes with no numbers.
-fn push_planes(count: usize, planes: &mut Seq<Plane<5>>) -> Result<(), Memory>
-    ensures { OnOk result (planes.new ≡ planes.old ++ replicate count []) }
+/// The sum of two numbers of planes, which memory could not hold past the largest number.
+fn sum(a: usize, b: usize) -> Result<usize, Memory>
+    ensures { IfOk result (λ s. s ≡ a + b) }
 {
-    for _ in 0..count {
-        planes.push(Plane::new())?;
+    match a.checked_add(b) {
+        Some(sum) => Ok(sum),
+        None => Err(Memory),
     }
-    Ok(())
-}
-
-/// Adds a number to a plane; true exactly where it was not there.
-fn set_at<const N: usize>(planes: &mut Vec<Plane<N>>, i: usize, number: u32) -> bool
-    requires place { i < length planes.old.items }
-    requires number { number < 64 * N }
-    ensures { IsSetAt planes.old.items i number result planes.new.items }
-{
-    planes[i].set(number)
 }

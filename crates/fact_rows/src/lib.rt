@@ -10,6 +10,7 @@ mod grid;
 mod laws;
 mod place;
 mod plane;
+mod planes;
 mod rows;
 #[cfg(test)]
 mod tests;

@@ -8,7 +8,7 @@ ghost use Rattle.flow_points.specs.Facts.{Reached, fact};
 ghost use Rattle.flow_table.specs.Giving.{AreValues};
 ghost use Rattle.fact_rows.specs.Places.{numbers_at};
 ghost use Rattle.fact_rows.specs.Known.{Adds, AreFacts, Fits, KnowNothing, Knows, missing, slots_of};
-ghost use Rattle.fact_rows.specs.Touched.{AreKeys, IsTouched, cleared, facts_at, facts_of};
+ghost use Rattle.fact_rows.specs.Touched.{AreKeys, IsTouched, facts_at, facts_of};
 
 use crate::grid::Grid;
 use crate::value::{number_in, value_in, values_in};
@@ -26,7 +26,8 @@ pub struct Key {
 }
 
 /// The facts of one entry, as rows of bits: for each point of a table a plane for each slot before it. They are made once
-/// for a table, and begun anew for each entry, in the time of what was added.
+/// for a table, and begun anew for each entry, in the time of what was added. A slot takes four bytes, and a plane too where the
+/// entry has a fact of it.
 #[derive(Drop)]
 pub struct FactRows {
     entry: u32,
@@ -62,7 +63,7 @@ impl FactRows {
     pub fn begin(&mut self, entry: u32)
         ensures { KnowNothing entry self.old.marks.slots self.new }
     {
-        clear_all(&mut self.grid, &self.touched);
+        self.grid.clear();
         self.touched.clear();
         self.entry = entry;
     }
@@ -82,7 +83,8 @@ impl FactRows {
         let Fact { point, slot, .. } = fact;
         let fresh = self.grid.is_empty(point, slot);
         touch(&mut self.touched, fresh, Key { point, slot })?;
-        Ok(self.grid.set(point, slot, number_in(slot, fact.value)))
+        let added = self.grid.set(point, slot, number_in(slot, fact.value))?;
+        Ok(added)
     }
 
     /// The facts that are known, in their order.
@@ -116,15 +118,6 @@ impl KnownFacts for FactRows {
             return false;
         }
         !self.grid.is_empty(point, Slot::Depth)
-    }
-}
-
-/// Leaves these slots without numbers.
-fn clear_all(grid: &mut Grid, keys: &[Key])
-    ensures { grid.new ≡ cleared keys.now grid.old }
-{
-    for key in keys {
-        grid.clear(key.point, key.slot);
     }
 }
 

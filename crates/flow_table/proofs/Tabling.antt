@@ -4,7 +4,8 @@ use Rattle.std.proofs.lemmas.Option.{none-some, same_Some}
 use Rattle.exchange_model.specs.declared.exchange.Exchange.{Exchange}
 use Rattle.flow_table.specs.Rows.{AreRetrieves, AreAllRetrieves}
 
-get_push : {A : Type 0} (xs : List A) (x y : A) (m : ℕ) → slice_get (xs ++ x ∷ []) m ≡ Some y → (slice_get xs m ≡ Some y) ⊎ ((m ≡ length xs) × (x ≡ y))
+-- an item of a list that has one more
+pub get_push : {A : Type 0} (xs : List A) (x y : A) (m : ℕ) → slice_get (xs ++ x ∷ []) m ≡ Some y → (slice_get xs m ≡ Some y) ⊎ ((m ≡ length xs) × (x ≡ y))
 get_push [] x y zero there = inr (refl, same_Some x y there)
 get_push [] x y (suc m) there = absurd (none-some y there)
 get_push (z ∷ xs) x y zero there = inl there

@@ -11,6 +11,7 @@ mod known;
 mod lookup;
 mod passing;
 mod place;
+mod room;
 mod row;
 mod source;
 mod table;

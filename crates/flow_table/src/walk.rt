@@ -7,6 +7,7 @@ ghost use Rattle.source_meaning.specs.Rests.{first_point};
 ghost use Rattle.flow_table.specs.Texts.{ArePlaces, Chosen, HasMore, Inside, Texts, Walked, seen};
 
 use crate::place::PlaceAt;
+use crate::room::with_room;
 use exchange_model::{Block, Exchange, Stmt, StmtKind, When};
 use plex_num::{Memory, Seq};
 use std::alloc::Global;
@@ -16,7 +17,7 @@ pub fn places_of<'a>(alloc: Global, exchange: &'a Exchange) -> Result<Seq<PlaceA
     ensures { IfOk result (λ places. ArePlaces exchange.now (map seen places)) }
 {
     exchange.kept();
-    let mut places = Seq::new(alloc);
+    let mut places = with_room(alloc, exchange.points.len())?;
     add_blocks(exchange.blocks.as_slice(), &mut places)?;
     Ok(places)
 }

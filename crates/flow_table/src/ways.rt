@@ -16,6 +16,7 @@ ghost use Rattle.flow_table.specs.Alone.{IsExprIn};
 ghost use Rattle.flow_table.specs.Ways.{choice_points, layer_ways, listed, most_of, send_ways as ways_of_send, to_enters, to_next, to_points};
 
 use crate::lookup::{label_point, push_enters, push_point};
+use crate::room::with_room;
 use crate::source::source_of;
 use crate::walk::first_of;
 use crate::way::{Ends, Way};
@@ -104,7 +105,7 @@ fn push_next(
 ) -> Result<(), Memory>
     ensures { OnOk result (ways.new ≡ ways.old ++ to_next how next ∷ []) }
 {
-    let mut points = Seq::new(alloc);
+    let mut points = with_room(alloc, 1)?;
     push_point(next, &mut points)?;
     push_way(how, points, ways)
 }
@@ -113,7 +114,7 @@ fn push_next(
 fn one_way(alloc: Global, how: Passing, next: Option<u32>) -> Result<Seq<Way>, Memory>
     ensures { IfOk result (λ ways. ways ≡ to_next how next ∷ []) }
 {
-    let mut ways = Seq::new(alloc);
+    let mut ways = with_room(alloc, 1)?;
     push_next(alloc, how, next, &mut ways)?;
     Ok(ways)
 }
@@ -149,10 +150,10 @@ fn either(alloc: Global, first: Option<u32>, other: Option<u32>) -> Result<Seq<W
     ensures { IfOk result
         (λ ways. ways ≡ to_points passing.Kept (listed first ++ listed other) ∷ []) }
 {
-    let mut points = Seq::new(alloc);
+    let mut points = with_room(alloc, 2)?;
     push_point(first, &mut points)?;
     push_point(other, &mut points)?;
-    let mut ways = Seq::new(alloc);
+    let mut ways = with_room(alloc, 1)?;
     push_way(Passing::Kept, points, &mut ways)?;
     Ok(ways)
 }
@@ -167,10 +168,10 @@ fn choices(
     ensures { IfOk result (λ ways. ways ≡ to_points passing.Kept
         (choice_points whens.now next ++ listed other) ∷ []) }
 {
-    let mut points = Seq::new(alloc);
+    let mut points = with_room(alloc, whens.len() + 1)?;
     push_choices(whens, next, &mut points)?;
     push_point(other, &mut points)?;
-    let mut ways = Seq::new(alloc);
+    let mut ways = with_room(alloc, 1)?;
     push_way(Passing::Kept, points, &mut ways)?;
     Ok(ways)
 }
@@ -196,7 +197,8 @@ fn sets_or_goes(
         ∷ to_next passing.Kept goes ∷ []) }
 {
     let source = Source::Is(Value::Any);
-    let mut ways = one_way(alloc, Passing::Sets { temp, source }, sets)?;
+    let mut ways = with_room(alloc, 2)?;
+    push_next(alloc, Passing::Sets { temp, source }, sets, &mut ways)?;
     push_next(alloc, Passing::Kept, goes, &mut ways)?;
     Ok(ways)
 }
@@ -212,7 +214,7 @@ fn push_way_in(
 ) -> Result<(), Memory>
     ensures { OnOk result (ways.new ≡ ways.old ++ to_enters exchange.now signal to how ∷ []) }
 {
-    let mut points = Seq::new(alloc);
+    let mut points = with_room(alloc, 1)?;
     push_enters(exchange, signal, to, &mut points)?;
     push_way(how, points, ways)
 }
@@ -223,7 +225,7 @@ fn sources_of(alloc: Global, values: &[Expr]) -> Result<Seq<Source>, Memory>
     requires { AllByRecursion IsExprIn values.now }
     ensures { IfOk result (λ sources. sources ≡ map expr_source values.now) }
 {
-    let mut sources = Seq::new(alloc);
+    let mut sources = with_room(alloc, values.len())?;
     for value in values {
         sources.push(source_of(value))?;
     }
@@ -239,7 +241,7 @@ fn returns(alloc: Global, answer: u32, values: &[Expr]) -> Result<Seq<Way>, Memo
     } ∷ []) }
 {
     let values = sources_of(alloc, values)?;
-    let mut ways = Seq::new(alloc);
+    let mut ways = with_room(alloc, 1)?;
     ways.push(Way {
         how: Passing::Answers { values },
         ends: Ends::Retrieves(answer),
@@ -260,37 +262,56 @@ fn sends(
     ensures { IfOk result (λ ways. ways ≡ ways_of_send exchange.now
         (slice_get exchange.now.signals signal) next signal to values.now) }
 {
-    let mut ways = Seq::new(alloc);
     match exchange.signals.get(signal as usize) {
-        Some(SignalKind::Buffered { .. }) => push_next(alloc, Passing::Kept, next, &mut ways)?,
-        Some(SignalKind::Outside { .. }) => push_next(alloc, Passing::Kept, next, &mut ways)?,
-        Some(SignalKind::Direct { .. }) => {
-            let values = sources_of(alloc, values)?;
-            push_way_in(
-                alloc,
-                exchange,
-                signal,
-                to,
-                Passing::Begins { values },
-                &mut ways,
-            )?;
-        }
+        Some(SignalKind::Buffered { .. }) => one_way(alloc, Passing::Kept, next),
+        Some(SignalKind::Outside { .. }) => one_way(alloc, Passing::Kept, next),
+        Some(SignalKind::Direct { .. }) => begins(alloc, exchange, signal, to, values),
         Some(SignalKind::Combined { answer, .. }) => {
-            let values = sources_of(alloc, values)?;
-            let answer = *answer;
-            push_way_in(
-                alloc,
-                exchange,
-                signal,
-                to,
-                Passing::Calls { values, answer },
-                &mut ways,
-            )?;
-            push_next(alloc, Passing::Kept, next, &mut ways)?;
+            calls(alloc, exchange, signal, to, values, *answer, next)
         }
-        Some(SignalKind::Answer { .. }) => {}
-        None => {}
+        Some(SignalKind::Answer { .. }) => Ok(Seq::new(alloc)),
+        None => Ok(Seq::new(alloc)),
     }
+}
+
+/// An activation begins with the values of these expressions.
+fn begins(
+    alloc: Global,
+    exchange: &Exchange,
+    signal: u32,
+    to: Option<Receiver>,
+    values: &[Expr],
+) -> Result<Seq<Way>, Memory>
+    requires { AllByRecursion IsExprIn values.now }
+    ensures { IfOk result (λ ways. ways ≡ to_enters exchange.now signal to
+        (passing.Begins (map expr_source values.now)) ∷ []) }
+{
+    let values = sources_of(alloc, values)?;
+    let how = Passing::Begins { values };
+    let mut ways = with_room(alloc, 1)?;
+    push_way_in(alloc, exchange, signal, to, how, &mut ways)?;
+    Ok(ways)
+}
+
+/// An activation begins with the values of these expressions, and the sender waits for its answer.
+fn calls(
+    alloc: Global,
+    exchange: &Exchange,
+    signal: u32,
+    to: Option<Receiver>,
+    values: &[Expr],
+    answer: u32,
+    next: Option<u32>,
+) -> Result<Seq<Way>, Memory>
+    requires { AllByRecursion IsExprIn values.now }
+    ensures { IfOk result (λ ways. ways ≡ to_enters exchange.now signal to
+        (passing.Calls (map expr_source values.now) answer) ∷ to_next passing.Kept next ∷ []) }
+{
+    let values = sources_of(alloc, values)?;
+    let how = Passing::Calls { values, answer };
+    let mut ways = with_room(alloc, 2)?;
+    push_way_in(alloc, exchange, signal, to, how, &mut ways)?;
+    push_next(alloc, Passing::Kept, next, &mut ways)?;
     Ok(ways)
 }
 
@@ -306,7 +327,7 @@ fn transfers(
         (passing.Passes (passed exchange.now block signal)) ∷ []) }
 {
     let count = smaller(count_of(exchange, signal), given_of(exchange, block));
-    let mut ways = Seq::new(alloc);
+    let mut ways = with_room(alloc, 1)?;
     push_way_in(
         alloc,
         exchange,

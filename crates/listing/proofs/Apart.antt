@@ -6,15 +6,16 @@ use Rattle.std.proofs.lemmas.Fmt.{decimal_injective}
 use Rattle.std.proofs.lemmas.List.{append_cancel_left, append-nil}
 use Rattle.machine_code.specs.declared.op.Op.{Op}
 use Rattle.machine_code.specs.Operands.{OpFits, IsNumber}
-use Rattle.listing.specs.Forms.{EachFrom, HasEntryForm, HasOpForm, IsEntryLine, IsOpLine, is_numeral}
+use Rattle.listing.specs.Forms.{EachFrom, HasEntryForm, HasOpForm, IsEntryLine, IsOpLine}
 use Rattle.listing.specs.Instructions.{written}
 use Rattle.listing.specs.Listing.{entry_line, entry_lines, last_line, op_line, spaced}
-use Rattle.listing.specs.Parts.{HasNo}
-use Rattle.listing.proofs.Cuts.{cut_once}
 use Rattle.listing.proofs.Forms.{AreNumbers, HasEntryForm-line, HasOpForm-line, entry_apart, name_apart, numerals-decimal, operands_fit, parts_once}
 use Rattle.listing.proofs.Fronts.{ToldApart}
 use Rattle.listing.proofs.Table.{no_such_name, told_apart}
 use Rattle.listing.proofs.Words.{HasNo-numeral, first_word, spaced_starts}
+use Rattle.text_lines.proofs.Cuts.{cut_once}
+use Rattle.text_lines.specs.Numerals.{is_numeral}
+use Rattle.text_lines.specs.Parts.{HasNo}
 
 entry_op : (i : ℕ) (line : List ℕ) → HasEntryForm i line → HasOpForm line → ⊥
 entry_op i line entry form =

@@ -12,14 +12,16 @@ use Rattle.listing.specs.declared.fault.LineFault.TheVariants.{Form, Operand}
 use Rattle.listing.specs.declared.fault.ListFault.{ListFault}
 use Rattle.listing.specs.declared.statement.Statement.{Statement}
 use Rattle.listing.specs.declared.statement.Statement.TheVariants.{Entry, Instruction}
-use Rattle.listing.specs.Faults.{BeginForm, BeginListing, HasBadLine, HasBadOperand, Tells, lines_in, whole}
+use Rattle.listing.specs.Faults.{BeginForm, BeginListing, HasBadLine, HasBadOperand, Tells, whole}
 use Rattle.listing.specs.Forms.{EachFrom, HasEntryForm, HasOpForm, IsEntryLine, IsOpLine}
-use Rattle.listing.specs.Listing.{CodeFits, IsListing, ended, entry_line, entry_lines, first_line, inner_lines, last_line, op_line}
-use Rattle.listing.specs.Parts.{HasNo, IsNextLine}
+use Rattle.listing.specs.Listing.{CodeFits, IsListing, entry_line, entry_lines, first_line, inner_lines, last_line, op_line}
 use Rattle.listing.specs.Statements.{Adds, HasBadNumber, HasNoForm, ReadsStatement, fault_at}
 use Rattle.listing.proofs.Apart.{entries_are_lines, entries_have_form, forms_apart, lines_apart, ops_are_lines, ops_have_form}
 use Rattle.listing.proofs.Fronts.{closing, line_last, line_next}
-use Rattle.listing.proofs.Texts.{code_text-lines, ended_has, ended_once, lines_in-ended, lines_in-open, some_line}
+use Rattle.listing.proofs.Texts.{code_text-lines, ended_has, lines_in-open, some_line}
+use Rattle.text_lines.proofs.Texts.{ended_once, lines_in-cut}
+use Rattle.text_lines.specs.Lines.{lines_in, ended}
+use Rattle.text_lines.specs.Parts.{HasNo, IsCut}
 
 -- code of these instructions and entries
 abbrev pub code_of : List Op → List ℕ → Code
@@ -174,21 +176,21 @@ bad_line text rest ops entries number piece pieces r first none =
       here = λ b. none (subst BeginForm (up_to_here text (front code) piece pieces number so r.counted) b);
     }
 
-pub read_begin : (text rest : List ℕ) → IsNextLine text first_line rest → Read text rest [] [] 1
+pub read_begin : (text rest : List ℕ) → IsCut 10 text first_line rest → Read text rest [] [] 1
 unfolding inner_lines entry_lines
 read_begin text rest next = record {
   fits = record { ops = All-nil OpFits; entries = All-nil IsNumber; few = omega arith };
-  so = ap lines_in next.so ∙ lines_in-ended first_line rest next.apart;
+  so = ap lines_in next.so ∙ lines_in-cut first_line rest next.apart;
   counted = refl;
   room = omega (arith, ap length next.so, length-append first_line (10 ∷ rest));
 }
 
 -- what a line leaves
-line_room : (rest line after : List ℕ) → IsNextLine rest line after → length after < length rest
+line_room : (rest line after : List ℕ) → IsCut 10 rest line after → length after < length rest
 line_room rest line after next = omega (arith, ap length next.so, length-append line (10 ∷ after))
 
-lines_after : (rest line after : List ℕ) → IsNextLine rest line after → lines_in rest ≡ ended line ∷ lines_in after
-lines_after rest line after next = ap lines_in next.so ∙ lines_in-ended line after next.apart
+lines_after : (rest line after : List ℕ) → IsCut 10 rest line after → lines_in rest ≡ ended line ∷ lines_in after
+lines_after rest line after next = ap lines_in next.so ∙ lines_in-cut line after next.apart
 
 -- one more line at the end of the first ones
 front_push : (inner more : List (List ℕ)) (line : List ℕ) (pieces : List (List ℕ)) → more ≡ inner ++ line ∷ [] → map ended (first_line ∷ inner) ++ ended line ∷ pieces ≡ map ended (first_line ∷ more) ++ pieces
@@ -199,7 +201,7 @@ front_count : (inner more : List (List ℕ)) (line : List ℕ) (number : ℕ) �
 front_count inner more line number e counted =
     omega (arith, length-map (first_line ∷ inner) ended, length-map (first_line ∷ more) ended, ap length e, length-append inner (line ∷ []), counted)
 
-goes_on : (text rest line after : List ℕ) (ops more_ops : List Op) (entries more : List ℕ) (number : ℕ) → Read text rest ops entries number → IsNextLine rest line after → CodeFits (code_of more_ops more) → inner_lines (code_of more_ops more) ≡ inner_lines (code_of ops entries) ++ line ∷ [] → Read text after more_ops more (number + 1)
+goes_on : (text rest line after : List ℕ) (ops more_ops : List Op) (entries more : List ℕ) (number : ℕ) → Read text rest ops entries number → IsCut 10 rest line after → CodeFits (code_of more_ops more) → inner_lines (code_of more_ops more) ≡ inner_lines (code_of ops entries) ++ line ∷ [] → Read text after more_ops more (number + 1)
 goes_on text rest line after ops more_ops entries more number r next fits pushed =
     let inner = inner_lines (code_of ops entries) in
     let longer = inner_lines (code_of more_ops more) in
@@ -213,7 +215,7 @@ goes_on text rest line after ops more_ops entries more number r next fits pushed
 none_yet : (ops : List Op) (at_entries : Bool) → at_entries ≡ nat_eq (length ops) 0 → at_entries ≡ true → ops ≡ []
 none_yet ops at_entries is here = nil_from_length ops (eqb-true (length ops) 0 (sym is ∙ here))
 
-read_entry : (text rest line after : List ℕ) (ops : List Op) (entries more : List ℕ) (number address : ℕ) (at_entries : Bool) → Read text rest ops entries number → IsNextLine rest line after → at_entries ≡ nat_eq (length ops) 0 → (at_entries ≡ true) × IsNumber address × (line ≡ entry_line (length entries) address) → length text ≤ 2 ^ 24 → more ≡ entries ++ address ∷ [] → Read text after ops more (number + 1)
+read_entry : (text rest line after : List ℕ) (ops : List Op) (entries more : List ℕ) (number address : ℕ) (at_entries : Bool) → Read text rest ops entries number → IsCut 10 rest line after → at_entries ≡ nat_eq (length ops) 0 → (at_entries ≡ true) × IsNumber address × (line ≡ entry_line (length entries) address) → length text ≤ 2 ^ 24 → more ≡ entries ++ address ∷ [] → Read text after ops more (number + 1)
 unfolding inner_lines
 read_entry text rest line after ops entries more number address at_entries r next at (here, fit, is) small pushed =
     let none = none_yet ops at_entries at here in
@@ -231,7 +233,7 @@ read_entry text rest line after ops entries more number address at_entries r nex
     let alone_more : entry_lines 0 more ++ map op_line ops ≡ entry_lines 0 more = ap (λ (os : List Op). entry_lines 0 more ++ map op_line os) none ∙ append-nil (entry_lines 0 more) in
     goes_on text rest line after ops ops entries more number r next fits (alone_more ∙ last ∙ ap (λ (ls : List (List ℕ)). ls ++ line ∷ []) (sym alone))
 
-read_op : (text rest line after : List ℕ) (ops more : List Op) (entries : List ℕ) (number : ℕ) (op : Op) → Read text rest ops entries number → IsNextLine rest line after → OpFits op × (line ≡ op_line op) → more ≡ ops ++ op ∷ [] → Read text after more entries (number + 1)
+read_op : (text rest line after : List ℕ) (ops more : List Op) (entries : List ℕ) (number : ℕ) (op : Op) → Read text rest ops entries number → IsCut 10 rest line after → OpFits op × (line ≡ op_line op) → more ≡ ops ++ op ∷ [] → Read text after more entries (number + 1)
 unfolding inner_lines
 read_op text rest line after ops more entries number op r next (fit, is) pushed =
     let es = entry_lines 0 entries in
@@ -239,7 +241,7 @@ read_op text rest line after ops more entries number op r next (fit, is) pushed 
     let last : map op_line more ≡ map op_line ops ++ line ∷ [] = ap (map op_line) pushed ∙ map-append op_line ops (op ∷ []) ∙ ap (λ (l : List ℕ). map op_line ops ++ l ∷ []) (sym is) in
     goes_on text rest line after ops more entries entries number r next fits (ap (λ (ls : List (List ℕ)). es ++ ls) last ∙ sym (append_assoc es (map op_line ops) (line ∷ [])))
 
-pub read_more : (text rest line after : List ℕ) (ops new_ops : List Op) (entries new_entries : List ℕ) (number : ℕ) (at_entries : Bool) (said : Statement) → Read text rest ops entries number → IsNextLine rest line after → at_entries ≡ nat_eq (length ops) 0 → ReadsStatement (length entries) at_entries line (Ok said) → length text ≤ 2 ^ 24 → Adds said ops entries new_ops new_entries → Read text after new_ops new_entries (number + 1)
+pub read_more : (text rest line after : List ℕ) (ops new_ops : List Op) (entries new_entries : List ℕ) (number : ℕ) (at_entries : Bool) (said : Statement) → Read text rest ops entries number → IsCut 10 rest line after → at_entries ≡ nat_eq (length ops) 0 → ReadsStatement (length entries) at_entries line (Ok said) → length text ≤ 2 ^ 24 → Adds said ops entries new_ops new_entries → Read text after new_ops new_entries (number + 1)
 read_more text rest line after ops new_ops entries new_entries number at_entries (Entry address) r next at reads small adds =
     subst (λ (os : List Op). Read text after os new_entries (number + 1)) (sym adds.0) (read_entry text rest line after ops entries new_entries number address at_entries r next at reads small adds.1)
 read_more text rest line after ops new_ops entries new_entries number at_entries (Instruction op) r next at reads small adds =
@@ -252,7 +254,7 @@ read_few text rest ops entries number r small =
     omega (arith, length-map (first_line ∷ entry_lines 0 entries ++ map op_line ops) ended, length-append (entry_lines 0 entries) (map op_line ops), length-entry_lines 0 entries, r.counted, r.room)
 
 -- the last line, with nothing behind it
-pub read_last : (text rest line after : List ℕ) (ops : List Op) (entries : List ℕ) (number : ℕ) → Read text rest ops entries number → IsNextLine rest line after → line ≡ last_line → after ≡ [] → IsListing text (code_of ops entries)
+pub read_last : (text rest line after : List ℕ) (ops : List Op) (entries : List ℕ) (number : ℕ) → Read text rest ops entries number → IsCut 10 rest line after → line ≡ last_line → after ≡ [] → IsListing text (code_of ops entries)
 unfolding lines_in
 read_last text rest line after ops entries number r next is none =
     let code = code_of ops entries in
@@ -260,7 +262,7 @@ read_last text rest line after ops entries number r next is none =
     record { fits = r.fits; so = code_text-lines text code (r.so ∙ ap (λ (ls : List (List ℕ)). front code ++ ls) end ∙ sym (whole-front (inner_lines code))) }
 
 -- bytes behind the last line
-pub read_past : (text rest line after : List ℕ) (ops : List Op) (entries : List ℕ) (number : ℕ) → Read text rest ops entries number → IsNextLine rest line after → line ≡ last_line → after ≢ [] → HasBadLine text (number + 2)
+pub read_past : (text rest line after : List ℕ) (ops : List Op) (entries : List ℕ) (number : ℕ) → Read text rest ops entries number → IsCut 10 rest line after → line ≡ last_line → after ≢ [] → HasBadLine text (number + 2)
 read_past text rest line [] ops entries number r next is some = absurd (some refl)
 read_past text rest line (b ∷ after) ops entries number r next is some =
     let code = code_of ops entries in
@@ -285,7 +287,7 @@ read_past text rest line (b ∷ after) ops entries number r next is some =
     not_empty e = cc
 
 -- a line that has not the form
-read_strange : (text rest line after : List ℕ) (ops : List Op) (entries : List ℕ) (number : ℕ) (at_entries : Bool) → Read text rest ops entries number → IsNextLine rest line after → at_entries ≡ nat_eq (length ops) 0 → HasNoForm (length entries) at_entries line → HasBadLine text (number + 1)
+read_strange : (text rest line after : List ℕ) (ops : List Op) (entries : List ℕ) (number : ℕ) (at_entries : Bool) → Read text rest ops entries number → IsCut 10 rest line after → at_entries ≡ nat_eq (length ops) 0 → HasNoForm (length entries) at_entries line → HasBadLine text (number + 1)
 unfolding Next
 read_strange text rest line after ops entries number at_entries r next at strange =
     bad_line text rest ops entries number (ended line) (lines_in after) r (lines_after rest line after next) (λ b. told (form_next (code_of ops entries) (ended line) r.fits b))
@@ -299,7 +301,7 @@ read_strange text rest line after ops entries number at_entries r next at strang
     told (l, is, inr (inr here)) = strange.last (ended_once line l is ∙ here)
 
 -- a line of the form with an operand out of its range
-read_outside : (text rest line after : List ℕ) (ops : List Op) (entries : List ℕ) (number : ℕ) (at_entries : Bool) → Read text rest ops entries number → IsNextLine rest line after → at_entries ≡ nat_eq (length ops) 0 → HasBadNumber (length entries) at_entries line → HasBadOperand text (number + 1)
+read_outside : (text rest line after : List ℕ) (ops : List Op) (entries : List ℕ) (number : ℕ) (at_entries : Bool) → Read text rest ops entries number → IsCut 10 rest line after → at_entries ≡ nat_eq (length ops) 0 → HasBadNumber (length entries) at_entries line → HasBadOperand text (number + 1)
 unfolding Next
 read_outside text rest line after ops entries number at_entries r next at outside =
     let code = code_of ops entries in
@@ -322,7 +324,7 @@ read_outside text rest line after ops entries number at_entries r next at outsid
     told (l, is, inr (inr here)) = outside.last (ended_once line l is ∙ here)
 
 -- a line with a fault
-pub read_fault : (text rest line after : List ℕ) (ops : List Op) (entries : List ℕ) (number : ℕ) (at_entries : Bool) (fault : LineFault) (told : ListFault) → Read text rest ops entries number → IsNextLine rest line after → at_entries ≡ nat_eq (length ops) 0 → ReadsStatement (length entries) at_entries line (Err fault) → told ≡ fault_at fault (number + 1) → Tells text (Err told)
+pub read_fault : (text rest line after : List ℕ) (ops : List Op) (entries : List ℕ) (number : ℕ) (at_entries : Bool) (fault : LineFault) (told : ListFault) → Read text rest ops entries number → IsCut 10 rest line after → at_entries ≡ nat_eq (length ops) 0 → ReadsStatement (length entries) at_entries line (Err fault) → told ≡ fault_at fault (number + 1) → Tells text (Err told)
 read_fault text rest line after ops entries number at_entries Form told r next at reads is =
     subst (λ (f : ListFault). Tells text (Err f)) (sym is) (read_strange text rest line after ops entries number at_entries r next at reads)
 read_fault text rest line after ops entries number at_entries Operand told r next at reads is =
@@ -352,5 +354,5 @@ not_begun text piece pieces so other = record {
 pub read_headless : (text : List ℕ) → HasNo 10 text → HasBadLine text 1
 read_headless text apart = not_begun text text [] (lines_in-open text apart) (λ is. ended_has first_line (subst (HasNo 10) is apart))
 
-pub read_other : (text line rest : List ℕ) → IsNextLine text line rest → line ≢ first_line → HasBadLine text 1
+pub read_other : (text line rest : List ℕ) → IsCut 10 text line rest → line ≢ first_line → HasBadLine text 1
 read_other text line rest next other = not_begun text (ended line) (lines_in rest) (lines_after text line rest next) (λ is. other (ended_once line first_line is))

@@ -12,14 +12,16 @@ use Rattle.listing.specs.declared.fault.LineFault.{LineFault}
 use Rattle.listing.specs.declared.fault.LineFault.TheVariants.{Form, Operand}
 use Rattle.listing.specs.declared.statement.Statement.{Statement}
 use Rattle.listing.specs.declared.statement.Statement.TheVariants.{Entry, Instruction}
-use Rattle.listing.specs.Forms.{HasEntryForm, HasOpForm, IsEntryLine, IsOpLine, is_numeral}
+use Rattle.listing.specs.Forms.{HasEntryForm, HasOpForm, IsEntryLine, IsOpLine}
 use Rattle.listing.specs.Instructions.{written}
 use Rattle.listing.specs.Listing.{entry_line, last_line, op_line, spaced, spoken}
-use Rattle.listing.specs.Parts.{AreNoOperands, AreOperands, AreParts, HasNo, StartsWith}
+use Rattle.listing.specs.Parts.{AreNoOperands, AreOperands, AreParts}
 use Rattle.listing.specs.Statements.{HasNoForm, IsAlike, IsNamed, ReadsParts, ReadsStatement}
-use Rattle.listing.proofs.Cuts.{cut_once}
-use Rattle.listing.proofs.Numerals.{decimal-number_of, decimals, is_numeral-decimal, number_of-decimal}
 use Rattle.listing.proofs.Words.{HasNo-letters, spaced_starts, words_once}
+use Rattle.text_lines.proofs.Cuts.{cut_once}
+use Rattle.text_lines.proofs.Numerals.{decimal-number_of, decimals, is_numeral-decimal, number_of-decimal}
+use Rattle.text_lines.specs.Numerals.{is_numeral}
+use Rattle.text_lines.specs.Parts.{HasNo, StartsWith}
 
 -- numbers below 2^32
 abbrev pub AreNumbers : List ℕ → Type 0
@@ -197,7 +199,7 @@ two_words (w ∷ v ∷ []) i o numerals e =
     let parts = and_parts (is_numeral w) (list_all is_numeral (v ∷ [])) numerals in
     let first : number_of w ≡ Some i = cc in
     let second : number_of v ≡ o = cc in
-    (v, ap (λ (u : List ℕ). u ∷ v ∷ []) (decimal-number_of w i parts.0 first).0, (and_parts (is_numeral v) true parts.1).0, second)
+    (v, ap (λ (u : List ℕ). u ∷ v ∷ []) (decimal-number_of w i parts.0 first), (and_parts (is_numeral v) true parts.1).0, second)
 two_words (w ∷ v ∷ u ∷ more) i o numerals e = cc
 
 form_of_entry : (i : ℕ) (line name : List ℕ) (os : List (Option ℕ)) (o : Option ℕ) → AreParts line name os → name ≡ codes "ENTRY" → os ≡ Some i ∷ o ∷ [] → HasEntryForm i line

@@ -5,8 +5,9 @@
 use Rattle.std.proofs.Common.{◌≡◌, ℕ, suc, ◌+◌, List, [], ◌∷◌, ◌++◌, length, map, refl, sym, subst, arith, ◌⊎◌, inl, inr}
 use Rattle.std.specs.List.{AllByRecursion}
 use Rattle.listing.specs.Forms.{EachFrom}
-use Rattle.listing.specs.Listing.{ended, last_line}
-use Rattle.listing.proofs.Texts.{ended_once}
+use Rattle.listing.specs.Listing.{last_line}
+use Rattle.text_lines.proofs.Texts.{ended_once}
+use Rattle.text_lines.specs.Lines.{ended}
 
 -- entries, instructions and the last line are told apart
 pub record ToldApart (E : ℕ → List ℕ → Type 0) (O : List ℕ → Type 0) : Type 0 where

@@ -1,10 +1,8 @@
 pub mod Apart
-pub mod Cuts
 pub mod FirstLines
 pub mod Forms
 pub mod Fronts
 pub mod Named
-pub mod Numerals
 pub mod Once
 pub mod Printed
 pub mod Table

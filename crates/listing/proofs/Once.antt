@@ -9,19 +9,21 @@ use Rattle.machine_code.specs.declared.op.Op.{Op}
 use Rattle.machine_code.specs.Operands.{OpFits, IsNumber}
 use Rattle.listing.specs.declared.fault.ListFault.{ListFault}
 use Rattle.listing.specs.declared.fault.ListFault.TheVariants.{BadLine, BadOperand, Memory}
-use Rattle.listing.specs.Faults.{BeginForm, BeginListing, HasBadLine, HasBadOperand, IsUnlessMemory, Tells, lines_in, whole}
-use Rattle.listing.specs.Forms.{IsEntryLine, IsOpLine, is_numeral}
+use Rattle.listing.specs.Faults.{BeginForm, BeginListing, HasBadLine, HasBadOperand, IsUnlessMemory, Tells, whole}
+use Rattle.listing.specs.Forms.{IsEntryLine, IsOpLine}
 use Rattle.listing.specs.Instructions.{written}
-use Rattle.listing.specs.Listing.{CodeFits, IsListing, code_text, ended, entry_line, entry_lines, first_line, inner_lines, last_line, op_line, spaced}
-use Rattle.listing.specs.Parts.{HasNo}
+use Rattle.listing.specs.Listing.{CodeFits, IsListing, code_text, entry_line, entry_lines, first_line, inner_lines, last_line, op_line, spaced}
 use Rattle.listing.proofs.Apart.{entries_are_lines, entries_have_form, entry_once, lines_apart, op_once, ops_are_lines, ops_have_form}
-use Rattle.listing.proofs.Cuts.{HasNo-append, HasNo-cons}
 use Rattle.listing.proofs.FirstLines.{code_of, inner_shape, whole-front}
 use Rattle.listing.proofs.Forms.{HasNo-name, numerals-decimal, operands_fit}
 use Rattle.listing.proofs.Fronts.{closing}
-use Rattle.listing.proofs.Numerals.{is_numeral-decimal}
-use Rattle.listing.proofs.Texts.{HaveNoEnd, ended_once, lines_in-all}
 use Rattle.listing.proofs.Words.{HasNo-numeral}
+use Rattle.text_lines.proofs.Cuts.{HasNo-append, HasNo-cons}
+use Rattle.text_lines.proofs.Numerals.{is_numeral-decimal}
+use Rattle.text_lines.proofs.Texts.{HaveNoEnd, ended_once, lines_in-all}
+use Rattle.text_lines.specs.Lines.{lines_in, ended}
+use Rattle.text_lines.specs.Numerals.{is_numeral}
+use Rattle.text_lines.specs.Parts.{HasNo}
 
 -- no LF stands in a line of a listing
 

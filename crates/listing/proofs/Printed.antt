@@ -7,7 +7,8 @@ use Rattle.machine_code.specs.declared.code.Code.{Code}
 use Rattle.machine_code.specs.declared.op.Op.{Op}
 use Rattle.machine_code.specs.Operands.{IsNumber, OpFits}
 use Rattle.plex_num.specs.declared.seq.Memory.{Memory}
-use Rattle.listing.specs.Listing.{IsListing, code_text, ended, entry_line, entry_lines, first_line, inner_lines, last_line, op_line}
+use Rattle.listing.specs.Listing.{IsListing, code_text, entry_line, entry_lines, first_line, inner_lines, last_line, op_line}
+use Rattle.text_lines.specs.Lines.{ended}
 
 -- the text so far, and the entries that are left
 pub record Told (entries before : List ℕ) (i : ℕ) (text : List ℕ) : Type 0 where

@@ -11,8 +11,9 @@ use Rattle.machine_code.specs.declared.op.Op.{Op}
 use Rattle.machine_code.specs.declared.op.Op.TheVariants.{Stmt, Ldi, Ldt, Stt, Lde, Lda, Add, Sub, Mul, Div, Rem, Eq, Ne, Lt, Le, Gt, Ge, And, Or, Jmp, Jz, Ldw, Stw, Ckw, Ckp, Own, Ldx, Stx, Ckf, Chn, Unc, Arg, Snd, Dir, Call, Ret, Trf, End}
 use Rattle.machine_code.specs.Operands.{OpFits}
 use Rattle.listing.specs.Instructions.{written}
-use Rattle.listing.specs.Listing.{ended, op_line, spoken}
+use Rattle.listing.specs.Listing.{op_line, spoken}
 use Rattle.listing.specs.Rows.{AllFit, kinds, kinds_at, name_at, row, row_line}
+use Rattle.text_lines.specs.Lines.{ended}
 
 -- the instruction at each place, with these operands
 nth : List ℕ → ℕ → ℕ

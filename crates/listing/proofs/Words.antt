@@ -9,10 +9,11 @@ use Rattle.std.proofs.lemmas.List.{map-append, length-map}
 use Rattle.std.proofs.lemmas.List.Concat.{flat_map-append}
 use Rattle.std.proofs.lemmas.List.Folds.{list_all-append}
 use Rattle.plex_num.specs.Number.{number_of}
-use Rattle.listing.specs.Forms.{begins_rightly, is_numeral}
 use Rattle.listing.specs.Listing.{spaced}
-use Rattle.listing.specs.Parts.{HasNo, StartsWith, IsNextWord, AreOperands, AreNoOperands}
-use Rattle.listing.proofs.Cuts.{HasNo-cons, cut_once}
+use Rattle.listing.specs.Parts.{IsNextWord, AreOperands, AreNoOperands}
+use Rattle.text_lines.proofs.Cuts.{HasNo-cons, cut_once}
+use Rattle.text_lines.specs.Numerals.{begins_rightly, is_numeral}
+use Rattle.text_lines.specs.Parts.{HasNo, StartsWith}
 
 digit_is_no : (b end : ℕ) → end < 48 → is_ascii_digit b ≡ true → b ≢ end
 digit_is_no b end low h e = absurd (grind (arith, nat_tests))

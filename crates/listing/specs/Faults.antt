@@ -4,19 +4,14 @@
 -- well. So a text that breaks off, a last line without its LF and bytes after the last line are all at fault at a line, the one
 -- that no listing has at its place: a line is the first faulty one where the lines before it begin some listing, and no
 -- longer with it.
-use Rattle.std.specs.Prelude.{◌≡◌, ℕ, ◌-◌, nat_eq, List, [], ◌∷◌, ◌++◌, map, take, Result, Ok, Err, if◌then◌else◌}
-use Rattle.std.specs.List.{AllByRecursion, onto_first}
+use Rattle.std.specs.Prelude.{◌≡◌, ℕ, ◌-◌, List, [], ◌∷◌, ◌++◌, map, take, Result, Ok, Err}
+use Rattle.std.specs.List.{AllByRecursion}
 use Rattle.machine_code.specs.declared.code.Code.{Code}
 use Rattle.listing.specs.declared.fault.ListFault.{ListFault}
 use Rattle.listing.specs.declared.fault.ListFault.TheVariants.{BadLine, BadOperand, Memory}
 use Rattle.listing.specs.Forms.{EachFrom, HasEntryForm, HasOpForm}
-use Rattle.listing.specs.Listing.{CodeFits, IsListing, ended, first_line, inner_lines, last_line}
-
--- the lines of a text, each with its LF, and what follows the last LF
-unfoldable pub lines_in : List ℕ → List (List ℕ)
-lines_in [] = [] ∷ []
-lines_in (b ∷ rest) =
-    (if nat_eq b 10 then (b ∷ []) ∷ lines_in rest else onto_first b (lines_in rest))
+use Rattle.listing.specs.Listing.{CodeFits, IsListing, first_line, inner_lines, last_line}
+use Rattle.text_lines.specs.Lines.{ended, lines_in}
 
 -- a first line, these lines and a last line, as they stand in a text with nothing after them
 abbrev pub whole : List (List ℕ) → List (List ℕ)

@@ -2,24 +2,14 @@
 --
 -- A line has the form where its name is right and as many numerals stand behind it as the name wants. It stands in a listing where these
 -- numerals are in their ranges too. A numeral may be of any length.
-use Rattle.std.specs.Prelude.{◌≡◌, ℕ, ◌+◌, Bool, true, false, not, ◌&&◌, nat_eq, List, [], ◌∷◌, length, codes}
-use Rattle.std.specs.Char.{is_ascii_digit}
+use Rattle.std.specs.Prelude.{◌≡◌, ℕ, ◌+◌, true, List, [], ◌∷◌, length, codes}
 use Rattle.std.specs.Fmt.{decimal}
 use Rattle.std.specs.List.{list_all}
 use Rattle.machine_code.specs.declared.op.Op.{Op}
 use Rattle.machine_code.specs.Operands.{OpFits, IsNumber}
+use Rattle.text_lines.specs.Numerals.{is_numeral}
 use Rattle.listing.specs.Instructions.{written}
 use Rattle.listing.specs.Listing.{spoken, op_line, entry_line}
-
--- the first digit is 0 only where it is the only one
-abbrev pub begins_rightly : List ℕ → Bool
-begins_rightly [] = false
-begins_rightly (b ∷ []) = true
-begins_rightly (b ∷ c ∷ rest) = not (nat_eq b 48)
-
--- digits with no leading zero
-unfoldable pub is_numeral : List ℕ → Bool
-is_numeral word = begins_rightly word && list_all is_ascii_digit word
 
 -- the line of an instruction, all of whose operands are in their ranges
 pub record IsOpLine (line : List ℕ) : Type 0 where

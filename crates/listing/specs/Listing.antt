@@ -8,6 +8,7 @@ use Rattle.std.specs.List.{flat_map}
 use Rattle.machine_code.specs.declared.code.Code.{Code}
 use Rattle.machine_code.specs.declared.op.Op.{Op}
 use Rattle.machine_code.specs.Operands.{OpFits, IsNumber}
+use Rattle.text_lines.specs.Lines.{ended}
 use Rattle.listing.specs.Instructions.{written}
 
 -- a word behind a space
@@ -40,10 +41,6 @@ last_line = codes "END CODE"
 -- all lines between the first and the last
 unfoldable pub inner_lines : Code → List (List ℕ)
 inner_lines code = entry_lines 0 code.entries ++ map op_line code.ops
-
--- a line with its end
-abbrev pub ended : List ℕ → List ℕ
-ended line = line ++ 10 ∷ []
 
 -- the listing
 unfoldable pub code_text : Code → List ℕ

@@ -1,23 +1,10 @@
 -- Lines and words as they are read: cut at the first LF or space.
-use Rattle.std.specs.Prelude.{◌≡◌, ℕ, ◌≤◌, true, not, nat_eq, List, [], ◌∷◌, ◌++◌, length, map, Option}
+use Rattle.std.specs.Prelude.{◌≡◌, ℕ, ◌≤◌, true, List, ◌++◌, length, map, Option}
 use Rattle.std.specs.List.{flat_map, list_all}
 use Rattle.plex_num.specs.Number.{number_of}
-use Rattle.listing.specs.Forms.{is_numeral}
+use Rattle.text_lines.specs.Parts.{HasNo, StartsWith}
 use Rattle.listing.specs.Listing.{spaced, spoken}
-
--- the byte does not stand in these
-unfoldable pub HasNo : ℕ → List ℕ → Type 0
-HasNo end bytes = list_all (λ b. not (nat_eq b end)) bytes ≡ true
-
--- these are no bytes, or begin with this one
-abbrev pub StartsWith : ℕ → List ℕ → Type 0
-StartsWith end [] = Unit {0}
-StartsWith end (b ∷ rest) = b ≡ end
-
--- the line ends at the first LF, and after follows that
-pub record IsNextLine (text line after : List ℕ) : Type 0 where
-  pub apart : HasNo 10 line
-  pub so : text ≡ line ++ 10 ∷ after
+use Rattle.text_lines.specs.Numerals.{is_numeral}
 
 -- the bytes are a space, a word, and those after it
 pub record IsNextWord (bytes word after : List ℕ) : Type 0 where

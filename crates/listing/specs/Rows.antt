@@ -8,7 +8,8 @@ use Rattle.listing.specs.declared.fault.LineFault.{LineFault}
 use Rattle.listing.specs.declared.fault.LineFault.TheVariants.{Form, Operand}
 use Rattle.std.specs.Fmt.{decimal}
 use Rattle.listing.specs.Instructions.{written}
-use Rattle.listing.specs.Listing.{ended, spoken}
+use Rattle.listing.specs.Listing.{spoken}
+use Rattle.text_lines.specs.Lines.{ended}
 
 -- what an operand may be
 pub data Kind : Type 0 where

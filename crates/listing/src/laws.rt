@@ -2,8 +2,9 @@
 ghost use Rattle.std.specs.Prelude.{◌≡◌, ◌≤◌, List, ℕ, length};
 ghost use Rattle.std.specs.List.{flat_map};
 ghost use Rattle.machine_code.specs.declared.code.Code.{Code};
-ghost use Rattle.listing.specs.Faults.{HasBadLine, HasBadOperand, lines_in};
+ghost use Rattle.listing.specs.Faults.{HasBadLine, HasBadOperand};
 ghost use Rattle.listing.specs.Listing.{CodeFits, IsListing, code_text};
+ghost use Rattle.text_lines.specs.Lines.{lines_in};
 
 /// What is printed is the listing of the code that was printed.
 pub fn listing_is_of_its_code()

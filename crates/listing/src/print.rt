@@ -4,7 +4,8 @@ ghost use Rattle.std.specs.List.{flat_map};
 ghost use Rattle.case_table.specs.Names.{operation_names};
 ghost use Rattle.case_table.specs.Rows.{names_of};
 ghost use Rattle.machine_code.specs.Operands.{IsNumber, OpFits};
-ghost use Rattle.listing.specs.Listing.{IsListing, code_text, ended, entry_line, entry_lines, op_line};
+ghost use Rattle.listing.specs.Listing.{IsListing, code_text, entry_line, entry_lines, op_line};
+ghost use Rattle.text_lines.specs.Lines.{ended};
 
 use crate::print_line::add_line;
 use crate::rows::add_row_of;

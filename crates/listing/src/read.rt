@@ -2,18 +2,18 @@
 ghost use Rattle.std.specs.Prelude.{◌≡◌, ◌≤◌, ◌^◌, ℕ, Ok, Err, OnOk, length};
 ghost use Rattle.listing.specs.Faults.{HasBadLine, HasBadOperand, IsUnlessMemory, Tells};
 ghost use Rattle.listing.specs.Listing.{IsListing, first_line};
-ghost use Rattle.listing.specs.Parts.{IsNextLine};
 ghost use Rattle.listing.specs.Statements.{Adds};
 ghost use Rattle.machine_code.specs.declared.code.Code.{Code};
+ghost use Rattle.text_lines.specs.Parts.{IsCut};
 
 use crate::fault::ListFault;
-use crate::parts::next_line;
 use crate::read_line::statement;
 use crate::statement::Statement;
 use case_table::operations;
 use machine_code::{Code, Op};
 use plex_num::{Memory, Seq};
 use std::alloc::Global;
+use text_lines::cut;
 
 /// The code whose listing is this text of at most 16 MiB; else the first line that is not of the form of a listing, `BadLine`, or
 /// has an operand out of its range, `BadOperand`. A text that ends too early is bad at the line after its last.
@@ -34,7 +34,7 @@ fn read_text(alloc: Global, text: &[u8]) -> Result<Code, ListFault>
     requires { length text.now ≤ 2 ^ 24 }
     ensures { Tells text.now result }
 {
-    let Some((line, rest)) = next_line(text) else {
+    let Some((line, rest)) = cut(text, b'\n') else {
         return Err(ListFault::BadLine { line: 1 });
     };
     if line == b"PLEX CODE 1".as_slice() {
@@ -46,7 +46,7 @@ fn read_text(alloc: Global, text: &[u8]) -> Result<Code, ListFault>
 
 /// The same of a text that goes on with these bytes behind its first line.
 fn read_lines(alloc: Global, text: &[u8], rest: &[u8]) -> Result<Code, ListFault>
-    requires begun { IsNextLine text.now first_line rest.now }
+    requires begun { IsCut 10 text.now first_line rest.now }
     requires small { length text.now ≤ 2 ^ 24 }
     ensures { Tells text.now result }
 {
@@ -56,7 +56,7 @@ fn read_lines(alloc: Global, text: &[u8], rest: &[u8]) -> Result<Code, ListFault
     // how many lines have been read
     let mut number: u32 = 1;
     let mut rest = rest;
-    while let Some((line, after)) = next_line(rest) {
+    while let Some((line, after)) = cut(rest, b'\n') {
         if line == b"END CODE".as_slice() {
             return if after.is_empty() {
                 Ok(Code { ops, entries })

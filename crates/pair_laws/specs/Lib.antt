@@ -1,1 +1,3 @@
-pub mod Covers
+pub mod Pairs
+pub mod Orders
+pub mod Together

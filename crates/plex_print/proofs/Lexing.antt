@@ -15,7 +15,8 @@ use Rattle.plex_lexer.specs.Pieces.{with_tokens, token_at, and_the_rest, kind_an
 use Rattle.plex_lexer.specs.Words.{word_kind, number_kind, number_or_fault}
 use Rattle.plex_lexer.proofs.Steps.{at_token, at_blank}
 use Rattle.kept_trees.specs.Keeps.{IsName}
-use Rattle.plex_print.proofs.Numbers.{decimal_all_digits, decimal_some, number_of_decimal}
+use Rattle.std.proofs.lemmas.Fmt.{decimal_nonempty}
+use Rattle.text_lines.proofs.Numerals.{decimal_all_digits, number_of-decimal}
 use Rattle.plex_num.specs.Number.{number_of}
 
 -- the kinds of tokens
@@ -188,7 +189,7 @@ digits_read n [] some all is = absurd (omega arith)
 digits_read n (b ∷ bs) some all is = Reads-digits b bs (kinds.Number n) (both-first (is_ascii_digit b) (list_all is_ascii_digit bs) all) (both-second (is_ascii_digit b) (list_all is_ascii_digit bs) all) (λ o l. ap (λ z. number_or_fault z o l) is)
 
 pub Reads-number : (n : ℕ) → n < 2 ^ 32 → Reads (kinds.Number n ∷ []) (decimal n ++ (32 ∷ []))
-Reads-number n h = digits_read n (decimal n) (decimal_some n h) (decimal_all_digits n h) (number_of_decimal n h)
+Reads-number n h = (let wide : n < 2 ^ 64 = omega arith in digits_read n (decimal n) (decimal_nonempty n wide) (decimal_all_digits n wide) (number_of-decimal n h))
 
 -- a semicolon and an LF
 pub Reads-semi : Reads (kinds.Mark 0 ∷ []) (59 ∷ 10 ∷ [])

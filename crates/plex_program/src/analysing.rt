@@ -7,8 +7,7 @@ use crate::perform::Answer;
 use crate::program::Status;
 use access_summary::summaries_of;
 use analysis_text::analysis;
-use certificate::certificate_of;
-use certificate_text::print_certificate;
+use certificate::text_of_certificate;
 use exchange_model::Exchange;
 use plex_num::Memory;
 use std::alloc::Global;
@@ -32,8 +31,7 @@ pub fn certificate_answer(alloc: Global, exchange: &Exchange) -> Result<Answer, 
     ensures answer { IfOk result (AnswersCertificate exchange.now) }
     ensures ending { IfOk result (λ a. IsEnding a.status) }
 {
-    let certificate = certificate_of(alloc, exchange)?;
-    let text = print_certificate(alloc, &certificate)?;
+    let text = text_of_certificate(alloc, exchange)?;
     Ok(Answer {
         status: Status::Done,
         text,

@@ -22,10 +22,10 @@ leave_counts : {x : Exchange} {deed : Deed} {rest : List Item} (c d : Config) �
 leave_counts c d (Faults e f why) = refl
 leave_counts c d _ = refl
 
-effects_count : {x : Exchange} {deed : Deed} {rest : List Item} (c d : Config) → Effects x deed rest c d → d.own.count ≡ c.own.count
+effects_count : {x : Exchange} {deed : Deed} {rest : List Item} {temps : List ℕ} (c d : Config) → Effects x deed rest temps c d → d.own.count ≡ c.own.count
 effects_count c d (Done e) = refl
-effects_count c d (Then a b e effect more) = effects_count b d more ∙ effect_counts c b effect
-effects_count c d (Last a b leave) = leave_counts c d leave
+effects_count c d (Then a b e same effect more) = effects_count b d more ∙ effect_counts c b effect
+effects_count c d (Last a b same leave) = leave_counts c d leave
 
 -- a step that does not end the job counted one, within the budget
 pub record IsCounted (c d : Config) : Type 0 where

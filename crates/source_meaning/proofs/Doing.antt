@@ -20,7 +20,7 @@ use Rattle.source_meaning.specs.Value.{Got, Gives, Fails, expr_value, holder_val
 use Rattle.source_meaning.specs.Config.{Item, Config, receiver_of, base_of, files_of, sight}
 use Rattle.source_meaning.specs.Changes.{fails, on_value, on_values, unless_fault, where_fits, goes, to_label, at_record, at_receiver, to_receiver}
 use Rattle.source_meaning.specs.Deeds.{Deed, Doing, IsExprOf, IsFileAt, MayUse, GoesTo, out, named, held, receiver_in, signal_in, at_variable, at_field, at_holder, IsLook, GoesOn, Why, in_value, no_receiver}
-use Rattle.source_meaning.specs.Effects.{Effect, Leave, Looks, Goes, Faults, Effects as Makes, Done, Then, Last}
+use Rattle.source_meaning.specs.Effects.{Effect, Leave, Looks, Goes, Faults, Effects, Done, Then, Last}
 use Rattle.source_meaning.proofs.Lists.{all_weaker, first_is, later_is}
 use Rattle.source_meaning.proofs.Loads.{loads_in, IsLoadOf, of_variable, of_field, Tells, FaultIs, expr_loads}
 
@@ -28,14 +28,18 @@ use Rattle.source_meaning.proofs.Loads.{loads_in, IsLoadOf, of_variable, of_fiel
 abbrev pub traced : List Touch → Config → Config
 traced t c = record c { world = record c.world { trace = t } }
 
+-- effects that begin from the temporaries that the job has
+abbrev pub Makes : Exchange → Deed → List Item → Config → Config → Type 0
+Makes x deed rest c d = Effects x deed rest c.temps c d
+
 -- values
 
 module _ (x : Exchange) (deed : Deed) (rest : List Item) where
   pub one : (c d : Config) → Effect x deed rest c d → Makes x deed rest c d
-  one c d e = Then c d d e (Done d)
+  one c d e = Then c d d refl e (Done d)
 
   pub last : (c d : Config) → Leave x deed rest c d → Makes x deed rest c d
-  last c d e = Last c d e
+  last c d e = Last c d refl e
 
   -- a value is read off cells that the statement names, and if it fails the statement does
   abbrev pub Reads : Config → Got → Type 0
@@ -45,10 +49,10 @@ module _ (x : Exchange) (deed : Deed) (rest : List Item) where
       → ((t loads : List Touch) (v : ℕ) → got ≡ Gives loads v → Makes x deed rest (traced t c) (go v (traced t c))) → Makes x deed rest c (on_value got c go)
   value_effects (Gives loads v) c go reads more =
       let d : Config = record c { world = seen loads c.world } in
-      Then c d (go v d) (Looks c loads reads.loads) (more (c.world.trace ++ loads) loads v refl)
+      Then c d (go v d) refl (Looks c loads reads.loads) (more (c.world.trace ++ loads) loads v refl)
   value_effects (Fails loads f) c go reads more =
       let d : Config = record c { world = seen loads c.world } in
-      Then c d (fails f d) (Looks c loads reads.loads) (last d (fails f d) (Faults d f (reads.fault (c.world.trace ++ loads))))
+      Then c d (fails f d) refl (Looks c loads reads.loads) (last d (fails f d) (Faults d f (reads.fault (c.world.trace ++ loads))))
 
   look_at : (c : Config) (e : Expr) → IsExprOf deed e → (t : Touch) → IsLoadOf (sight x c) (named_in e) t → IsLook x c deed t
   look_at c e of t (of_variable v at is) = record { cell = base_of x c.block + v; at = at_variable e v of at; is = is }

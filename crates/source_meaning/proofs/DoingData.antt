@@ -17,9 +17,9 @@ use Rattle.source_meaning.specs.Changes.{fails, where_fits, goes, to_label, sets
 use Rattle.source_meaning.specs.Step.{does}
 use Rattle.source_meaning.specs.Effects
 use Rattle.source_meaning.specs.Deeds.{Doing, IsValueOf, IsFileAt, IsRecordOf, at_searched, at_mark, IsLook, to_label as at_label, to_next, with_value, with_found, with_seized, wide_value, wide_field, bad_field, bad_free, no_forlopp, full_chain}
-use Rattle.source_meaning.specs.Effects.{Effect, Leave, Looks, PutsVariable, PutsField, Seizes, Frees, Goes, Posts, Begins, Asks, Returns, Ends, Faults, Effects as Makes, Done, Then, Last}
+use Rattle.source_meaning.specs.Effects.{Effect, Leave, Looks, PutsVariable, PutsField, Seizes, Frees, Goes, Posts, Begins, Asks, Returns, Ends, Faults, Done, Then}
 use Rattle.source_meaning.proofs.Lists.{first_is}
-use Rattle.source_meaning.proofs.Doing.{traced, one, last, value_effects, expr_reads, branch, fits_effects, record_effects, next, jump}
+use Rattle.source_meaning.proofs.Doing.{traced, Makes, one, last, value_effects, expr_reads, branch, fits_effects, record_effects, next, jump}
 use Rattle.source_meaning.proofs.Searched.{found_within, search_loads}
 
 module _ (x : Exchange) (rest : List Item) (p : ℕ) where
@@ -40,7 +40,7 @@ module _ (x : Exchange) (rest : List Item) (p : ℕ) where
       let d = traced t c in
       let at : IsValueOf x d e v = record { loads = loads; is = is } in
       fits_effects x (Doing p l) rest v width d (λ d. goes rest (sets_cell cell v d))
-      (λ fits. Then d (sets_cell cell v d) (goes rest (sets_cell cell v d)) (PutsVariable d p variable e v refl at fits) (next x p l rest (sets_cell cell v d) (to_next p tt)))
+      (λ fits. Then d (sets_cell cell v d) (goes rest (sets_cell cell v d)) refl (PutsVariable d p variable e v refl at fits) (next x p l rest (sets_cell cell v d) (to_next p tt)))
       (λ wide. wide_value p variable e v at wide))
 
   pub set_field : (file field pointer : ℕ) (e : Expr) (c : Config) → Makes x (Doing p (stmt.SetField file field pointer e)) rest c (does x p (stmt.SetField file field pointer e) rest c)
@@ -52,7 +52,7 @@ module _ (x : Exchange) (rest : List Item) (p : ℕ) where
       (λ t loads v is.
       let d = goes rest (traced t c) in
       let at : IsValueOf x d e v = record { loads = loads; is = is } in
-      Then (traced t c) d (at_record (slice_get (files_of x) file) file number d (sets_field number field v)) (Goes (traced t c) rest c.temps (to_next p tt))
+      Then (traced t c) d (at_record (slice_get (files_of x) file) file number d (sets_field number field v)) refl (Goes (traced t c) rest c.temps (to_next p tt))
       (record_effects x (Doing p l) rest (slice_get (files_of x) file) file number d (sets_field number field v) refl (Done d)
       (λ placed may. fits_effects x (Doing p l) rest v (field_width placed field) d (sets_cell (field_cell placed number field) v)
       (λ fits. one x (Doing p l) rest d (sets_cell (field_cell placed number field) v d) (PutsField d p file field pointer e v placed refl may at fits))
@@ -64,7 +64,7 @@ module _ (x : Exchange) (rest : List Item) (p : ℕ) where
       let l : Layer = stmt.Free temp file in
       let number = slice_index c.temps temp in
       let d = goes rest c in
-      Then c d (does x p l rest c) (Goes c rest c.temps (to_next p tt))
+      Then c d (does x p l rest c) refl (Goes c rest c.temps (to_next p tt))
       (record_effects x (Doing p l) rest (slice_get (files_of x) file) file number d (frees file number) refl (Done d)
       (λ placed may. one x (Doing p l) rest d (frees file number placed d) (Frees d p temp file placed refl may))
       (λ placed f there bad. bad_free p temp file placed f there bad))
@@ -88,7 +88,7 @@ module _ (x : Exchange) (rest : List Item) (p : ℕ) where
       let number = least_record test size in
       let loads = record_loads (λ n. field_cell placed n field) (looked_at number size) c.world.store in
       let d : Config = record c { world = seen loads c.world } in
-      Then c d (at_found x temp label rest number d)
+      Then c d (at_found x temp label rest number d) refl
       (Looks c loads (search_loads (IsLook x c (Doing p l)) (λ n. field_cell placed n field) test c.world.store size
       (λ k lt. record { cell = field_cell placed k field; at = at_searched p temp file field rel e label k placed (record { there = there; within = lt }); is = refl })))
       (found temp file field rel e label placed number d there (λ n is. (found_within test size n is).within))
@@ -106,7 +106,7 @@ module _ (x : Exchange) (rest : List Item) (p : ℕ) where
       let d = Effects.seized placed file n c in
       let at : IsRecordOf x file n placed = record { there = there; within = within } in
       branch x (Doing p l) rest (nat_lt (length c.own.chain) MOST_HELD)
-      (λ room. Then c d (goes rest (sets_temp temp n d)) (Seizes c p temp file label n placed refl at some (ltb-true (length c.own.chain) MOST_HELD room) free)
+      (λ room. Then c d (goes rest (sets_temp temp n d)) refl (Seizes c p temp file label n placed refl at some (ltb-true (length c.own.chain) MOST_HELD room) free)
       (one x (Doing p l) rest d (goes rest (sets_temp temp n d)) (Goes d rest (slice_set c.temps temp n) (with_seized p temp file label n placed at))))
       (λ full. last x (Doing p l) rest c (fails fault.Chain c) (Faults c fault.Chain (full_chain p temp file label full)))
 
@@ -127,7 +127,7 @@ module _ (x : Exchange) (rest : List Item) (p : ℕ) where
       let d : Config = record c { world = seen loads c.world } in
       branch x (Doing p l) rest (nat_eq c.own.forlopp 0)
       (λ none. last x (Doing p l) rest c (fails fault.NoForlopp c) (Faults c fault.NoForlopp (no_forlopp p temp file label none)))
-      (λ some. Then c d (at_free x placed file temp label rest number d)
+      (λ some. Then c d (at_free x placed file temp label rest number d) refl
       (Looks c loads (search_loads (IsLook x c (Doing p l)) (mark_cell placed) test c.world.store size
       (λ k lt. record { cell = mark_cell placed k; at = at_mark p temp file label k placed (record { there = there; within = lt }); is = refl })))
       (free_found temp file label placed number d there

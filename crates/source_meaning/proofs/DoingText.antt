@@ -27,13 +27,13 @@ use Rattle.source_meaning.specs.Changes.{fails, ends, on_value, on_values, goes,
 use Rattle.source_meaning.specs.Step.{does}
 use Rattle.source_meaning.specs.Effects
 use Rattle.source_meaning.specs.Deeds.{GoesOnAfter, Doing, IsExprOf, GoesTo, out, named, held, IsSending, IsPosting, to_queue, to_outside, by_send, by_transfer, by_combined, IsLook, to_label as at_label, to_next, to_branch, to_loop, IsBranch, IsEnd, AwaitsOther, SomeWait, Why, too_deep, too_many, no_caller, has_caller}
-use Rattle.source_meaning.specs.Effects.{Effect, Leave, Looks, PutsVariable, PutsField, Seizes, Frees, Goes, Posts, Begins, Asks, Returns, Ends, Faults, Effects as Makes, Done, Then, Last}
+use Rattle.source_meaning.specs.Effects.{Effect, Leave, Looks, PutsVariable, PutsField, Seizes, Frees, Goes, Posts, Begins, Asks, Returns, Ends, Faults, Then}
 use Rattle.source_meaning.proofs.Lists.{all_members, first_is, later_is}
 use Rattle.source_meaning.proofs.Loads.{cond_tells}
-use Rattle.source_meaning.proofs.Doing.{traced, one, last, Reads, value_effects, expr_reads, values_effects, branch, zero_branch, receiver_effects, next, jump}
+use Rattle.source_meaning.proofs.Doing.{traced, Makes, one, last, Reads, value_effects, expr_reads, values_effects, branch, zero_branch, receiver_effects, next, jump}
 
 -- the choice of a CASE is one of its branches
-chosen_is : (whens : List When) (v : ℕ) (otherwise : List Stmt) → (chosen whens v otherwise ≡ otherwise) ⊎ ((w : When) × Contains whens w × (chosen whens v otherwise ≡ (out-When w).body))
+pub chosen_is : (whens : List When) (v : ℕ) (otherwise : List Stmt) → (chosen whens v otherwise ≡ otherwise) ⊎ ((w : When) × Contains whens w × (chosen whens v otherwise ≡ (out-When w).body))
 chosen_is [] v otherwise = inl refl
 chosen_is (w ∷ rest) v otherwise = by (nat_eq (out-When w).number v) (chosen_is rest v otherwise)
   where
@@ -93,7 +93,7 @@ module _ (x : Exchange) (rest : List Item) (p : ℕ) where
       let l : Layer = stmt.Send signal to values fresh in
       let d = Effects.posted one_to vs c in
       branch x (Doing p l) rest (nat_lt (length c.own.sends) MOST_SENT)
-      (λ room. Then c d (goes rest d) (Posts c one_to vs is (ltb-true (length c.own.sends) MOST_SENT room)) (next x p l rest d (to_next p on)))
+      (λ room. Then c d (goes rest d) refl (Posts c one_to vs is (ltb-true (length c.own.sends) MOST_SENT room)) (next x p l rest d (to_next p on)))
       (λ full. last x (Doing p l) rest c (fails fault.Sends c) (Faults c fault.Sends (too_many p signal to values fresh one_to vs is full)))
 
   sent : (signal : ℕ) (to : Option Receiver) (values : List Expr) (fresh : Bool) (kind : Option SignalKind) (b : ℕ) (vs : List ℕ) (c : Config) → slice_get x.signals signal ≡ kind → IsSending x c signal to values b vs
@@ -112,7 +112,7 @@ module _ (x : Exchange) (rest : List Item) (p : ℕ) where
   sent signal to values fresh None b vs c there is = next x p (stmt.Send signal to values fresh) rest c (to_next p (subst GoesOnAfter (sym there) tt))
 
   -- the receiver stays the same after the loads of the values
-  goes_still : (signal : ℕ) (to : Option Receiver) (b : ℕ) (t : List Touch) (c : Config) → GoesTo x c signal to b → GoesTo x (traced t c) signal to b
+  pub goes_still : (signal : ℕ) (to : Option Receiver) (b : ℕ) (t : List Touch) (c : Config) → GoesTo x c signal to b → GoesTo x (traced t c) signal to b
   goes_still signal to b t c out = out
   goes_still signal to b t c (named k) = named k
   goes_still signal to b t c (held h v k is at) = held h v k (record { loads = is.loads; is = is.is }) at

@@ -104,15 +104,15 @@ branch_not_last _ body is last = is
 some_is : (i j : ℕ) → Some i ≡ Some j → i ≡ j
 some_is i j e = cc
 
-module _ (x : Exchange) (kept : IsExchange x) where
-  -- a label stands in the text
-  label_named : (s : Scope) (l : Layer) (label : ℕ) → label_in l ≡ Some label → KindNames s l → IsLabel s label
-  label_named s (stmt.Goto k) label is names = subst (IsLabel s) (some_is k label is) names
-  label_named s (stmt.IfGoto cond k) label is names = subst (IsLabel s) (some_is k label is) names.1
-  label_named s (stmt.ForFirst temp file field rel e k) label is names = subst (IsLabel s) (some_is k label is) names.3
-  label_named s (stmt.Seize temp file k) label is names = subst (IsLabel s) (some_is k label is) names.2
-  label_named s _ label is names = cc
+-- a label stands in the block
+pub label_named : (s : Scope) (l : Layer) (label : ℕ) → label_in l ≡ Some label → KindNames s l → IsLabel s label
+label_named s (stmt.Goto k) label is names = subst (IsLabel s) (some_is k label is) names
+label_named s (stmt.IfGoto cond k) label is names = subst (IsLabel s) (some_is k label is) names.1
+label_named s (stmt.ForFirst temp file field rel e k) label is names = subst (IsLabel s) (some_is k label is) names.3
+label_named s (stmt.Seize temp file k) label is names = subst (IsLabel s) (some_is k label is) names.2
+label_named s _ label is names = cc
 
+module _ (x : Exchange) (kept : IsExchange x) where
   pub jump_goes : (b label : ℕ) (k : Block) → slice_get x.blocks b ≡ Some k → label < length k.labels → JumpsTo x b label
   jump_goes b label k there lt =
       let e = some_at k.labels label lt in

@@ -87,10 +87,10 @@ pub leave_grows : {x : Exchange} {deed : Deed} {rest : List Item} (c d : Config)
 leave_grows c d (Faults e f why) = grows_same c.world
 leave_grows c d _ = grows_same c.world
 
-pub effects_grow : {x : Exchange} {deed : Deed} {rest : List Item} (c d : Config) → Effects x deed rest c d → Grows c.world d.world
+pub effects_grow : {x : Exchange} {deed : Deed} {rest : List Item} {temps : List ℕ} (c d : Config) → Effects x deed rest temps c d → Grows c.world d.world
 effects_grow c d (Done e) = grows_same c.world
-effects_grow c d (Then a b e effect more) = grows_on c.world b.world d.world (effect_grows c b effect) (effects_grow b d more)
-effects_grow c d (Last a b leave) = leave_grows c d leave
+effects_grow c d (Then a b e same effect more) = grows_on c.world b.world d.world (effect_grows c b effect) (effects_grow b d more)
+effects_grow c d (Last a b same leave) = leave_grows c d leave
 
 ends_grows : (ks : List Caller) (c : Config) → Grows c.world (ends ks c).world
 ends_grows [] c = grows_same c.world

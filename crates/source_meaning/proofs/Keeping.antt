@@ -27,11 +27,11 @@ pub record Kept (x : Exchange) (P : Config → Type 0) (D : ℕ → Deed → Lis
   pub full : (c : Config) → P c → P (fails fault.Budget c)
 
 module _ {x : Exchange} {P : Config → Type 0} {D : ℕ → Deed → List Item → Type 0} (kept : Kept x P D) where
-  effects_keep : {deed : Deed} {rest : List Item} (c d : Config) → D c.block deed rest → P c → Effects x deed rest c d → P d
+  effects_keep : {deed : Deed} {rest : List Item} {temps : List ℕ} (c d : Config) → D c.block deed rest → P c → Effects x deed rest temps c d → P d
   effects_keep c d here p (Done e) = p
-  effects_keep {deed} {rest} c d here p (Then a b e effect more) =
+  effects_keep {deed} {rest} c d here p (Then a b e same effect more) =
       effects_keep b d (subst (λ n. D n deed rest) (sym (effect_block c b effect)) here) (kept.effect deed rest c b here p effect) more
-  effects_keep {deed} {rest} c d here p (Last a b leave) = kept.leave deed rest c d here p leave
+  effects_keep {deed} {rest} c d here p (Last a b same leave) = kept.leave deed rest c d here p leave
 
   pub one_step : (c d : Config) → P c → c.over ≡ None → Step x c d → P d
   one_step c d p going (NothingLeft none) = kept.ending c p

@@ -14,7 +14,7 @@ use Rattle.source_meaning.proofs.Activating.{activation_begins}
 use Rattle.source_meaning.proofs.Fitting.{deed_fits_in}
 use Rattle.source_meaning.proofs.Sending.{IsReceiving, goes_to_receives, send_fits_as}
 
-transfer_reaches : (s : Scope) (kind : Option SignalKind) (signal : ℕ) (to : Option Receiver) → TransferFits s kind signal to → Reaches s to signal
+pub transfer_reaches : (s : Scope) (kind : Option SignalKind) (signal : ℕ) (to : Option Receiver) → TransferFits s kind signal to → Reaches s to signal
 transfer_reaches s (Some (Direct name count)) signal to h = h
 transfer_reaches s _ signal to h = absurd h
 

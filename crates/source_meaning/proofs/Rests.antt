@@ -20,7 +20,7 @@ use Rattle.source_meaning.specs.Job.{todo_of, place_of, begins, after_steps}
 use Rattle.source_meaning.specs.Rests.{point_of, point_of_first, Past, here, beyond, first_point, head_point, IsRow, whole, later, branch, turn, Stands, IsRest, AreRests, DeedStands}
 use Rattle.source_meaning.proofs.Keeping.{Kept, steps_keep}
 
-cons_head : (i j : Item) (is js : List Item) → i ∷ is ≡ j ∷ js → i ≡ j
+pub cons_head : (i j : Item) (is js : List Item) → i ∷ is ≡ j ∷ js → i ≡ j
 cons_head i j is js e = cc
 
 -- the head of statements before items

@@ -11,8 +11,8 @@ use Rattle.source_meaning.specs.Config.{Item, Do, Start, Turns, next_counted, Co
 use Rattle.source_meaning.specs.Changes.{fails, goes, sets_temp, takes}
 use Rattle.source_meaning.specs.Step.{does, starts, count, does_first, step}
 use Rattle.source_meaning.specs.Deeds.{Doing, Starting, Turning, deed_of, deed_point, IsNoEnter, to_turn, to_label as at_label, to_next, with_answers, with_given, from_no_enter}
-use Rattle.source_meaning.specs.Effects.{Step, NothingLeft, CountFull, Counts, Goes, Effects as Makes}
-use Rattle.source_meaning.proofs.Doing.{one, next, jump}
+use Rattle.source_meaning.specs.Effects.{Step, NothingLeft, CountFull, Counts, Goes}
+use Rattle.source_meaning.proofs.Doing.{Makes, one, next, jump}
 use Rattle.source_meaning.proofs.DoingData.{set_temp, set_variable, set_field, free, for_first_effects, seize_found}
 use Rattle.source_meaning.proofs.DoingText.{if_goto, if_effects, case_effects, on_effects, end_effects, send_effects, transfer_effects, return_effects}
 

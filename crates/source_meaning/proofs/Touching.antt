@@ -16,12 +16,13 @@ use Rattle.exchange_model.specs.declared.block.Variable.{Variable}
 use Rattle.exchange_model.specs.declared.expr.Expr.{Expr}
 use Rattle.exchange_model.specs.declared.signal.SignalKind.{SignalKind}
 use Rattle.exchange_model.specs.declared.signal.SignalKind.TheVariants.{Buffered, Direct, Combined, Answer, Outside}
+use Rattle.exchange_model.specs.declared.stmt.Holder.{Holder}
 use Rattle.exchange_model.specs.declared.stmt.Holder.TheVariants as holder
 use Rattle.exchange_model.specs.declared.stmt.Receiver.{Receiver}
 use Rattle.exchange_model.specs.declared.stmt.Receiver.TheVariants as receiver
 use Rattle.exchange_model.specs.declared.stmt.StmtKind.TheOpen as stmt
 use Rattle.exchange_model.specs.Cells.{Placed, field_cell, mark_cell, record_cells, marks}
-use Rattle.exchange_model.specs.Fits.{Scope, IsVariable, IsField, IsFile, Reaches, SendFits, TransferFits, ExprFits, KindNames}
+use Rattle.exchange_model.specs.Fits.{Scope, IsHolder, IsVariable, IsField, IsFile, Reaches, SendFits, TransferFits, ExprFits, KindNames}
 use Rattle.exchange_model.specs.Inside.{own_exprs}
 use Rattle.exchange_model.specs.Kept.{IsExchange, scope_of}
 use Rattle.exchange_model.proofs.Numbers.{field_cell_below}
@@ -106,26 +107,29 @@ module _ (x : Exchange) (kept : IsExchange x) where
   deed_expr b (Starting p l) rest e h of = absurd of
   deed_expr b (Turning p temp this end body) rest e h of = absurd of
 
-  -- a variable that holds a reference is of the block
-  held_variable : (s : Scope) (v signal : ℕ) (to : Option Receiver) → to ≡ Some (receiver.Held (holder.Variable v)) → Reaches s to signal → IsVariable s v
-  held_variable s v signal to is h = (subst (λ o. Reaches s o signal) is h).0.0
+  -- what holds a reference is of the block
+  held_fits : (s : Scope) (h : Holder) (signal : ℕ) (to : Option Receiver) → to ≡ Some (receiver.Held h) → Reaches s to signal → IsHolder s h
+  held_fits s h signal to is reaches = (subst (λ o. Reaches s o signal) is reaches).0.0
 
-  send_variable : (s : Scope) (v signal : ℕ) (kind : Option SignalKind) (to : Option Receiver) (values : ℕ) (fresh : Bool) → to ≡ Some (receiver.Held (holder.Variable v)) → SendFits s kind signal to values fresh → IsVariable s v
-  send_variable s v signal None to values fresh is h = absurd h
-  send_variable s v signal (Some (Buffered name level count)) to values fresh is h = held_variable s v signal to is h.1
-  send_variable s v signal (Some (Direct name count)) to values fresh is h = held_variable s v signal to is h.1
-  send_variable s v signal (Some (Combined name count answer)) to values fresh is h = held_variable s v signal to is h.1
-  send_variable s v signal (Some (Answer name count combined)) to values fresh is h = absurd h
-  send_variable s v signal (Some (Outside name count)) to values fresh is h = let none = h.1 in cc
+  send_holder : (s : Scope) (h : Holder) (signal : ℕ) (kind : Option SignalKind) (to : Option Receiver) (values : ℕ) (fresh : Bool) → to ≡ Some (receiver.Held h) → SendFits s kind signal to values fresh → IsHolder s h
+  send_holder s h signal None to values fresh is fits = absurd fits
+  send_holder s h signal (Some (Buffered name level count)) to values fresh is fits = held_fits s h signal to is fits.1
+  send_holder s h signal (Some (Direct name count)) to values fresh is fits = held_fits s h signal to is fits.1
+  send_holder s h signal (Some (Combined name count answer)) to values fresh is fits = held_fits s h signal to is fits.1
+  send_holder s h signal (Some (Answer name count combined)) to values fresh is fits = absurd fits
+  send_holder s h signal (Some (Outside name count)) to values fresh is fits = absurd (let none = fits.1 in cc)
 
-  transfer_variable : (s : Scope) (v signal : ℕ) (kind : Option SignalKind) (to : Option Receiver) → to ≡ Some (receiver.Held (holder.Variable v)) → TransferFits s kind signal to → IsVariable s v
-  transfer_variable s v signal (Some (Direct name count)) to is h = held_variable s v signal to is h
-  transfer_variable s v signal _ to is h = absurd h
+  transfer_holder : (s : Scope) (h : Holder) (signal : ℕ) (kind : Option SignalKind) (to : Option Receiver) → to ≡ Some (receiver.Held h) → TransferFits s kind signal to → IsHolder s h
+  transfer_holder s h signal (Some (Direct name count)) to is fits = held_fits s h signal to is fits
+  transfer_holder s h signal _ to is fits = absurd fits
+
+  pub holder_fits : (s : Scope) (l : Layer) (h : Holder) → receiver_in l ≡ Some (receiver.Held h) → KindNames s l → IsHolder s h
+  holder_fits s (stmt.Send signal to values fresh) h is names = send_holder s h signal (slice_get s.signals signal) to (length values) fresh is names
+  holder_fits s (stmt.Transfer signal to) h is names = transfer_holder s h signal (slice_get s.signals signal) to is names
+  holder_fits s _ h is names = absurd (let none = is in cc)
 
   pub holder_variable : (s : Scope) (l : Layer) (v : ℕ) → receiver_in l ≡ Some (receiver.Held (holder.Variable v)) → KindNames s l → IsVariable s v
-  holder_variable s (stmt.Send signal to values fresh) v is h = send_variable s v signal (slice_get s.signals signal) to (length values) fresh is h
-  holder_variable s (stmt.Transfer signal to) v is h = transfer_variable s v signal (slice_get s.signals signal) to is h
-  holder_variable s _ v is h = cc
+  holder_variable s l v is names = holder_fits s l (holder.Variable v) is names
 
   -- a cell that is looked at
   look_inside : (c : Config) (deed : Deed) (rest : List Item) (cell : ℕ) → DeedStands x c.block deed rest → LooksAt x c deed cell → cell < x.cells

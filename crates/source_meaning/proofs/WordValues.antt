@@ -95,7 +95,7 @@ module _ (x : Exchange) (kept : IsExchange x) (b : ℕ) (k : Block) (there : sli
       word_with (factor_value j.factor s) (λ v. with_value (joined j.by product v) (λ p. product_value (map multiplier_of js) p s)) (each.0 (joined_fits-out (scope_of x b k) j fit.0))
       (λ v w. word_with (joined j.by product v) (λ p. product_value (map multiplier_of js) p s) (joined_word j.by product v now) (λ p z. product_word js p z each.1 fit.1))
 
-  variable_word : (v : ℕ) → v < length k.variables → IsWord (slice_index s.store (s.first + v))
+  pub variable_word : (v : ℕ) → v < length k.variables → IsWord (slice_index s.store (s.first + v))
   unfolding base_of
   variable_word v lt =
       let e = some_at k.variables v lt in

@@ -29,7 +29,8 @@ ghost use Rattle.source_meaning.specs.Traces.{AgreeOn, Answers, AreOfCells, Grow
 ghost use Rattle.source_meaning.specs.Traces.{over_words, store_after, trace_of};
 ghost use Rattle.source_meaning.specs.Valid.{IsFitting, IsJob, IsValid, LinesFit, StoreFits};
 
-/// Each step counts one item and makes effects, or ends the job. Whatever each effect keeps, a step keeps.
+/// Each step counts one item and makes effects, or ends the job. Each of the effects begins while the job has the temporaries
+/// that it had when it counted. Whatever each effect keeps, a step keeps.
 pub fn steps_make_effects()
     ensures { (x : Exchange) (c : Config) → Step x c (step x c) }
 {}

@@ -6,8 +6,9 @@ use Rattle.exchange_model.specs.declared.expr.Factor.{out-Factor}
 use Rattle.exchange_model.specs.declared.expr.Factor.TheOpen as layer
 use Rattle.exchange_model.specs.declared.expr.Factor.TheVariants as factor
 use Rattle.entry_summary.specs.Faults.{may_divide_by_zero}
-use Rattle.entry_faults.specs.Divides.{joins_badly, term_divides}
-use Rattle.entry_faults.proofs.Dividing.{expr_out, term_out, inside_is, any_more, any_found, any_none}
+use Rattle.entry_summary.specs.Divides.{joins_badly, term_divides}
+use Rattle.entry_summary.proofs.Dividing.{expr_out, term_out, inside_is}
+use Rattle.entry_faults.proofs.Dividing.{any_more, any_found, any_none}
 use Rattle.entry_faults.proofs.divide.+divide.Goals as goal
 
 pub may_divide_by_zero-loop-term-init : goal.may_divide_by_zero-loop-term-init

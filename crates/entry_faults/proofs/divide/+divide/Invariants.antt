@@ -1,7 +1,7 @@
 use Rattle.std.proofs.Common.{◌≡◌, drop, map}
 use Rattle.std.specs.List.{list_any}
 use Rattle.entry_summary.specs.Faults.{may_divide_by_zero}
-use Rattle.entry_faults.specs.Divides.{joins_badly, term_divides}
+use Rattle.entry_summary.specs.Divides.{joins_badly, term_divides}
 use Rattle.entry_faults.proofs.divide.+divide.Given as goal
 
 abbrev pub invariant-may_divide_by_zero-loop-term : goal.invariant-may_divide_by_zero-loop-term

@@ -1,5 +1,5 @@
-use Rattle.listing.proofs.Texts.{lines_joined}
 use Rattle.listing.proofs.laws.lines_are_the_text.Goals as goal
+use Rattle.text_lines.proofs.Texts.{lines_joined}
 
 pub returns : goal.returns
 returns c = lines_joined

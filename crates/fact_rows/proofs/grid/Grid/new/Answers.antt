@@ -1,13 +1,22 @@
-use Rattle.std.proofs.Common.{[], ◌∷◌, ◌++◌, ap, ◌∙◌}
-use Rattle.fact_rows.proofs.Laying.{laying_first, laying_step}
+use Rattle.std.proofs.Common.{length, refl}
+use Rattle.fact_rows.proofs.Laying.{laying_first, laying_step, laying_blank, laying_laid}
 use Rattle.fact_rows.proofs.grid.Grid.new.Goals as goal
 
 pub loop-row-init : goal.loop-row-init
-loop-row-init c = laying_first c.args.rows.now c.new-slots.result c.new-starts.result c.new-planes.result c.new-awaits.result c.new-slots.ensures c.new-starts.ensures c.new-planes.ensures c.new-awaits.ensures
+loop-row-init c = laying_first c.args.rows.now c.new-slots.result c.new-starts.result c.new-slots.ensures c.new-starts.ensures
 
 pub loop-row-preserved : goal.loop-row-preserved
 loop-row-preserved c =
-    laying_step c.args.rows.now c.loop-row.row-index c.row-item.result c.counts_of-counts.result c.size.result c.len.result
-    c.loop-row.slots c.push-in-loop-row-2.new.self c.loop-row.starts c.push.new.self c.loop-row.planes c.push_planes.new.planes c.loop-row.awaits c.push-in-loop-row.new.self
-    c.loop-row-test.true c.row-item.is c.counts_of-counts.ensures c.size.ensures c.len.ensures
-    c.in_ok-push-3.ensures c.in_ok-push.ensures c.in_ok-push_planes.ensures (c.in_ok-push-2.ensures ∙ ap (λ v. c.loop-row.awaits ++ v ∷ []) c.new.ensures) c.loop-row.invariant
+    laying_step c.args.rows.now c.loop-row.row-index c.row-item.result c.counts_of-counts.result c.size.result
+    c.loop-row.slots c.push-in-loop-row.new.self c.loop-row.starts c.push.new.self c.loop-row.size c.in_ok-size.size
+    c.loop-row-test.true c.row-item.is c.counts_of-counts.ensures c.size.ensures c.in_ok-push-2.ensures c.in_ok-push.ensures c.in_ok-size.ensures c.loop-row.invariant
+
+pub invariant_of-result : goal.invariant_of-result
+invariant_of-result c =
+    laying_laid c.args.rows.now c.loop-row.row-index c.loop-row.size (length c.args.rows.now) c.loop-row.slots c.loop-row.starts c.loop-row.invariant c.loop-row-test.false
+    c.into_vec.result.items (length c.in_ok-planes.planes.places.items) (length c.in_ok-awaits.awaits.places.items) c.into_vec.ensures c.in_ok-planes.ensures.long c.in_ok-awaits.ensures.long refl
+
+pub returns : goal.returns
+returns c =
+    laying_blank c.args.rows.now c.loop-row.row-index c.loop-row.size (length c.args.rows.now) c.loop-row.slots c.loop-row.starts c.loop-row.invariant c.loop-row-test.false
+    c.in_ok-planes.planes.laid.items c.in_ok-planes.planes.places.items c.in_ok-awaits.awaits.laid.items c.in_ok-awaits.awaits.places.items c.in_ok-planes.ensures.none c.in_ok-awaits.ensures.none

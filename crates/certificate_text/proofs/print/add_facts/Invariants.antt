@@ -1,7 +1,0 @@
-use Rattle.std.proofs.Common.{◌≡◌, ◌++◌, map, take}
-use Rattle.std.specs.List.{flat_map}
-use Rattle.certificate_text.specs.Text.{ended, fact_line}
-use Rattle.certificate_text.proofs.print.add_facts.Given as goal
-
-abbrev pub invariant-loop-fact : goal.invariant-loop-fact
-invariant-loop-fact l = l.text ≡ l.fn.text ++ flat_map ended (map fact_line (take l.fact-index l.facts))

@@ -1,0 +1,125 @@
+// Which events are allowed.
+use crate::given::{NotMade, core_after, exchange_of, least_of, lines_of};
+use crate::texts::{LATE_ASKS, LEVELS, PARTS, THREE_ASKS, TWO_ASKS, TWO_WORKS};
+use code_gen::compile;
+use exchange_model::Exchange;
+use interleave_core::{CoreEvent, CoreFault, CoreState};
+use std::alloc::Global;
+use std::test::Fail;
+use store_layout::layout_of;
+
+/// What is told of a list of events.
+#[derive(Clone, Copy, Debug, PartialEq, Eq)]
+enum Told {
+    /// The event at this place, counted from 0, is the first that is not allowed.
+    Refused { at: u64 },
+    /// All are, and so many jobs stand in the window after them.
+    Window { jobs: usize },
+}
+
+fn told_of(made: Result<CoreState, CoreFault>) -> Result<Told, NotMade> {
+    match made {
+        Ok(state) => Ok(Told::Window {
+            jobs: state.window.len(),
+        }),
+        Err(CoreFault::NotEnabled { at }) => Ok(Told::Refused { at }),
+        Err(CoreFault::Memory) => Err(NotMade),
+    }
+}
+
+fn told_on(
+    alloc: Global,
+    exchange: &Exchange,
+    lines: &str,
+    workers: u32,
+    events: &[CoreEvent],
+) -> Result<Told, NotMade> {
+    let layout = layout_of(alloc, exchange)?;
+    let code = compile(alloc, exchange, &layout)?;
+    let checked = least_of(alloc, exchange)?;
+    let lines = lines_of(alloc, exchange, lines)?;
+    let made = core_after(
+        alloc, exchange, &layout, &code, &checked, lines, workers, events,
+    );
+    told_of(made)
+}
+
+/// What is told of events on the exchange of a text, by its own certificate.
+fn told_at(
+    alloc: Global,
+    exchange: &str,
+    lines: &str,
+    workers: u32,
+    events: &[CoreEvent],
+) -> Result<Told, NotMade> {
+    let exchange = exchange_of(alloc, exchange)?;
+    told_on(alloc, &exchange, lines, workers, events)
+}
+
+#[test]
+fn events_are_refused_where_they_are_not_allowed(rt: HostRuntime) -> Result<(), Fail> {
+    let (issue, retire, step) = (
+        CoreEvent::Issue,
+        CoreEvent::Retire,
+        CoreEvent::Step { job: 2 },
+    );
+    let cases: [(&str, &str, u32, &[CoreEvent], Told); 10] = [
+        (
+            PARTS,
+            TWO_ASKS,
+            2,
+            &[issue, issue],
+            Told::Window { jobs: 2 },
+        ),
+        (
+            PARTS,
+            TWO_ASKS,
+            2,
+            &[issue, issue, retire],
+            Told::Refused { at: 2 },
+        ),
+        (PARTS, TWO_ASKS, 1, &[issue, issue], Told::Refused { at: 1 }),
+        (
+            PARTS,
+            THREE_ASKS,
+            2,
+            &[issue, issue, issue],
+            Told::Refused { at: 2 },
+        ),
+        (
+            PARTS,
+            THREE_ASKS,
+            3,
+            &[issue, issue, issue],
+            Told::Window { jobs: 3 },
+        ),
+        (
+            PARTS,
+            LATE_ASKS,
+            2,
+            &[issue, issue],
+            Told::Refused { at: 1 },
+        ),
+        (
+            PARTS,
+            TWO_ASKS,
+            2,
+            &[issue, issue, step],
+            Told::Window { jobs: 2 },
+        ),
+        (PARTS, TWO_ASKS, 2, &[issue, step], Told::Refused { at: 1 }),
+        (PARTS, "", 2, &[issue], Told::Refused { at: 0 }),
+        (
+            LEVELS,
+            TWO_WORKS,
+            2,
+            &[issue, issue],
+            Told::Refused { at: 1 },
+        ),
+    ];
+    for (exchange, lines, workers, events, wanted) in cases {
+        let is = told_at(rt.alloc(), exchange, lines, workers, events)?;
+        assert_eq!(rt; is, wanted, "{lines}");
+    }
+    Ok(())
+}

@@ -1,0 +1,178 @@
+// What a test is given, made of texts: an exchange, signal lines, a checked certificate, and what stands after events.
+ghost use Rattle.std.specs.Prelude.{◌≡◌, ◌<◌, ◌≤◌, ◌^◌, [], length, map, IfOk};
+ghost use Rattle.std.specs.List.Sorted.{IsStrictlySortedBy};
+ghost use Rattle.plex_limits.specs.declared.limits.TheConstants.{MOST_BYTES, MOST_TOKENS, MOST_WHENS};
+ghost use Rattle.plex_ast.specs.Grammar.{Sentence};
+ghost use Rattle.kept_trees.specs.Keeps.{IsKept};
+ghost use Rattle.resolved_block.specs.Texts.{choices_in, exchange_of_tree};
+ghost use Rattle.exchange_model.specs.Opening.{opening_store};
+ghost use Rattle.store_layout.specs.Laid.{IsLayout};
+ghost use Rattle.source_meaning.specs.Arrivals.{arrivals};
+ghost use Rattle.source_meaning.specs.Valid.{IsValid, LinesFit};
+ghost use Rattle.retire_order.specs.Accounts.{with_words};
+ghost use Rattle.retire_order.specs.Lines.{coming_of};
+ghost use Rattle.register_machine.specs.Faithful.{Faithful};
+ghost use Rattle.fact_rows.specs.Orders.{fact_order};
+ghost use Rattle.checked.specs.Kept.{IsChecked};
+
+use certificate::certificate_of;
+use certificate_text::{Certificate, read_certificate};
+use checked::{Checked, check};
+use exchange_model::Exchange;
+use exchange_run::let_arrive;
+use front_end::resolve;
+use interleave_core::{CoreEvent, CoreFault, CoreState, run_events};
+use machine_code::Code;
+use plex_ast::Tree;
+use plex_lexer::{Tokens, lex};
+use plex_limits::MOST_BYTES;
+use plex_num::{Memory, Seq};
+use plex_parser::parse;
+use retire_order::Books;
+use signal_file::{Line, read_signals};
+use std::alloc::Global;
+use store_layout::{Layout, opening};
+
+/// After how many jobs each run ends at the latest.
+pub const MOST_JOBS_HERE: u64 = 100;
+
+/// Something was not made: its text is not right, or memory was refused.
+#[derive(Clone, Copy, Debug)]
+pub struct NotMade;
+
+impl From<Memory> for NotMade {
+    fn from(_: Memory) -> NotMade {
+        NotMade
+    }
+}
+
+/// The exchange of a text.
+pub fn exchange_of(alloc: Global, text: &str) -> Result<Exchange, NotMade> {
+    let tree = tree_of(alloc, text.as_bytes())?;
+    match resolve(alloc, &tree) {
+        Ok(exchange) => Ok(exchange),
+        Err(_) => Err(NotMade),
+    }
+}
+
+/// The tree that a text spells.
+#[tactic(auto, using(crate::proofs::Making::tree_has_few))]
+fn tree_of(alloc: Global, text: &[u8]) -> Result<Tree, NotMade>
+    ensures kept { IfOk result IsKept }
+    ensures few { IfOk result (λ t. choices_in (exchange_of_tree t) ≤ MOST_WHENS) }
+{
+    if text.len() > MOST_BYTES {
+        return Err(NotMade);
+    }
+    match lex(alloc, text) {
+        Ok(tokens) => tree_of_tokens(alloc, &tokens),
+        Err(_) => Err(NotMade),
+    }
+}
+
+/// The tree that these tokens spell.
+fn tree_of_tokens(alloc: Global, tokens: &Tokens<'_>) -> Result<Tree, NotMade>
+    requires { length tokens.now ≤ MOST_TOKENS }
+    ensures { IfOk result (λ t. Sentence t tokens.now) }
+{
+    match parse(alloc, tokens) {
+        Ok(tree) => Ok(tree),
+        Err(_) => Err(NotMade),
+    }
+}
+
+/// The signal lines of a text.
+#[tactic(auto, using(crate::proofs::Making::lines_fit, crate::proofs::Making::lines_few))]
+pub fn lines_of(alloc: Global, exchange: &Exchange, text: &str) -> Result<Seq<Line>, NotMade>
+    ensures fit { IfOk result (λ lines. LinesFit exchange.now [] (map coming_of lines)) }
+    ensures few { IfOk result (λ lines. length lines < 2 ^ 32) }
+{
+    let text = text.as_bytes();
+    if text.len() > MOST_BYTES {
+        return Err(NotMade);
+    }
+    match read_signals(alloc, exchange, text) {
+        Ok(lines) => Ok(lines),
+        Err(_) => Err(NotMade),
+    }
+}
+
+/// The certificate of an exchange, checked.
+pub fn least_of(alloc: Global, exchange: &Exchange) -> Result<Checked, NotMade>
+    ensures { IfOk result (IsChecked exchange.now) }
+{
+    let certificate = certificate_of(alloc, exchange)?;
+    accepted(alloc, exchange, certificate)
+}
+
+/// The certificate that a text tells, checked.
+#[tactic(auto, using(crate::proofs::Making::told_rises))]
+pub fn told_by(alloc: Global, exchange: &Exchange, text: &str) -> Result<Checked, NotMade>
+    ensures { IfOk result (IsChecked exchange.now) }
+{
+    let text = text.as_bytes();
+    if text.len() > MOST_BYTES {
+        return Err(NotMade);
+    }
+    match read_certificate(alloc, text) {
+        Ok(certificate) => accepted(alloc, exchange, certificate),
+        Err(_) => Err(NotMade),
+    }
+}
+
+/// A certificate that is one of the exchange, checked.
+#[tactic(auto, using(crate::proofs::Making::accepted_is_checked))]
+fn accepted(
+    alloc: Global,
+    exchange: &Exchange,
+    certificate: Certificate,
+) -> Result<Checked, NotMade>
+    requires { IsStrictlySortedBy fact_order certificate.facts }
+    ensures { IfOk result (IsChecked exchange.now) }
+{
+    match check(alloc, exchange, certificate) {
+        Ok(checked) => Ok(checked),
+        Err(_) => Err(NotMade),
+    }
+}
+
+/// The books before the first job: what is due of these lines has arrived.
+pub fn books_of(alloc: Global, exchange: &Exchange, lines: Seq<Line>) -> Result<Books, Memory>
+    requires fit { LinesFit exchange.now [] (map coming_of lines) }
+    requires few { length lines < 2 ^ 32 }
+    ensures nobody { IfOk result (λ books. books.running ≡ 0) }
+    ensures valid { IfOk result (λ books. IsValid exchange.now
+        (with_words books.state (opening_store exchange.now.blocks))) }
+    ensures quiet { IfOk result (λ books.
+        arrivals exchange.now (with_words books.state (opening_store exchange.now.blocks))
+        ≡ with_words books.state (opening_store exchange.now.blocks)) }
+{
+    exchange.kept();
+    let mut books = Books::new(alloc, lines, MOST_JOBS_HERE);
+    let_arrive(exchange, &mut books)?;
+    Ok(books)
+}
+
+/// What stands after these events, the first of which comes before the first job.
+pub fn core_after(
+    alloc: Global,
+    exchange: &Exchange,
+    layout: &Layout,
+    code: &Code,
+    checked: &Checked,
+    lines: Seq<Line>,
+    workers: u32,
+    events: &[CoreEvent],
+) -> Result<CoreState, CoreFault>
+    requires fit { LinesFit exchange.now [] (map coming_of lines) }
+    requires few { length lines < 2 ^ 32 }
+    requires layout { IsLayout exchange.now.blocks layout.now }
+    requires faithful { Faithful exchange.now code.now }
+    requires checked { IsChecked exchange.now checked.now }
+{
+    let words = opening(alloc, exchange, layout)?;
+    let books = books_of(alloc, exchange, lines)?;
+    run_events(
+        alloc, exchange, layout, code, checked, books, words, workers, events,
+    )
+}

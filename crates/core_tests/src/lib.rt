@@ -1,0 +1,16 @@
+// What no clause says of jobs that run at once: on small exchanges, which jobs may follow which, which events are allowed, and
+// where lists of events lead that look random.
+//
+// Nothing comes out. These tests make each exchange of its text, so they stand on the crates from the lexer to the core.
+#![tactic(auto)]
+
+#[cfg(test)]
+mod events;
+#[cfg(test)]
+mod given;
+#[cfg(test)]
+mod pairs;
+#[cfg(test)]
+mod played;
+#[cfg(test)]
+mod texts;

@@ -1,0 +1,150 @@
+// Which jobs may follow which.
+use crate::given::{NotMade, books_of, exchange_of, least_of, lines_of, told_by};
+use crate::texts::{CALLS, LINES, LOOSE_TABLE, TABLE, TABLE_LINES};
+use checked::Checked;
+use exchange_model::Exchange;
+use interference_check::may_follow;
+use job_types::{Chain, Held, JobStart};
+use plex_num::{Memory, Seq};
+use retire_order::Books;
+use std::alloc::Global;
+use std::test::Fail;
+
+/// The places of two jobs in a list, the first in the single run and the later one, and whether they may run at once.
+type Pair = (usize, usize, bool);
+
+/// The jobs of these lines, in the order in which they begin.
+fn starts_of(alloc: Global, exchange: &Exchange, text: &str) -> Result<Seq<JobStart>, NotMade> {
+    let lines = lines_of(alloc, exchange, text)?;
+    let mut books = books_of(alloc, exchange, lines)?;
+    let mut starts = Seq::new(alloc);
+    begin_all(&mut books, &mut starts)?;
+    Ok(starts)
+}
+
+/// All jobs that wait begin, one after the other, and none retires.
+fn begin_all(books: &mut Books, starts: &mut Seq<JobStart>) -> Result<(), Memory> {
+    for _ in 0..100 {
+        let Some(start) = books.next_job() else {
+            break;
+        };
+        starts.push(start)?;
+    }
+    Ok(())
+}
+
+/// Whether two jobs may run at once; `None` where an entry has no summary.
+fn follows(checked: &Checked, first: &JobStart, later: &JobStart) -> Option<bool> {
+    if first.job.entry < checked.entries() && later.job.entry < checked.entries() {
+        Some(may_follow(checked, first, later))
+    } else {
+        None
+    }
+}
+
+/// Whether two jobs of a list may run at once; `None` where one is not there.
+fn follows_at(checked: &Checked, starts: &[JobStart], first: usize, later: usize) -> Option<bool> {
+    follows(checked, starts.get(first)?, starts.get(later)?)
+}
+
+/// The place of the first of these pairs of which something else is so.
+fn first_wrong(checked: &Checked, starts: &[JobStart], pairs: &[Pair]) -> Option<usize> {
+    for (place, (first, later, wanted)) in pairs.iter().enumerate() {
+        if follows_at(checked, starts, *first, *later) != Some(*wanted) {
+            return Some(place);
+        }
+    }
+    None
+}
+
+/// The first wrong pair of the jobs of these lines, by the certificate of the exchange or by that which a text tells.
+fn wrong_pair(
+    alloc: Global,
+    exchange: &str,
+    lines: &str,
+    certificate: Option<&str>,
+    pairs: &[Pair],
+) -> Result<Option<usize>, NotMade> {
+    let exchange = exchange_of(alloc, exchange)?;
+    let starts = starts_of(alloc, &exchange, lines)?;
+    let checked = match certificate {
+        Some(text) => told_by(alloc, &exchange, text)?,
+        None => least_of(alloc, &exchange)?,
+    };
+    Ok(first_wrong(&checked, starts.as_slice(), pairs))
+}
+
+#[test]
+fn jobs_that_write_other_records_may_run_at_once(rt: HostRuntime) -> Result<(), Fail> {
+    let pairs = [
+        (0, 1, false),
+        (1, 2, true),
+        (0, 2, true),
+        (2, 3, false),
+        (3, 0, false),
+    ];
+    let wrong = wrong_pair(rt.alloc(), TABLE, TABLE_LINES, None, &pairs)?;
+    assert_eq!(rt; wrong, None);
+    Ok(())
+}
+
+#[test]
+fn a_looser_certificate_lets_fewer_run_at_once(rt: HostRuntime) -> Result<(), Fail> {
+    let pairs = [
+        (0, 1, false),
+        (1, 2, false),
+        (0, 2, false),
+        (2, 3, false),
+        (3, 0, false),
+    ];
+    let wrong = wrong_pair(rt.alloc(), TABLE, TABLE_LINES, Some(LOOSE_TABLE), &pairs)?;
+    assert_eq!(rt; wrong, None);
+    Ok(())
+}
+
+#[test]
+fn jobs_of_other_forlopps_may_run_at_once(rt: HostRuntime) -> Result<(), Fail> {
+    let pairs = [
+        (0, 1, false),
+        (0, 2, true),
+        (2, 0, true),
+        (2, 3, true),
+        (2, 4, false),
+        (5, 2, false),
+        (2, 5, true),
+    ];
+    let wrong = wrong_pair(rt.alloc(), LINES, CALLS, None, &pairs)?;
+    assert_eq!(rt; wrong, None);
+    Ok(())
+}
+
+/// The same job, whose forlopp holds this record.
+fn holding(start: &JobStart, held: Held) -> JobStart {
+    let mut chain = Chain::new();
+    chain.push(held);
+    JobStart {
+        job: start.job.copy(),
+        chain,
+    }
+}
+
+/// Whether the call may follow the digit where the digit's forlopp holds a record of LINE; `None` where one of them is not there.
+fn call_follows_holder(alloc: Global) -> Result<Option<bool>, NotMade> {
+    let exchange = exchange_of(alloc, LINES)?;
+    let starts = starts_of(alloc, &exchange, CALLS)?;
+    let checked = least_of(alloc, &exchange)?;
+    let (Some(call), Some(digit)) = (starts.get(0), starts.get(2)) else {
+        return Ok(None);
+    };
+    let holder = holding(digit, Held { file: 0, number: 1 });
+    Ok(follows(&checked, &holder, call))
+}
+
+#[test]
+fn a_job_that_may_give_records_back_goes_before_one_that_seizes(
+    rt: HostRuntime,
+) -> Result<(), Fail> {
+    let follows = call_follows_holder(rt.alloc())?;
+    assert_eq!(rt; follows, Some(false));
+    Ok(())
+}

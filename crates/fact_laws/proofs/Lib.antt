@@ -1,0 +1,10 @@
+pub mod Lists
+pub mod Carrying
+pub mod Rows
+pub mod Standing
+pub mod Beginning
+pub mod Values
+pub mod Pairing
+pub mod Going
+pub mod Leaving
+pub mod Covering

@@ -1,0 +1,43 @@
+-- Two jobs that pass by a certificate of an exchange.
+use Rattle.std.proofs.Common.{◌≡◌, Some, slice_get}
+use Rattle.std.specs.List.{Contains}
+use Rattle.job_types.specs.declared.job.JobStart.{JobStart}
+use Rattle.exchange_model.specs.declared.exchange.Exchange.{Exchange}
+use Rattle.exchange_model.specs.Kept.{IsExchange}
+use Rattle.source_meaning.specs.State.{State}
+use Rattle.source_meaning.specs.Valid.{IsFitting, IsJob, IsValid}
+use Rattle.entry_summary.specs.declared.summary.Summary.{Summary}
+use Rattle.entry_summary.specs.Summaries.{IsSummary}
+use Rattle.pair_tests.specs.Pairs.{Passes}
+use Rattle.order_laws.specs.Windows.{MakesWay}
+use Rattle.pair_laws.specs.Together.{RunTogether}
+use Rattle.pair_laws.proofs.Joining.{make_way, run_together}
+use Rattle.checked.specs.Kept.{IsChecked, Kept}
+use Rattle.interference_check.specs.Pairs.{OfPair}
+
+module _ (k : Kept) (one other : Summary) (a b : JobStart) (of_first : slice_get k.summaries a.job.entry ≡ Some one) (of_later : slice_get k.summaries b.job.entry ≡ Some other) (passes : Passes one other a b) (x : Exchange) (kept : IsExchange x) (checked : IsChecked x k) where
+  first_told : IsSummary x (Contains k.facts) a.job.entry one
+  first_told = checked.by_facts.is a.job.entry one of_first
+
+  later_told : IsSummary x (Contains k.facts) b.job.entry other
+  later_told = checked.by_facts.is b.job.entry other of_later
+
+  pub runs : (s : State) → IsValid x s → IsFitting x s a → IsFitting x s b → OfPair k a.job.entry b.job.entry (λ s1 s2. RunTogether x s s1 s2 a b)
+  runs s valid first_fits later_fits = record {
+    one = one;
+    other = other;
+    of_first = of_first;
+    of_later = of_later;
+    holds = run_together x k.facts s one other a b checked.closed (record {
+      exchange = kept;
+      state = valid;
+      first_fits = first_fits;
+      later_fits = later_fits;
+      first_told = first_told;
+      later_told = later_told;
+      passes = passes;
+    });
+  }
+
+  pub makes : IsJob x b.job → MakesWay x a b
+  makes is_job = make_way x k.facts one other a b kept checked.closed first_told later_told is_job passes

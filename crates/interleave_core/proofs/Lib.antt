@@ -1,0 +1,11 @@
+pub mod Picking
+pub mod Enabling
+pub mod Changing
+pub mod Leading
+pub mod Sharing
+pub mod Instructing
+pub mod Joining
+pub mod Following
+pub mod Safety
+pub mod Certified
+pub mod Interleaved

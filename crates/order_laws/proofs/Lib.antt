@@ -1,0 +1,12 @@
+pub mod Lists
+pub mod Placing
+pub mod Delivering
+pub mod Releasing
+pub mod Picking
+pub mod Keeping
+pub mod Arriving
+pub mod Wording
+pub mod Starting
+pub mod Moving
+pub mod Turning
+pub mod Following

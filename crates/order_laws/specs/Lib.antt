@@ -1,0 +1,5 @@
+pub mod Picks
+pub mod Ends
+pub mod Keeps
+pub mod Windows
+pub mod Books

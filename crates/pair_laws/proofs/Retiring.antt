@@ -1,0 +1,61 @@
+-- What the retirement of the first job leaves of the chains.
+use Rattle.std.proofs.Common.{◌≡◌, inl, inr, ℕ, zero, suc, ◌+◌, true, false, List, [], ◌∷◌, refl, sym, ap, ◌∙◌, subst}
+use Rattle.job_types.specs.declared.job.JobStart.{JobStart}
+use Rattle.job_types.specs.declared.outbox.Sent.{Sent}
+use Rattle.job_types.specs.declared.outbox.SendTo.{SendTo}
+use Rattle.job_types.specs.declared.outbox.SendTo.TheVariants.{Queue, Outside}
+use Rattle.job_types.specs.declared.outcome.JobDone.{JobDone}
+use Rattle.job_types.specs.declared.outcome.Outcome.{Outcome}
+use Rattle.job_types.specs.declared.outcome.Outcome.TheVariants.{Ended, Faulted}
+use Rattle.job_types.specs.Chain.{holds}
+use Rattle.job_types.specs.Forlopps.{ChainMap, chain_at, with_chain}
+use Rattle.exchange_model.specs.declared.exchange.Exchange.{Exchange}
+use Rattle.source_meaning.specs.Retirement.{all_delivered, delivered, delivered_to, keeps_chain, retires, with_outcome}
+use Rattle.source_meaning.specs.State.{State}
+use Rattle.source_meaning.proofs.Booleans.{true_not_false}
+use Rattle.source_meaning.proofs.Chains.{chain_other, chain_same}
+use Rattle.flow_points.specs.declared.fact.Fact.{Fact}
+use Rattle.entry_summary.specs.declared.summary.Summary.{Summary}
+use Rattle.pair_laws.specs.Pairs.{IsDoneBy, IsFaulted, LeavesChains, MayRunAtOnce}
+use Rattle.pair_laws.proofs.Apart.{held_at_start, some_forlopp}
+use Rattle.pair_laws.proofs.Staying.{bare_holds_none}
+
+-- sends leave the chains as they are
+
+sent_chains : (to : SendTo) (forlopp : ℕ) (values : List ℕ) (t : State) → (delivered_to to forlopp values t).chains ≡ t.chains
+sent_chains (Outside signal) forlopp values t = refl
+sent_chains (Queue entry level true) forlopp values t = refl
+sent_chains (Queue entry level false) forlopp values t = refl
+
+delivered_chains : (forlopp : ℕ) (sends : List Sent) (t : State) → (all_delivered forlopp sends t).chains ≡ t.chains
+delivered_chains forlopp [] t = refl
+delivered_chains forlopp (m ∷ rest) t = delivered_chains forlopp rest (delivered forlopp m t) ∙ sent_chains m.to forlopp m.values t
+
+module _ (x : Exchange) (facts : List Fact) (s : State) (first later : Summary) (a b : JobStart) (done : JobDone) (h : MayRunAtOnce x facts s first later a b) (d : IsDoneBy x first a s.chains done) where
+  left_by : (f : ℕ) (o : Outcome) (t : State) → f ≡ a.job.forlopp → done.outcome ≡ o → t.chains ≡ s.chains → LeavesChains first a s.chains (with_outcome x f o (keeps_chain f done.chain t)).chains
+  left_by zero Ended t is how same = record {
+    others = λ n other. ap (λ (m : ChainMap). chain_at m n) same;
+    own = λ file number held. absurd (bare_holds_none x s file number h.state (subst (λ chain. holds chain file number ≡ true) (ap (chain_at t.chains) (sym is) ∙ ap (λ (m : ChainMap). chain_at m 0) same) held));
+    let_go = λ file number held gone. absurd ((held_at_start x s a file number h.first_fits held).0 (sym is));
+  }
+  left_by zero (Faulted f point) t is how same = absurd (some_forlopp x facts s first later a b h (d.fault (subst IsFaulted (sym how) tt)) (sym is))
+  left_by (suc k) Ended t is how same =
+      let own : chain_at (with_chain t.chains (suc k) done.chain) a.job.forlopp ≡ done.chain = ap (chain_at (with_chain t.chains (suc k) done.chain)) (sym is) ∙ chain_same t.chains (suc k) done.chain in
+      record {
+        others = λ n other. chain_other t.chains (suc k) n done.chain (λ e. other (e ∙ is)) ∙ ap (λ (m : ChainMap). chain_at m n) same;
+        own = λ file number held. d.held file number (subst (λ chain. holds chain file number ≡ true) own held);
+        let_go = λ file number held gone. inl (d.let_go file number held (subst (λ chain. holds chain file number ≡ false) own gone));
+      }
+  left_by (suc k) (Faulted f point) t is how same =
+      let kept : ChainMap = with_chain t.chains (suc k) done.chain in
+      let own : chain_at (with_chain kept (suc k) []) a.job.forlopp ≡ [] = ap (chain_at (with_chain kept (suc k) [])) (sym is) ∙ chain_same kept (suc k) [] in
+      record {
+        others = λ n other. chain_other kept (suc k) n [] (λ e. other (e ∙ is)) ∙ chain_other t.chains (suc k) n done.chain (λ e. other (e ∙ is)) ∙ ap (λ (m : ChainMap). chain_at m n) same;
+        own = λ file number held. true_not_false (holds [] file number) (subst (λ chain. holds chain file number ≡ true) own held) refl;
+        let_go = λ file number held gone. inr (d.fault (subst IsFaulted (sym how) tt));
+      }
+
+  pub chains_left : (t : State) → t.chains ≡ s.chains → LeavesChains first a s.chains (retires x a done t).chains
+  chains_left t same =
+      let counted : State = record t { ended = t.ended + 1 } in
+      left_by a.job.forlopp done.outcome (all_delivered a.job.forlopp done.sends counted) refl refl (delivered_chains a.job.forlopp done.sends counted ∙ same)

@@ -1,0 +1,5 @@
+use Rattle.pair_laws.proofs.Retiring.{chains_left}
+use Rattle.pair_laws.proofs.laws.retirements_leave_chains.Goals as goal
+
+pub returns : goal.returns
+returns c = λ x facts s t first later a b done h d same. chains_left x facts s first later a b done h d t same

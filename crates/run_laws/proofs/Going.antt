@@ -1,0 +1,80 @@
+-- A run that comes to an end is on its way there after any number of instructions.
+use Rattle.std.proofs.Common.{◌≡◌, ℕ, zero, suc, ◌<◌, List, [], ◌∷◌, ◌++◌, length, Option, Some, None, refl, sym, ap, ◌∙◌, subst, append_assoc}
+use Rattle.std.proofs.lemmas.List.{append-nil}
+use Rattle.std.proofs.lemmas.Option.{get_or_from_slice_get, slice_get_within}
+use Rattle.std.specs.Prelude.{IsSome, slice_get}
+use Rattle.job_types.specs.declared.outcome.Outcome.{Outcome}
+use Rattle.machine_code.specs.declared.op.Op.{Op}
+use Rattle.machine_code.specs.declared.op.Op.TheVariants.{End}
+use Rattle.register_machine.specs.Private.{Private}
+use Rattle.register_machine.specs.Machine.{Allowed, Goes, Machine, by_op, here, machine_step, op_at, reach}
+use Rattle.register_machine.specs.Faithful.{Ends, begun}
+use Rattle.run_laws.specs.Alone.{CanGoOn, TraceGrows, alone, goes_on, makes, makes_unless}
+use Rattle.run_laws.proofs.Told.{is_touch, touch_of}
+
+-- over, and not over
+not_both : (o : Option Outcome) → o ≡ None → IsSome o → ⊥
+not_both o none some =
+    let f : IsSome {T = Outcome} None = subst (λ u. IsSome u) none some in
+    cc
+
+pub trace_grows : (code : List Op) (m n : Machine) → Goes code m n → TraceGrows m n
+trace_grows code m n here = record { touches = []; is = sym (append-nil m.world.trace) }
+trace_grows code m n (by_op op runs at allowed more) =
+    let g = trace_grows code (machine_step op m) n more in
+    let r = reach op m.run in
+    let ts = touch_of r m.world.store in
+    record { touches = ts ++ g.touches; is = g.is ∙ ap (λ t. t ++ g.touches) (is_touch m.world r).trace ∙ append_assoc m.world.trace ts g.touches }
+
+-- a run that is over is at the end
+at_end : (code : List Op) (m end : Machine) → IsSome m.run.over → Goes code m end → m ≡ end
+at_end code m end over here = refl
+at_end code m end over (by_op op runs at allowed more) = absurd (not_both m.run.over runs over)
+
+-- one that is not makes its next instruction first
+pub record StepsTo (code : List Op) (m end : Machine) : Type 0 where
+  pub op : Op
+  pub at : slice_get code m.run.pc ≡ Some op
+  pub allowed : Allowed op m.run
+  pub more : Goes code (machine_step op m) end
+
+steps_first : (code : List Op) (m end : Machine) → IsSome end.run.over → m.run.over ≡ None → Goes code m end → StepsTo code m end
+steps_first code m end over runs here = absurd (not_both m.run.over runs over)
+steps_first code m end over runs (by_op op going at allowed more) = record { op = op; at = at; allowed = allowed; more = more }
+
+op_is : (code : List Op) (a : ℕ) (op : Op) → slice_get code a ≡ Some op → op_at code a ≡ op
+op_is code a op at = get_or_from_slice_get code a op End at
+
+makes_more : (code : List Op) (m end : Machine) → (s : StepsTo code m end) → Goes code (makes code m) end
+makes_more code m end s = subst (λ op. Goes code (machine_step op m) end) (sym (op_is code m.run.pc s.op s.at)) s.more
+
+pub can_go_on : (code : List Op) (m end : Machine) → IsSome end.run.over → m.run.over ≡ None → Goes code m end → CanGoOn code m end
+can_go_on code m end over runs goes =
+    let s = steps_first code m end over runs goes in
+    record {
+      within = slice_get_within code m.run.pc s.op s.at;
+      allowed = subst (λ op. Allowed op m.run) (sym (op_is code m.run.pc s.op s.at)) s.allowed;
+      grows = trace_grows code (makes code m) end (makes_more code m end s);
+    }
+
+-- one instruction more is still on the way
+still_goes : (code : List Op) (m end : Machine) → IsSome end.run.over → Goes code m end → Goes code (goes_on code m) end
+still_goes code m end over goes = by m.run.over refl
+  where
+    by : (o : Option Outcome) → m.run.over ≡ o → Goes code (makes_unless o code m) end
+    by (Some v) is = goes
+    by None is = makes_more code m end (steps_first code m end over is goes)
+
+pub on_the_way : (n : ℕ) (code : List Op) (p : Private) (store : List ℕ) (end : Machine) → Ends code (begun p store) end → Goes code (alone n code p store) end
+unfolding alone
+on_the_way zero code p store end ends = ends.goes
+on_the_way (suc n) code p store end ends = still_goes code (alone n code p store) end ends.over (on_the_way n code p store end ends)
+
+pub run_front : (n : ℕ) (code : List Op) (p : Private) (store : List ℕ) (end : Machine) → Ends code (begun p store) end → TraceGrows (alone n code p store) end
+run_front n code p store end ends = trace_grows code (alone n code p store) end (on_the_way n code p store end ends)
+
+pub run_next : (n : ℕ) (code : List Op) (p : Private) (store : List ℕ) (end : Machine) → Ends code (begun p store) end → (alone n code p store).run.over ≡ None → CanGoOn code (alone n code p store) end
+run_next n code p store end ends runs = can_go_on code (alone n code p store) end ends.over runs (on_the_way n code p store end ends)
+
+pub run_over : (n : ℕ) (code : List Op) (p : Private) (store : List ℕ) (end : Machine) → Ends code (begun p store) end → IsSome (alone n code p store).run.over → alone n code p store ≡ end
+run_over n code p store end ends over = at_end code (alone n code p store) end over (on_the_way n code p store end ends)

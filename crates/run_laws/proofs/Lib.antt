@@ -1,0 +1,3 @@
+pub mod Told
+pub mod Framed
+pub mod Going

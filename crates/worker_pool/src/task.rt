@@ -1,0 +1,117 @@
+// What crosses threads: a job that waits, and a job that has run.
+ghost use Rattle.std.specs.Prelude.{◌≡◌};
+ghost use Rattle.job_runner.specs.Runs.{HasRun};
+
+use crate::naming::Naming;
+use exchange_model::Exchange;
+use job_runner::run_in_place;
+use machine_code::Code;
+use plex_io::{Gate, Place};
+use register_machine::JobRun;
+use shared_store::{JobSeat, SharedStore};
+use std::marker::{Model, PhantomData};
+use ticket_book::{Ticket, TicketBook};
+
+/// A job that waits for a thread. Contracts see what its ticket claims: its number, and the loan of its seat.
+#[derive(Drop)]
+pub struct Task<B: Naming> {
+    pub(crate) ticket: Ticket,
+    pub(crate) seat: JobSeat,
+    pub(crate) run: Box<JobRun>,
+    pub(crate) of: PhantomData<B>,
+}
+
+impl<B: Naming> Model for Task<B> {
+    ghost use Rattle.ticket_book.specs.declared.page.Claim.{Claim};
+    ghost use Rattle.worker_pool.specs.Handed.{IsTask};
+
+    ghost Value = { Claim };
+
+    ghost view = { λ t. t.ticket.1 };
+
+    ghost invariant = { λ t. IsTask B.exchange B.code B.store B.book t.ticket t.seat t.run.value };
+}
+
+/// A job that has run. Contracts see what its ticket claims: its number, and the loan whose job ran.
+#[derive(Drop)]
+pub struct Ended<B: Naming> {
+    ticket: Ticket,
+    seat: JobSeat,
+    run: Box<JobRun>,
+    of: PhantomData<B>,
+}
+
+impl<B: Naming> Model for Ended<B> {
+    ghost use Rattle.ticket_book.specs.declared.page.Claim.{Claim};
+    ghost use Rattle.worker_pool.specs.Handed.{IsEnded};
+
+    ghost Value = { Claim };
+
+    ghost view = { λ t. t.ticket.1 };
+
+    ghost invariant = { λ t. IsEnded B.exchange B.code B.store B.book t.ticket t.seat t.run.value };
+}
+
+impl<B: Naming> Task<B> {
+    /// The number of its ticket.
+    pub fn number(&self) -> u64
+        ensures { result ≡ self.now.number }
+    {
+        self.ticket.number()
+    }
+
+    /// Runs the job in the thread that calls. The gate is told before and after it, of a job whose number is one more than the
+    /// ticket's; after it also how many instructions the run made.
+    pub fn run<G: Gate>(
+        self,
+        exchange: &Exchange,
+        code: &Code,
+        store: &SharedStore,
+        gate: &G,
+    ) -> Ended<B>
+        requires named { (exchange.now ≡ B.exchange) × (code.now ≡ B.code) × (store.now ≡ B.store) }
+        ensures { result ≡ self }
+    {
+        let Task {
+            ticket,
+            seat,
+            mut run,
+            of: _,
+        } = self;
+        let job = ticket.number() + 1;
+        gate.at(job, Place::Before);
+        let seat = run_in_place(exchange, store, seat, &mut run, code);
+        gate.at(job, Place::After { steps: run.steps() });
+        Ended {
+            ticket,
+            seat,
+            run,
+            of: PhantomData,
+        }
+    }
+}
+
+impl<B: Naming> Ended<B> {
+    /// The number of its ticket.
+    pub fn number(&self) -> u64
+        ensures { result ≡ self.now.number }
+    {
+        self.ticket.number()
+    }
+
+    /// The seat and the run of the job of a ticket's loan. The ticket must have the number of the job's own.
+    pub fn settle(self, book: &TicketBook, mine: Ticket) -> (JobSeat, Box<JobRun>)
+        requires book { (book.now ≡ B.book) × (mine.0 ≡ B.book) }
+        requires number { mine.1.number ≡ self.number }
+        ensures { HasRun B.exchange B.code B.store mine.1.loan result.0 result.1.value }
+    {
+        let Ended {
+            ticket,
+            seat,
+            run,
+            of: _,
+        } = self;
+        book.meet(mine, ticket);
+        (seat, run)
+    }
+}
