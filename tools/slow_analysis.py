@@ -76,9 +76,11 @@ class Signal:
 
 
 class Exchange:
+    reader = Reader
+
     def __init__(self, text):
         tokens, last_line = slow_rules.tokens_of(text)
-        signals, self.blocks = Reader(tokens, last_line).exchange()
+        signals, self.blocks = self.reader(tokens, last_line).exchange()
         self.signals = []
         for node in signals:
             level = tokens[node.first.place + 4].text if node.kind == "BUFFERED" else None

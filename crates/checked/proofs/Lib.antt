@@ -1,2 +1,4 @@
+pub mod Alike
 pub mod Checking
+pub mod Owning
 pub mod Summing

@@ -3,12 +3,10 @@ use Rattle.std.proofs.Common.{◌≡◌, ◌⊎◌, inl, inr, ℕ, ◌+◌, ◌<
 use Rattle.std.proofs.lemmas.Bool.{cases_lt}
 use Rattle.std.proofs.lemmas.Option.{none-some, same_Some, slice_get_within}
 use Rattle.plex_num.proofs.Lists.{slice_get-append_left, slice_get-append_seam}
-use Rattle.std.specs.List.Sorted.{IsStrictlySortedBy}
 use Rattle.plex_limits.specs.declared.limits.TheConstants.{MOST_ENTRIES}
 use Rattle.exchange_model.specs.declared.exchange.Exchange.{Exchange}
 use Rattle.flow_points.specs.Facts.{Facts}
 use Rattle.entry_summary.specs.declared.summary.Summary.{Summary}
-use Rattle.entry_summary.specs.Orders.{access_order}
 use Rattle.entry_summary.specs.Summaries.{IsSummary}
 use Rattle.checked.specs.Kept.{AreKept, AreSummariesBy}
 

@@ -19,12 +19,13 @@ use Rattle.source_meaning.specs.Arrivals.{arrivals}
 use Rattle.source_meaning.specs.SingleRun.{after, opening}
 use Rattle.source_meaning.specs.State.{Coming, State, has_stopped}
 use Rattle.source_meaning.specs.Valid.{IsValid, LinesFit}
+use Rattle.source_meaning.proofs.Opening.{opening_valid}
 use Rattle.order_laws.proofs.Arriving.{arrivals_idle, arrivals_settle, arrivals_stopped}
 use Rattle.retire_order.specs.Accounts.{Account, opened, with_words}
 use Rattle.retire_order.specs.Lines.{coming_of}
 use Rattle.retire_order.proofs.Fitting.{signal_lines_few, signal_lines_fit}
 use Rattle.exchange_run.specs.Runs.{Stands}
-use Rattle.exchange_run.proofs.Turning.{stands_begin, stands_valid}
+use Rattle.exchange_run.proofs.Turning.{first_stands, stands_valid}
 use Rattle.certificate_text.specs.declared.certificate.Certificate.{Certificate}
 use Rattle.certificate_text.specs.Lines.{IsTextOf}
 use Rattle.certificate_text.specs.Text.{fact_order}
@@ -72,11 +73,11 @@ quiet_again x s = by (has_stopped s) refl
     by false is = arrivals_idle x (arrivals x s) (arrivals_settle x s is)
 
 module _ (x : Exchange) (kept : IsExchange x) (lines : List Coming) (limit : ℕ) (fit : LinesFit x [] lines) (first b : Account) (opens : first ≡ opened lines limit) (arrived : b ≡ record first { state = arrivals x first.state }) where
-  begins : Stands x lines limit 0 b (opening_store x.blocks)
-  begins = stands_begin x kept lines limit fit b (opening_store x.blocks) (arrived ∙ ap (λ (a : Account). record a { state = arrivals x a.state }) opens) refl
+  begins : Stands x (opening x lines) limit 0 b (opening_store x.blocks)
+  begins = first_stands x lines limit first b (opening_store x.blocks) kept fit opens refl arrived
 
   pub begins_valid : IsValid x (with_words b.state (opening_store x.blocks))
-  begins_valid = stands_valid x kept lines limit fit 0 b (opening_store x.blocks) begins
+  begins_valid = stands_valid x kept (opening x lines) limit (opening_valid x kept lines fit) 0 b (opening_store x.blocks) begins
 
   pub begins_quiet : arrivals x (with_words b.state (opening_store x.blocks)) ≡ with_words b.state (opening_store x.blocks)
   unfolding after

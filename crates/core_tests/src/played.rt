@@ -11,25 +11,29 @@ use exchange_model::Exchange;
 use exchange_run::{ByCode, run_lines};
 use interleave_core::{CoreEvent, CoreFault, CoreState};
 use machine_code::Code;
+use plex_io::NoGate;
 use plex_num::Seq;
 use report_text::report;
 use std::alloc::Global;
 use std::test::Fail;
 use store_layout::{Layout, layout_of};
 
-/// How many lists are played on each exchange, how many turns each may take, and how many jobs run at once at most.
-const LISTS: u64 = 30;
+/// How many lists are played on each exchange.
+const LISTS: u64 = 334;
 
+/// How many turns each list may take.
 const TURNS: usize = 1_000;
 
+/// How many jobs run at once at most.
 const WORKERS: u32 = 3;
 
 /// A list of events so far, all of which are allowed.
 #[derive(Drop)]
 struct Play {
     events: Vec<CoreEvent>,
-    /// How many jobs have retired, and for each job of the window whether it has ended.
+    /// How many jobs have retired.
     retired: u64,
+    /// For each job of the window, whether it has ended.
     ended: Vec<bool>,
     /// Whether the next job was refused since the window changed.
     refused: bool,
@@ -228,7 +232,7 @@ fn single(
     requires faithful { Faithful exchange.now code.now }
 {
     let lines = lines_of(alloc, exchange, lines)?;
-    let mut runner = ByCode::new(code);
+    let mut runner = ByCode::new(code, &NoGate);
     let end = run_lines(alloc, exchange, layout, lines, MOST_JOBS_HERE, &mut runner)?;
     let text = report(alloc, exchange, &end.books, &end.words, end.ending)?;
     Ok(text)

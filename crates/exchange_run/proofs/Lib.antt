@@ -1,5 +1,3 @@
-pub mod Arriving
-pub mod Cells
 pub mod Counting
 pub mod Ending
 pub mod Turning

@@ -22,7 +22,7 @@ use Rattle.register_machine.specs.Private.{Private}
 use Rattle.register_machine.specs.Faithful.{Begins, ComesToMeaning, Faithful, MayMake, started}
 use Rattle.exchange_run.specs.Machines.{Leaves}
 use Rattle.exchange_run.specs.Runs.{MayRun, left_by, words_after}
-use Rattle.exchange_run.proofs.Cells.{word_of}
+use Rattle.retire_order.proofs.Cells.{word_of}
 
 pub entry_within : (x : Exchange) (code : Code) (start : JobStart) (words : List ℕ) → Faithful x code → MayRun x start words → start.job.entry < length code.entries
 entry_within x code start words f m = let e = f.entries in let w = m.fitting.job.entry in omega (arith, e, w)

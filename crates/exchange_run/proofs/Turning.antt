@@ -25,9 +25,9 @@ use Rattle.source_meaning.proofs.Retiring.{after_valid, start_fits}
 use Rattle.retire_order.specs.Accounts.{Account, after_start, opened, upcoming, with_words}
 use Rattle.retire_order.specs.Retired.{retired_world}
 use Rattle.retire_order.specs.Stores.{MayStore}
-use Rattle.exchange_run.specs.Runs.{ComesTo, MayRun, Stands, left_by, words_after}
-use Rattle.exchange_run.proofs.Arriving.{arrivals_with}
-use Rattle.exchange_run.proofs.Cells.{may_store, retired_inside}
+use Rattle.exchange_run.specs.Runs.{MayRun, RunsTo, Stands, left_by, words_after}
+use Rattle.retire_order.proofs.Arriving.{arrivals_with}
+use Rattle.retire_order.proofs.Cells.{may_store, retired_inside}
 use Rattle.exchange_run.proofs.Counting.{arrivals_ended, retired_ended}
 use Rattle.exchange_run.proofs.Ending.{ends_at}
 
@@ -39,7 +39,7 @@ pub record GoesOn (limit : ℕ) (s : State) : Type 0 where
   pub waits : is_quiet s.waiting ≡ false
   pub few : s.ended < limit
 
-goes_on : (limit : ℕ) (s : State) → ending_at limit s ≡ None → GoesOn limit s
+pub goes_on : (limit : ℕ) (s : State) → ending_at limit s ≡ None → GoesOn limit s
 goes_on limit s none = by_stop (has_stopped s) refl none
   where
     by_few : (b : Bool) → nat_le limit s.ended ≡ b → has_stopped s ≡ false → is_quiet s.waiting ≡ false → (if b then Some single.Limited else None) ≡ None → GoesOn limit s
@@ -55,14 +55,14 @@ goes_on limit s none = by_stop (has_stopped s) refl none
     by_stop false stopped e = by_quiet (is_quiet s.waiting) refl stopped e
 
 -- a job may begin then
-upcoming_is : (b : Account) → b.running ≡ 0 → ending_at b.limit b.state ≡ None → upcoming b ≡ next_start b.state
+pub upcoming_is : (b : Account) → b.running ≡ 0 → ending_at b.limit b.state ≡ None → upcoming b ≡ next_start b.state
 upcoming_is b none goes =
     let g = goes_on b.limit b.state goes in
     let few = g.few in
     ap (λ t. if t then next_start b.state else None) (lt-ltb (b.state.ended + b.running) b.limit (omega (arith, few, none)))
 
 -- the start of the next job
-some_start : (s : State) (limit : ℕ) → ending_at limit s ≡ None → (start : JobStart) × (next_start s ≡ Some start)
+pub some_start : (s : State) (limit : ℕ) → ending_at limit s ≡ None → (start : JobStart) × (next_start s ≡ Some start)
 some_start s limit goes =
     let g = goes_on limit s goes in
     by (pick s.waiting) g.waits g.runs
@@ -80,6 +80,10 @@ turn_none x b words is none goes =
 
 pub turn_starts : (b : Account) (start : JobStart) → Some start ≡ upcoming b → b.running ≡ 0 → ending_at b.limit b.state ≡ None → next_start b.state ≡ Some start
 turn_starts b start is none goes = sym (is ∙ upcoming_is b none goes)
+
+-- there is one next start at most
+pub one_start : (b : Account) (start other : JobStart) → Some start ≡ upcoming b → upcoming b ≡ Some other → start ≡ other
+one_start b start other is there = cc
 
 -- the start may run on the stored words
 pub may_run : (x : Exchange) (b : Account) (start : JobStart) (words : List ℕ) → Some start ≡ upcoming b → b.running ≡ 0 → ending_at b.limit b.state ≡ None → IsValid x (with_words b.state words) → MayRun x start words
@@ -124,7 +128,8 @@ turn_more x b begun_books next last start done words now after_words is none goe
     ∙ ap (arrivals x) (retired ∙ same)
     ∙ sym (ap (λ o. option_map_or (λ begins. arrivals x (ended_as x begins (job x begins s.store) (begun s))) o s) (turn_starts b start is none goes))
 
-turn_ended : (x : Exchange) (s : State) (limit : ℕ) → ending_at limit s ≡ None → (turn x s).ended ≡ s.ended + 1
+-- a turn counts one job
+pub turn_ended : (x : Exchange) (s : State) (limit : ℕ) → ending_at limit s ≡ None → (turn x s).ended ≡ s.ended + 1
 turn_ended x s limit goes =
     let some = some_start s limit goes in
     let start = some.0 in
@@ -136,29 +141,27 @@ turn_ended x s limit goes =
 
 -- ## The run
 
-module _ (x : Exchange) (kept : IsExchange x) (lines : List Coming) (limit : ℕ) (fit : LinesFit x [] lines) where
-  pub stands_begin : (b : Account) (words : List ℕ) → b ≡ record (opened lines limit) { state = arrivals x (opened lines limit).state } → words ≡ opening_store x.blocks → Stands x lines limit 0 b words
+module _ (x : Exchange) (kept : IsExchange x) (first : State) (limit : ℕ) (fit : IsValid x first) where
+  -- what is due has arrived
+  pub stands_begin : (before b : Account) (words : List ℕ) → with_words before.state words ≡ first → before.state.ended ≡ 0 → before.running ≡ 0 → before.limit ≡ limit → b ≡ record before { state = arrivals x before.state } → Stands x first limit 0 b words
   unfolding after
-  stands_begin b words is words_are =
-      let s = (opened lines limit).state in
-      let here : Stands x lines limit 0 (record (opened lines limit) { state = arrivals x s }) (opening_store x.blocks) = record {
-        state = sym (arrivals_with x s (opening_store x.blocks));
-        ended = arrivals_ended x s;
-        nobody = refl;
-        limited = refl;
-        few = omega arith;
-        goes_on = λ m lt. absurd (omega arith);
-      } in
-      subst (λ c. Stands x lines limit 0 c words) (sym is) (subst (λ ws. Stands x lines limit 0 (record (opened lines limit) { state = arrivals x s }) ws) (sym words_are) here)
+  stands_begin before b words same none nobody limited is = record {
+    state = ap (λ (a : Account). with_words a.state words) is ∙ sym (arrivals_with x before.state words) ∙ ap (arrivals x) same;
+    ended = ap (λ (a : Account). a.state.ended) is ∙ arrivals_ended x before.state ∙ none;
+    nobody = ap (λ (a : Account). a.running) is ∙ nobody;
+    limited = ap (λ (a : Account). a.limit) is ∙ limited;
+    few = omega arith;
+    goes_on = λ m lt. absurd (omega arith);
+  }
 
-  module _ (n : ℕ) (b : Account) (words : List ℕ) (g : Stands x lines limit n b words) where
+  module _ (n : ℕ) (b : Account) (words : List ℕ) (g : Stands x first limit n b words) where
     pub stands_valid : IsValid x (with_words b.state words)
-    stands_valid = subst (IsValid x) (sym g.state) (after_valid x kept (opening x lines) n (opening_valid x kept lines fit))
+    stands_valid = subst (IsValid x) (sym g.state) (after_valid x kept first n fit)
 
-    here_goes : ending_at limit b.state ≡ None → ending_at limit (after x (opening x lines) n) ≡ None
+    here_goes : ending_at limit b.state ≡ None → ending_at limit (after x first n) ≡ None
     here_goes goes = ap (ending_at limit) (sym g.state) ∙ goes
 
-    pub stands_more : (next : Account) (now : List ℕ) → ending_at b.limit b.state ≡ None → with_words next.state now ≡ turn x (with_words b.state words) → next.running ≡ 0 → next.limit ≡ b.limit → Stands x lines limit (suc n) next now
+    pub stands_more : (next : Account) (now : List ℕ) → ending_at b.limit b.state ≡ None → with_words next.state now ≡ turn x (with_words b.state words) → next.running ≡ 0 → next.limit ≡ b.limit → Stands x first limit (suc n) next now
     unfolding after
     stands_more next now goes turned none same =
         let goes_at : ending_at limit b.state ≡ None = ap (λ l. ending_at l b.state) (sym g.limited) ∙ goes in
@@ -174,11 +177,11 @@ module _ (x : Exchange) (kept : IsExchange x) (lines : List Coming) (limit : ℕ
           limited = same ∙ g.limited;
           few = omega (arith, few, was);
           goes_on = λ m lt. ⊎_elim
-              (λ same. ap (λ k. ending_at limit (after x (opening x lines) k)) same ∙ here_goes goes_at)
+              (λ same. ap (λ k. ending_at limit (after x first k)) same ∙ here_goes goes_at)
               (λ other. g.goes_on m (let ne = other in grind (arith, lt, ne))) (cases_eq m n);
         }
 
-    pub stands_fewer : (next : Account) (now : List ℕ) → ending_at b.limit b.state ≡ None → Stands x lines limit (suc n) next now → limit - next.state.ended < limit - b.state.ended
+    pub stands_fewer : (next : Account) (now : List ℕ) → ending_at b.limit b.state ≡ None → Stands x first limit (suc n) next now → limit - next.state.ended < limit - b.state.ended
     stands_fewer next now goes h =
         let goes_at : ending_at limit b.state ≡ None = ap (λ l. ending_at l b.state) (sym g.limited) ∙ goes in
         let few = (goes_on limit b.state goes_at).few in
@@ -186,11 +189,18 @@ module _ (x : Exchange) (kept : IsExchange x) (lines : List Coming) (limit : ℕ
         let is = h.ended in
         omega (arith, few, was, is)
 
-    pub stands_end : (e : Ending) → Some e ≡ ending_at b.limit b.state → ComesTo x lines limit b.state words e
+    pub stands_end : (e : Ending) → Some e ≡ ending_at b.limit b.state → RunsTo x first limit b.state words e
     stands_end e is =
-        let over : ending_at limit (after x (opening x lines) n) ≡ Some e = ap (ending_at limit) (sym g.state) ∙ ap (λ l. ending_at l b.state) (sym g.limited) ∙ sym is in
-        let at = ends_at x (opening x lines) limit n e g.few g.goes_on over in
+        let over : ending_at limit (after x first n) ≡ Some e = ap (ending_at limit) (sym g.state) ∙ ap (λ l. ending_at l b.state) (sym g.limited) ∙ sym is in
+        let at = ends_at x first limit n e g.few g.goes_on over in
         record {
-          state = g.state ∙ ap (after x (opening x lines)) (sym at);
-          ends = ap (λ k. ending_at limit (after x (opening x lines) k)) at ∙ over;
+          state = g.state ∙ ap (after x first) (sym at);
+          ends = ap (λ k. ending_at limit (after x first k)) at ∙ over;
         }
+
+-- the books before the first line has arrived, and the opening store
+pub first_stands : (x : Exchange) (lines : List Coming) (limit : ℕ) (before b : Account) (words : List ℕ) → IsExchange x → LinesFit x [] lines → before ≡ opened lines limit → words ≡ opening_store x.blocks → b ≡ record before { state = arrivals x before.state } → Stands x (opening x lines) limit 0 b words
+first_stands x lines limit before b words kept fit is words_are arrived =
+    stands_begin x kept (opening x lines) limit (opening_valid x kept lines fit) before b words
+    (ap (λ (a : Account). with_words a.state words) is ∙ ap (λ ws. with_words (opened lines limit).state ws) words_are)
+    (ap (λ (a : Account). a.state.ended) is) (ap (λ (a : Account). a.running) is) (ap (λ (a : Account). a.limit) is) arrived

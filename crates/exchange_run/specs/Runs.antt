@@ -26,16 +26,21 @@ left_by x start store = done_of (job x start store).own (job x start store).over
 abbrev pub words_after : Exchange → JobStart → List ℕ → List ℕ
 words_after x start store = (job x start store).world.store
 
--- the books and the words stand for the single run after so many jobs, nobody runs, and the run was not over before
-pub record Stands (x : Exchange) (lines : List Coming) (limit n : ℕ) (b : Account) (words : List ℕ) : Type 0 where
-  pub state : with_words b.state words ≡ after x (opening x lines) n
+-- the books and the words stand for the single run from this state after so many jobs, nobody runs, and the run was not over before
+pub record Stands (x : Exchange) (first : State) (limit n : ℕ) (b : Account) (words : List ℕ) : Type 0 where
+  pub state : with_words b.state words ≡ after x first n
   pub ended : b.state.ended ≡ n
   pub nobody : b.running ≡ 0
   pub limited : b.limit ≡ limit
   pub few : n ≤ limit
-  pub goes_on : (m : ℕ) → m < n → ending_at limit (after x (opening x lines) m) ≡ None
+  pub goes_on : (m : ℕ) → m < n → ending_at limit (after x first m) ≡ None
 
--- the books and the words stand for the end of the single run, and this is how it ends
+-- the books and the words stand for the end of the single run from this state, and this is how it ends
+pub record RunsTo (x : Exchange) (first : State) (limit : ℕ) (s : State) (words : List ℕ) (ending : single.Ending) : Type 0 where
+  pub state : with_words s words ≡ end_state x limit first
+  pub ends : ending_at limit (end_state x limit first) ≡ Some ending
+
+-- the same of the single run of these lines
 pub record ComesTo (x : Exchange) (lines : List Coming) (limit : ℕ) (s : State) (words : List ℕ) (ending : single.Ending) : Type 0 where
   pub state : with_words s words ≡ end_state x limit (opening x lines)
   pub ends : ending_at limit (end_state x limit (opening x lines)) ≡ Some ending

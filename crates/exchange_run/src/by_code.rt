@@ -5,29 +5,36 @@ use crate::runner::Runner;
 use exchange_model::Exchange;
 use job_types::{JobDone, JobStart};
 use machine_code::Code;
+use plex_io::{Gate, Place};
 use plex_num::{Memory, Seq};
 use register_machine::{JobRun, run_to_end};
 
-/// Runs each job by the register machine on faithful code. One run serves all jobs, each begun in the place of the one before.
+/// Runs each job by the register machine on faithful code, and calls the gate before and after it. One run serves all jobs, each begun
+/// in the place of the one before.
 #[derive(Drop)]
-pub struct ByCode<'a> {
+pub struct ByCode<'a, G> {
     code: &'a Code,
+    gate: &'a G,
     run: JobRun,
+    /// How many jobs have begun.
+    begun: u64,
 }
 
-impl<'a> ByCode<'a> {
+impl<'a, G: Gate> ByCode<'a, G> {
     /// Before the first job of this code.
-    pub fn new(code: &'a Code) -> ByCode<'a>
+    pub fn new(code: &'a Code, gate: &'a G) -> ByCode<'a, G>
         ensures { result.code.now ≡ code.now }
     {
         ByCode {
             code,
+            gate,
             run: JobRun::idle(),
+            begun: 0,
         }
     }
 }
 
-impl<'a> Runner for ByCode<'a> {
+impl<'a, G: Gate> Runner for ByCode<'a, G> {
     ghost use Rattle.exchange_run.specs.Machines.{Leaves};
     ghost use Rattle.register_machine.specs.Faithful.{Faithful};
 
@@ -43,8 +50,12 @@ impl<'a> Runner for ByCode<'a> {
         words: &mut Seq<u32>,
     ) -> Result<(), Memory> {
         exchange.kept();
+        self.begun = self.begun.wrapping_add(1);
+        self.gate.at(self.begun, Place::Before);
         self.run.begin(self.code, start);
         run_to_end(exchange, &mut self.run, self.code, words);
+        let steps = self.run.steps();
+        self.gate.at(self.begun, Place::After { steps });
         Ok(())
     }
 

@@ -1,11 +1,11 @@
 // One turn after the other, to the end of the run.
-ghost use Rattle.std.specs.Prelude.{◌≡◌, ◌<◌, ◌≤◌, ◌^◌, [], length, map, None, IfOk, OnOk};
+ghost use Rattle.std.specs.Prelude.{◌≡◌, ◌<◌, ◌≤◌, ◌^◌, [], length, map, Some, None, IfOk, OnOk};
 ghost use Rattle.plex_limits.specs.declared.limits.TheConstants.{MOST_JOBS};
+ghost use Rattle.job_types.specs.declared.job.JobStart.{JobStart};
 ghost use Rattle.store_layout.specs.Laid.{IsLayout};
-ghost use Rattle.source_meaning.specs.Arrivals.{arrivals};
 ghost use Rattle.source_meaning.specs.SingleRun.{ending_at, turn};
 ghost use Rattle.source_meaning.specs.Valid.{IsValid, LinesFit};
-ghost use Rattle.retire_order.specs.Accounts.{with_words};
+ghost use Rattle.retire_order.specs.Accounts.{upcoming, with_words};
 ghost use Rattle.retire_order.specs.Events.{ending_of};
 ghost use Rattle.retire_order.specs.Lines.{coming_of};
 ghost use Rattle.exchange_run.specs.Runs.{ComesTo, MayRun, left_by, words_after};
@@ -13,7 +13,7 @@ ghost use Rattle.exchange_run.specs.Runs.{ComesTo, MayRun, left_by, words_after}
 use crate::runner::Runner;
 use exchange_model::Exchange;
 use plex_num::{Memory, Seq};
-use retire_order::{Books, Ending};
+use retire_order::{Books, Ending, let_arrive};
 use signal_file::Line;
 use std::alloc::Global;
 use store_layout::{Layout, opening};
@@ -61,8 +61,9 @@ pub fn run_lines<R: Runner>(
     }
 }
 
-/// The next job, if one may begin, runs and retires, and what is due arrives.
-fn make_turn<R: Runner>(
+/// The next job, if one may begin, runs and retires, and what is due arrives. No job may run before, and the run may not be over.
+/// What the job has left is then lent by the runner.
+pub fn make_turn<R: Runner>(
     exchange: &Exchange,
     layout: &Layout,
     books: &mut Books,
@@ -79,6 +80,8 @@ fn make_turn<R: Runner>(
     ensures nobody { OnOk result (books.new.running ≡ 0) }
     ensures limit { OnOk result (books.new.limit ≡ books.old.limit) }
     ensures runner { R.runs runner.new exchange.now }
+    ensures done { OnOk result ((start : JobStart) → upcoming books.old ≡ Some start
+        → R.has_left runner.new (left_by exchange.now start words.old)) }
 {
     exchange.kept();
     let Some(start) = books.next_job() else {
@@ -88,20 +91,4 @@ fn make_turn<R: Runner>(
     books.retire(exchange, layout, &start, runner.done(), words)?;
     let_arrive(exchange, books)?;
     Ok(())
-}
-
-/// One line after the other arrives, as long as the next one is due. No job may run.
-pub fn let_arrive(exchange: &Exchange, books: &mut Books) -> Result<(), Memory>
-    requires nobody { books.old.running ≡ 0 }
-    ensures { OnOk result
-        (books.new ≡ record books.old { state = arrivals exchange.now books.old.state }) }
-{
-    if books.stopped() {
-        return Ok(());
-    }
-    'lines: loop {
-        if !books.arrive(exchange)? {
-            return Ok(());
-        }
-    }
 }

@@ -1,5 +1,5 @@
 -- Two jobs that pass by a certificate of an exchange.
-use Rattle.std.proofs.Common.{◌≡◌, Some, slice_get}
+use Rattle.std.proofs.Common.{◌≡◌, ◌↔◌, Bool, IsTrue, Some, slice_get}
 use Rattle.std.specs.List.{Contains}
 use Rattle.job_types.specs.declared.job.JobStart.{JobStart}
 use Rattle.exchange_model.specs.declared.exchange.Exchange.{Exchange}
@@ -41,3 +41,13 @@ module _ (k : Kept) (one other : Summary) (a b : JobStart) (of_first : slice_get
 
   pub makes : IsJob x b.job → MakesWay x a b
   makes is_job = make_way x k.facts one other a b kept checked.closed first_told later_told is_job passes
+
+-- the same, where a test tells whether they pass
+
+pub told_together : (k : Kept) (a b : JobStart) (r : Bool) → OfPair k a.job.entry b.job.entry (λ s t. IsTrue r ↔ Passes s t a b) → IsTrue r → (x : Exchange) (s : State)
+    → IsExchange x → IsChecked x k → IsValid x s → IsFitting x s a → IsFitting x s b → OfPair k a.job.entry b.job.entry (λ one other. RunTogether x s one other a b)
+told_together k a b r p told x s kept checked valid first_fits later_fits = runs k p.one p.other a b p.of_first p.of_later (p.holds.0 told) x kept checked s valid first_fits later_fits
+
+pub told_way : (k : Kept) (a b : JobStart) (r : Bool) → OfPair k a.job.entry b.job.entry (λ s t. IsTrue r ↔ Passes s t a b) → IsTrue r → (x : Exchange)
+    → IsExchange x → IsChecked x k → IsJob x b.job → MakesWay x a b
+told_way k a b r p told x kept checked is_job = makes k p.one p.other a b p.of_first p.of_later (p.holds.0 told) x kept checked is_job

@@ -1,3 +1,4 @@
 pub mod Following
 pub mod Staying
 pub mod Parting
+pub mod Tabling

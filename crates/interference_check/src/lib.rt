@@ -7,9 +7,12 @@
 #![tactic(auto)]
 
 mod granting;
+mod holding;
 mod laws;
 mod pairs;
+mod table;
 
 pub use granting::permit;
 pub use laws::permits_of_two_are_apart;
 pub use pairs::{may_follow, tests, verdict};
+pub use table::PairTable;

@@ -17,7 +17,7 @@ use Rattle.retire_order.specs.Retired.{retired_world}
 use Rattle.retire_order.specs.Stores.{MayStore}
 use Rattle.register_machine.specs.Private.{Private}
 use Rattle.register_machine.specs.Machine.{stepped}
-use Rattle.exchange_run.proofs.Arriving.{arrivals_with}
+use Rattle.retire_order.proofs.Arriving.{arrivals_with}
 use Rattle.checked.specs.Kept.{Kept}
 use Rattle.interleave_core.specs.declared.event.CoreEvent.{CoreEvent}
 use Rattle.interleave_core.specs.declared.event.CoreEvent.TheVariants.{Issue, Step, Retire}

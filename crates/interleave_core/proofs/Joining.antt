@@ -34,7 +34,7 @@ use Rattle.source_meaning.proofs.Touching.{touches_inside}
 use Rattle.register_machine.specs.Faithful.{Faithful, Means, RunsAsMeant, started}
 use Rattle.register_machine.specs.Machine.{Machine, op_at, reach, stepped}
 use Rattle.register_machine.specs.Steps.{MayStep}
-use Rattle.exchange_run.proofs.Cells.{word_of}
+use Rattle.retire_order.proofs.Cells.{word_of}
 use Rattle.order_laws.specs.Books.{AreAhead, settles}
 use Rattle.order_laws.specs.Ends.{Spares, words_left}
 use Rattle.order_laws.specs.Keeps.{NoLineBefore}

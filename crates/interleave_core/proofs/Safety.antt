@@ -17,7 +17,7 @@ use Rattle.source_meaning.proofs.States.{IsLater, may_later}
 use Rattle.retire_order.specs.Accounts.{with_words}
 use Rattle.retire_order.specs.Retired.{retired_world}
 use Rattle.retire_order.specs.Stores.{MayStore}
-use Rattle.exchange_run.proofs.Cells.{may_store, retired_inside}
+use Rattle.retire_order.proofs.Cells.{may_store, retired_inside}
 use Rattle.register_machine.specs.Faithful.{Faithful}
 use Rattle.register_machine.specs.Steps.{MayStep}
 use Rattle.checked.specs.Kept.{Kept}

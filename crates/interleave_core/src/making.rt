@@ -16,11 +16,10 @@ use crate::event::CoreEvent;
 use crate::window::{RunningCore, WindowJob};
 use checked::Checked;
 use exchange_model::Exchange;
-use exchange_run::let_arrive;
 use machine_code::Code;
 use plex_num::{Memory, Seq};
 use register_machine::{JobRun, step};
-use retire_order::Books;
+use retire_order::{Books, let_arrive};
 use store_layout::Layout;
 
 /// Makes an event where it is allowed, and tells whether it was.

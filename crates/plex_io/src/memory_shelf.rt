@@ -87,7 +87,7 @@ fn contains(numbers: &[u64], number: u64) -> bool
 
 /// The content of the first file of this name.
 #[tactic(auto, using(crate::proofs::Finds::find_other, crate::proofs::Finds::find_this, crate::proofs::Finds::find_end))]
-fn find<'a>(files: &'a [StoredFile], name: &[u8]) -> Option<&'a Seq<u8>>
+pub(crate) fn find<'a>(files: &'a [StoredFile], name: &[u8]) -> Option<&'a Seq<u8>>
     ensures { MatchOption result
         (held_in files.now name.now ≡ None)
         (λ x. held_in files.now name.now ≡ Some x.now) }
@@ -101,7 +101,7 @@ fn find<'a>(files: &'a [StoredFile], name: &[u8]) -> Option<&'a Seq<u8>>
 }
 
 /// The content, or its first `limit + 1` bytes.
-fn first_of(alloc: Global, content: &[u8], limit: u64) -> Result<Seq<u8>, ShelfFault>
+pub(crate) fn first_of(alloc: Global, content: &[u8], limit: u64) -> Result<Seq<u8>, ShelfFault>
     ensures bytes { IfOk result (λ got. Gives (Some content.now) limit got) }
     ensures memory { IfErr result (λ e. e ≡ ShelfFault.Memory) }
 {

@@ -110,7 +110,7 @@ impl Sink for MemorySink {
 }
 
 /// Appends a piece for which there is room.
-fn append_reserved(bytes: &mut Vec<u8>, piece: &[u8])
+pub(crate) fn append_reserved(bytes: &mut Vec<u8>, piece: &[u8])
     requires { vec_len bytes.old + length piece.now ≤ vec_capacity bytes.old }
     ensures items { bytes.new.items ≡ bytes.old.items ++ piece.now }
     ensures capacity { vec_capacity bytes.new ≡ vec_capacity bytes.old }

@@ -24,10 +24,14 @@ status_ends Finished s is = rw is tt
 status_ends Restarted s is = rw is tt
 status_ends Limited s is = rw is tt
 
-pub answer_is : (x : Exchange) (lines : List Line) (jobs : ℕ) (s : State) (words : List ℕ) (e : Ending) (a : Answer) → ComesTo x (map coming_of lines) jobs s words e → a.status ≡ ended_status e → a.text ≡ report_text x (with_words s words) e → a ≡ run_answer x lines jobs
-answer_is x lines jobs s words e a comes status_is text_is =
+-- the report of an end, and the status of its ending
+pub told_at : (x : Exchange) (s : State) (e : Ending) (a : Answer) → a.status ≡ ended_status e → a.text ≡ report_text x s e → a ≡ ended_answer x s e
+told_at x s e a status_is text_is = λ i. record { status = status_is i; text = text_is i }
+
+-- the answer at the end of the single run is that of the run
+pub answer_is : (x : Exchange) (lines : List Line) (jobs : ℕ) (s : State) (words : List ℕ) (e : Ending) (a : Answer) → ComesTo x (map coming_of lines) jobs s words e → a ≡ ended_answer x (with_words s words) e → a ≡ run_answer x lines jobs
+answer_is x lines jobs s words e a comes here =
     let ends : e ≡ ending_of jobs (end_of x lines jobs) = ap (λ o. unwrap_or o Limited) (sym comes.ends) in
-    let here : a ≡ ended_answer x (with_words s words) e = λ i. record { status = status_is i; text = text_is i } in
     here ∙ ap (λ t. ended_answer x t e) comes.state ∙ ap (ended_answer x (end_of x lines jobs)) ends
 
 -- a summary looks at no word

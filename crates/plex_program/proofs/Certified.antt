@@ -1,5 +1,6 @@
 -- A run with a certificate, and its refusals.
 use Rattle.std.proofs.Common.{ℕ, List, Option, Some, None, Result, Ok, Err, refl}
+use Rattle.std.specs.Prelude.{MatchResult}
 use Rattle.std.specs.List.Sorted.{IsStrictlySortedBy}
 use Rattle.exchange_model.specs.declared.exchange.Exchange.{Exchange}
 use Rattle.certificate_text.specs.declared.certificate.Certificate.{Certificate}
@@ -8,7 +9,9 @@ use Rattle.certificate_text.specs.Text.{fact_order}
 use Rattle.checked.specs.Kept.{Kept}
 use Rattle.checked.specs.Verdicts.{Accepts}
 use Rattle.plex_program.specs.Answer.{IsCertifiedRun, Reads, Tells}
-use Rattle.plex_program.specs.Certificates.{IsJudged, large, bad, read, Judges}
+use Rattle.plex_program.specs.Certificates.{IsFaulty, IsJudged, IsKeptBy, IsUnkept, large, bad, read}
+use Rattle.plex_program.specs.declared.certifying.Unkept.{Unkept}
+use Rattle.plex_program.specs.declared.certifying.Unkept.TheVariants.{Faulty, Memory}
 use Rattle.plex_program.specs.declared.fault.CertificateFault.{CertificateFault}
 use Rattle.plex_program.specs.declared.fault.CertificateFault.TheVariants.{BadText, TooLarge}
 use Rattle.plex_program.specs.declared.perform.Answer.{Answer}
@@ -22,14 +25,14 @@ judged_large x = large
 pub judged_bad : (x : Exchange) (text : List ℕ) (line : ℕ) → HasBadLine text line → IsJudged x (Some text) (Some (BadText line))
 judged_bad x text line is = bad text line is
 
-pub judged_read : (x : Exchange) (text : List ℕ) (c : Certificate) (o : Option CertificateFault) → IsTextOf text c → Judges x c o → IsJudged x (Some text) o
-judged_read x text c o is judges = read text c o is judges
+-- the verdict on a certificate is that on its text
+pub text_kept : (x : Exchange) (text : List ℕ) (c : Certificate) (r : Result Kept Unkept) → IsTextOf text c → MatchResult r (Accepts x c) (IsFaulty x c) → MatchResult r (IsKeptBy x (Some text)) (IsUnkept x (Some text))
+text_kept x text c (Ok k) is verdict = record { judged = read text c None is verdict.is; checked = verdict.checked }
+text_kept x text c (Err (Faulty f)) is verdict = read text c (Some f) is verdict
+text_kept x text c (Err Memory) is verdict = tt
 
 pub read_rises : (text : List ℕ) (c : Certificate) → IsTextOf text c → IsStrictlySortedBy fact_order c.facts
 read_rises text c is = is.fits.rises
-
-pub judges_taken : (x : Exchange) (c : Certificate) (k : Kept) → Accepts x c k → Judges x c None
-judges_taken x c k taken = taken.is
 
 -- the run itself
 pub certified_runs : (x : Exchange) (text : Option (List ℕ)) (a : Answer) (r : Result Answer Stop) → IsJudged x text None → Reads (Ok a) r → Tells (IsCertifiedRun x text a) r

@@ -1,6 +1,7 @@
 pub mod Certified
 pub mod Ordered
 pub mod Endings
+pub mod Opened
 pub mod Resolving
 pub mod Answering
 pub mod Signals
@@ -8,3 +9,4 @@ pub mod Spelled
 pub mod Stages
 pub mod TokenLines
 pub mod Words
+pub mod Whole

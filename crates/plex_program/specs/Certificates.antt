@@ -3,7 +3,10 @@ use Rattle.std.specs.Prelude.{ℕ, List, Option, Some, None}
 use Rattle.exchange_model.specs.declared.exchange.Exchange.{Exchange}
 use Rattle.certificate_text.specs.declared.certificate.Certificate.{Certificate}
 use Rattle.certificate_text.specs.Lines.{HasBadLine, IsTextOf}
+use Rattle.checked.specs.Kept.{IsChecked, Kept}
 use Rattle.checked.specs.Verdicts.{AreShapes, IsClosedCertificate, IsMissing, IsStrange}
+use Rattle.plex_program.specs.declared.certifying.Unkept.{Unkept}
+use Rattle.plex_program.specs.declared.certifying.Unkept.TheVariants.{Faulty, Memory}
 use Rattle.plex_program.specs.declared.fault.CertificateFault.{CertificateFault}
 use Rattle.plex_program.specs.declared.fault.CertificateFault.TheVariants.{TooLarge, BadText, WrongExchange, Strange, Missing}
 
@@ -21,3 +24,18 @@ pub data IsJudged (x : Exchange) : Option (List ℕ) → Option CertificateFault
   large : IsJudged x None (Some TooLarge)
   bad : (text : List ℕ) (line : ℕ) → HasBadLine text line → IsJudged x (Some text) (Some (BadText line))
   read : (text : List ℕ) (c : Certificate) (o : Option CertificateFault) → IsTextOf text c → Judges x c o → IsJudged x (Some text) o
+
+-- this is kept of a certificate of the exchange that has this text
+pub record IsKeptBy (x : Exchange) (text : Option (List ℕ)) (k : Kept) : Type 0 where
+  pub judged : IsJudged x text None
+  pub checked : IsChecked x k
+
+-- why nothing is kept of a text
+abbrev pub IsUnkept : Exchange → Option (List ℕ) → Unkept → Type 0
+IsUnkept x text (Faulty f) = IsJudged x text (Some f)
+IsUnkept x text Memory = Unit {0}
+
+-- why nothing is kept of a certificate
+abbrev pub IsFaulty : Exchange → Certificate → Unkept → Type 0
+IsFaulty x c (Faulty f) = Judges x c (Some f)
+IsFaulty x c Memory = Unit {0}

@@ -5,3 +5,4 @@ pub mod Reading
 pub mod Text
 pub mod Words
 pub mod Runs
+pub mod Whole

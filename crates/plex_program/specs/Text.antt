@@ -98,4 +98,4 @@ refusal_text (Certificate f) = certificate_text f
 
 -- the usage line
 unfoldable pub usage_text : List ℕ
-usage_text = codes "usage: plex run E S [--jobs N] [--cert F] | plex single E S [--jobs N] | plex analyse E | plex certify E | plex list E | plex load N" ++ LF
+usage_text = codes "usage: plex run E S [--workers N] [--jobs N] [--cert F] | plex single E S [--jobs N] | plex analyse E | plex certify E | plex list E | plex load N" ++ LF

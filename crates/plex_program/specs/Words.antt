@@ -2,9 +2,10 @@
 use Rattle.std.specs.Prelude.{ℕ, ◌+◌, nat_eq, nat_le, ◌&&◌, List, [], ◌∷◌, length, Option, Some, None, if◌then◌else◌, codes}
 use Rattle.std.specs.Option.{option_map}
 use Rattle.std.specs.Str.{bytes_eq}
-use Rattle.plex_limits.specs.declared.limits.TheConstants.{MOST_JOBS}
+use Rattle.plex_limits.specs.declared.limits.TheConstants.{MOST_JOBS, MOST_WORKERS}
 use Rattle.plex_num.specs.Number.{number_of}
-use Rattle.plex_program.specs.declared.command.TheConstants.{MOST_CALLS, USUAL_JOBS}
+use Rattle.plex_program.specs.declared.command.TheConstants.{MOST_CALLS, USUAL_JOBS, USUAL_WORKERS}
+use Rattle.plex_program.specs.declared.command.Bounds.{Bounds}
 use Rattle.plex_program.specs.declared.command.Command.{Command}
 use Rattle.plex_program.specs.declared.command.Command.TheVariants.{Run, Single, Analyse, Certify, List as Listing, Load}
 use Rattle.plex_program.specs.declared.command.RunWords.{RunWords}
@@ -17,6 +18,11 @@ Word = List ℕ
 abbrev pub allowed_jobs : Option ℕ → Option ℕ
 allowed_jobs None = None
 allowed_jobs (Some n) = (if nat_le 1 n && nat_le n MOST_JOBS then Some n else None)
+
+-- how many workers a run may be told to have
+abbrev pub allowed_workers : Option ℕ → Option ℕ
+allowed_workers None = None
+allowed_workers (Some n) = (if nat_le 1 n && nat_le n MOST_WORKERS then Some n else None)
 
 -- behind the files stand options, each a name and a value
 
@@ -36,26 +42,43 @@ abbrev pub jobs_told : Option Word → Option ℕ
 jobs_told None = Some USUAL_JOBS
 jobs_told (Some value) = allowed_jobs (number_of value)
 
--- the same of options that are these two, in whichever order, and no others: their words are as many as those of the two
-abbrev pub jobs_beside : List Word → Option Word → Option Word → Option ℕ
-jobs_beside options limit certificate =
-    (if nat_eq (length options) (words_of limit + words_of certificate) then jobs_told limit else None)
+-- how many workers the run has, where its option has this value
+abbrev pub workers_told : Option Word → Option ℕ
+workers_told None = Some USUAL_WORKERS
+workers_told (Some value) = allowed_workers (number_of value)
+
+-- both numbers, where they are told
+abbrev pub both_bounds : Option ℕ → Option ℕ → Option Bounds
+both_bounds None jobs = None
+both_bounds (Some workers) None = None
+both_bounds (Some workers) (Some jobs) = Some (record { workers = workers; jobs = jobs })
+
+-- how many workers the run has and after how many jobs it ends, of options that are these three, in whichever order, and no others:
+-- their words are as many as those of the three
+abbrev pub bounds_beside : List Word → Option Word → Option Word → Option Word → Option Bounds
+bounds_beside options workers limit certificate =
+    (if nat_eq (length options) (words_of workers + words_of limit + words_of certificate)
+    then both_bounds (workers_told workers) (jobs_told limit) else None)
 
 -- an exchange file, a signal file and options
 abbrev pub run_words : List Word → Option RunWords
 run_words [] = None
 run_words (e ∷ []) = None
 run_words (e ∷ s ∷ options) =
-    option_map (λ jobs. record { exchange = e; signals = s; jobs = jobs; certificate = value_of (codes "--cert") options })
-    (jobs_beside options (value_of (codes "--jobs") options) (value_of (codes "--cert") options))
+    option_map (λ (b : Bounds). record { exchange = e; signals = s; workers = b.workers; jobs = b.jobs; certificate = value_of (codes "--cert") options })
+    (bounds_beside options (value_of (codes "--workers") options) (value_of (codes "--jobs") options) (value_of (codes "--cert") options))
 
--- the same without a certificate
+-- after how many jobs the run ends, of options that are this one, or none
+abbrev pub jobs_beside : List Word → Option Word → Option ℕ
+jobs_beside options limit = (if nat_eq (length options) (words_of limit) then jobs_told limit else None)
+
+-- the same without workers and a certificate: one job runs at a time
 abbrev pub single_words : List Word → Option RunWords
 single_words [] = None
 single_words (e ∷ []) = None
 single_words (e ∷ s ∷ options) =
-    option_map (λ jobs. record { exchange = e; signals = s; jobs = jobs; certificate = None })
-    (jobs_beside options (value_of (codes "--jobs") options) None)
+    option_map (λ jobs. record { exchange = e; signals = s; workers = 1; jobs = jobs; certificate = None })
+    (jobs_beside options (value_of (codes "--jobs") options))
 
 -- the only one of these words
 abbrev pub only_word : List Word → Option Word

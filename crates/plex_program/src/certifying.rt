@@ -1,74 +1,82 @@
-// Whether a text is that of a certificate of the exchange.
-ghost use Rattle.std.specs.Prelude.{◌≤◌, IfOk, IfSome, Some, length};
+// What is kept of the certificate of the exchange that a text tells.
+ghost use Rattle.std.specs.Prelude.{◌≤◌, IfOk, IfSome, MatchResult, Some, length};
 ghost use Rattle.std.specs.List.Sorted.{IsStrictlySortedBy};
 ghost use Rattle.plex_limits.specs.declared.limits.TheConstants.{MOST_BYTES};
 ghost use Rattle.certificate_text.specs.Text.{fact_order};
-ghost use Rattle.plex_program.specs.Certificates.{IsJudged, Judges};
+ghost use Rattle.checked.specs.Verdicts.{Accepts};
+ghost use Rattle.plex_program.specs.Certificates.{IsFaulty, IsKeptBy, IsUnkept};
 
 use crate::fault::CertificateFault;
 use certificate_text::{Certificate, TextFault, read_certificate};
-use checked::{CertFault, check};
+use checked::{CertFault, Checked, check};
 use exchange_model::Exchange;
 use plex_limits::MOST_BYTES;
 use plex_num::{Memory, Seq};
 use std::alloc::Global;
 
-/// The first fault of a certificate's text, which may be too large; `None` where it is that of a certificate of the exchange.
+/// Why nothing is kept of a certificate's text.
+#[derive(Clone, Copy)]
+pub enum Unkept {
+    /// The text is that of no certificate of the exchange, by this first fault.
+    Faulty(CertificateFault),
+    Memory,
+}
+
+/// What is kept of the certificate of the exchange whose text this is, or the first fault of the text, which may be too large.
 #[tactic(auto, using(crate::proofs::Certified::judged_large))]
-pub fn certificate_fault(
+pub fn kept_of_text(
     alloc: Global,
     exchange: &Exchange,
     text: &Option<Seq<u8>>,
-) -> Result<Option<CertificateFault>, Memory>
+) -> Result<Checked, Unkept>
     requires { IfSome text.now (λ t. length t ≤ MOST_BYTES) }
-    ensures { IfOk result (IsJudged exchange.now text.now) }
+    ensures { MatchResult result (IsKeptBy exchange.now text.now) (IsUnkept exchange.now text.now) }
 {
     match text {
-        Some(text) => fault_of_text(alloc, exchange, text.as_slice()),
-        None => Ok(Some(CertificateFault::TooLarge)),
+        Some(text) => kept_of_small(alloc, exchange, text.as_slice()),
+        None => Err(Unkept::Faulty(CertificateFault::TooLarge)),
     }
 }
 
-/// The first fault of a certificate's text that is not too large.
-#[tactic(auto, using(crate::proofs::Certified::judged_bad, crate::proofs::Certified::judged_read, crate::proofs::Certified::read_rises))]
-fn fault_of_text(
-    alloc: Global,
-    exchange: &Exchange,
-    text: &[u8],
-) -> Result<Option<CertificateFault>, Memory>
+/// The same of a text that is not too large.
+#[tactic(auto, using(crate::proofs::Certified::text_kept, crate::proofs::Certified::judged_bad, crate::proofs::Certified::read_rises))]
+fn kept_of_small(alloc: Global, exchange: &Exchange, text: &[u8]) -> Result<Checked, Unkept>
     requires { length text.now ≤ MOST_BYTES }
-    ensures { IfOk result (IsJudged exchange.now (Some text.now)) }
+    ensures { MatchResult result
+        (IsKeptBy exchange.now (Some text.now))
+        (IsUnkept exchange.now (Some text.now)) }
 {
     match read_certificate(alloc, text) {
-        Ok(certificate) => fault_of(alloc, exchange, certificate),
-        Err(TextFault::BadText { line }) => Ok(Some(CertificateFault::BadText { line })),
-        Err(TextFault::Memory) => Err(Memory),
+        Ok(certificate) => kept_of(alloc, exchange, certificate),
+        Err(TextFault::BadText { line }) => Err(Unkept::Faulty(CertificateFault::BadText { line })),
+        Err(TextFault::Memory) => Err(Unkept::Memory),
     }
 }
 
-/// The first fault of a certificate whose facts rise.
-#[tactic(auto, using(crate::proofs::Certified::judges_taken))]
-fn fault_of(
-    alloc: Global,
-    exchange: &Exchange,
-    certificate: Certificate,
-) -> Result<Option<CertificateFault>, Memory>
+/// The same of a certificate whose facts rise.
+fn kept_of(alloc: Global, exchange: &Exchange, certificate: Certificate) -> Result<Checked, Unkept>
     requires { IsStrictlySortedBy fact_order certificate.facts }
-    ensures { IfOk result (Judges exchange.now certificate) }
+    ensures { MatchResult result
+        (Accepts exchange.now certificate)
+        (IsFaulty exchange.now certificate) }
 {
     match check(alloc, exchange, certificate) {
-        Ok(_checked) => Ok(None),
+        Ok(checked) => Ok(checked),
         Err(
             CertFault::WrongExchange {
                 exchange,
                 certificate,
             },
-        ) => Ok(Some(CertificateFault::WrongExchange {
+        ) => Err(Unkept::Faulty(CertificateFault::WrongExchange {
             exchange,
             certificate,
         })),
-        Err(CertFault::StrangeFact { fact }) => Ok(Some(CertificateFault::Strange { fact })),
-        Err(CertFault::MissingFact { fact }) => Ok(Some(CertificateFault::Missing { fact })),
-        Err(CertFault::Memory) => Err(Memory),
+        Err(CertFault::StrangeFact { fact }) => {
+            Err(Unkept::Faulty(CertificateFault::Strange { fact }))
+        }
+        Err(CertFault::MissingFact { fact }) => {
+            Err(Unkept::Faulty(CertificateFault::Missing { fact }))
+        }
+        Err(CertFault::Memory) => Err(Unkept::Memory),
     }
 }

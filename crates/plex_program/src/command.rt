@@ -3,16 +3,19 @@ ghost use Rattle.std.specs.Prelude.{◌≡◌, ◌≤◌, IfOk, IfSome};
 ghost use Rattle.std.specs.Option.{option_map};
 ghost use Rattle.std.specs.Str.{bytes_eq};
 ghost use Rattle.plex_limits.specs.declared.limits.TheConstants.{MOST_JOBS};
-ghost use Rattle.plex_program.specs.Runs.{HasJobs};
-ghost use Rattle.plex_program.specs.Words.{allowed_calls, allowed_jobs, calls_in, jobs_beside, jobs_told, only_word, run_words, shape, single_words, value_of, words_of};
+ghost use Rattle.plex_program.specs.Runs.{AreWithin, AreWorkers, HasBounds, IsBounded};
+ghost use Rattle.plex_program.specs.Words.{allowed_calls, allowed_jobs, allowed_workers, both_bounds, bounds_beside, calls_in, jobs_beside, jobs_told, only_word, run_words, shape, single_words, value_of, words_of, workers_told};
 
 use plex_io::Word;
-use plex_limits::MOST_JOBS;
+use plex_limits::{MOST_JOBS, MOST_WORKERS};
 use plex_num::{Memory, Seq, read_number};
 use std::alloc::Global;
 
 /// After how many jobs a run ends, where the words do not say.
 pub const USUAL_JOBS: u32 = 1_000_000;
+
+/// How many jobs may run at once, where the words do not say.
+pub const USUAL_WORKERS: u32 = 4;
 
 /// How many calls a load has at most.
 pub const MOST_CALLS: u32 = 10_000;
@@ -20,7 +23,7 @@ pub const MOST_CALLS: u32 = 10_000;
 /// What the words ask for.
 #[derive(Drop)]
 pub enum Command {
-    /// `run E S [--jobs N] [--cert F]`: the report of the run of an exchange file and a signal file, where the certificate is one
+    /// `run E S [--workers N] [--jobs N] [--cert F]`: the report of the run of an exchange file and a signal file, where the certificate is one
     /// of the exchange.
     Run(RunWords),
     /// `single E S [--jobs N]`: the same report, each job by the source itself.
@@ -42,6 +45,8 @@ pub struct RunWords {
     pub exchange: Word,
     /// The name of the signal file.
     pub signals: Word,
+    /// How many jobs may run at once, from 1 to 64.
+    pub workers: u32,
     /// After how many jobs the run ends at the latest, from 1 to 10,000,000.
     pub jobs: u32,
     /// The name of the file with the certificate, where one is given.
@@ -51,7 +56,7 @@ pub struct RunWords {
 /// The command that these words are; `None` where they are none.
 pub fn read_command(alloc: Global, words: &[Word]) -> Result<Option<Command>, Memory>
     ensures command { IfOk result (λ command. command ≡ shape words.now) }
-    ensures jobs { IfOk result (λ command. IfSome command HasJobs) }
+    ensures bounds { IfOk result (λ command. IfSome command IsBounded) }
 {
     let Some((name, rest)) = words.split_first() else {
         return Ok(None);
@@ -75,7 +80,7 @@ pub fn read_command(alloc: Global, words: &[Word]) -> Result<Option<Command>, Me
 
 fn as_run(words: Option<RunWords>) -> Option<Command>
     ensures is { result ≡ option_map Command.Run words }
-    ensures jobs { IfSome words (λ w. w.jobs ≤ MOST_JOBS) → IfSome result HasJobs }
+    ensures bounds { IfSome words HasBounds → IfSome result IsBounded }
 {
     match words {
         Some(words) => Some(Command::Run(words)),
@@ -85,7 +90,7 @@ fn as_run(words: Option<RunWords>) -> Option<Command>
 
 fn as_single(words: Option<RunWords>) -> Option<Command>
     ensures is { result ≡ option_map Command.Single words }
-    ensures jobs { IfSome words (λ w. w.jobs ≤ MOST_JOBS) → IfSome result HasJobs }
+    ensures bounds { IfSome words HasBounds → IfSome result IsBounded }
 {
     match words {
         Some(words) => Some(Command::Single(words)),
@@ -95,7 +100,7 @@ fn as_single(words: Option<RunWords>) -> Option<Command>
 
 fn as_analyse(name: Option<Word>) -> Option<Command>
     ensures is { result ≡ option_map Command.Analyse name }
-    ensures jobs { IfSome result HasJobs }
+    ensures bounds { IfSome result IsBounded }
 {
     match name {
         Some(name) => Some(Command::Analyse(name)),
@@ -105,7 +110,7 @@ fn as_analyse(name: Option<Word>) -> Option<Command>
 
 fn as_certify(name: Option<Word>) -> Option<Command>
     ensures is { result ≡ option_map Command.Certify name }
-    ensures jobs { IfSome result HasJobs }
+    ensures bounds { IfSome result IsBounded }
 {
     match name {
         Some(name) => Some(Command::Certify(name)),
@@ -115,7 +120,7 @@ fn as_certify(name: Option<Word>) -> Option<Command>
 
 fn as_list(name: Option<Word>) -> Option<Command>
     ensures is { result ≡ option_map Command.List name }
-    ensures jobs { IfSome result HasJobs }
+    ensures bounds { IfSome result IsBounded }
 {
     match name {
         Some(name) => Some(Command::List(name)),
@@ -125,7 +130,7 @@ fn as_list(name: Option<Word>) -> Option<Command>
 
 fn as_load(calls: Option<u32>) -> Option<Command>
     ensures is { result ≡ option_map Command.Load calls }
-    ensures jobs { IfSome result HasJobs }
+    ensures bounds { IfSome result IsBounded }
 {
     match calls {
         Some(calls) => Some(Command::Load(calls)),
@@ -146,10 +151,17 @@ fn read_only(alloc: Global, rest: &[Word]) -> Result<Option<Word>, Memory>
     Ok(Some(Seq::copied(alloc, word.as_slice())?))
 }
 
+/// How many jobs may run at once, and after how many jobs a run ends.
+#[derive(Clone, Copy)]
+pub struct Bounds {
+    pub workers: u32,
+    pub jobs: u32,
+}
+
 /// The words of a run after its name; `None` where they are none.
 fn read_run(alloc: Global, rest: &[Word]) -> Result<Option<RunWords>, Memory>
     ensures words { IfOk result (λ words. words ≡ run_words rest.now) }
-    ensures jobs { IfOk result (λ words. IfSome words (λ w. w.jobs ≤ MOST_JOBS)) }
+    ensures bounds { IfOk result (λ words. IfSome words HasBounds) }
 {
     let Some((exchange, after)) = rest.split_first() else {
         return Ok(None);
@@ -159,13 +171,15 @@ fn read_run(alloc: Global, rest: &[Word]) -> Result<Option<RunWords>, Memory>
     };
     let certificate = value_of(alloc, options, b"--cert")?;
     let limit = value_of(alloc, options, b"--jobs")?;
-    let Some(jobs) = jobs_beside(options, &limit, &certificate) else {
+    let workers = value_of(alloc, options, b"--workers")?;
+    let Some(bounds) = bounds_beside(options, &workers, &limit, &certificate) else {
         return Ok(None);
     };
     Ok(Some(RunWords {
         exchange: Seq::copied(alloc, exchange.as_slice())?,
         signals: Seq::copied(alloc, signals.as_slice())?,
-        jobs,
+        workers: bounds.workers,
+        jobs: bounds.jobs,
         certificate,
     }))
 }
@@ -173,7 +187,7 @@ fn read_run(alloc: Global, rest: &[Word]) -> Result<Option<RunWords>, Memory>
 /// The words of a run by the source after its name; `None` where they are none.
 fn read_single(alloc: Global, rest: &[Word]) -> Result<Option<RunWords>, Memory>
     ensures words { IfOk result (λ words. words ≡ single_words rest.now) }
-    ensures jobs { IfOk result (λ words. IfSome words (λ w. w.jobs ≤ MOST_JOBS)) }
+    ensures bounds { IfOk result (λ words. IfSome words HasBounds) }
 {
     let Some((exchange, after)) = rest.split_first() else {
         return Ok(None);
@@ -182,12 +196,13 @@ fn read_single(alloc: Global, rest: &[Word]) -> Result<Option<RunWords>, Memory>
         return Ok(None);
     };
     let limit = value_of(alloc, options, b"--jobs")?;
-    let Some(jobs) = jobs_beside(options, &limit, &None) else {
+    let Some(jobs) = jobs_beside(options, &limit) else {
         return Ok(None);
     };
     Ok(Some(RunWords {
         exchange: Seq::copied(alloc, exchange.as_slice())?,
         signals: Seq::copied(alloc, signals.as_slice())?,
+        workers: 1,
         jobs,
         certificate: None,
     }))
@@ -207,13 +222,43 @@ fn value_of(alloc: Global, options: &[Word], name: &[u8]) -> Result<Option<Word>
     Ok(None)
 }
 
-/// After how many jobs the run ends, by options among which that of the jobs has this value and that of the certificate this one;
-/// `None` where other words stand among them.
-fn jobs_beside(options: &[Word], limit: &Option<Word>, certificate: &Option<Word>) -> Option<u32>
-    ensures is { result ≡ jobs_beside options.now limit.now certificate.now }
+/// The bounds of a run, by options among which those of the workers, of the jobs and of the certificate have these values; `None`
+/// where other words stand among them.
+fn bounds_beside(
+    options: &[Word],
+    workers: &Option<Word>,
+    limit: &Option<Word>,
+    certificate: &Option<Word>,
+) -> Option<Bounds>
+    ensures is { result ≡ bounds_beside options.now workers.now limit.now certificate.now }
+    ensures within { IfSome result AreWithin }
+{
+    if options.len() == words_of(workers) + words_of(limit) + words_of(certificate) {
+        both_bounds(workers_told(workers), jobs_told(limit))
+    } else {
+        None
+    }
+}
+
+/// Both numbers, where they are told.
+fn both_bounds(workers: Option<u32>, jobs: Option<u32>) -> Option<Bounds>
+    requires workers { IfSome workers AreWorkers }
+    requires jobs { IfSome jobs (λ n. n ≤ MOST_JOBS) }
+    ensures is { result ≡ both_bounds workers jobs }
+    ensures within { IfSome result AreWithin }
+{
+    let workers = workers?;
+    let jobs = jobs?;
+    Some(Bounds { workers, jobs })
+}
+
+/// After how many jobs a run by the source ends, by options among which that of the jobs has this value; `None` where other words
+/// stand among them.
+fn jobs_beside(options: &[Word], limit: &Option<Word>) -> Option<u32>
+    ensures is { result ≡ jobs_beside options.now limit.now }
     ensures few { IfSome result (λ n. n ≤ MOST_JOBS) }
 {
-    if options.len() == words_of(limit) + words_of(certificate) {
+    if options.len() == words_of(limit) {
         jobs_told(limit)
     } else {
         None
@@ -250,6 +295,30 @@ fn allowed_jobs(number: Option<u32>) -> Option<u32>
     let jobs = number?;
     if 1 <= jobs && jobs <= MOST_JOBS as u32 {
         Some(jobs)
+    } else {
+        None
+    }
+}
+
+/// How many workers the run has, where its option has this value; `None` where it may not be told so.
+fn workers_told(workers: &Option<Word>) -> Option<u32>
+    ensures is { result ≡ workers_told workers.now }
+    ensures few { IfSome result AreWorkers }
+{
+    match workers {
+        Some(value) => allowed_workers(read_number(value.as_slice())),
+        None => Some(USUAL_WORKERS),
+    }
+}
+
+/// The number, where a run may be told to have so many workers.
+fn allowed_workers(number: Option<u32>) -> Option<u32>
+    ensures is { result ≡ allowed_workers number }
+    ensures few { IfSome result AreWorkers }
+{
+    let workers = number?;
+    if 1 <= workers && workers <= MOST_WORKERS as u32 {
+        Some(workers)
     } else {
         None
     }

@@ -14,11 +14,14 @@ mod perform;
 mod program;
 mod reading;
 mod running;
+mod steady;
 #[cfg(test)]
 mod tests;
 mod text;
 
-pub use command::{Command, RunWords};
+pub use certifying::Unkept;
+pub use command::{Bounds, Command, RunWords};
 pub use fault::{CertificateFault, Rule, SignalsFault, SignalsRule, SourceFault};
 pub use perform::{Answer, Refused, Stop};
 pub use program::{Quit, Status, plex};
+pub use steady::plex_steady;

@@ -8,24 +8,28 @@ ghost use Rattle.plex_program.specs.Reading.{IsSpelled, signals_fault};
 ghost use Rattle.load_maker.specs.Exchange.{exchange_text};
 ghost use Rattle.load_maker.specs.Signals.{signals_text};
 ghost use Rattle.plex_program.specs.Answer.{AnswersAnalysis, AnswersCertificate, Comes, FromExchange, IsCertifiedRun, Performs, Reads, RunComes, RunsWith, Tells, exchange_at, exchange_of_file, exchange_of_tree, fitting, lines_at, lines_of_file, list_of, listing_answer, load_answer, load_of, or_broken, or_unread, performed, run_answer, run_of, text_at};
-ghost use Rattle.plex_program.specs.Runs.{AreRead, HasJobs};
+ghost use Rattle.checked.specs.Kept.{IsChecked};
+ghost use Rattle.plex_program.specs.Runs.{AreRead, AreWorkers, HasBounds, IsBounded};
 
 use crate::analysing::{analysis_answer, certificate_answer};
-use crate::certifying::certificate_fault;
+use crate::certifying::{Unkept, kept_of_text};
 use crate::command::{Command, RunWords};
 use crate::fault::{CertificateFault, SignalsFault, SignalsRule, SourceFault};
 use crate::program::Status;
 use crate::reading::{refused, rule_of, tree_of_file};
-use crate::running::{Means, listing_answer, load_answer, run_answer};
+use crate::running::{code_answer, kept_answer, listing_answer, load_answer, source_answer};
+use checked::Checked;
 use exchange_model::Exchange;
 use front_end::{TextFault, resolve};
 use load_maker::{load_exchange, load_signals};
 use plex_ast::Tree;
-use plex_io::{Shelf, ShelfFault, Word};
+use plex_io::{Gate, Shelf, ShelfFault, Word};
 use plex_limits::MOST_BYTES;
 use plex_num::{Memory, Seq};
 use signal_file::{Line, SignalFault, read_signals};
 use std::alloc::Global;
+use std::sync::Wait;
+use std::thread::Threads;
 
 /// The first refusal.
 #[derive(Clone, Copy)]
@@ -80,7 +84,11 @@ fn text_in<S: Shelf>(alloc: Global, shelf: &mut S, name: &Word) -> Result<Option
 
 /// The exchange of a file.
 #[tactic(auto, using(crate::proofs::Stages::comes_stop, crate::proofs::Stages::comes_go, crate::proofs::Stages::comes_reads))]
-fn exchange_in<S: Shelf>(alloc: Global, shelf: &mut S, name: &Word) -> Result<Exchange, Stop>
+pub(crate) fn exchange_in<S: Shelf>(
+    alloc: Global,
+    shelf: &mut S,
+    name: &Word,
+) -> Result<Exchange, Stop>
     ensures comes { Comes (S.held shelf.old) (exchange_at name.now) (S.faults shelf.old)
         (S.faults shelf.new) result }
     ensures kept { S.held shelf.new ≡ S.held shelf.old }
@@ -114,7 +122,7 @@ fn exchange_of_tree(alloc: Global, tree: &Tree) -> Result<Exchange, Stop>
 
 /// The signal lines of a file.
 #[tactic(auto, using(crate::proofs::Stages::comes_stop, crate::proofs::Stages::comes_go, crate::proofs::Stages::comes_reads))]
-fn lines_in<S: Shelf>(
+pub(crate) fn lines_in<S: Shelf>(
     alloc: Global,
     shelf: &mut S,
     exchange: &Exchange,
@@ -171,14 +179,9 @@ fn unread(line: u32, rule: SignalsRule) -> Stop
     Stop::Refused(Refused::Signals(SignalsFault { line, rule }))
 }
 
-/// `run` without a certificate, and `single`.
+/// `single`.
 #[tactic(auto, using(crate::proofs::Stages::comes_stop, crate::proofs::Stages::comes_go, crate::proofs::Stages::comes_reads))]
-fn perform_run<S: Shelf>(
-    alloc: Global,
-    means: Means,
-    shelf: &mut S,
-    words: &RunWords,
-) -> Result<Answer, Stop>
+fn perform_single<S: Shelf>(alloc: Global, shelf: &mut S, words: &RunWords) -> Result<Answer, Stop>
     requires { words.now.jobs ≤ MOST_JOBS }
     ensures comes { Comes (S.held shelf.old) (run_of words.now) (S.faults shelf.old)
         (S.faults shelf.new) result }
@@ -186,69 +189,12 @@ fn perform_run<S: Shelf>(
 {
     let exchange = exchange_in(alloc, shelf, &words.exchange)?;
     let lines = lines_in(alloc, shelf, &exchange, &words.signals)?;
-    answer_run(alloc, means, &exchange, lines, words.jobs)
+    answer_single(alloc, &exchange, lines, words.jobs)
 }
 
-/// `run` with a certificate.
-#[tactic(auto, using(crate::proofs::Stages::performs_go, crate::proofs::Stages::performs_halt, crate::proofs::Stages::performs_told))]
-fn perform_certified<S: Shelf>(
+/// The answer of a run by the source, as a stage.
+fn answer_single(
     alloc: Global,
-    shelf: &mut S,
-    words: &RunWords,
-    name: &Word,
-) -> Result<Answer, Stop>
-    requires { words.now.jobs ≤ MOST_JOBS }
-    ensures comes { Performs (S.held shelf.old) (RunsWith words.now name.now)
-        (S.faults shelf.old) (S.faults shelf.new) result }
-    ensures ending { IfOk result (λ a. IsEnding a.status) }
-{
-    let exchange = exchange_in(alloc, shelf, &words.exchange)?;
-    let lines = lines_in(alloc, shelf, &exchange, &words.signals)?;
-    let text = text_in(alloc, shelf, name)?;
-    answer_certified(alloc, &exchange, &text, lines, words.jobs)
-}
-
-/// The answer of a run whose certificate has this text, which may be too large.
-#[tactic(auto, using(crate::proofs::Certified::certified_runs, crate::proofs::Certified::certified_refused))]
-fn answer_certified(
-    alloc: Global,
-    exchange: &Exchange,
-    text: &Option<Seq<u8>>,
-    lines: Seq<Line>,
-    jobs: u32,
-) -> Result<Answer, Stop>
-    requires text { IfSome text.now (λ t. length t ≤ MOST_BYTES) }
-    requires lines { AreRead exchange.now lines }
-    requires jobs { jobs ≤ MOST_JOBS }
-    ensures told { Tells
-        (IsCertifiedRun exchange.now text.now (run_answer exchange.now lines jobs)) result }
-    ensures ending { IfOk result (λ a. IsEnding a.status) }
-{
-    match certificate_fault(alloc, exchange, text) {
-        Ok(None) => answer_run(alloc, Means::Code, exchange, lines, jobs),
-        Ok(Some(fault)) => Err(Stop::Refused(Refused::Certificate(fault))),
-        Err(Memory) => Err(Stop::Memory),
-    }
-}
-
-/// `run`, with a certificate or without one.
-#[tactic(auto, using(crate::proofs::Stages::performs_comes))]
-fn perform_code<S: Shelf>(alloc: Global, shelf: &mut S, words: &RunWords) -> Result<Answer, Stop>
-    requires { words.now.jobs ≤ MOST_JOBS }
-    ensures comes { Performs (S.held shelf.old) (RunComes words.now words.now.certificate)
-        (S.faults shelf.old) (S.faults shelf.new) result }
-    ensures ending { IfOk result (λ a. IsEnding a.status) }
-{
-    match &words.certificate {
-        Some(name) => perform_certified(alloc, shelf, words, name),
-        None => perform_run(alloc, Means::Code, shelf, words),
-    }
-}
-
-/// The answer of a run, as a stage.
-fn answer_run(
-    alloc: Global,
-    means: Means,
     exchange: &Exchange,
     lines: Seq<Line>,
     jobs: u32,
@@ -258,9 +204,151 @@ fn answer_run(
     ensures reads { Reads (Ok (run_answer exchange.now lines jobs)) result }
     ensures ending { IfOk result (λ a. IsEnding a.status) }
 {
-    match run_answer(alloc, means, exchange, lines, jobs) {
+    match source_answer(alloc, exchange, lines, jobs) {
         Ok(answer) => Ok(answer),
         Err(Memory) => Err(Stop::Memory),
+    }
+}
+
+/// `run` without a certificate.
+#[tactic(auto, using(crate::proofs::Stages::comes_stop, crate::proofs::Stages::comes_go, crate::proofs::Stages::comes_reads))]
+fn perform_plain<R: Threads + Wait + Sync, S: Shelf, G: Gate + Sync>(
+    rt: &R,
+    alloc: Global,
+    shelf: &mut S,
+    words: &RunWords,
+    gate: &G,
+) -> Result<Answer, Stop>
+    requires { HasBounds words.now }
+    ensures comes { Comes (S.held shelf.old) (run_of words.now) (S.faults shelf.old)
+        (S.faults shelf.new) result }
+    ensures ending { IfOk result (λ a. IsEnding a.status) }
+{
+    let exchange = exchange_in(alloc, shelf, &words.exchange)?;
+    let lines = lines_in(alloc, shelf, &exchange, &words.signals)?;
+    answer_plain(rt, alloc, &exchange, lines, words.workers, words.jobs, gate)
+}
+
+/// The answer of a run without a certificate, as a stage.
+fn answer_plain<R: Threads + Wait + Sync, G: Gate + Sync>(
+    rt: &R,
+    alloc: Global,
+    exchange: &Exchange,
+    lines: Seq<Line>,
+    workers: u32,
+    jobs: u32,
+    gate: &G,
+) -> Result<Answer, Stop>
+    requires lines { AreRead exchange.now lines }
+    requires workers { AreWorkers workers }
+    requires jobs { jobs ≤ MOST_JOBS }
+    ensures reads { Reads (Ok (run_answer exchange.now lines jobs)) result }
+    ensures ending { IfOk result (λ a. IsEnding a.status) }
+{
+    match code_answer(rt, alloc, exchange, lines, workers, jobs, gate) {
+        Ok(answer) => Ok(answer),
+        Err(Memory) => Err(Stop::Memory),
+    }
+}
+
+/// `run` with a certificate.
+#[tactic(auto, using(crate::proofs::Stages::performs_go, crate::proofs::Stages::performs_halt, crate::proofs::Stages::performs_told))]
+fn perform_certified<R: Threads + Wait + Sync, S: Shelf, G: Gate + Sync>(
+    rt: &R,
+    alloc: Global,
+    shelf: &mut S,
+    words: &RunWords,
+    name: &Word,
+    gate: &G,
+) -> Result<Answer, Stop>
+    requires { HasBounds words.now }
+    ensures comes { Performs (S.held shelf.old) (RunsWith words.now name.now)
+        (S.faults shelf.old) (S.faults shelf.new) result }
+    ensures ending { IfOk result (λ a. IsEnding a.status) }
+{
+    let exchange = exchange_in(alloc, shelf, &words.exchange)?;
+    let lines = lines_in(alloc, shelf, &exchange, &words.signals)?;
+    let text = text_in(alloc, shelf, name)?;
+    answer_certified(
+        rt,
+        alloc,
+        &exchange,
+        &text,
+        lines,
+        words.workers,
+        words.jobs,
+        gate,
+    )
+}
+
+/// The answer of a run whose certificate has this text, which may be too large.
+#[tactic(auto, using(crate::proofs::Certified::certified_runs, crate::proofs::Certified::certified_refused))]
+fn answer_certified<R: Threads + Wait + Sync, G: Gate + Sync>(
+    rt: &R,
+    alloc: Global,
+    exchange: &Exchange,
+    text: &Option<Seq<u8>>,
+    lines: Seq<Line>,
+    workers: u32,
+    jobs: u32,
+    gate: &G,
+) -> Result<Answer, Stop>
+    requires text { IfSome text.now (λ t. length t ≤ MOST_BYTES) }
+    requires lines { AreRead exchange.now lines }
+    requires workers { AreWorkers workers }
+    requires jobs { jobs ≤ MOST_JOBS }
+    ensures told { Tells
+        (IsCertifiedRun exchange.now text.now (run_answer exchange.now lines jobs)) result }
+    ensures ending { IfOk result (λ a. IsEnding a.status) }
+{
+    match kept_of_text(alloc, exchange, text) {
+        Ok(checked) => answer_kept(rt, alloc, exchange, &checked, lines, workers, jobs, gate),
+        Err(Unkept::Faulty(fault)) => Err(Stop::Refused(Refused::Certificate(fault))),
+        Err(Unkept::Memory) => Err(Stop::Memory),
+    }
+}
+
+/// The answer of a run by what is kept of a certificate, as a stage.
+fn answer_kept<R: Threads + Wait + Sync, G: Gate + Sync>(
+    rt: &R,
+    alloc: Global,
+    exchange: &Exchange,
+    checked: &Checked,
+    lines: Seq<Line>,
+    workers: u32,
+    jobs: u32,
+    gate: &G,
+) -> Result<Answer, Stop>
+    requires checked { IsChecked exchange.now checked.now }
+    requires lines { AreRead exchange.now lines }
+    requires workers { AreWorkers workers }
+    requires jobs { jobs ≤ MOST_JOBS }
+    ensures reads { Reads (Ok (run_answer exchange.now lines jobs)) result }
+    ensures ending { IfOk result (λ a. IsEnding a.status) }
+{
+    match kept_answer(rt, alloc, exchange, checked, lines, workers, jobs, gate) {
+        Ok(answer) => Ok(answer),
+        Err(Memory) => Err(Stop::Memory),
+    }
+}
+
+/// `run`, with a certificate or without one.
+#[tactic(auto, using(crate::proofs::Stages::performs_comes))]
+fn perform_code<R: Threads + Wait + Sync, S: Shelf, G: Gate + Sync>(
+    rt: &R,
+    alloc: Global,
+    shelf: &mut S,
+    words: &RunWords,
+    gate: &G,
+) -> Result<Answer, Stop>
+    requires { HasBounds words.now }
+    ensures comes { Performs (S.held shelf.old) (RunComes words.now words.now.certificate)
+        (S.faults shelf.old) (S.faults shelf.new) result }
+    ensures ending { IfOk result (λ a. IsEnding a.status) }
+{
+    match &words.certificate {
+        Some(name) => perform_certified(rt, alloc, shelf, words, name, gate),
+        None => perform_plain(rt, alloc, shelf, words, gate),
     }
 }
 
@@ -316,13 +404,18 @@ fn answer_list(alloc: Global, exchange: &Exchange) -> Result<Answer, Stop>
 
 /// `load`.
 #[tactic(auto, using(crate::proofs::Stages::reads_stop, crate::proofs::Stages::reads_go))]
-fn perform_load(alloc: Global, calls: u32) -> Result<Answer, Stop>
+fn perform_load<R: Threads + Wait + Sync, G: Gate + Sync>(
+    rt: &R,
+    alloc: Global,
+    calls: u32,
+    gate: &G,
+) -> Result<Answer, Stop>
     ensures reads { Reads (load_of calls) result }
     ensures ending { IfOk result (λ a. IsEnding a.status) }
 {
     let exchange = exchange_of_load(alloc, calls)?;
     let lines = lines_of_load(alloc, &exchange, calls)?;
-    answer_load(alloc, calls, &exchange, lines)
+    answer_load(rt, alloc, calls, &exchange, lines, gate)
 }
 
 /// The exchange of a load.
@@ -361,36 +454,44 @@ fn fitting(text: Seq<u8>) -> Option<Seq<u8>>
 }
 
 /// The answer of the run of a load, as a stage.
-fn answer_load(
+fn answer_load<R: Threads + Wait + Sync, G: Gate + Sync>(
+    rt: &R,
     alloc: Global,
     calls: u32,
     exchange: &Exchange,
     lines: Seq<Line>,
+    gate: &G,
 ) -> Result<Answer, Stop>
     requires { AreRead exchange.now lines }
     ensures reads { Reads (Ok (load_answer calls exchange.now lines)) result }
     ensures ending { IfOk result (λ a. IsEnding a.status) }
 {
-    match load_answer(alloc, calls, exchange, lines) {
+    match load_answer(rt, alloc, calls, exchange, lines, gate) {
         Ok(answer) => Ok(answer),
         Err(Memory) => Err(Stop::Memory),
     }
 }
 
-/// What a command comes to.
+/// What a command comes to. Jobs may run at once on the threads of the handle, and the thread of each calls the gate.
 #[tactic(auto, using(crate::proofs::Stages::performs_comes, crate::proofs::Stages::performs_reads))]
-pub fn perform<S: Shelf>(alloc: Global, shelf: &mut S, command: &Command) -> Result<Answer, Stop>
-    requires { HasJobs command.now }
+pub fn perform<R: Threads + Wait + Sync, S: Shelf, G: Gate + Sync>(
+    rt: &R,
+    alloc: Global,
+    shelf: &mut S,
+    command: &Command,
+    gate: &G,
+) -> Result<Answer, Stop>
+    requires { IsBounded command.now }
     ensures comes { Performs (S.held shelf.old) (performed command.now) (S.faults shelf.old)
         (S.faults shelf.new) result }
     ensures ending { IfOk result (λ a. IsEnding a.status) }
 {
     match command {
-        Command::Run(words) => perform_code(alloc, shelf, words),
-        Command::Single(words) => perform_run(alloc, Means::Source, shelf, words),
+        Command::Run(words) => perform_code(rt, alloc, shelf, words, gate),
+        Command::Single(words) => perform_single(alloc, shelf, words),
         Command::Analyse(name) => perform_analysis(alloc, shelf, name),
         Command::Certify(name) => perform_certificate(alloc, shelf, name),
         Command::List(name) => perform_list(alloc, shelf, name),
-        Command::Load(calls) => perform_load(alloc, *calls),
+        Command::Load(calls) => perform_load(rt, alloc, *calls, gate),
     }
 }

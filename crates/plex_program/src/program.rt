@@ -62,8 +62,9 @@ impl Status {
 ///
 /// `words` are the command's words without the program's name. Where the shelf tells its files, the
 /// status and the text are those of the answer (`IsAnswer`), but for `Read` where a read failed, `Write` where the
-/// sink failed or is full, and then a proper front of the text was written, and `Memory`. The
-/// threads and the gate are not used yet: one job runs at a time.
+/// sink failed or is full, and then a proper front of the text was written, and `Memory`. Where the words
+/// allow more than one worker, jobs may run at once on threads of `rt`, each of which calls `gate` before and after its job;
+/// the answer is that of the single run all the same.
 #[tactic(auto, using(crate::proofs::Endings::ending))]
 pub fn plex<R: Threads + Wait + Sync, S: Shelf, K: Sink, G: Gate + Sync>(
     rt: &R,
@@ -87,9 +88,7 @@ pub fn plex<R: Threads + Wait + Sync, S: Shelf, K: Sink, G: Gate + Sync>(
     ensures complete { IfSome (S.held shelf.old) (λ files. IsComplete (IsAnswer words.now files)
         (S.faults shelf.old) (S.faults shelf.new) (K.faults sink.old) (K.faults sink.new) result) }
 {
-    let _ = rt;
-    let _ = gate;
-    match answered(alloc, words, shelf) {
+    match answered(rt, alloc, words, shelf, gate) {
         Ok(answer) => write_answer(sink, &answer),
         Err(Quit::Read) => Status::Read,
         Err(Quit::Memory) => Status::Memory,
@@ -105,7 +104,13 @@ pub enum Quit {
 
 /// The answer to the words.
 #[tactic(auto, using(crate::proofs::Endings::answering))]
-fn answered<S: Shelf>(alloc: Global, words: &[Word], shelf: &mut S) -> Result<Answer, Quit>
+fn answered<R: Threads + Wait + Sync, S: Shelf, G: Gate + Sync>(
+    rt: &R,
+    alloc: Global,
+    words: &[Word],
+    shelf: &mut S,
+    gate: &G,
+) -> Result<Answer, Quit>
     ensures answers { Answers (S.held shelf.old) words.now (S.faults shelf.old)
         (S.faults shelf.new) result }
 {
@@ -114,7 +119,7 @@ fn answered<S: Shelf>(alloc: Global, words: &[Word], shelf: &mut S) -> Result<An
         Ok(None) => return usage_answer(alloc),
         Err(_) => return Err(Quit::Memory),
     };
-    match perform(alloc, shelf, &command) {
+    match perform(rt, alloc, shelf, &command, gate) {
         Ok(answer) => Ok(answer),
         Err(Stop::NotHeld) => Err(Quit::Read),
         Err(Stop::Refused(refused)) => refused_answer(alloc, refused),

@@ -1,41 +1,43 @@
-// The single run of an exchange, by either means, and what is told of it; and the listing of the code that runs.
+// The single run of an exchange, and what is told of it: one job at a time, by the source or by the code, or several at once; and the
+// listing of the code that runs.
 ghost use Rattle.std.specs.Prelude.{◌≡◌, ◌≤◌, IfOk, map};
 ghost use Rattle.plex_limits.specs.declared.limits.TheConstants.{MOST_JOBS};
+ghost use Rattle.exchange_model.specs.Opening.{opening_store};
+ghost use Rattle.store_layout.specs.Laid.{IsLayout};
+ghost use Rattle.checked.specs.Kept.{IsChecked};
+ghost use Rattle.shared_store.specs.Loans.{unlent};
+ghost use Rattle.retire_order.specs.Accounts.{with_words};
 ghost use Rattle.retire_order.specs.Events.{ending_of};
 ghost use Rattle.retire_order.specs.Lines.{coming_of};
 ghost use Rattle.exchange_run.specs.Runs.{ComesTo};
-ghost use Rattle.plex_program.specs.Answer.{ended_status, listing_answer, load_answer, run_answer};
+ghost use Rattle.plex_program.specs.Answer.{ended_answer, ended_status, listing_answer, load_answer, run_answer};
 ghost use Rattle.plex_program.specs.Program.{IsEnding};
-ghost use Rattle.plex_program.specs.Runs.{AreRead};
+ghost use Rattle.plex_program.specs.Runs.{AreRead, AreWorkers};
 
-use crate::command::USUAL_JOBS;
+use crate::command::{USUAL_JOBS, USUAL_WORKERS};
 use crate::perform::Answer;
 use crate::program::Status;
+use checked::{Checked, keep_own};
 use code_gen::compile;
 use exchange_model::Exchange;
 use exchange_run::{ByCode, BySource, Ended, run_lines};
 use listing::print_code;
+use parallel_dispatch::{Ended as EndedAtOnce, dispatch};
+use plex_io::Gate;
 use plex_num::{Memory, Seq};
 use report_text::{load_summary, report};
-use retire_order::Ending;
+use retire_order::{Books, Ending};
+use shared_store::{RootSeat, SharedStore};
 use signal_file::Line;
 use std::alloc::Global;
-use store_layout::layout_of;
+use std::sync::Wait;
+use std::thread::Threads;
+use store_layout::{Layout, layout_of, opening};
 
-/// What runs the jobs of an exchange.
-#[derive(Clone, Copy)]
-pub enum Means {
-    /// The source interpreter.
-    Source,
-    /// The register machine, on the compiled code.
-    Code,
-}
-
-/// The answer of the single run of these lines, which ends after so many jobs at the latest.
-#[tactic(auto, using(crate::proofs::Answering::answer_is, crate::proofs::Answering::status_ends))]
-pub fn run_answer(
+/// The answer of the single run of these lines by the source itself, which ends after so many jobs at the latest.
+#[tactic(auto, using(crate::proofs::Answering::answer_is))]
+pub fn source_answer(
     alloc: Global,
-    means: Means,
     exchange: &Exchange,
     lines: Seq<Line>,
     jobs: u32,
@@ -45,27 +47,124 @@ pub fn run_answer(
     ensures answer { IfOk result (λ a. a ≡ run_answer exchange.now lines jobs) }
     ensures ending { IfOk result (λ a. IsEnding a.status) }
 {
-    let end = run_to_end(alloc, means, exchange, lines, jobs)?;
-    let text = report(alloc, exchange, &end.books, &end.words, end.ending)?;
+    let end = run_by_source(alloc, exchange, lines, jobs)?;
+    let answer = answer_at(alloc, exchange, &end.books, &end.words, end.ending)?;
+    Ok(answer)
+}
+
+/// The same answer, by compiled code. One worker runs one job after the other; with more, so many jobs run at once at most, as far as
+/// the exchange's own certificate lets them.
+pub fn code_answer<R: Threads + Wait + Sync, G: Gate + Sync>(
+    rt: &R,
+    alloc: Global,
+    exchange: &Exchange,
+    lines: Seq<Line>,
+    workers: u32,
+    jobs: u32,
+    gate: &G,
+) -> Result<Answer, Memory>
+    requires lines { AreRead exchange.now lines }
+    requires workers { AreWorkers workers }
+    requires jobs { jobs ≤ MOST_JOBS }
+    ensures answer { IfOk result (λ a. a ≡ run_answer exchange.now lines jobs) }
+    ensures ending { IfOk result (λ a. IsEnding a.status) }
+{
+    if workers == 1 {
+        return answer_in_turn(alloc, exchange, lines, jobs, gate);
+    }
+    let checked = keep_own(alloc, exchange)?;
+    let answer = kept_answer(rt, alloc, exchange, &checked, lines, workers, jobs, gate)?;
+    Ok(answer)
+}
+
+/// The same answer, by compiled code, one job after the other.
+#[tactic(auto, using(crate::proofs::Answering::answer_is))]
+fn answer_in_turn<G: Gate>(
+    alloc: Global,
+    exchange: &Exchange,
+    lines: Seq<Line>,
+    jobs: u32,
+    gate: &G,
+) -> Result<Answer, Memory>
+    requires lines { AreRead exchange.now lines }
+    requires jobs { jobs ≤ MOST_JOBS }
+    ensures answer { IfOk result (λ a. a ≡ run_answer exchange.now lines jobs) }
+    ensures ending { IfOk result (λ a. IsEnding a.status) }
+{
+    let end = run_in_turn(alloc, exchange, lines, jobs, gate)?;
+    let answer = answer_at(alloc, exchange, &end.books, &end.words, end.ending)?;
+    Ok(answer)
+}
+
+/// The same answer, as far as what is kept of a certificate lets jobs run at once.
+#[tactic(auto, using(crate::proofs::Answering::answer_is))]
+pub fn kept_answer<R: Threads + Wait + Sync, G: Gate + Sync>(
+    rt: &R,
+    alloc: Global,
+    exchange: &Exchange,
+    checked: &Checked,
+    lines: Seq<Line>,
+    workers: u32,
+    jobs: u32,
+    gate: &G,
+) -> Result<Answer, Memory>
+    requires checked { IsChecked exchange.now checked.now }
+    requires lines { AreRead exchange.now lines }
+    requires workers { AreWorkers workers }
+    requires jobs { jobs ≤ MOST_JOBS }
+    ensures answer { IfOk result (λ a. a ≡ run_answer exchange.now lines jobs) }
+    ensures ending { IfOk result (λ a. IsEnding a.status) }
+{
+    let end = run_at_once(rt, alloc, exchange, checked, lines, workers, jobs, gate)?;
+    let answer = answer_at(alloc, exchange, &end.books, &end.words, end.ending)?;
+    Ok(answer)
+}
+
+/// The report of a run that has come to this end, and the status of its ending.
+#[tactic(auto, using(crate::proofs::Answering::told_at, crate::proofs::Answering::status_ends))]
+fn answer_at(
+    alloc: Global,
+    exchange: &Exchange,
+    books: &Books,
+    words: &Seq<u32>,
+    ending: Ending,
+) -> Result<Answer, Memory>
+    ensures answer { IfOk result (λ a. a ≡ ended_answer exchange.now
+        (with_words books.now.state words.now) (ending_of ending)) }
+    ensures ending { IfOk result (λ a. IsEnding a.status) }
+{
+    let text = report(alloc, exchange, books, words, ending)?;
     Ok(Answer {
-        status: status_of(end.ending),
+        status: status_of(ending),
         text,
     })
 }
 
-/// The answer of the single run of these lines of a load.
+/// The answer of the single run of these lines of a load, as far as the exchange's own certificate lets jobs run at once.
 #[tactic(auto, using(crate::proofs::Answering::status_ends))]
-pub fn load_answer(
+pub fn load_answer<R: Threads + Wait + Sync, G: Gate + Sync>(
+    rt: &R,
     alloc: Global,
     calls: u32,
     exchange: &Exchange,
     lines: Seq<Line>,
+    gate: &G,
 ) -> Result<Answer, Memory>
     requires lines { AreRead exchange.now lines }
     ensures answer { IfOk result (λ a. a ≡ load_answer calls exchange.now lines) }
     ensures ending { IfOk result (λ a. IsEnding a.status) }
 {
-    let end = run_to_end(alloc, Means::Code, exchange, lines, USUAL_JOBS)?;
+    let checked = keep_own(alloc, exchange)?;
+    let end = run_at_once(
+        rt,
+        alloc,
+        exchange,
+        &checked,
+        lines,
+        USUAL_WORKERS,
+        USUAL_JOBS,
+        gate,
+    )?;
     let text = load_summary(alloc, calls, &end.books, end.ending)?;
     Ok(Answer {
         status: status_of(end.ending),
@@ -73,10 +172,9 @@ pub fn load_answer(
     })
 }
 
-/// The single run of these lines to its end, which comes after so many jobs at the latest.
-fn run_to_end(
+/// The single run of these lines by the source itself to its end, which comes after so many jobs at the latest.
+fn run_by_source(
     alloc: Global,
-    means: Means,
     exchange: &Exchange,
     lines: Seq<Line>,
     jobs: u32,
@@ -87,31 +185,85 @@ fn run_to_end(
         end.books.state end.words (ending_of end.ending)) }
 {
     let layout = layout_of(alloc, exchange)?;
-    match means {
-        Means::Source => {
-            let mut runner = BySource::new(alloc);
-            run_lines(
-                alloc,
-                exchange,
-                &layout,
-                lines,
-                u64::from(jobs),
-                &mut runner,
-            )
-        }
-        Means::Code => {
-            let code = compile(alloc, exchange, &layout)?;
-            let mut runner = ByCode::new(&code);
-            run_lines(
-                alloc,
-                exchange,
-                &layout,
-                lines,
-                u64::from(jobs),
-                &mut runner,
-            )
-        }
-    }
+    let mut runner = BySource::new(alloc);
+    run_lines(
+        alloc,
+        exchange,
+        &layout,
+        lines,
+        u64::from(jobs),
+        &mut runner,
+    )
+}
+
+/// The same by compiled code, one job after the other, which calls the gate before and after each.
+fn run_in_turn<G: Gate>(
+    alloc: Global,
+    exchange: &Exchange,
+    lines: Seq<Line>,
+    jobs: u32,
+    gate: &G,
+) -> Result<Ended, Memory>
+    requires lines { AreRead exchange.now lines }
+    requires jobs { jobs ≤ MOST_JOBS }
+    ensures { IfOk result (λ end. ComesTo exchange.now (map coming_of lines) jobs
+        end.books.state end.words (ending_of end.ending)) }
+{
+    let layout = layout_of(alloc, exchange)?;
+    let code = compile(alloc, exchange, &layout)?;
+    let mut runner = ByCode::new(&code, gate);
+    run_lines(
+        alloc,
+        exchange,
+        &layout,
+        lines,
+        u64::from(jobs),
+        &mut runner,
+    )
+}
+
+/// What the single run comes to, where so many jobs run at once at most, as far as what is kept of a certificate lets them.
+#[tactic(auto, using(crate::proofs::Opened::opened_rules, crate::proofs::Opened::comes_to))]
+pub(crate) fn run_at_once<R: Threads + Wait + Sync, G: Gate + Sync>(
+    rt: &R,
+    alloc: Global,
+    exchange: &Exchange,
+    checked: &Checked,
+    lines: Seq<Line>,
+    workers: u32,
+    jobs: u32,
+    gate: &G,
+) -> Result<EndedAtOnce, Memory>
+    requires checked { IsChecked exchange.now checked.now }
+    requires lines { AreRead exchange.now lines }
+    requires workers { AreWorkers workers }
+    requires jobs { jobs ≤ MOST_JOBS }
+    ensures { IfOk result (λ end. ComesTo exchange.now (map coming_of lines) jobs
+        end.books.state end.words (ending_of end.ending)) }
+{
+    exchange.kept();
+    let layout = layout_of(alloc, exchange)?;
+    let code = compile(alloc, exchange, &layout)?;
+    let (store, root) = opened_store(alloc, exchange, &layout)?;
+    let books = Books::new(alloc, lines, u64::from(jobs));
+    dispatch(
+        rt, alloc, exchange, &layout, &code, checked, books, store, root, workers, gate,
+    )
+}
+
+/// The words before the first job, to be shared, and their root, which has lent nothing.
+fn opened_store(
+    alloc: Global,
+    exchange: &Exchange,
+    layout: &Layout,
+) -> Result<(SharedStore, RootSeat), Memory>
+    requires { IsLayout exchange.now.blocks layout.now }
+    ensures { IfOk result (λ made.
+        made.1 ≡ (made.0, unlent (opening_store exchange.now.blocks))) }
+{
+    let words = opening(alloc, exchange, layout)?;
+    let made = SharedStore::new(alloc, &words)?;
+    Ok(made)
 }
 
 /// The listing of the code of an exchange.

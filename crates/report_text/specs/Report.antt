@@ -49,6 +49,10 @@ event_line x (Release forlopp job fault point jobs records) = codes "RELEASE F" 
 event_line x (Lost line) = codes "LOST line " ++ decimal line
 event_line x (Restart job fault point jobs records) = codes "RESTART" ++ fault_words x job fault point jobs records
 
+-- the line of each event
+abbrev pub event_lines : Exchange → List Event → List (List ℕ)
+event_lines x events = map (event_line x) events
+
 -- `JOBS n`: so many jobs have ended
 abbrev pub jobs_line : ℕ → List ℕ
 jobs_line n = codes "JOBS " ++ decimal n
@@ -116,7 +120,7 @@ end_line Limited = codes "END LIMIT"
 
 abbrev pub report_lines : Exchange → State → Ending → List (List ℕ)
 report_lines x s ending =
-    map (event_line x) s.events
+    event_lines x s.events
     ++ jobs_line s.ended ∷ []
     ++ variable_lines x.blocks s.store
     ++ field_lines x.blocks s.store

@@ -1,18 +1,33 @@
 // The lines of the events.
-ghost use Rattle.std.specs.Prelude.{◌≡◌, ◌++◌, OnOk, map};
+ghost use Rattle.std.specs.Prelude.{◌≡◌, ◌++◌, IfOk, OnOk, map};
 ghost use Rattle.retire_order.specs.Events.{event_of};
-ghost use Rattle.report_text.specs.Report.{event_line, fault_words, out_line, text_of, value_words};
+ghost use Rattle.report_text.specs.Report.{event_line, event_lines, fault_words, out_line, text_of, value_words};
 
 use crate::names::{add_number, add_point, fault_word, signal_name};
 use exchange_model::Exchange;
 use job_types::Fault;
 use plex_num::{Memory, Seq};
 use retire_order::Event;
+use std::alloc::Global;
+
+/// The lines of these events, in order: the part of a report that tells of the events. Memory is the only reason for an error.
+pub fn event_lines(
+    alloc: Global,
+    exchange: &Exchange,
+    events: &Seq<Event>,
+) -> Result<Seq<u8>, Memory>
+    ensures { IfOk result (λ text. text
+        ≡ text_of (event_lines exchange.now (map event_of events.now))) }
+{
+    let mut text = Seq::new(alloc);
+    add_events(&mut text, exchange, events.as_slice())?;
+    Ok(text)
+}
 
 /// The line of each event, in order.
 pub fn add_events(text: &mut Seq<u8>, exchange: &Exchange, events: &[Event]) -> Result<(), Memory>
     ensures { OnOk result (text.new
-        ≡ text.old ++ text_of (map (event_line exchange.now) (map event_of events.now))) }
+        ≡ text.old ++ text_of (event_lines exchange.now (map event_of events.now))) }
 {
     for event in events {
         add_event(text, exchange, event)?;
@@ -76,8 +91,8 @@ fn add_out(
     add_number(text, b" F", forlopp)
 }
 
-/// ` v` for each value.
-fn add_values(text: &mut Seq<u8>, values: &[u32]) -> Result<(), Memory>
+/// Appends ` v` for each value.
+pub fn add_values(text: &mut Seq<u8>, values: &[u32]) -> Result<(), Memory>
     ensures { OnOk result (text.new ≡ text.old ++ value_words values.now) }
 {
     for value in values {

@@ -1,8 +1,8 @@
 // The text of a report, and the summary of a load.
 //
-// What goes in: an exchange, the books and the stored words of a run, and how it ended. What comes out: the text of its
-// report or its summary, byte for byte. Contracts see a definition over a state of the single run. It knows no job and no machine, and
-// changes nothing.
+// What goes in: an exchange, the books and the stored words of a run, and how it ended; or events alone. What comes out: the
+// text of its report or its summary, or the lines of the events, byte for byte. Contracts see a definition over a state of the
+// single run. It knows no job and no machine, and changes nothing. The words of numbers, values, names and faults serve other texts too.
 #![tactic(auto)]
 
 mod events;
@@ -14,5 +14,7 @@ mod stored;
 mod tests;
 mod whole;
 
+pub use events::{add_values, event_lines};
 pub use load::load_summary;
+pub use names::{add_number, block_name, fault_word, signal_name};
 pub use whole::report;

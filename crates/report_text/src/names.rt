@@ -44,7 +44,7 @@ pub fn signal_name(exchange: &Exchange, number: u32) -> &[u8]
 }
 
 /// The name of a block; no bytes where there is none of this number.
-fn block_name(exchange: &Exchange, number: u32) -> &[u8]
+pub fn block_name(exchange: &Exchange, number: u32) -> &[u8]
     ensures { result.now ≡ name_of_block exchange.now.blocks number }
 {
     match exchange.blocks.get(number as usize) {

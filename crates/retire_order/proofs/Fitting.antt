@@ -57,7 +57,7 @@ value_more None None r c here later e = absurd (cc)
 value_more None (Some v) None c here later e = absurd (cc)
 value_more None (Some v) (Some t) c here later e = subst (λ (q : Closing). AllByRecursion IsWord q.values) (same_Some (one_more v t) c e) (here v refl, later t refl)
 
-closing_words : (ws : List (List ℕ)) (c : Closing) → closing ws ≡ Some c → AllByRecursion IsWord c.values
+pub closing_words : (ws : List (List ℕ)) (c : Closing) → closing ws ≡ Some c → AllByRecursion IsWord c.values
 unfolding closing
 closing_words [] c e = absurd (cc)
 closing_words (w ∷ rest) c e = value_more (ending (w ∷ rest)) (number_of w) (closing rest) c (λ n is. number_word w n is) (λ t is. closing_words rest t is) e
@@ -113,7 +113,7 @@ signal_counted x name signal is =
     let here = buffered at.0 (slice_get x.signals at.0) signal at.1 in
     ap (λ n. option_map_or signal_count (slice_get x.signals n) 0) (sym here.0) ∙ here.1
 
-entry_there : (x : Exchange) (signal : Signal) (name block : List ℕ) (entry : ℕ) → signal_of x name ≡ Some signal → entry_of x signal.number block ≡ Some entry → (entry < length x.entries) × (entry_count x entry ≡ signal.count)
+pub entry_there : (x : Exchange) (signal : Signal) (name block : List ℕ) (entry : ℕ) → signal_of x name ≡ Some signal → entry_of x signal.number block ≡ Some entry → (entry < length x.entries) × (entry_count x entry ≡ signal.count)
 entry_there x signal name block entry is at =
     let in_block = went (position (bytes_eq block) (block_names x)) (λ b. position (is_entry b signal.number) x.entries) entry at in
     let there = found (is_entry in_block.0 signal.number) x.entries entry in_block.1 in
@@ -223,7 +223,7 @@ record Tells (before : List (List ℕ)) (done : List Line) : Type 0 where
   pub counts : AllByRecursion (λ (l : Line). l.after ≤ last_count before) done
   pub origins : (i : ℕ) → slice_get (map is_origin before) i ≡ Some true → HasGiver done (i + 1)
 
-weaker : {A : Type 0} (P Q : A → Type 0) (xs : List A) → ((x : A) → P x → Q x) → AllByRecursion P xs → AllByRecursion Q xs
+pub weaker : {A : Type 0} (P Q : A → Type 0) (xs : List A) → ((x : A) → P x → Q x) → AllByRecursion P xs → AllByRecursion Q xs
 weaker P Q [] step all = tt
 weaker P Q (x ∷ xs) step all = (step x all.0, weaker P Q xs step all.1)
 
@@ -275,11 +275,11 @@ tells_more before line done s l is number after kind up t =
 
 -- ---- a line fits behind those before
 
-all_coming : (P : Coming → Type 0) (ls : List Line) → AllByRecursion (λ (l : Line). P (coming_of l)) ls → AllByRecursion P (map coming_of ls)
+pub all_coming : (P : Coming → Type 0) (ls : List Line) → AllByRecursion (λ (l : Line). P (coming_of l)) ls → AllByRecursion P (map coming_of ls)
 all_coming P [] all = tt
 all_coming P (l ∷ ls) all = (all.0, all_coming P ls all.1)
 
-got_coming : (ls : List Line) (j : ℕ) (l : Line) → slice_get ls j ≡ Some l → slice_get (map coming_of ls) j ≡ Some (coming_of l)
+pub got_coming : (ls : List Line) (j : ℕ) (l : Line) → slice_get ls j ≡ Some l → slice_get (map coming_of ls) j ≡ Some (coming_of l)
 got_coming [] j l is = absurd (none-some l is)
 got_coming (k ∷ ls) zero l is = ap (λ (q : Line). Some (coming_of q)) (same_Some k l is)
 got_coming (k ∷ ls) (suc j) l is = got_coming ls j l is

@@ -8,3 +8,5 @@ pub mod Settled
 pub mod Counted
 pub mod Fitting
 pub mod Bare
+pub mod Arriving
+pub mod Cells

@@ -1,5 +1,5 @@
 -- The lines that have arrived, and the forlopps that they got.
-use Rattle.std.proofs.Common.{◌≡◌, ℕ, zero, suc, ◌<◌, Bool, true, false, nat_eq, cond, List, [], ◌∷◌, ◌++◌, length, map, drop, Option, Some, None, unwrap_or, slice_get, refl, sym, ap, ◌∙◌, arith, length-append}
+use Rattle.std.proofs.Common.{◌≡◌, ℕ, zero, suc, ◌<◌, ◌≤◌, Bool, true, false, nat_eq, cond, List, [], ◌∷◌, ◌++◌, length, map, drop, Option, Some, None, unwrap_or, slice_get, refl, sym, ap, ◌∙◌, arith, length-append}
 use Rattle.std.specs.Option.{option_or}
 use Rattle.signal_file.specs.declared.line.Line.{Line}
 use Rattle.source_meaning.specs.Arrivals.{given_to}
@@ -33,6 +33,12 @@ arrived_more [] given l forlopp there = absurd (cc)
 arrived_more (k ∷ rest) [] l forlopp there = let same : k ≡ l = cc in
     ap (λ got. record { line = coming_of k; forlopp = forlopp } ∷ got) (none_arrived rest) ∙ ap (λ (z : Line). record { line = coming_of z; forlopp = forlopp } ∷ []) same
 arrived_more (k ∷ rest) (f ∷ given) l forlopp there = ap (λ got. record { line = coming_of k; forlopp = f } ∷ got) (arrived_more rest given l forlopp there)
+
+pub arrived_length : (lines : List Line) (given : List ℕ) → length given ≤ length lines → length (arrived_of lines given) ≡ length given
+arrived_length [] [] within = refl
+arrived_length [] (f ∷ given) within = absurd (omega (arith, within))
+arrived_length (l ∷ rest) [] within = refl
+arrived_length (l ∷ rest) (f ∷ given) within = ap suc (arrived_length rest given (omega (arith, within)))
 
 pub left_more : (lines : List Line) (n : ℕ) (l : Line) → slice_get lines n ≡ Some l → map coming_of (drop n lines) ≡ coming_of l ∷ map coming_of (drop (suc n) lines)
 left_more [] n l there = absurd (cc)

@@ -4,3 +4,4 @@ pub mod Accounts
 pub mod Stores
 pub mod Retired
 pub mod Traffic
+pub mod Parts

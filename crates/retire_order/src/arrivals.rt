@@ -1,10 +1,10 @@
 // Lines of the signal file arrive.
-ghost use Rattle.std.specs.Prelude.{◌≡◌, ◌+◌, ◌<◌, ◌^◌, ◌++◌, ◌∷◌, [], List, false, length, MatchResult, if◌then◌else◌};
+ghost use Rattle.std.specs.Prelude.{◌≡◌, ◌+◌, ◌<◌, ◌^◌, ◌++◌, ◌∷◌, [], List, false, length, MatchResult, OnOk, if◌then◌else◌};
 ghost use Rattle.exchange_model.specs.declared.exchange.Exchange.{Exchange};
 ghost use Rattle.job_buffers.specs.Room.{room_at};
 ghost use Rattle.job_types.specs.Forlopps.{is_dead};
 ghost use Rattle.job_types.specs.Waiting.{joins};
-ghost use Rattle.source_meaning.specs.Arrivals.{arrives, forlopp_for, is_due, level_of, next_after};
+ghost use Rattle.source_meaning.specs.Arrivals.{arrivals, arrives, forlopp_for, is_due, level_of, next_after};
 ghost use Rattle.source_meaning.specs.State.{Coming, Lost, has_stopped};
 ghost use Rattle.retire_order.specs.Accounts.{IsLine, after_arrival, is_next_due};
 ghost use Rattle.retire_order.specs.Lines.{coming_of, origin_of};
@@ -96,6 +96,22 @@ impl Books {
             level: level_of(exchange, line.entry),
             values: line.values.copy(),
             forlopp: self.forlopp_for(line.kind),
+        }
+    }
+}
+
+/// One line after the other arrives, as long as the next one is due. No job may run.
+pub fn let_arrive(exchange: &Exchange, books: &mut Books) -> Result<(), Memory>
+    requires nobody { books.old.running ≡ 0 }
+    ensures { OnOk result
+        (books.new ≡ record books.old { state = arrivals exchange.now books.old.state }) }
+{
+    if books.stopped() {
+        return Ok(());
+    }
+    'lines: loop {
+        if !books.arrive(exchange)? {
+            return Ok(());
         }
     }
 }

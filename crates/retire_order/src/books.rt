@@ -7,8 +7,10 @@ ghost use Rattle.source_meaning.specs.State.{has_stopped};
 ghost use Rattle.retire_order.specs.Accounts.{after_start, next_count, opened, upcoming};
 ghost use Rattle.retire_order.specs.Events.{ending_of, event_of};
 ghost use Rattle.retire_order.specs.Lines.{coming_of};
+ghost use Rattle.retire_order.specs.Parts.{AreParts, account_of};
 
 use crate::event::{Ending, Event, EventLog};
+use crate::parts::BookParts;
 use crate::schedule::Schedule;
 use forlopp_chain::Chains;
 use job_buffers::Buffers;
@@ -182,5 +184,59 @@ impl Books {
         ensures { map event_of result.now ≡ self.now.state.events }
     {
         self.events.as_slice()
+    }
+
+    /// The parts of the books. No job may run. It takes no memory.
+    pub fn into_parts(self) -> BookParts
+        requires nobody { self.running ≡ 0 }
+        ensures books { account_of result ≡ self }
+        ensures parts { AreParts result }
+    {
+        let Books {
+            schedule,
+            waiting,
+            chains,
+            events,
+            next,
+            ended,
+            restarts,
+            running: _,
+            limit,
+            alloc,
+        } = self;
+        let (lines, given, numbers) = schedule.into_parts();
+        BookParts {
+            buffers: waiting,
+            chains,
+            lines,
+            next_line: given.len() as u32,
+            given,
+            numbers,
+            next_forlopp: next,
+            ended,
+            restarts,
+            limit,
+            events: events.into_seq(),
+            alloc,
+        }
+    }
+
+    /// The books of these parts, of which no job runs. It takes no memory.
+    pub fn from_parts(parts: BookParts) -> Books
+        requires { AreParts parts }
+        ensures { result ≡ account_of parts }
+    {
+        Books {
+            schedule: Schedule::from_parts(parts.lines, parts.given, parts.numbers),
+            waiting: parts.buffers,
+            chains: parts.chains,
+            events: EventLog::from_seq(parts.events),
+            next: parts.next_forlopp,
+            ended: parts.ended,
+            restarts: parts.restarts,
+            running: 0,
+            limit: parts.limit,
+            alloc: parts.alloc,
+        }
     }
 }

@@ -3,7 +3,7 @@ ghost use Rattle.std.specs.Prelude.{◌≡◌, ◌+◌, ◌-◌, ◌<◌, ◌≤
 ghost use Rattle.retire_order.specs.Events.{event_of};
 
 use job_types::Fault;
-use plex_num::{Memory, Values};
+use plex_num::{Memory, Seq, Values};
 use std::alloc::Global;
 use std::marker::Model;
 
@@ -72,6 +72,22 @@ impl EventLog {
         EventLog {
             events: Vec::new(alloc),
         }
+    }
+
+    /// The log of these events.
+    pub fn from_seq(events: Seq<Event>) -> EventLog
+        ensures { result.events ≡ map event_of events }
+    {
+        EventLog {
+            events: events.into_vec(),
+        }
+    }
+
+    /// The events alone.
+    pub fn into_seq(self) -> Seq<Event>
+        ensures { map event_of result ≡ self.events }
+    {
+        Seq::from_vec(self.events)
     }
 
     /// Makes room for that many more events.

@@ -4,7 +4,7 @@ ghost use Rattle.std.specs.Option.{option_copied, option_map, option_or};
 ghost use Rattle.std.specs.HashMap.{get};
 ghost use Rattle.source_meaning.specs.Arrivals.{given_to};
 ghost use Rattle.source_meaning.specs.State.{Arrived, Coming};
-ghost use Rattle.retire_order.specs.Lines.{coming_of};
+ghost use Rattle.retire_order.specs.Lines.{arrived_of, coming_of, found_in, timetable};
 
 use plex_num::{Memory, Seq};
 use signal_file::Line;
@@ -53,6 +53,34 @@ impl Schedule {
             given: Vec::new(alloc),
             numbers: HashMap::new(alloc),
         }
+    }
+
+    /// The schedule of these lines, the first of which have arrived and got these forlopps, which are also found by the numbers of
+    /// the lines.
+    pub fn from_parts(lines: Seq<Line>, given: Seq<u64>, numbers: HashMap<u32, u64>) -> Schedule
+        requires within { length given ≤ length lines }
+        requires numbers { (n : ℕ) → get nat_eq numbers n ≡ found_in (arrived_of lines given) n }
+        ensures { result ≡ timetable lines given }
+    {
+        Schedule {
+            lines,
+            given: given.into_vec(),
+            numbers,
+        }
+    }
+
+    /// The lines, the forlopps of those that have arrived, and these by the numbers of the lines.
+    pub fn into_parts(self) -> (Seq<Line>, Seq<u64>, HashMap<u32, u64>)
+        ensures timetable { timetable result.0 result.1 ≡ self }
+        ensures within { length result.1 ≤ length result.0 }
+        ensures numbers { (n : ℕ) → get nat_eq result.2 n ≡ found_in (arrived_of result.0 result.1) n }
+    {
+        let Schedule {
+            lines,
+            given,
+            numbers,
+        } = self;
+        (lines, Seq::from_vec(given), numbers)
     }
 
     /// The next line; `None` exactly where none is left.

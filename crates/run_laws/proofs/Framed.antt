@@ -10,7 +10,7 @@ use Rattle.job_types.proofs.Touched.{stored-append}
 use Rattle.machine_code.specs.declared.op.Op.{Op}
 use Rattle.source_meaning.specs.Traces.{Answers}
 use Rattle.register_machine.specs.Private.{Private}
-use Rattle.register_machine.specs.Machine.{Apart, Loads, Machine, Reach, Stores, act, loaded, op_at, reach, touched}
+use Rattle.register_machine.specs.Machine.{Apart, Loads, Machine, Reach, Stores, act, loaded, machine_step, op_at, reach, touched}
 use Rattle.run_laws.specs.Alone.{alone, goes_on, makes_unless, on_words}
 use Rattle.run_laws.proofs.Told.{IsTouch, is_touch, touch_of}
 
@@ -43,18 +43,21 @@ reaches_alike words w (Stores word value) told = record {
   world = ap (λ s. record { store = s; trace = w.trace ++ Store word value ∷ [] }) (sym (stored-append w.trace (Store word value ∷ []) words));
 }
 
+-- one instruction over other words
+pub step_framed : (words : List ℕ) (op : Op) (m : Machine) → Answers words (machine_step op m).world.trace → machine_step op (on_words words m) ≡ on_words words (machine_step op m)
+step_framed words op m told =
+    let r = reach op m.run in
+    let t = is_touch m.world r in
+    let a = reaches_alike words m.world r (answers_front m.world.trace (touch_of r m.world.store) words (subst (Answers words) t.trace told)).1 in
+    ap (λ v. record { run = act op v m.run; world = touched r (over words m.world.trace) }) a.given
+    ∙ ap (λ (w : World). record { run = act op (loaded r m.world.store) m.run; world = w }) a.world
+
 framed_on : (words : List ℕ) (code : List Op) (m : Machine) → Answers words (goes_on code m).world.trace → goes_on code (on_words words m) ≡ on_words words (goes_on code m)
 framed_on words code m told = by m.run.over told
   where
     by : (o : Option Outcome) → Answers words (makes_unless o code m).world.trace → makes_unless o code (on_words words m) ≡ on_words words (makes_unless o code m)
     by (Some o) told = refl
-    by None told =
-        let op = op_at code m.run.pc in
-        let r = reach op m.run in
-        let t = is_touch m.world r in
-        let a = reaches_alike words m.world r (answers_front m.world.trace (touch_of r m.world.store) words (subst (Answers words) t.trace told)).1 in
-        ap (λ v. record { run = act op v m.run; world = touched r (over words m.world.trace) }) a.given
-        ∙ ap (λ (w : World). record { run = act op (loaded r m.world.store) m.run; world = w }) a.world
+    by None told = step_framed words (op_at code m.run.pc) m told
 
 -- what a run has touched so far is answered where all that it has touched with one instruction more is
 answered_before : (words : List ℕ) (code : List Op) (m : Machine) → Answers words (goes_on code m).world.trace → Answers words m.world.trace

@@ -22,6 +22,13 @@ pub fn runs_are_framed()
         → alone n code run words ≡ on_words words (alone n code run store) }
 {}
 
+/// So does its end: over words that answer the trace at an end, the run comes to the same end with the same trace.
+pub fn ends_are_framed()
+    ensures { (code : List Op) (run : Private) (store words : List ℕ) (end : Machine)
+        → Ends code (begun run store) end → Answers words end.world.trace
+        → Ends code (begun run words) (on_words words end) }
+{}
+
 /// A run that comes to an end is on its way there after any number of instructions: its trace is the front of that at the end;
 /// while it is not over its next instruction may be made; and where it is over it is at that end.
 pub fn runs_go_to_their_end()

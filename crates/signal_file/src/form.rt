@@ -86,7 +86,7 @@ pub fn said_of(line: &[u8]) -> Option<Said<'_>>
 
 /// The values, and the end of the line; `None` where a word before the end is no number, or there is no end.
 #[tactic(auto, using(crate::proofs::Tails::tail_read))]
-fn tail_of(line: &[u8]) -> Option<Tail>
+pub fn tail_of(line: &[u8]) -> Option<Tail>
     ensures { MatchOption result
         (closing (words line.now) ≡ None)
         (λ t. IsTail (closing (words line.now)) t) }

@@ -1,5 +1,5 @@
 -- What threads hand to one another, and what is known of it whoever hands it.
-use Rattle.std.specs.Prelude.{◌≡◌, ◌+◌, ◌<◌, ◌^◌, []}
+use Rattle.std.specs.Prelude.{◌≡◌, []}
 use Rattle.exchange_model.specs.declared.exchange.Exchange.{Exchange}
 use Rattle.exchange_model.specs.Parts.{parts}
 use Rattle.machine_code.specs.declared.code.Code.{Code}
@@ -23,11 +23,10 @@ abbrev pub no_book : BookId
 no_book = no_store
 
 -- a job that waits: its ticket is of this book and for the loan of its seat, the code is faithful, and the seat and the run are
--- ready for that loan's job. Jobs are counted from 1, so that the ticket's number has a next one.
+-- ready for that loan's job
 pub record IsTask (x : Exchange) (code : Code) (store : StoreId) (book : BookId) (ticket : TicketView) (seat : JobView) (run : Private) : Type 0 where
   pub book_is : ticket.0 ≡ book
   pub loan_is : ticket.1.loan ≡ seat.1.lent
-  pub counted : ticket.1.number + 1 < 2 ^ 64
   pub faithful : Faithful x code
   pub ready : IsReady x code store seat run
 

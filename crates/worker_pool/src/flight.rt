@@ -34,13 +34,14 @@ impl<B: Naming> Model for Flight<B> {
     ghost invariant = { λ f. f.ticket.0 ≡ B.book };
 }
 
-/// Makes a job of a seat and a run that are ready: what the dispatcher keeps of it, and what a thread is to run. Its number is how many
-/// tickets the pen wrote before; there must be fewer than 2^64 - 1.
+/// Makes a job of a seat and a run that are ready: what the dispatcher keeps of it, and what a thread is to run. Its ticket's number is how
+/// many tickets the pen wrote before; there must be fewer than 2^64 - 1. `job` is the number by which the gate knows the job.
 pub fn launch<B: Naming>(
     book: &TicketBook,
     pen: &mut Pen,
     seat: JobSeat,
     run: Box<JobRun>,
+    job: u64,
 ) -> (Flight<B>, Task<B>)
     requires book { (book.now ≡ B.book) × (pen.old.0 ≡ B.book) }
     requires room { pen.old.1 + 1 < 2 ^ 64 }
@@ -61,6 +62,7 @@ pub fn launch<B: Naming>(
             ticket,
             seat,
             run,
+            job,
             of: PhantomData,
         },
     )

@@ -152,10 +152,15 @@ impl<B: Naming> Shop<B> {
         self.waits.store(0, Ordering::SeqCst);
     }
 
-    /// Takes note of how many instructions a job made. The dispatcher alone does.
-    pub(crate) fn note(&self, steps: u64) {
-        let mean = self.mean.load(Ordering::SeqCst);
+    /// Takes note of how many instructions a job made, which may have run elsewhere. The dispatcher alone does.
+    pub fn note(&self, steps: u64) {
+        let mean = self.mean();
         self.mean.store(mean_after(mean, steps), Ordering::SeqCst);
+    }
+
+    /// How many instructions the last jobs made, about: those of which note was taken. It begins at 2^32.
+    pub fn mean(&self) -> u64 {
+        self.mean.load(Ordering::SeqCst)
     }
 
     /// Runs a job that waits, if there is one. Whether there was.
@@ -200,7 +205,7 @@ impl<B: Naming> Shop<B> {
 
     /// Whether a job is worth a wake-up, by what the last ones made.
     pub(crate) fn jobs_are_long(&self) -> bool {
-        self.mean.load(Ordering::SeqCst) >= LONG
+        self.mean() >= LONG
     }
 
     /// Sleeps until more jobs were brought than were seen, or for the length of a nap.

@@ -18,6 +18,8 @@ pub struct Task<B: Naming> {
     pub(crate) ticket: Ticket,
     pub(crate) seat: JobSeat,
     pub(crate) run: Box<JobRun>,
+    /// The number by which the gate knows the job.
+    pub(crate) job: u64,
     pub(crate) of: PhantomData<B>,
 }
 
@@ -60,8 +62,8 @@ impl<B: Naming> Task<B> {
         self.ticket.number()
     }
 
-    /// Runs the job in the thread that calls. The gate is told before and after it, of a job whose number is one more than the
-    /// ticket's; after it also how many instructions the run made.
+    /// Runs the job in the thread that calls. The gate is told before and after it, by the job's number there; after it also how many
+    /// instructions the run made.
     pub fn run<G: Gate>(
         self,
         exchange: &Exchange,
@@ -76,9 +78,9 @@ impl<B: Naming> Task<B> {
             ticket,
             seat,
             mut run,
+            job,
             of: _,
         } = self;
-        let job = ticket.number() + 1;
         gate.at(job, Place::Before);
         let seat = run_in_place(exchange, store, seat, &mut run, code);
         gate.at(job, Place::After { steps: run.steps() });

@@ -4,10 +4,10 @@ use Rattle.exchange_run.proofs.Starting.{begins, begins_there, leaves}
 use Rattle.exchange_run.proofs.by_code.ByCodeRunner.run.Goals as goal
 
 pub run_to_end-requires-clause-begins : goal.run_to_end-requires-clause-begins
-run_to_end-requires-clause-begins c = begins c.args.exchange.now c.args.self.now.code.now c.args.start.now c.args.words.now c.begin.new.self c.kept.ensures c.requires.start c.begin.ensures
+run_to_end-requires-clause-begins g c = begins c.args.exchange.now c.args.self.now.code.now c.args.start.now c.args.words.now c.begin.new.self c.kept.ensures c.requires.start c.begin.ensures
 
 pub returns-clause-done : goal.returns-clause-done
-returns-clause-done c =
+returns-clause-done g c =
     let x = c.args.exchange.now in
     let code = c.args.self.now.code.now in
     let start = c.args.start.now in
@@ -16,7 +16,7 @@ returns-clause-done c =
     leaves x start b.start words _ _ c.run_to_end.new.run c.run_to_end.new.words (begins_there x code start words c.begin.new.self c.kept.ensures c.requires.start c.begin.ensures) (c.run_to_end.ensures.meaning b)
 
 pub returns-clause-words : goal.returns-clause-words
-returns-clause-words c =
+returns-clause-words g c =
     let x = c.args.exchange.now in
     let code = c.args.self.now.code.now in
     let start = c.args.start.now in

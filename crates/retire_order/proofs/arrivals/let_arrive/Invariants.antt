@@ -1,6 +1,6 @@
 use Rattle.std.specs.Prelude.{length}
-use Rattle.exchange_run.proofs.Arriving.{Arriving}
-use Rattle.exchange_run.proofs.turns.let_arrive.Given as goal
+use Rattle.retire_order.proofs.Arriving.{Arriving}
+use Rattle.retire_order.proofs.arrivals.let_arrive.Given as goal
 
 abbrev pub invariant-lines : goal.invariant-lines
 invariant-lines l = record { arriving : Arriving l.exchange l.fn.books l.books }

@@ -1,8 +1,8 @@
 use Rattle.std.proofs.Common.{◌≡◌, true, false, rules}
 use Rattle.std.proofs.lemmas.Grind.{common_steps}
 use Rattle.retire_order.specs.Accounts.{after_arrival, is_next_due}
-use Rattle.exchange_run.proofs.Arriving.{arriving_end, arriving_more}
-use Rattle.exchange_run.proofs.turns.let_arrive.Goals as goal
+use Rattle.retire_order.proofs.Arriving.{arriving_end, arriving_more}
+use Rattle.retire_order.proofs.arrivals.let_arrive.Goals as goal
 
 pub returns-then-not-branch : goal.returns-then-not-branch
 returns-then-not-branch c =

@@ -15,7 +15,7 @@ use Rattle.job_types.specs.declared.outcome.Outcome.TheVariants.{Ended, Faulted}
 use Rattle.job_types.specs.declared.touch.Touch.{Touch}
 use Rattle.job_types.specs.declared.touch.Touch.TheVariants.{Load, Store}
 use Rattle.job_types.specs.Forlopps.{all_records, chain_at, with_chain}
-use Rattle.job_types.specs.Own.{World, budget, untouched, writes}
+use Rattle.job_types.specs.Own.{World, budget, done_of, untouched, writes}
 use Rattle.machine_code.specs.Listed.{is_word_of}
 use Rattle.exchange_model.specs.declared.block.Block.{Block}
 use Rattle.exchange_model.specs.declared.block.Variable.{Variable}
@@ -36,7 +36,6 @@ use Rattle.source_meaning.proofs.Touching.{field_inside, mark_inside, record_all
 use Rattle.plex_num.proofs.Lists.{all_append}
 use Rattle.retire_order.specs.Retired.{outcome_world, retired_world}
 use Rattle.retire_order.specs.Stores.{MayStore}
-use Rattle.exchange_run.specs.Runs.{left_by}
 
 -- ## Chains
 
@@ -89,11 +88,11 @@ module _ (x : Exchange) (kept : IsExchange x) where
   outcome_inside (suc n) (Faulted g point) s words records = chain_inside (chain_at s.chains (suc n)) (untouched words) (records (suc n)) tt
 
   -- a job of a valid state retires, over other words
-  pub retired_inside : (s t : State) (start : JobStart) (words : List ℕ) → IsValid x s → IsFitting x s start → t.chains ≡ s.chains → AreOfCells x (retired_world x start (left_by x start s.store) t words).trace
+  pub retired_inside : (s t : State) (start : JobStart) (words : List ℕ) → IsValid x s → IsFitting x s start → t.chains ≡ s.chains → AreOfCells x (retired_world x start (done_of (job x start s.store).own (job x start s.store).over) t words).trace
   unfolding job
   retired_inside s t start words valid fits same =
       let f = start.job.forlopp in
-      let done = left_by x start s.store in
+      let done = done_of (job x start s.store).own (job x start s.store).over in
       let runs = running_fits x kept s valid start fits (budget + 1) in
       outcome_inside f done.outcome (with_sends start done t) words (by f done.chain (all_delivered f done.sends (record t { ended = t.ended + 1 })) (sends_chains f done.sends (record t { ended = t.ended + 1 }) ∙ same) (job x start s.store).world.store runs.chains.records)
     where

@@ -1,0 +1,239 @@
+// What is told of all pairs of entries, for whoever asks again and again.
+ghost use Rattle.std.specs.Prelude.{◌≡◌, ◌↔◌, ◌+◌, ◌*◌, ◌<◌, ◌≤◌, ◌++◌, IfOk, IfSome, IsTrue, OnOk, Some, length, slice_get, slice_range};
+ghost use Rattle.std.specs.List.Sorted.{IsStrictlySortedBy};
+ghost use Rattle.entry_summary.specs.declared.summary.Summary.{Summary};
+ghost use Rattle.entry_summary.specs.Orders.{access_order};
+ghost use Rattle.pair_tests.specs.Pairs.{Passes};
+ghost use Rattle.exchange_model.specs.declared.exchange.Exchange.{Exchange};
+ghost use Rattle.exchange_model.specs.Kept.{IsExchange};
+ghost use Rattle.source_meaning.specs.State.{State};
+ghost use Rattle.source_meaning.specs.Valid.{IsFitting, IsJob, IsValid};
+ghost use Rattle.order_laws.specs.Windows.{MakesWay};
+ghost use Rattle.pair_laws.specs.Together.{RunTogether};
+ghost use Rattle.checked.specs.Kept.{IsChecked};
+ghost use Rattle.interference_check.specs.Pairs.{OfPair};
+ghost use Rattle.interference_check.specs.Tables.{ArePairsOf, HasTests, IsFound, IsTold, Tells};
+
+use crate::holding::{all_hold, are_apart};
+use crate::pairs::may_follow;
+use checked::Checked;
+use entry_summary::Summary;
+use job_types::JobStart;
+use pair_tests::{Test, Verdict, tests_of, verdict_of};
+use plex_num::{Memory, Seq};
+use std::alloc::Global;
+use std::marker::Model;
+
+/// What is told of a pair of entries.
+#[derive(Clone, Copy)]
+pub(crate) enum Pair {
+    /// Jobs of the two never run at once.
+    Never,
+    /// They may where these tests hold, which stand in the list of all tests from one place to before another one.
+    Asks { from: usize, to: usize },
+}
+
+/// How many accesses are looked at, about, to tell of pairs beforehand. That takes a tenth of a second.
+const MOST_LOOKS: usize = 262_144;
+
+/// What a certificate says of pairs of its entries: of each in either order whether jobs of the two never run at once, or which tests
+/// they must pass. It is made once, so that a question looks up one item and goes through the tests of its pair alone. Where the
+/// summaries are long, it is made for the first entries only, and of other pairs their summaries are looked at when they are asked
+/// for. Contracts see it as what is kept of the certificate.
+#[derive(Drop)]
+pub struct PairTable<'c> {
+    checked: &'c Checked,
+    /// Of how many entries, from the first on, all pairs are told.
+    told: u32,
+    pairs: Seq<Pair>,
+    tests: Seq<Test>,
+}
+
+impl<'c> Model for PairTable<'c> {
+    ghost use Rattle.checked.specs.Kept.{Kept};
+
+    ghost Value = { Kept };
+
+    ghost use Rattle.interference_check.specs.Tables.{IsTable};
+
+    ghost view = { λ t. t.checked.now };
+
+    ghost invariant = { λ t. IsTable t.checked.now t.told t.pairs t.tests };
+}
+
+impl<'c> PairTable<'c> {
+    /// The table of a certificate. Memory is the only reason for an error.
+    #[tactic(auto, using(crate::proofs::Tabling::table_begin, crate::proofs::Tabling::table_end))]
+    pub fn new(alloc: Global, checked: &'c Checked) -> Result<PairTable<'c>, Memory>
+        ensures { IfOk result (λ table. table ≡ checked.now) }
+    {
+        let mut pairs = Seq::new(alloc);
+        let mut tests = Seq::new(alloc);
+        let told = worth_telling(checked);
+        for first in 0..told {
+            push_row(alloc, checked, told, first, &mut pairs, &mut tests)?;
+        }
+        Ok(PairTable {
+            checked,
+            told,
+            pairs,
+            tests,
+        })
+    }
+
+    /// Whether the later job may run at once with the first, as the call of that name tells it of what is kept.
+    pub fn may_follow(&self, first: &JobStart, later: &JobStart) -> bool
+        requires first { first.now.job.entry < length self.now.summaries }
+        requires later { later.now.job.entry < length self.now.summaries }
+        ensures exact { OfPair self.now first.now.job.entry later.now.job.entry
+            (λ s t. IsTrue result ↔ Passes s t first.now later.now) }
+        ensures together { IsTrue result → (x : Exchange) (s : State)
+            → IsExchange x → IsChecked x self.now → IsValid x s
+            → IsFitting x s first.now → IsFitting x s later.now
+            → OfPair self.now first.now.job.entry later.now.job.entry
+            (λ one other. RunTogether x s one other first.now later.now) }
+        ensures way { IsTrue result → (x : Exchange)
+            → IsExchange x → IsChecked x self.now → IsJob x later.now.job
+            → MakesWay x first.now later.now }
+    {
+        self.passes(first, later)
+    }
+
+    /// Whether two jobs pass.
+    fn passes(&self, first: &JobStart, later: &JobStart) -> bool
+        requires first { first.now.job.entry < length self.now.summaries }
+        requires later { later.now.job.entry < length self.now.summaries }
+        ensures { OfPair self.now first.now.job.entry later.now.job.entry
+            (λ s t. IsTrue result ↔ Passes s t first.now later.now) }
+    {
+        let told = told_pair(
+            self.pairs.as_slice(),
+            self.told,
+            first.job.entry,
+            later.job.entry,
+        );
+        match told {
+            Some(pair) => pass_by(pair, self.tests.as_slice(), first, later),
+            None => may_follow(self.checked, first, later),
+        }
+    }
+}
+
+/// Of how many entries, from the first on, all pairs are told.
+fn worth_telling(checked: &Checked) -> u32
+    ensures { result ≤ length checked.now.summaries }
+{
+    let mut looks: usize = 0;
+    for entry in 0..checked.entries() {
+        let accesses = checked.summary(entry).accesses.len();
+        looks = looks.saturating_add(accesses).saturating_add(1);
+        if looks.saturating_mul(entry as usize + 1) > MOST_LOOKS {
+            return entry;
+        }
+    }
+    checked.entries()
+}
+
+/// Appends the pairs of a first entry with each later one that is told, and their tests.
+#[tactic(auto, using(crate::proofs::Tabling::row_begin, crate::proofs::Tabling::row_end))]
+fn push_row(
+    alloc: Global,
+    checked: &Checked,
+    told: u32,
+    first: u32,
+    pairs: &mut Seq<Pair>,
+    tests: &mut Seq<Test>,
+) -> Result<(), Memory>
+    requires told { told ≤ length checked.now.summaries }
+    requires first { first < told }
+    requires so_far { ArePairsOf checked.now told (first * told) pairs.old tests.old }
+    ensures { OnOk result
+        (ArePairsOf checked.now told ((first + 1) * told) pairs.new tests.new) }
+{
+    let one = checked.summary(first);
+    for later in 0..told {
+        let other = checked.summary(later);
+        let pair = pair_of(alloc, one, other, tests)?;
+        pairs.push(pair)?;
+    }
+    Ok(())
+}
+
+/// What is told of two summaries, whose tests come to the list.
+fn pair_of(
+    alloc: Global,
+    first: &Summary,
+    later: &Summary,
+    tests: &mut Seq<Test>,
+) -> Result<Pair, Memory>
+    requires { IsStrictlySortedBy access_order later.now.accesses }
+    ensures { IfOk result (IsTold first.now later.now tests.old tests.new) }
+{
+    match verdict_of(first, later) {
+        Verdict::Never(_) => Ok(Pair::Never),
+        Verdict::Tests => {
+            let own = tests_of(alloc, first, later)?;
+            let from = tests.len();
+            push_all(tests, own.as_slice())?;
+            let to = tests.len();
+            Ok(Pair::Asks { from, to })
+        }
+    }
+}
+
+/// Appends these tests.
+fn push_all(tests: &mut Seq<Test>, more: &[Test]) -> Result<(), Memory>
+    ensures { OnOk result (tests.new ≡ tests.old ++ more.now) }
+{
+    for test in more {
+        tests.push(*test)?;
+    }
+    Ok(())
+}
+
+/// The pair of two entries, if it is told.
+#[tactic(auto, using(crate::proofs::Tabling::place_within, crate::proofs::Tabling::pair_found))]
+fn told_pair(pairs: &[Pair], told: u32, first: u32, later: u32) -> Option<Pair>
+    requires { length pairs.now ≡ told * told }
+    ensures { IfSome result (IsFound pairs.now told first later) }
+{
+    if first >= told {
+        return None;
+    }
+    if later >= told {
+        return None;
+    }
+    Some(pair_at(pairs, told, first, later))
+}
+
+/// The pair of two entries, among those of so many.
+fn pair_at(pairs: &[Pair], told: u32, first: u32, later: u32) -> Pair
+    requires { first * told + later < length pairs.now }
+    ensures { slice_get pairs.now (first * told + later) ≡ Some result }
+{
+    pairs[first as usize * told as usize + later as usize]
+}
+
+/// Whether two jobs pass, by what is told of their pair.
+fn pass_by(pair: Pair, tests: &[Test], first: &JobStart, later: &JobStart) -> bool
+    requires { HasTests tests.now pair }
+    ensures { (s t : Summary) → Tells tests.now pair s t
+        → IsTrue result ↔ Passes s t first.now later.now }
+{
+    match pair {
+        Pair::Never => false,
+        Pair::Asks { from, to } => {
+            let own = between(tests, from, to);
+            are_apart(first, later) & all_hold(own, first, later)
+        }
+    }
+}
+
+/// The tests from one place to before another one.
+fn between(tests: &[Test], from: usize, to: usize) -> &[Test]
+    requires ordered { from ≤ to }
+    requires within { to ≤ length tests.now }
+    ensures { result.now ≡ slice_range tests.now from to }
+{
+    &tests[from..to]
+}

@@ -1,0 +1,54 @@
+-- Which move may be made next.
+use Rattle.std.proofs.Common.{◌≡◌, ◌≢◌, ℕ, ◌+◌, ◌<◌, ◌≤◌, Bool, List, [], ◌∷◌, length, Option, Some, None, refl, sym, ap, subst, arith}
+use Rattle.std.specs.Prelude.{IsTrue}
+use Rattle.std.specs.List.{AllByRecursion}
+use Rattle.std.proofs.lemmas.Option.{none-some, same_Some}
+use Rattle.job_types.specs.declared.job.JobStart.{JobStart}
+use Rattle.source_meaning.specs.State.{Coming}
+use Rattle.checked.specs.Kept.{Kept}
+use Rattle.order_laws.specs.Keeps.{NoLineBefore}
+use Rattle.retire_order.specs.Accounts.{Account, next_count, upcoming}
+use Rattle.shared_store.specs.declared.view.Lent.{Lent}
+use Rattle.parallel_dispatch.specs.Flying.{starts_of}
+use Rattle.parallel_dispatch.specs.Moves.{MayFly, MayRunAlone}
+use Rattle.parallel_dispatch.specs.Told.{PassBy}
+use Rattle.parallel_dispatch.specs.Windows.{View}
+
+-- ## Lines
+
+line_far : (lines : List Coming) (count n : ℕ) → Some count ≡ next_count lines → n ≤ count → NoLineBefore n lines
+line_far [] count n is le = tt
+line_far (l ∷ rest) count n is le = subst (λ c. n ≤ c) (same_Some count l.after is) le
+
+pub line_before : (lines : List Coming) (count ended flying : ℕ) (r : Bool) → Some count ≡ next_count lines → (IsTrue r → ended + flying < count) → IsTrue r → NoLineBefore (ended + flying + 1) lines
+line_before lines count ended flying r is below t = (let lt = below t in line_far lines count (ended + flying + 1) is (omega (arith, lt)))
+
+pub no_line : (lines : List Coming) (n : ℕ) → None ≡ next_count lines → NoLineBefore n lines
+no_line [] n is = tt
+no_line (l ∷ rest) n is = absurd (none-some l.after is)
+
+-- ## The window
+
+none_there : (loans : List Lent) → length loans ≡ 0 → loans ≡ []
+none_there [] e = refl
+none_there (l ∷ rest) e = absurd (omega (arith, e))
+
+pub may_run_alone : (books : Account) (w : View) (start : JobStart) → Some start ≡ upcoming books → length w.loans ≡ 0 → MayRunAlone books w start
+may_run_alone books w start is none = record { next = is; alone = none_there w.loans none }
+
+pub may_fly_alone : (k : Kept) (books : Account) (w : View) (start : JobStart) → Some start ≡ upcoming books → length w.loans ≡ 0 → 0 < w.room → (w.loans ≡ [] → NoLineBefore (books.state.ended + 1) books.state.lines) → MayFly k books w start
+may_fly_alone k books w start is none some line =
+    let empty = none_there w.loans none in
+    let count : books.state.ended + 1 ≡ books.state.ended + length w.loans + 1 = omega (arith, none) in
+    record {
+      next = is;
+      room = omega (arith, none, some);
+      line = subst (λ n. NoLineBefore n books.state.lines) count (line empty);
+      pass = subst (λ (ls : List Lent). AllByRecursion (λ (older : JobStart). PassBy k older start) (starts_of ls)) (sym empty) tt;
+    }
+
+pub may_fly_beside : (k : Kept) (books : Account) (w : View) (start : JobStart) → Some start ≡ upcoming books → length w.loans < w.room → NoLineBefore (books.state.ended + length w.loans + 1) books.state.lines → AllByRecursion (λ (older : JobStart). PassBy k older start) (starts_of w.loans) → MayFly k books w start
+may_fly_beside k books w start is lt line pass = record { next = is; room = lt; line = line; pass = pass }
+
+pub some_fly : (w : View) (o : Option JobStart) → length w.loans ≢ 0 → w.loans ≡ [] → None ≡ o
+some_fly w o some is = absurd (some (ap length is))

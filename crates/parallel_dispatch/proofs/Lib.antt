@@ -1,0 +1,10 @@
+pub mod Told
+pub mod True
+pub mod Lending
+pub mod Alone
+pub mod Issuing
+pub mod Retiring
+pub mod Standing
+pub mod Passing
+pub mod Choosing
+pub mod Moving

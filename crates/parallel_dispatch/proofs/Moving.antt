@@ -1,0 +1,151 @@
+-- The moves, over what the calls leave.
+use Rattle.std.proofs.Common.{◌≡◌, ℕ, ◌+◌, ◌^◌, ◌<◌, ◌≤◌, true, List, [], ◌∷◌, ◌++◌, length, Option, Some, refl, sym, ap, ◌∙◌, subst, arith}
+use Rattle.std.specs.Prelude.{◌↔◌}
+use Rattle.plex_limits.specs.declared.limits.TheConstants.{MOST_JOBS}
+use Rattle.job_types.specs.declared.job.JobStart.{JobStart}
+use Rattle.job_types.specs.declared.outcome.JobDone.{JobDone}
+use Rattle.job_types.specs.declared.touch.Touch.{Touch}
+use Rattle.job_types.specs.Forlopps.{ChainMap}
+use Rattle.machine_code.specs.declared.code.Code.{Code}
+use Rattle.machine_code.specs.declared.permit.Permit.{Permit}
+use Rattle.machine_code.specs.Permits.{may_read, may_write}
+use Rattle.exchange_model.specs.declared.exchange.Exchange.{Exchange}
+use Rattle.exchange_model.specs.Kept.{IsExchange}
+use Rattle.source_meaning.specs.Job.{job}
+use Rattle.source_meaning.specs.Retirement.{retires}
+use Rattle.source_meaning.specs.SingleRun.{turn}
+use Rattle.source_meaning.specs.State.{State}
+use Rattle.source_meaning.specs.Valid.{MayBe}
+use Rattle.entry_summary.specs.declared.summary.Summary.{Summary}
+use Rattle.start_permit.specs.Granted.{MayRead, MayWrite}
+use Rattle.checked.specs.Kept.{IsChecked, Kept}
+use Rattle.order_laws.specs.Windows.{done_by}
+use Rattle.register_machine.specs.Faithful.{started}
+use Rattle.register_machine.specs.Private.{Private}
+use Rattle.retire_order.specs.Accounts.{Account, after_start, upcoming, with_words}
+use Rattle.retire_order.specs.Retired.{HasRetired, retired_world}
+use Rattle.retire_order.specs.Stores.{MayStore}
+use Rattle.shared_store.specs.declared.view.Lent.{Lent}
+use Rattle.shared_store.specs.declared.view.Top.{Top}
+use Rattle.shared_store.specs.Loans.{FitsBeside, borrower, lender, lent, taken_back}
+use Rattle.shared_store.specs.Seats.{JobView, RootView, StoreId}
+use Rattle.job_runner.specs.Runs.{HasRun, IsReady}
+use Rattle.job_runner.specs.Seen.{free_to_write}
+use Rattle.parallel_dispatch.specs.Flying.{Fly, arrived}
+use Rattle.parallel_dispatch.specs.Made.{JobMakes}
+use Rattle.parallel_dispatch.specs.Moves.{AreCounted, Flying, HasSummary, MayFly, to_do}
+use Rattle.parallel_dispatch.specs.Told.{AreTrue, IsSummaryOf}
+use Rattle.parallel_dispatch.specs.Windows.{View}
+use Rattle.parallel_dispatch.proofs.Issuing.{fits_beside, fly_more, for_job, is_job, upcoming_parts}
+use Rattle.parallel_dispatch.proofs.Retiring.{Leaves, back, done_is, fly_fewer, makes, may_be, may_write_there, some_run, turn_ended}
+
+-- ## One more flies
+
+module _ (x : Exchange) (k : Kept) (kept : IsExchange x) (checked : IsChecked x k) (true_of : AreTrue x k) (books : Account) (root : RootView) (w : View) (start : JobStart) (may : MayFly k books w start) (flying : Flying x k books root w) where
+  entry_there : start.job.entry < length x.entries
+  entry_there = (is_job x k kept checked true_of flying.0 books root.1 w.loans flying.1 start may.next).entry
+
+  -- the number of the next job is one of 64 bits
+  pub number_fits : AreCounted books w → books.state.ended + books.running + 1 < 2 ^ 64
+  number_fits counted = (let few = (upcoming_parts books start may.next).0 in let most = counted.limited in omega (arith, few, most))
+
+  pub has_summary : HasSummary k start
+  has_summary = (let entry = entry_there in let each = checked.by_facts.each_entry in omega (arith, entry, each))
+
+  pub entry_within : (code own : Code) → length x.entries ≤ length code.entries → own ≡ code → start.job.entry < length own.entries
+  entry_within code own le same = subst (λ (c : Code). start.job.entry < length c.entries) (sym same) (let entry = entry_there in omega (arith, entry, le))
+
+  module _ (n : Summary) (told : IsSummaryOf k start n) (p : Permit) (y : Exchange) (same : y ≡ x) (chains : ChainMap) (chains_are : chains ≡ books.state.chains) (reads : (v : ℕ) → (may_read p v ≡ true) ↔ MayRead y n start chains v) (writes : (v : ℕ) → (may_write p v ≡ true) ↔ MayWrite y n start chains v) where
+    reads_here : (v : ℕ) → (may_read p v ≡ true) ↔ MayRead x n start books.state.chains v
+    reads_here = subst (λ (z : Exchange × ChainMap). (v : ℕ) → (may_read p v ≡ true) ↔ MayRead z.0 n start z.1 v) (λ i. (same i, chains_are i)) reads
+
+    writes_here : (v : ℕ) → (may_write p v ≡ true) ↔ MayWrite x n start books.state.chains v
+    writes_here = subst (λ (z : Exchange × ChainMap). (v : ℕ) → (may_write p v ≡ true) ↔ MayWrite z.0 n start z.1 v) (λ i. (same i, chains_are i)) writes
+
+    pub beside : FitsBeside root.1.loans p
+    beside = fits_beside x k kept checked true_of flying.0 books root.1 w.loans flying.1 start may.next n told may.line may.pass p reads_here writes_here
+
+    pub ready : (code own : Code) (store : StoreId) (seat : JobView) (run : Private) → own ≡ code → root.0 ≡ store → seat ≡ (root.0, borrower start p root.1) → run ≡ started own start → IsReady x code store seat run
+    ready code own store seat run code_is home is run_is =
+        subst (λ (z : JobView). IsReady x code store z run) (sym is) (record {
+          home = home;
+          untouched = refl;
+          run_is = run_is ∙ ap (λ (c : Code). started c start) code_is;
+          loan = for_job x k kept checked true_of flying.0 books root.1 w.loans flying.1 start may.next n told may.line may.pass p reads_here writes_here;
+        })
+
+    pub issued : (s : State) (next : Account) (o : Option JobStart) (now : Top) (loans : List Lent) → Fly x k s books root.1 w.loans → o ≡ upcoming books → next ≡ after_start o books → now ≡ lender start p root.1 → loans ≡ w.loans ++ lent root.1 start p ∷ [] → Fly x k s next now loans
+    issued s next o now loans fly is next_is now_is loans_are =
+        let books_are : next ≡ after_start (Some start) books = next_is ∙ ap (λ u. after_start u books) (is ∙ sym may.next) in
+        subst (λ (z : Account × (Top × List Lent)). Fly x k s z.0 z.1.0 z.1.1) (λ i. (sym books_are i, (sym now_is i, sym loans_are i)))
+        (fly_more x k kept checked true_of s books root.1 w.loans fly start may.next n told may.line may.pass p reads_here writes_here)
+
+-- ## The oldest retires
+
+module _ (x : Exchange) (k : Kept) (kept : IsExchange x) (checked : IsChecked x k) (true_of : AreTrue x k) (books : Account) (top : Top) (loans : List Lent) (l : Lent) (rest : List Lent) (loans_are : loans ≡ l ∷ rest) (code : Code) (store : StoreId) (seat : JobView) (run : Private) (has : HasRun x code store l seat run) (start : JobStart) (start_is : start ≡ l.start) (done : JobDone) (leaves : Leaves run done) (y : Exchange) (same : y ≡ x) (mid : Top) (mid_is : mid ≡ taken_back top seat.1) where
+  fly_here : (s : State) → Fly x k s books top loans → Fly x k s books top (l ∷ rest)
+  fly_here s = subst (Fly x k s books top) loans_are
+
+  -- the root has the loan back
+  module _ (s : State) (fly : Fly x k s books top loans) where
+    mid_back : mid ≡ back x k kept checked true_of s books top l rest (fly_here s fly)
+    mid_back = mid_is ∙ ap (λ (v : JobView). taken_back top v.1) has.seat_is
+
+    done_here : done ≡ done_by (job x l.start s.store)
+    done_here = done_is x k kept checked true_of s books top l rest (fly_here s fly) code store seat run done has leaves
+
+    pub makes_here : (steps : ℕ) → steps ≡ run.made → JobMakes code s steps
+    makes_here steps is = subst (JobMakes code s) (sym is) (makes x k kept checked true_of s books top l rest (fly_here s fly) code store seat run has)
+
+    pub runs_here : 0 < books.running
+    runs_here = some_run x k kept checked true_of s books top l rest (fly_here s fly)
+
+    pub be_here : MayBe books.state start.job.forlopp
+    be_here = subst (λ (a : JobStart). MayBe books.state a.job.forlopp) (sym start_is) (may_be x k kept checked true_of s books top l rest (fly_here s fly))
+
+    pub stores_here : MayStore (free_to_write mid) (retired_world y start done books.state mid.values).trace
+    stores_here =
+        subst (λ (z : (Top × JobDone) × (JobStart × Exchange)). MayStore (free_to_write z.0.0) (retired_world z.1.1 z.1.0 z.0.1 books.state z.0.0.values).trace)
+        (λ i. ((sym mid_back i, sym done_here i), (sym start_is i, sym same i)))
+        (may_write_there x k kept checked true_of s books top l rest (fly_here s fly))
+
+  module _ (next last : Account) (words : List ℕ) (told now_told : Option (List Touch)) (retired : HasRetired y start done books next mid.values words told now_told) (last_is : last ≡ record next { state = arrived y next.running next.state }) where
+    module _ (s : State) (fly : Fly x k s books top loans) where
+      retired_here : with_words next.state words ≡ retires x l.start (done_by (job x l.start s.store)) (with_words books.state (back x k kept checked true_of s books top l rest (fly_here s fly)).values)
+      retired_here = retired.state ∙ λ i. retires (same i) (start_is i) (done_here s fly i) (with_words books.state (mid_back s fly i).values)
+
+      pub gone : (now : Top) (left : List Lent) → now.values ≡ words → now.loans ≡ mid.loans → left ≡ rest → Fly x k (turn x s) last now left
+      gone now left values loans_same left_is =
+          subst (λ (z : Account × List Lent). Fly x k (turn x s) z.0 now z.1) (λ i. (sym (last_is ∙ ap (λ e. record next { state = arrived e next.running next.state }) same) i, sym left_is i))
+          (fly_fewer x k kept checked true_of s books top l rest (fly_here s fly) next words retired_here retired.running retired.limit now values (loans_same ∙ ap (λ (t : Top). t.loans) (mid_back s fly)))
+
+    module _ (flying : (s : State) × Fly x k s books top loans) (now : Top) (left : List Lent) (values : now.values ≡ words) (loans_same : now.loans ≡ mid.loans) (left_is : left ≡ rest) where
+      one_ended : last.state.ended ≡ books.state.ended + 1
+      one_ended =
+          let later = gone flying.0 flying.1 now left values loans_same left_is in
+          let before : books.state.ended ≡ flying.0.ended = ap (λ (t : State). t.ended) flying.1.ahead.same in
+          ap (λ (t : State). t.ended) later.ahead.same
+          ∙ turn_ended x k kept checked true_of flying.0 books top l rest (fly_here flying.0 flying.1)
+          ∙ ap (λ n. n + 1) (sym before)
+
+      one_fewer : last.running + 1 ≡ books.running
+      one_fewer = ap (λ (b : Account). b.running + 1) last_is ∙ retired.running
+
+      same_limit : last.limit ≡ books.limit
+      same_limit = ap (λ (b : Account). b.limit) last_is ∙ retired.limit
+
+      pub counted_then : (w v : View) → v.flown ≡ w.flown → AreCounted books w → AreCounted last v
+      counted_then w v flown c =
+          let before = c.flown in
+          let most = c.limited in
+          let ended = one_ended in
+          let runs = one_fewer in
+          let limit = same_limit in
+          record { flown = omega (arith, before, ended, runs, flown); limited = subst (λ n. n ≤ MOST_JOBS) (sym limit) most }
+
+      pub fewer_then : to_do last < to_do books
+      fewer_then =
+          let ended = one_ended in
+          let runs = one_fewer in
+          let limit = same_limit in
+          omega (arith, ended, runs, limit)

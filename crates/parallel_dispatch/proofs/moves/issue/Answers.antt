@@ -1,0 +1,42 @@
+use Rattle.std.proofs.Common.{◌∙◌, ◌++◌, ◌∷◌, [], ap}
+use Rattle.shared_store.specs.Seats.{JobView, RootView}
+use Rattle.parallel_dispatch.specs.Windows.{View}
+use Rattle.parallel_dispatch.proofs.Moving.{beside, entry_within, has_summary, issued, number_fits, ready}
+use Rattle.parallel_dispatch.proofs.moves.issue.Goals as goal
+
+pub summary-requires : goal.summary-requires
+summary-requires g c =
+    let set = c.requires.set in
+    has_summary g.B.Naming.exchange c.args.setting.now.checked.now set.exchange set.checked set.true_of c.args.books.now c.args.root.now c.args.window.now c.args.start c.requires.next c.requires.flying
+
+pub begin-requires : goal.begin-requires
+begin-requires g c =
+    let set = c.requires.set in
+    entry_within g.B.Naming.exchange c.args.setting.now.checked.now set.exchange set.checked set.true_of c.args.books.now c.args.root.now c.args.window.now c.args.start c.requires.next c.requires.flying
+    g.B.Naming.code c.args.setting.now.code.now set.faithful.entries c.requires.named.1
+
+pub number_of_next-job-requires : goal.number_of_next-job-requires
+number_of_next-job-requires g c =
+    let set = c.requires.set in
+    number_fits g.B.Naming.exchange c.args.setting.now.checked.now set.exchange set.checked set.true_of c.args.books.now c.args.root.now c.args.window.now c.args.start c.requires.next c.requires.flying c.requires.counted
+
+pub lend-seat-requires-clause-permit : goal.lend-seat-requires-clause-permit
+lend-seat-requires-clause-permit g c =
+    let set = c.requires.set in
+    beside g.B.Naming.exchange c.args.setting.now.checked.now set.exchange set.checked set.true_of c.args.books.now c.args.root.now c.args.window.now c.args.start c.requires.next c.requires.flying
+    c.summary.result.now c.summary.ensures.it c.in_ok-granted.granted c.args.setting.now.exchange.now c.requires.named.0 c.chains.result.now.chains c.chains.ensures.chains c.in_ok-granted.ensures.reads c.in_ok-granted.ensures.writes
+
+pub push-task-requires-clause-ready : goal.push-task-requires-clause-ready
+push-task-requires-clause-ready g c =
+    let set = c.requires.set in
+    ready g.B.Naming.exchange c.args.setting.now.checked.now set.exchange set.checked set.true_of c.args.books.now c.args.root.now c.args.window.now c.args.start c.requires.next c.requires.flying
+    c.summary.result.now c.summary.ensures.it c.in_ok-granted.granted c.args.setting.now.exchange.now c.requires.named.0 c.chains.result.now.chains c.chains.ensures.chains c.in_ok-granted.ensures.reads c.in_ok-granted.ensures.writes
+    g.B.Naming.code c.args.setting.now.code.now g.B.Naming.store c.lend-seat.result c.begin.new.self c.requires.named.1 c.requires.root c.lend-seat.ensures.seat c.begin.ensures
+
+pub returns-clause-fly : goal.returns-clause-fly
+returns-clause-fly g c = λ s fly.
+    let set = c.requires.set in
+    issued g.B.Naming.exchange c.args.setting.now.checked.now set.exchange set.checked set.true_of c.args.books.now c.args.root.now c.args.window.now c.args.start c.requires.next c.requires.flying
+    c.summary.result.now c.summary.ensures.it c.in_ok-granted.granted c.args.setting.now.exchange.now c.requires.named.0 c.chains.result.now.chains c.chains.ensures.chains c.in_ok-granted.ensures.reads c.in_ok-granted.ensures.writes
+    s _ _ _ _ fly c.next_job-begun.ensures.start c.next_job-begun.ensures.left (ap (λ (r : RootView). r.1) c.lend-seat.ensures.root)
+    (ap (λ (v : View). v.loans) c.push-task.ensures ∙ λ i. ap (λ (v : View). v.loans) c.idle_run.ensures i ++ ap (λ (j : JobView). j.1.lent) c.lend-seat.ensures.seat i ∷ [])

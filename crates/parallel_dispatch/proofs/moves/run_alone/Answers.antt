@@ -1,0 +1,159 @@
+use Rattle.std.proofs.Common.{◌∙◌, refl, sym, ap, subst}
+use Rattle.std.specs.Prelude.{IsSome}
+use Rattle.machine_code.specs.declared.code.Code.{Code}
+use Rattle.exchange_run.specs.Runs.{left_by}
+use Rattle.register_machine.specs.Private.{Private}
+use Rattle.shared_store.specs.Seats.{RootView}
+use Rattle.parallel_dispatch.specs.Made.{RunMakes}
+use Rattle.parallel_dispatch.specs.Windows.{View}
+use Rattle.parallel_dispatch.proofs.Alone.{counted_alone, done_alone, entry_alone, faithful_here, fewer_alone, gone_alone, is_next, lent_nothing, limit_alone, makes_alone, may_be_here, may_run_here, number_fits, one_runs, stores_alone}
+use Rattle.parallel_dispatch.proofs.moves.run_alone.Goals as goal
+
+pub number_of_next-job-requires : goal.number_of_next-job-requires
+number_of_next-job-requires g c =
+    let x = c.args.setting.now.exchange.now in
+    let k = c.args.setting.now.checked.now in
+    let old = c.args.books.now in
+    let top = c.args.root.1 in
+    let n = is_next g.B.Naming.exchange x k old top c.args.window.now c.args.start c.requires.named.0 c.requires.set.exchange c.requires.next c.requires.goes_on c.requires.flying in
+    number_fits x k old top c.args.start n c.requires.counted.limited
+
+pub begin-requires : goal.begin-requires
+begin-requires g c =
+    let x = c.args.setting.now.exchange.now in
+    let k = c.args.setting.now.checked.now in
+    let old = c.args.books.now in
+    let top = c.args.root.1 in
+    let n = is_next g.B.Naming.exchange x k old top c.args.window.now c.args.start c.requires.named.0 c.requires.set.exchange c.requires.next c.requires.goes_on c.requires.flying in
+    entry_alone x k old top c.args.start n c.args.setting.now.code.now (faithful_here g.B.Naming.exchange g.B.Naming.code x c.args.setting.now.code.now c.requires.named.0 c.requires.named.1 c.requires.set.faithful)
+
+pub run_on_root-root-requires-clause-faithful : goal.run_on_root-root-requires-clause-faithful
+run_on_root-root-requires-clause-faithful g c =
+    let x = c.args.setting.now.exchange.now in
+    let k = c.args.setting.now.checked.now in
+    let old = c.args.books.now in
+    let top = c.args.root.1 in
+    let n = is_next g.B.Naming.exchange x k old top c.args.window.now c.args.start c.requires.named.0 c.requires.set.exchange c.requires.next c.requires.goes_on c.requires.flying in
+    faithful_here g.B.Naming.exchange g.B.Naming.code x c.args.setting.now.code.now c.requires.named.0 c.requires.named.1 c.requires.set.faithful
+
+pub run_on_root-root-requires-clause-bare : goal.run_on_root-root-requires-clause-bare
+run_on_root-root-requires-clause-bare g c =
+    let x = c.args.setting.now.exchange.now in
+    let k = c.args.setting.now.checked.now in
+    let old = c.args.books.now in
+    let top = c.args.root.1 in
+    let n = is_next g.B.Naming.exchange x k old top c.args.window.now c.args.start c.requires.named.0 c.requires.set.exchange c.requires.next c.requires.goes_on c.requires.flying in
+    lent_nothing x k old top c.args.start n
+
+pub run_on_root-root-requires-clause-start : goal.run_on_root-root-requires-clause-start
+run_on_root-root-requires-clause-start g c =
+    let x = c.args.setting.now.exchange.now in
+    let k = c.args.setting.now.checked.now in
+    let old = c.args.books.now in
+    let top = c.args.root.1 in
+    let n = is_next g.B.Naming.exchange x k old top c.args.window.now c.args.start c.requires.named.0 c.requires.set.exchange c.requires.next c.requires.goes_on c.requires.flying in
+    may_run_here x k old top c.args.start n
+
+pub done-done-requires : goal.done-done-requires
+done-done-requires g c =
+    subst (λ o. IsSome o) (sym (ap (λ (r : Private). r.over) c.deref-2.ensures ∙ c.run_on_root-root.ensures.ran.leaves.over)) refl
+
+pub retire-retired-requires-clause-running : goal.retire-retired-requires-clause-running
+retire-retired-requires-clause-running g c =
+    let x = c.args.setting.now.exchange.now in
+    let k = c.args.setting.now.checked.now in
+    let old = c.args.books.now in
+    let top = c.args.root.1 in
+    let n = is_next g.B.Naming.exchange x k old top c.args.window.now c.args.start c.requires.named.0 c.requires.set.exchange c.requires.next c.requires.goes_on c.requires.flying in
+    one_runs x k old top c.args.start n c.next_job-begun.result c.next_job-begun.new.self c.next_job-begun.ensures.start c.next_job-begun.ensures.left
+
+pub retire-retired-requires-clause-forlopp : goal.retire-retired-requires-clause-forlopp
+retire-retired-requires-clause-forlopp g c =
+    let x = c.args.setting.now.exchange.now in
+    let k = c.args.setting.now.checked.now in
+    let old = c.args.books.now in
+    let top = c.args.root.1 in
+    let n = is_next g.B.Naming.exchange x k old top c.args.window.now c.args.start c.requires.named.0 c.requires.set.exchange c.requires.next c.requires.goes_on c.requires.flying in
+    may_be_here x k old top c.args.start n c.next_job-begun.result c.next_job-begun.new.self c.next_job-begun.ensures.start c.next_job-begun.ensures.left
+
+pub retire-retired-requires-clause-words : goal.retire-retired-requires-clause-words
+retire-retired-requires-clause-words g c =
+    let x = c.args.setting.now.exchange.now in
+    let k = c.args.setting.now.checked.now in
+    let old = c.args.books.now in
+    let top = c.args.root.1 in
+    let n = is_next g.B.Naming.exchange x k old top c.args.window.now c.args.start c.requires.named.0 c.requires.set.exchange c.requires.next c.requires.goes_on c.requires.flying in
+    let ran = c.run_on_root-root.ensures.ran in
+    let done = done_alone c.run_on_root-root.new.run c.done-done.result.now (left_by x c.args.start top.values) ran.leaves (c.done-done.ensures.sends ∙ ap (λ (r : Private). r.own.sends) c.deref-2.ensures) (c.done-done.ensures.chain ∙ ap (λ (r : Private). r.own.chain) c.deref-2.ensures) (c.done-done.ensures.outcome ∙ ap (λ (r : Private). r.over) c.deref-2.ensures) in
+    let mid = ap (λ (r : RootView). r.1) c.new-words.ensures.root ∙ ran.root_is in
+    stores_alone x k old top c.args.start n c.next_job-begun.result c.next_job-begun.new.self c.next_job-begun.ensures.start c.next_job-begun.ensures.left
+    c.done-done.result.now done c.new-words.result.root.1 mid
+
+pub returns-clause-fly : goal.returns-clause-fly
+returns-clause-fly g c = λ s fly.
+    let x = c.args.setting.now.exchange.now in
+    let k = c.args.setting.now.checked.now in
+    let old = c.args.books.now in
+    let top = c.args.root.1 in
+    let n = is_next g.B.Naming.exchange x k old top c.args.window.now c.args.start c.requires.named.0 c.requires.set.exchange c.requires.next c.requires.goes_on c.requires.flying in
+    let ran = c.run_on_root-root.ensures.ran in
+    let done = done_alone c.run_on_root-root.new.run c.done-done.result.now (left_by x c.args.start top.values) ran.leaves (c.done-done.ensures.sends ∙ ap (λ (r : Private). r.own.sends) c.deref-2.ensures) (c.done-done.ensures.chain ∙ ap (λ (r : Private). r.own.chain) c.deref-2.ensures) (c.done-done.ensures.outcome ∙ ap (λ (r : Private). r.over) c.deref-2.ensures) in
+    let mid = ap (λ (r : RootView). r.1) c.new-words.ensures.root ∙ ran.root_is in
+    gone_alone x k old top c.args.start n c.next_job-begun.result c.next_job-begun.new.self c.next_job-begun.ensures.start c.next_job-begun.ensures.left
+    c.done-done.result.now done c.new-words.result.root.1 mid
+    c.retire-retired.new.self c.arrive.new.books c.retire-retired.new.words.root.1.values _ _ c.in_ok-retired.ensures.retired c.in_ok-arrive.ensures
+    g.B.Naming.exchange c.args.window.now.loans c.keep_run.new.self.loans s c.into_root-root.result.1 c.requires.named.0 c.requires.next.alone (ap (λ (v : View). v.loans) (c.keep_run.ensures ∙ c.idle_run.ensures)) fly
+    (ap (λ (r : RootView). r.1.values) c.into_root-root.ensures) (ap (λ (r : RootView). r.1.loans) c.into_root-root.ensures ∙ sym c.in_ok-retired.ensures.like.1)
+
+pub returns-clause-steps : goal.returns-clause-steps
+returns-clause-steps g c = λ s fly.
+    let x = c.args.setting.now.exchange.now in
+    let k = c.args.setting.now.checked.now in
+    let old = c.args.books.now in
+    let top = c.args.root.1 in
+    let n = is_next g.B.Naming.exchange x k old top c.args.window.now c.args.start c.requires.named.0 c.requires.set.exchange c.requires.next c.requires.goes_on c.requires.flying in
+    makes_alone x k old top c.args.start n g.B.Naming.exchange c.args.window.now.loans g.B.Naming.code s c.run_on_root-root.new.run.made c.steps-steps.result c.requires.named.0 c.requires.next.alone fly
+    (subst (λ (z : Code). RunMakes z c.args.start top.values c.run_on_root-root.new.run.made) c.requires.named.1 c.run_on_root-root.ensures.ran.makes) (c.steps-steps.ensures ∙ ap (λ (r : Private). r.made) c.deref.ensures)
+
+pub returns-clause-limit : goal.returns-clause-limit
+returns-clause-limit g c =
+    let x = c.args.setting.now.exchange.now in
+    let k = c.args.setting.now.checked.now in
+    let old = c.args.books.now in
+    let top = c.args.root.1 in
+    let n = is_next g.B.Naming.exchange x k old top c.args.window.now c.args.start c.requires.named.0 c.requires.set.exchange c.requires.next c.requires.goes_on c.requires.flying in
+    let ran = c.run_on_root-root.ensures.ran in
+    let done = done_alone c.run_on_root-root.new.run c.done-done.result.now (left_by x c.args.start top.values) ran.leaves (c.done-done.ensures.sends ∙ ap (λ (r : Private). r.own.sends) c.deref-2.ensures) (c.done-done.ensures.chain ∙ ap (λ (r : Private). r.own.chain) c.deref-2.ensures) (c.done-done.ensures.outcome ∙ ap (λ (r : Private). r.over) c.deref-2.ensures) in
+    let mid = ap (λ (r : RootView). r.1) c.new-words.ensures.root ∙ ran.root_is in
+    limit_alone x k old top c.args.start n c.next_job-begun.result c.next_job-begun.new.self c.next_job-begun.ensures.start c.next_job-begun.ensures.left
+    c.done-done.result.now done c.new-words.result.root.1 mid
+    c.retire-retired.new.self c.arrive.new.books c.retire-retired.new.words.root.1.values _ _ c.in_ok-retired.ensures.retired c.in_ok-arrive.ensures
+
+pub returns-clause-counted : goal.returns-clause-counted
+returns-clause-counted g c =
+    let x = c.args.setting.now.exchange.now in
+    let k = c.args.setting.now.checked.now in
+    let old = c.args.books.now in
+    let top = c.args.root.1 in
+    let n = is_next g.B.Naming.exchange x k old top c.args.window.now c.args.start c.requires.named.0 c.requires.set.exchange c.requires.next c.requires.goes_on c.requires.flying in
+    let ran = c.run_on_root-root.ensures.ran in
+    let done = done_alone c.run_on_root-root.new.run c.done-done.result.now (left_by x c.args.start top.values) ran.leaves (c.done-done.ensures.sends ∙ ap (λ (r : Private). r.own.sends) c.deref-2.ensures) (c.done-done.ensures.chain ∙ ap (λ (r : Private). r.own.chain) c.deref-2.ensures) (c.done-done.ensures.outcome ∙ ap (λ (r : Private). r.over) c.deref-2.ensures) in
+    let mid = ap (λ (r : RootView). r.1) c.new-words.ensures.root ∙ ran.root_is in
+    counted_alone x k old top c.args.start n c.next_job-begun.result c.next_job-begun.new.self c.next_job-begun.ensures.start c.next_job-begun.ensures.left
+    c.done-done.result.now done c.new-words.result.root.1 mid
+    c.retire-retired.new.self c.arrive.new.books c.retire-retired.new.words.root.1.values _ _ c.in_ok-retired.ensures.retired c.in_ok-arrive.ensures
+    c.args.window.now c.keep_run.new.self (c.keep_run.ensures ∙ c.idle_run.ensures) c.requires.counted
+
+pub returns-clause-fewer : goal.returns-clause-fewer
+returns-clause-fewer g c =
+    let x = c.args.setting.now.exchange.now in
+    let k = c.args.setting.now.checked.now in
+    let old = c.args.books.now in
+    let top = c.args.root.1 in
+    let n = is_next g.B.Naming.exchange x k old top c.args.window.now c.args.start c.requires.named.0 c.requires.set.exchange c.requires.next c.requires.goes_on c.requires.flying in
+    let ran = c.run_on_root-root.ensures.ran in
+    let done = done_alone c.run_on_root-root.new.run c.done-done.result.now (left_by x c.args.start top.values) ran.leaves (c.done-done.ensures.sends ∙ ap (λ (r : Private). r.own.sends) c.deref-2.ensures) (c.done-done.ensures.chain ∙ ap (λ (r : Private). r.own.chain) c.deref-2.ensures) (c.done-done.ensures.outcome ∙ ap (λ (r : Private). r.over) c.deref-2.ensures) in
+    let mid = ap (λ (r : RootView). r.1) c.new-words.ensures.root ∙ ran.root_is in
+    fewer_alone x k old top c.args.start n c.next_job-begun.result c.next_job-begun.new.self c.next_job-begun.ensures.start c.next_job-begun.ensures.left
+    c.done-done.result.now done c.new-words.result.root.1 mid
+    c.retire-retired.new.self c.arrive.new.books c.retire-retired.new.words.root.1.values _ _ c.in_ok-retired.ensures.retired c.in_ok-arrive.ensures

@@ -1,0 +1,23 @@
+-- The end of the run.
+use Rattle.std.specs.Prelude.{◌≡◌, ℕ, List, Some}
+use Rattle.machine_code.specs.declared.code.Code.{Code}
+use Rattle.exchange_model.specs.declared.exchange.Exchange.{Exchange}
+use Rattle.source_meaning.specs.SingleRun.{Ending, end_state, ending_at, jobs_at_end}
+use Rattle.source_meaning.specs.State.{State}
+use Rattle.retire_order.specs.Accounts.{with_words}
+use Rattle.shared_store.specs.Loans.{unlent}
+use Rattle.shared_store.specs.Seats.{RootView, StoreId}
+use Rattle.parallel_dispatch.specs.Made.{AllMake}
+
+-- the books and the words are those in which the single run ends that begins in this first state, this is how it ends, and so many
+-- instructions were made by the runs of its jobs, modulo 2^64
+pub record EndsAs (x : Exchange) (code : Code) (first : State) (limit : ℕ) (books : State) (words : List ℕ) (ending : Ending) (steps : ℕ) : Type 0 where
+  pub state : with_words books words ≡ end_state x limit first
+  pub ends : ending_at limit (end_state x limit first) ≡ Some ending
+  pub made : AllMake x code first (jobs_at_end x limit first) steps
+
+-- the same with the words of a root, which is that of the store and has lent nothing
+pub record IsOver (x : Exchange) (code : Code) (store : StoreId) (first : State) (limit : ℕ) (books : State) (root : RootView) (ending : Ending) (steps : ℕ) : Type 0 where
+  pub home : root.0 ≡ store
+  pub bare : root.1 ≡ unlent root.1.values
+  pub ends : EndsAs x code first limit books root.1.values ending steps

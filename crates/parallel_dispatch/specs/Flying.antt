@@ -1,0 +1,73 @@
+-- Jobs that fly: they were lent their words and have not retired. They stand beside a state of the single run, the one in which the
+-- oldest of them is next, and are a window of it.
+use Rattle.std.specs.Prelude.{◌≡◌, ℕ, zero, suc, ◌+◌, ◌<◌, ◌≤◌, true, List, [], ◌∷◌, length, map, None}
+use Rattle.std.specs.List.{AllByRecursion}
+use Rattle.job_types.specs.declared.job.JobStart.{JobStart}
+use Rattle.machine_code.specs.declared.code.Code.{Code}
+use Rattle.machine_code.specs.Permits.{may_read, may_write}
+use Rattle.exchange_model.specs.declared.exchange.Exchange.{Exchange}
+use Rattle.source_meaning.specs.Arrivals.{arrivals}
+use Rattle.source_meaning.specs.SingleRun.{after, ending_at}
+use Rattle.source_meaning.specs.State.{State}
+use Rattle.source_meaning.specs.Traces.{AgreeOn, trace_of}
+use Rattle.source_meaning.specs.Valid.{IsValid}
+use Rattle.entry_summary.specs.declared.summary.Summary.{Summary}
+use Rattle.start_permit.specs.Granted.{MayRead, MayWrite}
+use Rattle.checked.specs.Kept.{Kept}
+use Rattle.order_laws.specs.Books.{AreAhead}
+use Rattle.retire_order.specs.Accounts.{Account, with_words}
+use Rattle.shared_store.specs.declared.view.Lent.{Lent}
+use Rattle.shared_store.specs.declared.view.Top.{Top}
+use Rattle.shared_store.specs.Loans.{Has}
+use Rattle.parallel_dispatch.specs.Made.{AllMake}
+use Rattle.parallel_dispatch.specs.Told.{IsSummaryOf, PassBy}
+
+-- what the jobs of these loans start with
+abbrev pub starts_of : List Lent → List JobStart
+starts_of loans = map (λ (l : Lent). l.start) loans
+
+-- the loan of a job in this state: the words that the job touches are still as they were lent, and the permit lets touch no more than
+-- the summary of its entry lets the job touch in this state
+pub record IsLent (x : Exchange) (k : Kept) (s : State) (l : Lent) : Type 0 where
+  pub summary : Summary
+  pub told : IsSummaryOf k l.start summary
+  pub same : AgreeOn (trace_of x l.start l.base) l.base s.store
+  pub reads : (w : ℕ) → may_read l.permit w ≡ true → MayRead x summary l.start s.chains w
+  pub writes : (w : ℕ) → may_write l.permit w ≡ true → MayWrite x summary l.start s.chains w
+
+-- each older one passes with each younger one, the oldest first
+abbrev pub AllPass : Kept → List JobStart → Type 0
+AllPass k [] = Unit {0}
+AllPass k (older ∷ rest) = AllByRecursion (PassBy k older) rest × AllPass k rest
+
+-- those that have ended and those that fly are within the limit; where none flies nothing is asked
+abbrev pub AreWithin : ℕ → ℕ → List Lent → Type 0
+AreWithin limit ended [] = Unit {0}
+AreWithin limit ended (l ∷ rest) = ended + length (l ∷ rest) ≤ limit
+
+-- the jobs of these loans, the oldest first, have begun in the books, and their words are lent by the root: books and root are those
+-- of this state of the single run
+pub record Fly (x : Exchange) (k : Kept) (s : State) (books : Account) (top : Top) (loans : List Lent) : Type 0 where
+  pub valid : IsValid x s
+  pub values : top.values ≡ s.store
+  pub ahead : AreAhead x s (starts_of loans) (with_words books.state s.store)
+  pub running : books.running ≡ length loans
+  pub within : AreWithin books.limit s.ended loans
+  pub lent : AllByRecursion (IsLent x k s) loans
+  pub pass : AllPass k (starts_of loans)
+  pub listed : (l : Lent) → Has top.loans l → Has loans l
+
+-- the state once lines may arrive, where so many jobs fly: they arrive where none does
+abbrev pub arrived : Exchange → ℕ → State → State
+arrived x zero s = arrivals x s
+arrived x (suc n) s = s
+
+-- so many jobs of the single run from a first state have retired, which made so many instructions, and it was not over before
+pub record Stand (x : Exchange) (k : Kept) (code : Code) (first : State) (limit : ℕ) (books : Account) (top : Top) (loans : List Lent) (steps : ℕ) : Type 0 where
+  pub retired : ℕ
+  pub fly : Fly x k (after x first retired) books top loans
+  pub limited : books.limit ≡ limit
+  pub few : retired ≤ limit
+  pub counted : retired ≤ (after x first retired).ended
+  pub goes_on : (n : ℕ) → n < retired → ending_at limit (after x first n) ≡ None
+  pub made : AllMake x code first retired steps

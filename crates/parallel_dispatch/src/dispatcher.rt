@@ -1,0 +1,116 @@
+// The public call.
+ghost use Rattle.std.specs.Prelude.{◌≡◌, ◌<◌, ◌≤◌, [], length, IfOk};
+ghost use Rattle.plex_limits.specs.declared.limits.TheConstants.{MOST_JOBS};
+ghost use Rattle.register_machine.specs.Faithful.{Faithful};
+ghost use Rattle.retire_order.specs.Accounts.{with_words};
+ghost use Rattle.retire_order.specs.Events.{ending_of};
+ghost use Rattle.shared_store.specs.Loans.{unlent};
+ghost use Rattle.source_meaning.specs.Valid.{IsValid};
+ghost use Rattle.store_layout.specs.Laid.{IsLayout};
+ghost use Rattle.checked.specs.Kept.{IsChecked};
+ghost use Rattle.parallel_dispatch.specs.Ends.{EndsAs};
+
+use crate::driving::Over;
+use crate::setting::Setting;
+use crate::threads::run_named;
+use checked::Checked;
+use exchange_model::Exchange;
+use machine_code::Code;
+use plex_io::Gate;
+use plex_num::{Memory, Seq};
+use retire_order::{Books, Ending};
+use shared_store::{RootSeat, SharedStore};
+use start_permit::table_of;
+use std::alloc::Global;
+use std::marker::Brand;
+use std::sync::Wait;
+use std::thread::Threads;
+use store_layout::Layout;
+use ticket_book::TicketBook;
+
+/// The end of a run: the books, the stored words, one for each cell, how it ended, and the number of instructions that the runs of its
+/// jobs made, modulo 2^64.
+#[derive(Drop)]
+pub struct Ended {
+    pub books: Books,
+    pub words: Seq<u32>,
+    pub ending: Ending,
+    pub steps: u64,
+}
+
+/// Runs the jobs of an exchange to the end of the single run, with so many at once at most, each job alone or beside those with which
+/// it passes all tests. What comes out is what the single run comes to, whatever the threads do: its books, its words, how it ended,
+/// and how many instructions its jobs made. No job may run in the books, the root must be that of the store and have lent nothing, and
+/// books and root must stand for a valid state. Memory is the only reason for an error, and no job runs any more then.
+pub fn dispatch<R: Threads + Wait + Sync, G: Gate + Sync>(
+    rt: &R,
+    alloc: Global,
+    exchange: &Exchange,
+    layout: &Layout,
+    code: &Code,
+    checked: &Checked,
+    books: Books,
+    store: SharedStore,
+    root: RootSeat,
+    workers: u32,
+    gate: &G,
+) -> Result<Ended, Memory>
+    requires workers { 0 < workers }
+    requires nobody { books.running ≡ 0 }
+    requires limit { books.limit ≤ MOST_JOBS }
+    requires root { root ≡ (store, unlent root.1.values) }
+    requires layout { IsLayout exchange.now.blocks layout.now }
+    requires faithful { Faithful exchange.now code.now }
+    requires checked { IsChecked exchange.now checked.now }
+    requires valid { IsValid exchange.now (with_words books.state root.1.values) }
+    ensures { IfOk result (λ end. EndsAs exchange.now code.now
+        (with_words books.state root.1.values) books.limit
+        end.books.state end.words (ending_of end.ending) end.steps) }
+{
+    exchange.kept();
+    let table = table_of(alloc, exchange)?;
+    let (book, pen) = TicketBook::new(alloc)?;
+    let setting = Setting {
+        alloc,
+        exchange,
+        layout,
+        table: &table,
+        code,
+        checked,
+        store: &store,
+        book: &book,
+    };
+    let (books, over) = run_named::<Brand, R, G>(rt, &setting, gate, books, root, pen, workers)?;
+    let Over {
+        root,
+        ending,
+        steps,
+    } = over;
+    let words = words_of(alloc, &store, root, layout.words())?;
+    Ok(Ended {
+        books,
+        words,
+        ending,
+        steps,
+    })
+}
+
+/// The words of a store, of which this is the root, that has lent nothing.
+fn words_of(
+    alloc: Global,
+    store: &SharedStore,
+    root: RootSeat,
+    cells: u32,
+) -> Result<Seq<u32>, Memory>
+    requires store { root.0 ≡ store.now }
+    requires bare { root.1 ≡ unlent root.1.values }
+    requires cells { length root.1.values ≡ cells }
+    ensures { IfOk result (λ words. words ≡ root.1.values) }
+{
+    let mut root = root;
+    let mut words = Seq::new(alloc);
+    for word in 0..cells {
+        words.push(store.root_load(&mut root, word))?;
+    }
+    Ok(words)
+}

@@ -1,0 +1,340 @@
+// The moves of the dispatcher: the next job runs alone, or it flies, or the oldest that flies retires.
+ghost use Rattle.std.specs.Prelude.{◌≡◌, ◌+◌, ◌<◌, ◌≤◌, ◌^◌, [], length, Some, None, IsTrue, OnOk, IfOk};
+ghost use Rattle.std.specs.List.{AllByRecursion};
+ghost use Rattle.job_types.specs.declared.job.JobStart.{JobStart as StartType};
+ghost use Rattle.exchange_run.specs.Runs.{MayRun};
+ghost use Rattle.order_laws.specs.Keeps.{NoLineBefore};
+ghost use Rattle.register_machine.specs.Faithful.{Faithful, started};
+ghost use Rattle.retire_order.specs.Accounts.{next_count, upcoming};
+ghost use Rattle.source_meaning.specs.SingleRun.{ending_at, turn};
+ghost use Rattle.source_meaning.specs.State.{State, Coming};
+ghost use Rattle.parallel_dispatch.specs.Flying.{Fly, arrived, starts_of};
+ghost use Rattle.parallel_dispatch.specs.Made.{HasRunAlone, JobMakes};
+ghost use Rattle.parallel_dispatch.specs.Moves.{AreCounted, AreOf, Flying, HasSummary, MayFly, MayMove, MayRunAlone, to_do};
+
+use crate::pace::Pace;
+use crate::setting::Setting;
+use crate::window::{Oldest, Window};
+use exchange_model::Exchange;
+use interference_check::PairTable;
+use job_runner::RootWords;
+use job_types::JobStart;
+use machine_code::Code;
+use plex_io::{Gate, Place};
+use plex_num::Memory;
+use register_machine::{JobRun, run_to_end};
+use retire_order::{Books, let_arrive};
+use shared_store::{RootSeat, SharedStore};
+use start_permit::permit;
+use std::sync::Wait;
+use worker_pool::{Naming, Shop};
+
+/// What the dispatcher does next.
+#[derive(Drop)]
+pub(crate) enum Move {
+    /// The next job runs to its end on the root's own words, and retires.
+    RunAlone(JobStart),
+    /// The next job is lent its words, and flies.
+    Issue(JobStart),
+    /// The oldest job that flies retires.
+    Retire,
+}
+
+/// A job that has retired: the root of the store, and how many instructions its run made, modulo 2^64.
+#[derive(Drop)]
+pub(crate) struct Retired {
+    pub root: RootSeat,
+    pub steps: u64,
+}
+
+/// The next move. Where none flies the next job runs alone, or flies where it is worth a loan; beside others it flies where it may,
+/// and else the oldest retires.
+#[tactic(auto, using(crate::proofs::Choosing::may_run_alone, crate::proofs::Choosing::may_fly_alone, crate::proofs::Choosing::may_fly_beside, crate::proofs::Choosing::some_fly))]
+pub(crate) fn next_move<B: Naming>(
+    books: &Books,
+    window: &Window<B>,
+    pairs: &PairTable<'_>,
+    worth_a_loan: bool,
+) -> Move
+    requires room { 0 < window.now.room }
+    requires line { window.now.loans ≡ []
+        → NoLineBefore (books.now.state.ended + 1) books.now.state.lines }
+    requires next { (start : StartType)
+        → Some start ≡ upcoming books.now → HasSummary pairs.now start }
+    requires window { AllByRecursion (HasSummary pairs.now) (starts_of window.now.loans) }
+    ensures { MayMove pairs.now books.now window.now result }
+{
+    let Some(start) = books.peek() else {
+        return Move::Retire;
+    };
+    if window.len() == 0 {
+        if worth_a_loan {
+            return Move::Issue(start);
+        }
+        return Move::RunAlone(start);
+    }
+    if window.len() >= window.room() || !retire_before_line(books, window.len()) {
+        return Move::Retire;
+    }
+    if window.lets_pass(pairs, &start) {
+        return Move::Issue(start);
+    }
+    Move::Retire
+}
+
+/// Whether so many jobs and one more have retired before the next line comes.
+#[tactic(auto, using(crate::proofs::Choosing::line_before, crate::proofs::Choosing::no_line))]
+fn retire_before_line(books: &Books, flying: usize) -> bool
+    ensures { IsTrue result
+        → NoLineBefore (books.now.state.ended + flying + 1) books.now.state.lines }
+{
+    match books.lines_wait() {
+        Some(count) => is_sum_below(books.ended(), flying as u64, u64::from(count)),
+        None => true,
+    }
+}
+
+/// Whether two numbers together are below a third.
+fn is_sum_below(a: u64, b: u64, most: u64) -> bool
+    ensures { IsTrue result → a + b < most }
+{
+    a <= most && b < most - a
+}
+
+/// The number of the next job in the single run, from 1.
+fn number_of_next(books: &Books) -> u64
+    requires { books.now.state.ended + books.now.running + 1 < 2 ^ 64 }
+    ensures { result ≡ books.now.state.ended + books.now.running + 1 }
+{
+    books.ended() + books.running() + 1
+}
+
+/// One more job flies, which may.
+pub(crate) fn issue<B: Naming, R: Wait>(
+    rt: &R,
+    setting: &Setting<'_>,
+    shop: &Shop<B>,
+    books: &mut Books,
+    root: &mut RootSeat,
+    window: &mut Window<B>,
+    start: JobStart,
+) -> Result<(), Memory>
+    requires named { (setting.now.exchange.now ≡ B.exchange)
+        × (setting.now.code.now ≡ B.code) × (setting.now.store.now ≡ B.store)
+        × (setting.now.book.now ≡ B.book) }
+    requires set { AreOf B.exchange setting.now.layout.now setting.now.table.now B.code
+        setting.now.checked.now }
+    requires root { root.old.0 ≡ B.store }
+    requires counted { AreCounted books.old window.old }
+    requires next { MayFly setting.now.checked.now books.old window.old start }
+    requires flying { Flying B.exchange setting.now.checked.now books.old root.old window.old }
+    ensures fly { OnOk result ((s : State)
+        → Fly B.exchange setting.now.checked.now s books.old root.old.1 window.old.loans
+        → Fly B.exchange setting.now.checked.now s books.new root.new.1 window.new.loans) }
+    ensures root { root.new.0 ≡ B.store }
+    ensures limit { OnOk result (books.new.limit ≡ books.old.limit) }
+    ensures room { window.new.room ≡ window.old.room }
+    ensures counted { OnOk result (AreCounted books.new window.new) }
+    ensures fewer { OnOk result (to_do books.new < to_do books.old) }
+{
+    let entry = start.job.entry;
+    let granted = permit(
+        setting.alloc,
+        setting.exchange,
+        setting.table,
+        setting.checked.summary(entry),
+        setting.layout,
+        books.chains(),
+        &start,
+    )?;
+    let mut run = window.idle_run(setting.alloc)?;
+    run.begin(setting.code, &start);
+    let job = number_of_next(books);
+    let _begun = books.next_job();
+    let seat = setting.store.lend(root, &start, granted);
+    let task = window.push(setting.book, seat, run, start, job);
+    shop.bring(rt, task);
+    Ok(())
+}
+
+/// The next job runs to its end on the root's own words, where none flies. It retires at once, and what is due arrives.
+pub(crate) fn run_alone<B: Naming, G: Gate>(
+    setting: &Setting<'_>,
+    shop: &Shop<B>,
+    gate: &G,
+    pace: &mut Pace,
+    books: &mut Books,
+    root: RootSeat,
+    window: &mut Window<B>,
+    start: JobStart,
+) -> Result<Retired, Memory>
+    requires named { (setting.now.exchange.now ≡ B.exchange)
+        × (setting.now.code.now ≡ B.code) × (setting.now.store.now ≡ B.store)
+        × (setting.now.book.now ≡ B.book) }
+    requires set { AreOf B.exchange setting.now.layout.now setting.now.table.now B.code
+        setting.now.checked.now }
+    requires root { root.0 ≡ B.store }
+    requires counted { AreCounted books.old window.old }
+    requires next { MayRunAlone books.old window.old start }
+    requires goes_on { ending_at books.old.limit books.old.state ≡ None }
+    requires flying { Flying B.exchange setting.now.checked.now books.old root window.old }
+    ensures fly { IfOk result (λ back. (s : State)
+        → Fly B.exchange setting.now.checked.now s books.old root.1 window.old.loans
+        → Fly B.exchange setting.now.checked.now (turn B.exchange s) books.new back.root.1 window.new.loans) }
+    ensures steps { IfOk result (λ back. (s : State)
+        → Fly B.exchange setting.now.checked.now s books.old root.1 window.old.loans
+        → JobMakes B.code s back.steps) }
+    ensures root { IfOk result (λ back. back.root.0 ≡ B.store) }
+    ensures limit { OnOk result (books.new.limit ≡ books.old.limit) }
+    ensures window { window.new ≡ window.old }
+    ensures counted { OnOk result (AreCounted books.new window.new) }
+    ensures fewer { OnOk result (to_do books.new < to_do books.old) }
+{
+    let job = number_of_next(books);
+    let mut run = window.idle_run(setting.alloc)?;
+    run.begin(setting.code, &start);
+    let _begun = books.next_job();
+    gate.at(job, Place::Before);
+    let root = run_on_root(
+        setting.exchange,
+        setting.code,
+        setting.store,
+        root,
+        &mut run,
+        &start,
+    );
+    let steps = run.steps();
+    gate.at(job, Place::After { steps });
+    shop.note(steps);
+    let done = run.done();
+    pace.retires(&start, done);
+    let mut words = RootWords::new(setting.store, root);
+    let retired = books.retire(setting.exchange, setting.layout, &start, done, &mut words);
+    let root = words.into_root();
+    window.keep_run(run);
+    retired?;
+    arrive(books, setting.exchange)?;
+    Ok(Retired { root, steps })
+}
+
+/// Runs a job to its end on the words of a root that has lent nothing.
+fn run_on_root(
+    exchange: &Exchange,
+    code: &Code,
+    store: &SharedStore,
+    root: RootSeat,
+    run: &mut JobRun,
+    start: &JobStart,
+) -> RootSeat
+    requires faithful { Faithful exchange.now code.now }
+    requires root { root.0 ≡ store.now }
+    requires bare { root.1.loans ≡ [] }
+    requires start { MayRun exchange.now start.now root.1.values }
+    requires run { run.old ≡ started code.now start.now }
+    ensures root { result.0 ≡ root.0 }
+    ensures ran { HasRunAlone exchange.now code.now start.now root.1.values run.new result.1 }
+{
+    exchange.kept();
+    let _ = start;
+    let mut words = RootWords::new(store, root);
+    run_to_end(exchange, run, code, &mut words);
+    words.into_root()
+}
+
+/// The oldest job retires, once it has come to its end, and what is due arrives where no job is left. There must be one.
+pub(crate) fn retire<B: Naming, R: Wait, G: Gate>(
+    rt: &R,
+    setting: &Setting<'_>,
+    shop: &Shop<B>,
+    gate: &G,
+    pace: &mut Pace,
+    books: &mut Books,
+    root: RootSeat,
+    window: &mut Window<B>,
+) -> Result<Retired, Memory>
+    requires named { (setting.now.exchange.now ≡ B.exchange)
+        × (setting.now.code.now ≡ B.code) × (setting.now.store.now ≡ B.store)
+        × (setting.now.book.now ≡ B.book) }
+    requires set { AreOf B.exchange setting.now.layout.now setting.now.table.now B.code
+        setting.now.checked.now }
+    requires root { root.0 ≡ B.store }
+    requires counted { AreCounted books.old window.old }
+    requires some { 0 < length window.old.loans }
+    requires flying { Flying B.exchange setting.now.checked.now books.old root window.old }
+    ensures fly { IfOk result (λ back. (s : State)
+        → Fly B.exchange setting.now.checked.now s books.old root.1 window.old.loans
+        → Fly B.exchange setting.now.checked.now (turn B.exchange s) books.new back.root.1 window.new.loans) }
+    ensures steps { IfOk result (λ back. (s : State)
+        → Fly B.exchange setting.now.checked.now s books.old root.1 window.old.loans
+        → JobMakes B.code s back.steps) }
+    ensures root { IfOk result (λ back. back.root.0 ≡ B.store) }
+    ensures limit { OnOk result (books.new.limit ≡ books.old.limit) }
+    ensures room { window.new.room ≡ window.old.room }
+    ensures counted { OnOk result (AreCounted books.new window.new) }
+    ensures fewer { OnOk result (to_do books.new < to_do books.old) }
+{
+    let Some(oldest) = window.pop() else {
+        unreachable!()
+    };
+    let Oldest { flight, start } = oldest;
+    let (seat, run) = flight.finish(
+        rt,
+        shop,
+        setting.exchange,
+        setting.code,
+        setting.store,
+        setting.book,
+        gate,
+    );
+    let steps = run.steps();
+    let done = run.done();
+    pace.retires(&start, done);
+    let mut root = root;
+    setting.store.take_back(&mut root, seat);
+    let mut words = RootWords::new(setting.store, root);
+    let retired = books.retire(setting.exchange, setting.layout, &start, done, &mut words);
+    let root = words.into_root();
+    window.keep_run(run);
+    retired?;
+    arrive(books, setting.exchange)?;
+    Ok(Retired { root, steps })
+}
+
+/// What is due arrives, where no job runs.
+fn arrive(books: &mut Books, exchange: &Exchange) -> Result<(), Memory>
+    ensures { OnOk result (books.new
+        ≡ record books.old { state = arrived exchange.now books.old.running books.old.state }) }
+{
+    if books.running() == 0 {
+        let_arrive(exchange, books)?;
+    }
+    Ok(())
+}
+
+/// All jobs that fly come to their ends, and are given up.
+pub(crate) fn drain<B: Naming, R: Wait, G: Gate>(
+    rt: &R,
+    setting: &Setting<'_>,
+    shop: &Shop<B>,
+    gate: &G,
+    window: &mut Window<B>,
+)
+    requires named { (setting.now.exchange.now ≡ B.exchange)
+        × (setting.now.code.now ≡ B.code) × (setting.now.store.now ≡ B.store)
+        × (setting.now.book.now ≡ B.book) }
+{
+    for _ in 0..window.len() {
+        let Some(oldest) = window.pop() else {
+            return;
+        };
+        let _given_up = oldest.flight.finish(
+            rt,
+            shop,
+            setting.exchange,
+            setting.code,
+            setting.store,
+            setting.book,
+            gate,
+        );
+    }
+}

@@ -1,0 +1,177 @@
+// The run of all jobs in a scope of threads.
+ghost use Rattle.std.specs.Prelude.{◌≡◌, ◌<◌, IfOk};
+ghost use Rattle.retire_order.specs.Accounts.{with_words};
+ghost use Rattle.retire_order.specs.Events.{ending_of};
+ghost use Rattle.parallel_dispatch.specs.Ends.{IsOver};
+ghost use Rattle.parallel_dispatch.specs.Moves.{AreOf, CanRun};
+
+use crate::driving::{Over, run_jobs};
+use crate::moves::drain;
+use crate::setting::Setting;
+use crate::window::Window;
+use checked::Checked;
+use exchange_model::Exchange;
+use interference_check::PairTable;
+use machine_code::Code;
+use plex_io::Gate;
+use plex_num::Memory;
+use retire_order::Books;
+use shared_store::{RootSeat, SharedStore};
+use start_permit::CellTable;
+use std::alloc::Global;
+use std::sync::Wait;
+use std::thread;
+use std::thread::{Scope, Threads};
+use store_layout::Layout;
+use ticket_book::{Pen, TicketBook};
+use worker_pool::{Naming, Shop};
+
+/// Runs the jobs to the end of the run, with so many at once at most: the books then, and the end.
+pub(crate) fn run_named<B: Naming + Send + Sync, R: Threads + Wait + Sync, G: Gate + Sync>(
+    rt: &R,
+    setting: &Setting<'_>,
+    gate: &G,
+    books: Books,
+    root: RootSeat,
+    pen: Pen,
+    workers: u32,
+) -> Result<(Books, Over), Memory>
+    requires workers { 0 < workers }
+    requires pen { pen ≡ (B.book, 0) }
+    requires named { (setting.now.exchange.now ≡ B.exchange)
+        × (setting.now.code.now ≡ B.code) × (setting.now.store.now ≡ B.store)
+        × (setting.now.book.now ≡ B.book) }
+    requires set { AreOf B.exchange setting.now.layout.now setting.now.table.now B.code
+        setting.now.checked.now }
+    requires can { CanRun B.exchange B.store books root }
+    ensures { IfOk result (λ end. IsOver B.exchange B.code B.store
+        (with_words books.state root.1.values) books.limit
+        end.0.state end.1.root (ending_of end.1.ending) end.1.steps) }
+{
+    let shop = Shop::<B>::new(setting.alloc, workers)?;
+    run_shop(
+        rt,
+        setting.alloc,
+        setting.exchange,
+        setting.layout,
+        setting.table,
+        setting.code,
+        setting.checked,
+        setting.store,
+        setting.book,
+        &shop,
+        gate,
+        books,
+        root,
+        pen,
+        workers,
+    )
+}
+
+/// The same with a place for the pool's jobs.
+fn run_shop<'x, B: Naming + Send + Sync, R: Threads + Wait + Sync, G: Gate + Sync>(
+    rt: &'x R,
+    alloc: Global,
+    exchange: &'x Exchange,
+    layout: &'x Layout,
+    table: &'x CellTable,
+    code: &'x Code,
+    checked: &'x Checked,
+    store: &'x SharedStore,
+    book: &'x TicketBook,
+    shop: &'x Shop<B>,
+    gate: &'x G,
+    books: Books,
+    root: RootSeat,
+    pen: Pen,
+    workers: u32,
+) -> Result<(Books, Over), Memory>
+    requires workers { 0 < workers }
+    requires pen { pen ≡ (B.book, 0) }
+    requires named { (exchange.now ≡ B.exchange) × (code.now ≡ B.code)
+        × (store.now ≡ B.store) × (book.now ≡ B.book) }
+    requires set { AreOf B.exchange layout.now table.now B.code checked.now }
+    requires can { CanRun B.exchange B.store books root }
+    ensures { IfOk result (λ end. IsOver B.exchange B.code B.store
+        (with_words books.state root.1.values) books.limit
+        end.0.state end.1.root (ending_of end.1.ending) end.1.steps) }
+{
+    thread::scope(
+        thread::scope_env(),
+        rt,
+        |scope| -> Result<(Books, Over), Memory>
+            requires { (0 < workers) × (pen ≡ (B.book, 0))
+                × ((exchange.now ≡ B.exchange) × (code.now ≡ B.code)
+                × (store.now ≡ B.store) × (book.now ≡ B.book))
+                × AreOf B.exchange layout.now table.now B.code checked.now
+                × CanRun B.exchange B.store books root }
+            ensures { IfOk result (λ end. IsOver B.exchange B.code B.store
+                (with_words books.state root.1.values) books.limit
+                end.0.state end.1.root (ending_of end.1.ending) end.1.steps) }
+        {
+            drive(
+                rt, scope, alloc, exchange, layout, table, code, checked, store, book, shop, gate,
+                books, root, pen, workers,
+            )
+        },
+    )
+}
+
+/// The same in a scope: in the end no job flies, also where memory was refused, and the workers are told that no more jobs come.
+fn drive<'s, 'e: 's, B: Naming + Send + Sync, R: Threads + Wait + Sync, G: Gate + Sync>(
+    rt: &'e R,
+    scope: &'s Scope<'s, &'e ()>,
+    alloc: Global,
+    exchange: &'e Exchange,
+    layout: &'e Layout,
+    table: &'e CellTable,
+    code: &'e Code,
+    checked: &'e Checked,
+    store: &'e SharedStore,
+    book: &'e TicketBook,
+    shop: &'e Shop<B>,
+    gate: &'e G,
+    books: Books,
+    root: RootSeat,
+    pen: Pen,
+    workers: u32,
+) -> Result<(Books, Over), Memory>
+    requires workers { 0 < workers }
+    requires pen { pen ≡ (B.book, 0) }
+    requires named { (exchange.now ≡ B.exchange) × (code.now ≡ B.code)
+        × (store.now ≡ B.store) × (book.now ≡ B.book) }
+    requires set { AreOf B.exchange layout.now table.now B.code checked.now }
+    requires can { CanRun B.exchange B.store books root }
+    ensures { IfOk result (λ end. IsOver B.exchange B.code B.store
+        (with_words books.state root.1.values) books.limit
+        end.0.state end.1.root (ending_of end.1.ending) end.1.steps) }
+{
+    let setting = Setting {
+        alloc,
+        exchange,
+        layout,
+        table,
+        code,
+        checked,
+        store,
+        book,
+    };
+    let mut books = books;
+    let pairs = PairTable::new(alloc, checked)?;
+    let mut window = Window::<B>::new(alloc, pen, workers)?;
+    let over = run_jobs(
+        rt,
+        scope,
+        &setting,
+        shop,
+        gate,
+        &pairs,
+        &mut books,
+        root,
+        &mut window,
+    );
+    drain(rt, &setting, shop, gate, &mut window);
+    shop.close();
+    let over = over?;
+    Ok((books, over))
+}

@@ -1,0 +1,178 @@
+// The jobs that fly, in the order of the single run.
+ghost use Rattle.std.specs.Prelude.{◌≡◌, ◌+◌, ◌<◌, ◌^◌, ◌∷◌, ◌++◌, [], length, true, IsTrue, IfOk, MatchOption};
+ghost use Rattle.std.specs.List.{AllByRecursion};
+ghost use Rattle.job_types.specs.declared.job.JobStart.{JobStart as StartType};
+ghost use Rattle.job_runner.specs.Runs.{IsReady};
+ghost use Rattle.register_machine.specs.Faithful.{Faithful};
+ghost use Rattle.parallel_dispatch.specs.Flying.{starts_of};
+ghost use Rattle.parallel_dispatch.specs.Moves.{HasSummary};
+ghost use Rattle.parallel_dispatch.specs.Told.{PassBy};
+
+use interference_check::PairTable;
+use job_types::JobStart;
+use plex_num::Memory;
+use register_machine::JobRun;
+use shared_store::JobSeat;
+use std::alloc::Global;
+use std::collections::VecDeque;
+use std::marker::Model;
+use ticket_book::{Pen, TicketBook};
+use worker_pool::{Flight, Naming, Task, launch};
+
+/// The window: the jobs that have begun and not retired, the oldest first, and what writes their tickets. Runs that are over wait
+/// here for the next job. Contracts see the loans, for how many there is room, and how many jobs have flown so far.
+#[derive(Drop)]
+pub(crate) struct Window<B: Naming> {
+    flights: VecDeque<Flight<B>>,
+    starts: VecDeque<JobStart>,
+    idle: Vec<Box<JobRun>>,
+    pen: Pen,
+}
+
+impl<B: Naming> Model for Window<B> {
+    ghost use Rattle.std.specs.Prelude.{◌≡◌};
+    ghost use Rattle.std.specs.VecDeque.{deque_capacity};
+    ghost use Rattle.parallel_dispatch.specs.Windows.{IsWindow, View};
+
+    ghost Value = { View };
+
+    ghost view = { λ w. record { loans = w.flights.items; room = deque_capacity w.flights; flown = w.pen.1 } };
+
+    ghost invariant = { λ w. IsWindow B.book w.flights.items w.starts.items (deque_capacity w.flights) (deque_capacity w.starts) w.pen };
+}
+
+/// The oldest job of a window.
+#[derive(Drop)]
+pub(crate) struct Oldest<B: Naming> {
+    pub flight: Flight<B>,
+    pub start: JobStart,
+}
+
+impl<B: Naming> Window<B> {
+    /// A window in which none flies, with room for so many jobs.
+    pub fn new(alloc: Global, pen: Pen, room: u32) -> Result<Window<B>, Memory>
+        requires pen { pen.0 ≡ B.book }
+        ensures { IfOk result (λ w. w ≡ record { loans = []; room = room; flown = pen.1 }) }
+    {
+        let Ok(flights) = VecDeque::with_capacity(alloc, room as usize) else {
+            return Err(Memory);
+        };
+        let Ok(starts) = VecDeque::with_capacity(alloc, room as usize) else {
+            return Err(Memory);
+        };
+        Ok(Window {
+            flights,
+            starts,
+            idle: Vec::new(alloc),
+            pen,
+        })
+    }
+
+    /// How many jobs fly.
+    pub fn len(&self) -> usize
+        ensures { result ≡ length self.now.loans }
+    {
+        self.flights.len()
+    }
+
+    /// For how many jobs there is room.
+    pub fn room(&self) -> usize
+        ensures { result ≡ self.now.room }
+    {
+        self.flights.capacity()
+    }
+
+    /// Whether a job passes with each that flies, as the later one.
+    pub fn lets_pass(&self, pairs: &PairTable<'_>, later: &JobStart) -> bool
+        requires window { AllByRecursion (HasSummary pairs.now) (starts_of self.now.loans) }
+        requires later { HasSummary pairs.now later.now }
+        ensures { IsTrue result → AllByRecursion
+            (λ (older : StartType). PassBy pairs.now older later.now) (starts_of self.now.loans) }
+    {
+        passes_with_all(pairs, &self.starts, later)
+    }
+
+    /// A run in which a job may begin: one that is over, or a new one.
+    pub fn idle_run(&mut self, alloc: Global) -> Result<Box<JobRun>, Memory>
+        ensures { self.new ≡ self.old }
+    {
+        match self.idle.pop() {
+            Some(run) => Ok(run),
+            None => match Box::new(alloc, JobRun::idle()) {
+                Ok(run) => Ok(run),
+                Err(_) => Err(Memory),
+            },
+        }
+    }
+
+    /// Keeps a run that is over for another job. Where there is no room it is let go.
+    pub fn keep_run(&mut self, run: Box<JobRun>)
+        ensures { self.new ≡ self.old }
+    {
+        let _ = self.idle.push(run);
+    }
+
+    /// One more job flies, which the gate knows by this number: it is to be brought to the pool.
+    pub fn push(
+        &mut self,
+        book: &TicketBook,
+        seat: JobSeat,
+        run: Box<JobRun>,
+        start: JobStart,
+        job: u64,
+    ) -> Task<B>
+        requires book { book.now ≡ B.book }
+        requires room { length self.old.loans < self.old.room }
+        requires flown { self.old.flown + 1 < 2 ^ 64 }
+        requires faithful { Faithful B.exchange B.code }
+        requires ready { IsReady B.exchange B.code B.store seat run.value }
+        requires start { start ≡ seat.1.lent.start }
+        ensures { self.new ≡ record self.old {
+          loans = self.old.loans ++ seat.1.lent ∷ [];
+          flown = self.old.flown + 1;
+        } }
+    {
+        let (flight, task) = launch::<B>(book, &mut self.pen, seat, run, job);
+        self.flights.push_back_reserved(flight);
+        self.starts.push_back_reserved(start);
+        task
+    }
+
+    /// The oldest job leaves the window, if one flies.
+    pub fn pop(&mut self) -> Option<Oldest<B>>
+        ensures { MatchOption result
+            ((self.old.loans ≡ []) × (self.new ≡ self.old))
+            (λ oldest. (self.old ≡ record self.new { loans = oldest.flight ∷ self.new.loans })
+            × (oldest.start ≡ oldest.flight.start)) }
+    {
+        let flight = self.flights.pop_front()?;
+        let start = self.starts.pop_front()?;
+        Some(Oldest { flight, start })
+    }
+}
+
+/// Whether a job passes with each of these, as the later one.
+#[tactic(auto, using(crate::proofs::Passing::passes_begin, crate::proofs::Passing::passes_more, crate::proofs::Passing::passes_end))]
+fn passes_with_all(pairs: &PairTable<'_>, older: &VecDeque<JobStart>, later: &JobStart) -> bool
+    requires older { AllByRecursion (HasSummary pairs.now) older.now.items }
+    requires later { HasSummary pairs.now later.now }
+    ensures { IsTrue result → AllByRecursion
+        (λ (start : StartType). PassBy pairs.now start later.now) older.now.items }
+{
+    for place in 0..older.len() {
+        if !passes_with(pairs, &older[place], later) {
+            return false;
+        }
+    }
+    true
+}
+
+/// Whether a job passes with an older one.
+#[tactic(auto, using(crate::proofs::Passing::passes_by))]
+fn passes_with(pairs: &PairTable<'_>, older: &JobStart, later: &JobStart) -> bool
+    requires older { HasSummary pairs.now older.now }
+    requires later { HasSummary pairs.now later.now }
+    ensures { IsTrue result → PassBy pairs.now older.now later.now }
+{
+    pairs.may_follow(older, later)
+}

@@ -1,0 +1,31 @@
+// The program over devices in memory that never fail of themselves.
+ghost use Rattle.std.specs.Prelude.{◌≡◌, ◌⊎◌};
+ghost use Rattle.plex_io.specs.Steady.{always_held};
+ghost use Rattle.plex_program.specs.Answer.{IsAnswer};
+ghost use Rattle.plex_program.specs.Whole.{HasRoom, IsWhole};
+
+use crate::program::{Status, plex};
+use plex_io::{Gate, SteadyShelf, SteadySink, Word};
+use std::alloc::Global;
+use std::sync::Wait;
+use std::thread::Threads;
+
+/// `plex` over a steady shelf and a steady sink. No read fails and no file is missing. Where the sink has room for the answer's text, no
+/// write fails either: the whole text is written and the status is the answer's, or memory was refused. After `Memory` nothing was
+/// written. This follows from the contract of `plex` alone, and so holds for each call of it with two such devices.
+#[tactic(auto, using(crate::proofs::Whole::whole_end, crate::proofs::Whole::silent_end))]
+pub fn plex_steady<R: Threads + Wait + Sync, G: Gate + Sync>(
+    rt: &R,
+    alloc: Global,
+    words: &[Word],
+    shelf: &mut SteadyShelf,
+    sink: &mut SteadySink,
+    gate: &G,
+) -> Status
+    ensures whole { HasRoom (IsAnswer words.now (always_held shelf.old)) sink.old →
+        (result ≡ Status.Memory) ⊎ IsWhole (IsAnswer words.now (always_held shelf.old))
+        sink.old.bytes sink.new.bytes result }
+    ensures memory { result ≡ Status.Memory → sink.new.bytes ≡ sink.old.bytes }
+{
+    plex(rt, alloc, words, shelf, sink, gate)
+}

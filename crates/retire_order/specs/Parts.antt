@@ -1,0 +1,19 @@
+-- The parts of the books of which no job runs, and which parts are those of books.
+use Rattle.std.specs.Prelude.{◌≡◌, ℕ, nat_eq, ◌≤◌, length, map}
+use Rattle.std.specs.HashMap.{get}
+use Rattle.retire_order.specs.declared.parts.BookParts.{BookParts}
+use Rattle.retire_order.specs.Accounts.{Account, IsKept, account}
+use Rattle.retire_order.specs.Events.{event_of}
+use Rattle.retire_order.specs.Lines.{arrived_of, found_in, timetable}
+
+-- the books of these parts
+abbrev pub account_of : BookParts → Account
+account_of p = account (timetable p.lines p.given) p.buffers.waiting p.chains.chains p.chains.dead (map event_of p.events) p.next_forlopp p.ended p.restarts 0 p.limit
+
+-- the parts are those of books: each line that has arrived has a forlopp, which is found by the number of the line, and what
+-- holds of all books holds of these
+pub record AreParts (p : BookParts) : Type 0 where
+  pub next_line : p.next_line ≡ length p.given
+  pub within : length p.given ≤ length p.lines
+  pub numbers : (n : ℕ) → get nat_eq p.numbers n ≡ found_in (arrived_of p.lines p.given) n
+  pub kept : IsKept (account_of p)
