@@ -1,0 +1,120 @@
+// What a line of a table means in an exchange, or its first fault.
+ghost use Rattle.std.specs.Prelude.{◌≡◌, ◌+◌, ◌<◌, ◌^◌};
+ghost use Rattle.signal_file.specs.Rules.{IsDirectory};
+ghost use Rattle.job_table.specs.Form.{IsRead, Saying};
+ghost use Rattle.job_table.specs.Rules.{added, behind, is_in_range, last_count, meaning};
+
+use crate::fault::TableFault;
+use crate::form::{Said, said_of};
+use crate::period::{MOST_LINES, Period};
+use exchange_model::Exchange;
+use signal_file::{Directory, entry_of, is_skipped, signal_of};
+
+/// What counts of the lines before a line: how many lines of the table there are, and how many signals in the signal file and in
+/// these lines.
+#[derive(Clone, Copy)]
+pub struct Before {
+    pub lines: u32,
+    pub signals: u64,
+}
+
+impl Before {
+    /// What counts of the lines up to the one that adds this.
+    pub fn with(self, added: &Option<Period>) -> Before
+        requires lines { self.lines < 2 ^ 24 }
+        requires signals { self.signals < 2 ^ 32 }
+        ensures { result ≡ behind self added.now }
+    {
+        let more = match added {
+            Some(period) => u64::from(period.times),
+            None => 0,
+        };
+        Before {
+            lines: self.lines + 1,
+            signals: self.signals + more,
+        }
+    }
+}
+
+/// What a line adds behind those before, `None` where it is skipped; or its first fault.
+#[tactic(auto, unfolding(crate::specs::Rules::added))]
+pub fn added(
+    exchange: &Exchange,
+    directory: &Directory,
+    before: Before,
+    line: &[u8],
+) -> Result<Option<Period>, TableFault>
+    requires directory { IsDirectory exchange.now directory.now }
+    requires lines { before.lines < 2 ^ 24 }
+    requires signals { before.signals < 2 ^ 32 }
+    ensures { result ≡ added exchange.now before line.now }
+{
+    if is_skipped(line) {
+        return Ok(None);
+    }
+    let Some(said) = said_of(line) else {
+        return Err(TableFault::BadLine {
+            line: before.lines + 1,
+        });
+    };
+    match meaning(exchange, directory, before, &said) {
+        Ok(period) => Ok(Some(period)),
+        Err(fault) => Err(fault),
+    }
+}
+
+/// What a line of the form means, or its first fault.
+#[tactic(auto, using(crate::proofs::Meant::line_meant))]
+fn meaning(
+    exchange: &Exchange,
+    directory: &Directory,
+    before: Before,
+    said: &Said<'_>,
+) -> Result<Period, TableFault>
+    requires directory { IsDirectory exchange.now directory.now }
+    requires lines { before.lines < 2 ^ 24 }
+    requires signals { before.signals < 2 ^ 32 }
+    ensures { (s : Saying) → IsRead s said.now → result ≡ meaning exchange.now before s }
+{
+    let line = before.lines + 1;
+    let Some(signal) = signal_of(exchange, directory, said.signal) else {
+        return Err(TableFault::UnknownSignal { line });
+    };
+    let Some(entry) = entry_of(exchange, directory, signal.number, said.block) else {
+        return Err(TableFault::UnknownBlock { line });
+    };
+    if said.count != usize::from(signal.count) {
+        return Err(TableFault::WrongData { line });
+    }
+    if !is_in_range(said.every, said.from, said.times) {
+        return Err(TableFault::BadRange { line });
+    }
+    if before.signals + u64::from(said.times) > MOST_LINES {
+        return Err(TableFault::TooMany { line });
+    }
+    Ok(Period {
+        number: line,
+        every: said.every,
+        from: said.from,
+        times: said.times,
+        entry,
+        values: said.values.copy(),
+        fresh: said.fresh,
+    })
+}
+
+/// Whether a signal that comes so often has counts that rise and are all below 2^32.
+fn is_in_range(every: u32, from: u32, times: u32) -> bool
+    ensures { result ≡ is_in_range every from times }
+{
+    every > 0 && times > 0 && last_count(every, from, times) < 4_294_967_296
+}
+
+/// The count of the last of these signals.
+#[tactic(auto, using(crate::proofs::Ranges::product_small))]
+fn last_count(every: u32, from: u32, times: u32) -> u64
+    requires { 0 < times }
+    ensures { result ≡ last_count every from times }
+{
+    u64::from(from) + u64::from(every) * u64::from(times - 1)
+}
