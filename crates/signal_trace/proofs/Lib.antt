@@ -1,0 +1,5 @@
+mod Behind
+mod Filters
+mod Numbered
+mod Tracing
+mod Written

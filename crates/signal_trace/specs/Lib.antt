@@ -1,0 +1,5 @@
+pub mod Form
+pub mod Filter
+pub mod Trace
+pub mod Turns
+pub mod Text

@@ -1,0 +1,115 @@
+// The single run, and the jobs of it that a filter shows.
+ghost use Rattle.std.specs.Prelude.{◌≡◌, ◌++◌, None, IfOk, OnOk};
+ghost use Rattle.store_layout.specs.Laid.{IsLayout};
+ghost use Rattle.register_machine.specs.Faithful.{Faithful};
+ghost use Rattle.source_meaning.specs.SingleRun.{ending_at, turn};
+ghost use Rattle.source_meaning.specs.Valid.{IsValid};
+ghost use Rattle.retire_order.specs.Accounts.{with_words};
+ghost use Rattle.retire_order.specs.Events.{ending_of};
+ghost use Rattle.exchange_run.specs.Runs.{RunsTo};
+ghost use Rattle.signal_trace.specs.Trace.{trace};
+ghost use Rattle.signal_trace.specs.Turns.{shown_next};
+
+use crate::show::Show;
+use crate::tracer::{TracedJob, Tracer};
+use exchange_model::Exchange;
+use exchange_run::{ByCode, Runner, make_turn};
+use machine_code::Code;
+use plex_io::NoGate;
+use plex_num::{Memory, Seq};
+use retire_order::{Books, Ending, let_arrive};
+use std::alloc::Global;
+use store_layout::Layout;
+
+/// The end of a run that was traced: the jobs that the filter shows, the books, the stored words, one for each cell, and how it
+/// ended.
+#[derive(Drop)]
+pub struct Traced {
+    pub jobs: Seq<TracedJob>,
+    pub books: Books,
+    pub words: Seq<u32>,
+    pub ending: Ending,
+}
+
+/// Runs the jobs of an exchange to the end of the single run, one at a time, and keeps those that a filter shows. No job may
+/// have ended or run in the books, and books and words must stand for a valid state. Memory is the only reason for an error.
+pub fn trace_run(
+    alloc: Global,
+    exchange: &Exchange,
+    layout: &Layout,
+    code: &Code,
+    books: Books,
+    words: Seq<u32>,
+    shows: &Seq<Show>,
+) -> Result<Traced, Memory>
+    requires nobody { books.running ≡ 0 }
+    requires none { books.state.ended ≡ 0 }
+    requires layout { IsLayout exchange.now.blocks layout.now }
+    requires faithful { Faithful exchange.now code.now }
+    requires valid { IsValid exchange.now (with_words books.state words) }
+    ensures jobs { IfOk result (λ t. t.jobs
+        ≡ trace exchange.now books.limit (with_words books.state words) shows.now) }
+    ensures end { IfOk result (λ t. RunsTo exchange.now
+        (with_words books.state words) books.limit t.books.state t.words (ending_of t.ending)) }
+{
+    exchange.kept();
+    let mut books = books;
+    let mut words = words;
+    let mut runner = ByCode::new(code, &NoGate);
+    let mut tracer = Tracer {
+        alloc,
+        shows,
+        jobs: Seq::new(alloc),
+    };
+    let_arrive(exchange, &mut books)?;
+    'jobs: loop {
+        if let Some(ending) = books.finished() {
+            return Ok(Traced {
+                jobs: tracer.jobs,
+                books,
+                words,
+                ending,
+            });
+        }
+        trace_turn(
+            exchange,
+            layout,
+            &mut books,
+            &mut words,
+            &mut runner,
+            &mut tracer,
+        )?;
+    }
+}
+
+/// The next job runs and retires, what is due arrives, and the job is kept if the filter shows it.
+fn trace_turn(
+    exchange: &Exchange,
+    layout: &Layout,
+    books: &mut Books,
+    words: &mut Seq<u32>,
+    runner: &mut ByCode<'_, NoGate>,
+    tracer: &mut Tracer<'_>,
+) -> Result<(), Memory>
+    requires nobody { books.old.running ≡ 0 }
+    requires goes_on { ending_at books.old.limit books.old.state ≡ None }
+    requires valid { IsValid exchange.now (with_words books.old.state words.old) }
+    requires layout { IsLayout exchange.now.blocks layout.now }
+    requires faithful { Faithful exchange.now runner.old.code.now }
+    ensures state { OnOk result (with_words books.new.state words.new
+        ≡ turn exchange.now (with_words books.old.state words.old)) }
+    ensures nobody { OnOk result (books.new.running ≡ 0) }
+    ensures limit { OnOk result (books.new.limit ≡ books.old.limit) }
+    ensures faithful { Faithful exchange.now runner.new.code.now }
+    ensures lines { tracer.new.shows.now ≡ tracer.old.shows.now }
+    ensures jobs { OnOk result (tracer.new.jobs ≡ tracer.old.jobs
+        ++ shown_next exchange.now tracer.old.shows.now (with_words books.old.state words.old)) }
+{
+    let start = books.peek();
+    make_turn(exchange, layout, books, words, runner)?;
+    let Some(start) = start else {
+        return Ok(());
+    };
+    tracer.note(exchange, books.ended(), start, runner.done())?;
+    Ok(())
+}

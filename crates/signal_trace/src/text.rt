@@ -1,0 +1,128 @@
+// The text of the jobs that a filter shows.
+ghost use Rattle.std.specs.Prelude.{◌≡◌, ◌++◌, IfOk, OnOk, flat_map};
+ghost use Rattle.report_text.specs.Report.{written};
+ghost use Rattle.signal_trace.specs.Text.{entry_words, forlopp_word, job_line, job_text, outcome_word, place_words, send_line, send_text, trace_text};
+
+use crate::tracer::TracedJob;
+use exchange_model::Exchange;
+use job_types::{Outcome, SendTo, Sent};
+use plex_num::{Memory, Seq};
+use report_text::{add_number, add_values, block_name, fault_word, signal_name};
+use std::alloc::Global;
+
+/// The text of these jobs of an exchange: for each of them its line, and then a line for each signal that it sent. Memory is the
+/// only reason for an error.
+#[tactic(auto, unfolding(crate::specs::Text::trace_text))]
+pub fn trace_text(
+    alloc: Global,
+    exchange: &Exchange,
+    jobs: &Seq<TracedJob>,
+) -> Result<Seq<u8>, Memory>
+    ensures { IfOk result (λ text. text ≡ trace_text exchange.now jobs.now) }
+{
+    let mut text = Seq::new(alloc);
+    for job in jobs.as_slice() {
+        add_job(&mut text, exchange, job)?;
+    }
+    Ok(text)
+}
+
+/// The lines of a job.
+fn add_job(text: &mut Seq<u8>, exchange: &Exchange, job: &TracedJob) -> Result<(), Memory>
+    ensures { OnOk result (text.new ≡ text.old ++ job_text exchange.now job.now) }
+{
+    add_start(text, exchange, job)?;
+    add_sends(text, exchange, job)
+}
+
+/// `JOB j SIG BLOCK v1 v2 Fn ENDED`.
+fn add_start(text: &mut Seq<u8>, exchange: &Exchange, job: &TracedJob) -> Result<(), Memory>
+    ensures { OnOk result (text.new ≡ text.old ++ written (job_line exchange.now job.now)) }
+{
+    add_number(text, b"JOB ", job.number)?;
+    text.append(b" ")?;
+    add_entry(text, exchange, job.start.job.entry)?;
+    add_values(text, job.start.job.values.as_slice())?;
+    add_number(text, b" F", job.start.job.forlopp)?;
+    text.append(b" ")?;
+    text.append(outcome_word(job.outcome))?;
+    text.append(b"\n")?;
+    Ok(())
+}
+
+/// The line of each signal that a job sent.
+fn add_sends(text: &mut Seq<u8>, exchange: &Exchange, job: &TracedJob) -> Result<(), Memory>
+    ensures { OnOk result (text.new ≡ text.old
+        ++ flat_map (send_text exchange.now job.now.number job.now.start.job.forlopp) job.now.sends) }
+{
+    for sent in job.sends.as_slice() {
+        add_sent(text, exchange, job.number, job.start.job.forlopp, sent)?;
+    }
+    Ok(())
+}
+
+/// `SEND j SIG BLOCK v1 Fn`.
+fn add_sent(
+    text: &mut Seq<u8>,
+    exchange: &Exchange,
+    number: u64,
+    forlopp: u64,
+    sent: &Sent,
+) -> Result<(), Memory>
+    ensures { OnOk result
+        (text.new ≡ text.old ++ send_text exchange.now number forlopp sent.now) }
+{
+    add_number(text, b"SEND ", number)?;
+    text.append(b" ")?;
+    add_place(text, exchange, sent.to)?;
+    add_values(text, sent.values.as_slice())?;
+    text.append(b" ")?;
+    add_forlopp(text, forlopp, sent.to)?;
+    text.append(b"\n")?;
+    Ok(())
+}
+
+/// `SIG BLOCK`, or `SIG OUTSIDE`.
+fn add_place(text: &mut Seq<u8>, exchange: &Exchange, to: SendTo) -> Result<(), Memory>
+    ensures { OnOk result (text.new ≡ text.old ++ place_words exchange.now to) }
+{
+    match to {
+        SendTo::Queue { entry, .. } => add_entry(text, exchange, entry),
+        SendTo::Outside { signal } => {
+            text.append(signal_name(exchange, signal))?;
+            text.append(b" OUTSIDE")
+        }
+    }
+}
+
+/// `Fn`, or `NEW`.
+fn add_forlopp(text: &mut Seq<u8>, forlopp: u64, to: SendTo) -> Result<(), Memory>
+    ensures { OnOk result (text.new ≡ text.old ++ forlopp_word forlopp to) }
+{
+    match to {
+        SendTo::Queue { fresh: true, .. } => text.append(b"NEW"),
+        _ => add_number(text, b"F", forlopp),
+    }
+}
+
+/// `SIG BLOCK` of an entry; no bytes where there is none of this number.
+fn add_entry(text: &mut Seq<u8>, exchange: &Exchange, entry: u32) -> Result<(), Memory>
+    ensures { OnOk result (text.new ≡ text.old ++ entry_words exchange.now entry) }
+{
+    let Some(entry) = exchange.entries.get(entry as usize) else {
+        return Ok(());
+    };
+    text.append(signal_name(exchange, entry.signal))?;
+    text.append(b" ")?;
+    text.append(block_name(exchange, entry.block))
+}
+
+/// `ENDED`, or the word of the fault.
+fn outcome_word(outcome: Outcome) -> &'static [u8]
+    ensures { result.now ≡ outcome_word outcome }
+{
+    match outcome {
+        Outcome::Ended => b"ENDED",
+        Outcome::Faulted { fault, .. } => fault_word(fault),
+    }
+}

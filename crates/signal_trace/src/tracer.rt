@@ -1,0 +1,98 @@
+// The jobs that a filter shows, as they end.
+ghost use Rattle.std.specs.Prelude.{◌≡◌, ◌++◌, IfOk, OnOk};
+ghost use Rattle.std.specs.List.{list_any};
+ghost use Rattle.signal_trace.specs.Trace.{shows, shows_job, traced};
+ghost use Rattle.signal_trace.specs.Turns.{one_if_shown};
+
+use crate::show::Show;
+use exchange_model::{Entry, Exchange};
+use job_types::{JobDone, JobStart, Outbox, Outcome, Sent};
+use plex_num::{Memory, Seq};
+use std::alloc::Global;
+
+/// A job of a run: its number, from 1, in the order in which the jobs ended; how it started; the signals that it sent, in order;
+/// and how it ended.
+#[derive(Drop)]
+pub struct TracedJob {
+    pub number: u64,
+    pub start: JobStart,
+    pub sends: Seq<Sent>,
+    pub outcome: Outcome,
+}
+
+/// The lines of a filter, and the jobs so far that they show.
+#[derive(Drop)]
+pub(crate) struct Tracer<'a> {
+    pub alloc: Global,
+    pub shows: &'a Seq<Show>,
+    pub jobs: Seq<TracedJob>,
+}
+
+impl Tracer<'_> {
+    /// Keeps a job that has ended, if some line shows it.
+    pub fn note(
+        &mut self,
+        exchange: &Exchange,
+        number: u64,
+        start: JobStart,
+        done: &JobDone,
+    ) -> Result<(), Memory>
+        ensures lines { self.new.shows.now ≡ self.old.shows.now }
+        ensures jobs { OnOk result (self.new.jobs ≡ self.old.jobs
+            ++ one_if_shown exchange.now self.old.shows.now (traced number start done.now)) }
+    {
+        if !is_shown(
+            exchange,
+            self.shows.as_slice(),
+            number,
+            &start,
+            done.outcome,
+        ) {
+            return Ok(());
+        }
+        let sends = sends_of(self.alloc, &done.sends)?;
+        self.jobs.push(TracedJob {
+            number,
+            start,
+            sends,
+            outcome: done.outcome,
+        })?;
+        Ok(())
+    }
+}
+
+/// Whether some line of a filter shows a job.
+fn is_shown(
+    exchange: &Exchange,
+    shows: &[Show],
+    number: u64,
+    start: &JobStart,
+    outcome: Outcome,
+) -> bool
+    ensures { result ≡ shows_job exchange.now shows.now number start.now outcome }
+{
+    match exchange.entries.get(start.job.entry as usize) {
+        Some(entry) => some_shows(shows, *entry, start.job.forlopp, number, outcome),
+        None => false,
+    }
+}
+
+/// Whether some line shows a job of this entry and forlopp, of this number, that ended so.
+fn some_shows(lines: &[Show], entry: Entry, forlopp: u64, number: u64, outcome: Outcome) -> bool
+    ensures { result ≡ list_any (λ l. shows l entry forlopp number outcome) lines.now }
+{
+    lines
+        .iter()
+        .any(|line| line.shows(entry, forlopp, number, outcome))
+}
+
+/// A list of the signals of an outbox.
+fn sends_of(alloc: Global, outbox: &Outbox) -> Result<Seq<Sent>, Memory>
+    ensures { IfOk result (λ sends. sends ≡ outbox.now) }
+{
+    let mut sends = Seq::new(alloc);
+    for sent in outbox.as_slice() {
+        sends.push(sent.copy())?;
+    }
+    Ok(sends)
+}
