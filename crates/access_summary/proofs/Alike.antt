@@ -1,14 +1,11 @@
 -- A summary looks at the facts of its entry alone.
-use Rattle.std.proofs.Common.{◌≡◌, ◌≢◌, ◌⊎◌, ◌↔◌, ℕ, ◌+◌, ◌<◌, ◌≤◌, ◌^◌, true, List, Option, Some, None, refl, inl, inr}
-use Rattle.std.specs.Prelude.{slice_get}
-use Rattle.std.specs.List.{Contains}
+use Rattle.std.proofs.Common.{◌≡◌, ℕ, refl, inl, inr}
 use Rattle.plex_limits.specs.declared.limits.TheConstants.{MOST_CALLERS}
 use Rattle.plex_num.specs.declared.level.Level.{Level}
 use Rattle.exchange_model.specs.declared.exchange.Exchange.{Exchange}
 use Rattle.flow_points.specs.declared.fact.Fact.{Fact}
 use Rattle.flow_points.specs.declared.fact.Slot.{Slot}
 use Rattle.flow_points.specs.declared.fact.Value.{Value}
-use Rattle.flow_points.specs.declared.fact.Value.TheVariants.{Const}
 use Rattle.flow_points.specs.declared.flow.Source.{Source}
 use Rattle.flow_points.specs.declared.flow.Source.TheVariants.{Of, Is, Deeper, Nothing}
 use Rattle.flow_points.specs.Facts.{Facts, Known, Reached, SourceGives, fact}
@@ -17,7 +14,7 @@ use Rattle.entry_summary.specs.declared.summary.Access.{Access}
 use Rattle.entry_summary.specs.declared.summary.Summary.{Summary}
 use Rattle.entry_summary.specs.Accesses.{Accesses, IsAccess, reads, reads_holder, writes, reads_field, writes_field, searches, reads_own, writes_own, opens_own, seizes, frees}
 use Rattle.entry_summary.specs.Faults as faults
-use Rattle.entry_summary.specs.Faults.{FaultsAt, GoesRound, GoesTo, MayFault, Once, PostsAt, SomeFaults, SourceMayBe, Then, TooManySends, Walk, no_record, no_receiver, too_wide, divides_by_zero, not_own, has_caller, no_caller, other_caller, too_deep}
+use Rattle.entry_summary.specs.Faults.{FaultsAt, GoesTo, MayFault, Once, PostsAt, SomeFaults, SourceMayBe, Then, TooManySends, Walk, no_record, no_receiver, too_wide, divides_by_zero, not_own, has_caller, no_caller, other_caller, too_deep}
 use Rattle.entry_summary.specs.Summaries.{IsSummary, MaySendTo}
 
 -- what is known of the entry is known here as well

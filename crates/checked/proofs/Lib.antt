@@ -1,4 +1,3 @@
-pub mod Alike
 pub mod Checking
 pub mod Owning
 pub mod Summing

@@ -38,7 +38,7 @@ use Rattle.flow_table.specs.Alone.{term_source, joined_source, own_source}
 use Rattle.flow_table.proofs.Sourcing.{expr_source-out, term_source-out, joined_source-out, factor_as}
 use Rattle.entry_summary.specs.declared.summary.Summary.{Summary}
 use Rattle.access_summary.specs.Least.{AreSummaries}
-use Rattle.checked.proofs.Alike.{summary_alike}
+use Rattle.access_summary.proofs.Alike.{summary_alike}
 use Rattle.certificate.specs.Strange.{IsOfExchange, IsValueOf}
 use Rattle.certificate.proofs.Firsts.{count_some}
 use Rattle.checked.specs.Kept.{AreSummariesBy, IsChecked, Kept}

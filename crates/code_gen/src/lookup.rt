@@ -38,7 +38,7 @@ pub fn width_of(exchange: &Exchange, block: u32, variable: u32) -> u8
 }
 
 /// The place of the ENTER of a signal in a block; 0 where there is none.
-#[tactic(auto, using(crate::proofs::Lookups::enter_found))]
+#[tactic(auto, using(source_meaning::proofs::Entering::enter_found))]
 pub fn place_of_enter(exchange: &Exchange, block: u32, signal: u32) -> u32
     ensures { result ≡ enter_place exchange.now block signal }
 {
@@ -46,7 +46,7 @@ pub fn place_of_enter(exchange: &Exchange, block: u32, signal: u32) -> u32
 }
 
 /// Whether a block receives a signal.
-#[tactic(auto, using(crate::proofs::Lookups::receives_is))]
+#[tactic(auto, using(source_meaning::proofs::Entering::receives_is))]
 pub fn receives(exchange: &Exchange, block: u32, signal: u32) -> bool
     ensures { result ≡ option_map_or (is_receiver signal)
         (slice_get exchange.now.blocks block) false }

@@ -30,7 +30,7 @@ pub struct Question {
 }
 
 /// Whether a block receives a signal.
-#[tactic(auto, using(flow_table::proofs::Lookups::receives_is))]
+#[tactic(auto, using(source_meaning::proofs::Entering::receives_is))]
 fn receives(exchange: &Exchange, block: u32, signal: u32) -> bool
     ensures { result ≡ receives_signal exchange.now signal block }
 {

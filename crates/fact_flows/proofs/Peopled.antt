@@ -1,26 +1,25 @@
 -- At each point of an exchange a statement stands.
-use Rattle.std.proofs.Common.{◌≡◌, inl, inr, ⊎_elim, ℕ, zero, suc, ◌+◌, ◌<◌, List, [], ◌∷◌, length, map, max, Option, Some, None, slice_get, get_or, refl, sym, ap, ◌∙◌, subst, arith, length-append}
+use Rattle.std.proofs.Common.{◌≡◌, inl, inr, ⊎_elim, ℕ, zero, suc, ◌+◌, ◌<◌, List, [], ◌∷◌, length, map, max, Option, Some, None, slice_get, get_or, refl, sym, ap, ◌∙◌, subst, arith}
 use Rattle.std.proofs.Math.Nat.{le-max_left, le-max_right}
-use Rattle.std.proofs.lemmas.List.{length-map}
 use Rattle.std.proofs.lemmas.List.Elements.{Contains-append_cases}
 use Rattle.std.proofs.lemmas.List.FromFn.{length-range_with_len, get_or-range_with_len}
 use Rattle.std.specs.List.{Contains, range_with_len}
 use Rattle.exchange_model.specs.declared.block.Block.{Block}
 use Rattle.exchange_model.specs.declared.exchange.Exchange.{Exchange}
-use Rattle.exchange_model.specs.declared.entry.PointInfo.{PointInfo}
 use Rattle.exchange_model.specs.declared.expr.Expr.{Expr}
 use Rattle.exchange_model.specs.declared.stmt.Stmt.{Stmt}
 use Rattle.exchange_model.specs.declared.stmt.When.{When, out-When}
 use Rattle.exchange_model.specs.declared.stmt.StmtKind.{out-StmtKind}
 use Rattle.exchange_model.specs.declared.stmt.StmtKind.TheOpen as stmt
 use Rattle.exchange_model.specs.Inside.{Spot, joined, most, spots, inner_spots, text_depth, kind_depth}
-use Rattle.exchange_model.specs.Kept.{IsExchange, all_spots, points_from}
+use Rattle.exchange_model.specs.Kept.{IsExchange, all_spots}
 use Rattle.exchange_model.specs.PartCounts.{parts_depth, when_depth, stmt_spots, when_spots, parts_spots}
 use Rattle.exchange_model.proofs.Counted.{inner_spots-out, kind_depth-out}
 use Rattle.source_meaning.specs.Deeds.{IsBranch}
 use Rattle.source_meaning.specs.Named.{Layer}
 use Rattle.source_meaning.specs.Rests.{IsRow, whole, later, branch, turn, first_point}
 use Rattle.source_meaning.proofs.Lists.{first_is, later_is}
+use Rattle.source_meaning.proofs.Points.{points_many}
 use Rattle.flow_points.specs.Places.{Place, place_of, StandsAt}
 use Rattle.flow_table.proofs.Telling.{first_or_later}
 
@@ -139,17 +138,6 @@ range_has n p lt =
     let long = length-range_with_len 0 n in
     let at : get_or (range_with_len 0 n) p p ≡ 0 + p = get_or-range_with_len 0 n p p lt in
     (p, omega (arith, long, lt), at ∙ (let e : 0 + p ≡ p = omega arith in e))
-
-points_many : (b : ℕ) (blocks : List Block) → length (points_from b blocks) ≡ length (all_spots blocks)
-unfolding points_from
-points_many b [] = refl
-points_many b (k ∷ blocks) =
-    let here : List PointInfo = map (λ (s : Spot). record { block = b; line = s.line }) (spots k.body) in
-    let long : length here ≡ length (spots k.body) = length-map (spots k.body) (λ (s : Spot). record { block = b; line = s.line }) in
-    let rest = points_many (b + 1) blocks in
-    let left = length-append here (points_from (b + 1) blocks) in
-    let right = length-append (spots k.body) (all_spots blocks) in
-    omega arith
 
 pub point_stands : (x : Exchange) → IsExchange x → (p : ℕ) → p < length x.points → Standing x p
 point_stands x kept p lt =

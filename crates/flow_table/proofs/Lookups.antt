@@ -1,19 +1,17 @@
 -- What look-ups find.
-use Rattle.std.proofs.Common.{◌≡◌, ℕ, zero, suc, ◌<◌, ◌≤◌, Bool, true, false, List, [], ◌∷◌, ◌++◌, length, drop, map, Some, None, slice_get, nat_eq, ◌||◌, Option, is_some, unwrap_or, refl, sym, ap, ◌∙◌, if◌then◌else◌, append-nil, arith}
+use Rattle.std.proofs.Common.{◌≡◌, ℕ, zero, suc, ◌<◌, ◌≤◌, Bool, true, false, List, [], ◌∷◌, ◌++◌, length, drop, map, Some, None, slice_get, Option, refl, sym, ap, ◌∙◌, if◌then◌else◌, append-nil, arith}
 use Rattle.std.proofs.Math.ListN.{drop_of_length-le}
 use Rattle.std.proofs.Math.Seq.{drop-nil}
 use Rattle.std.proofs.lemmas.Option.{slice_get_past, none-some, same_Some}
 use Rattle.exchange_model.specs.declared.exchange.Exchange.{Exchange}
 use Rattle.exchange_model.specs.declared.block.Block.{Block}
-use Rattle.exchange_model.specs.declared.block.Enter.{Enter as Row}
 use Rattle.exchange_model.specs.declared.block.Label.{Label}
 use Rattle.exchange_model.specs.declared.stmt.Stmt.{Stmt}
 use Rattle.exchange_model.specs.declared.stmt.StmtKind.{out-StmtKind}
-use Rattle.source_meaning.specs.Config.{Do, Start, body_of, label_of, row_place, enter_place, is_receiver, is_enter, starting}
+use Rattle.source_meaning.specs.Config.{Do, Start, body_of, label_of, enter_place, is_enter, starting}
 use Rattle.source_meaning.specs.Rests.{first_point, head_point}
-use Rattle.std.specs.List.{find, list_any}
-use Rattle.std.specs.Option.{option_map, option_map_or}
-use Rattle.exchange_model.specs.Index.{place_in, rows_of, enter_of}
+use Rattle.std.specs.List.{find}
+use Rattle.std.specs.Option.{option_map_or}
 use Rattle.flow_points.specs.Places.{enter_point, receives}
 use Rattle.flow_table.specs.Ways.{listed, enters_in, receiving}
 
@@ -55,39 +53,6 @@ pub first_is : (x : Exchange) (b place : ℕ) (k : Block) (body rest : List Stmt
 first_is x b place k body rest r there same at is = is ∙ ap (λ ss. first_point ss None) at ∙ ap (λ ss. first_point (drop place ss) None) (same ∙ sym (body_is x b k there))
 
 -- the ENTER of a signal
-
-abbrev of_signal : ℕ → Row → Bool
-of_signal signal r = nat_eq r.signal signal
-
-row_place_is : (rows : List Row) (signal : ℕ) → unwrap_or (place_in rows signal) 0 ≡ row_place rows signal
-row_place_is [] signal = refl
-row_place_is (r ∷ rows) signal = by_test (of_signal signal r) (row_place_is rows signal)
-  where
-    by_test : (t : Bool) → unwrap_or (place_in rows signal) 0 ≡ row_place rows signal → unwrap_or (option_map (λ (r : Row). r.place) (if t then Some r else find (of_signal signal) rows)) 0 ≡ (if t then r.place else row_place rows signal)
-    by_test true h = refl
-    by_test false h = h
-
-in_block : (o : Option Block) (signal : ℕ) → unwrap_or (place_in (rows_of o) signal) 0 ≡ option_map_or (λ (k : Block). row_place k.enters signal) o 0
-in_block None signal = refl
-in_block (Some k) signal = row_place_is k.enters signal
-
-pub enter_found : (x : Exchange) (b signal : ℕ) → unwrap_or (enter_of x.blocks b signal) 0 ≡ enter_place x b signal
-enter_found x b signal = in_block (slice_get x.blocks b) signal
-
-some_row : (rows : List Row) (signal : ℕ) → is_some (place_in rows signal) ≡ list_any (of_signal signal) rows
-some_row [] signal = refl
-some_row (r ∷ rows) signal = by_test (of_signal signal r) (some_row rows signal)
-  where
-    by_test : (t : Bool) → is_some (place_in rows signal) ≡ list_any (of_signal signal) rows → is_some (option_map (λ (r : Row). r.place) (if t then Some r else find (of_signal signal) rows)) ≡ (t || list_any (of_signal signal) rows)
-    by_test true h = refl
-    by_test false h = h
-
-received_in : (o : Option Block) (signal : ℕ) → is_some (place_in (rows_of o) signal) ≡ option_map_or (is_receiver signal) o false
-received_in None signal = refl
-received_in (Some k) signal = some_row k.enters signal
-
-pub receives_is : (x : Exchange) (b signal : ℕ) → is_some (enter_of x.blocks b signal) ≡ receives x signal b
-receives_is x b signal = received_in (slice_get x.blocks b) signal
 
 abbrev entered : List Stmt → Option ℕ
 entered ss = head_point (starting ss)

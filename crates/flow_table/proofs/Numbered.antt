@@ -1,23 +1,23 @@
 -- What is walked stands at its point.
-use Rattle.std.proofs.Common.{◌≡◌, ℕ, zero, suc, ◌+◌, List, [], ◌∷◌, ◌++◌, length, map, Option, Some, None, slice_get, refl, sym, ap, ◌∙◌, subst, arith, length-append}
+use Rattle.std.proofs.Common.{◌≡◌, ℕ, zero, suc, ◌+◌, List, [], ◌∷◌, ◌++◌, length, map, Option, Some, None, slice_get, refl, sym, ap, ◌∙◌, subst, arith}
 use Rattle.std.proofs.lemmas.List.{length-map, map-append}
 use Rattle.std.proofs.lemmas.List.FromFn.{length-range_with_len}
 use Rattle.std.proofs.lemmas.Option.{none-some, same_Some}
 use Rattle.std.specs.List.{Contains, range_with_len}
 use Rattle.exchange_model.specs.declared.exchange.Exchange.{Exchange}
 use Rattle.exchange_model.specs.declared.block.Block.{Block}
-use Rattle.exchange_model.specs.declared.entry.PointInfo.{PointInfo}
 use Rattle.exchange_model.specs.declared.stmt.Stmt.{Stmt}
 use Rattle.exchange_model.specs.declared.stmt.When.{When, out-When}
 use Rattle.exchange_model.specs.declared.stmt.StmtKind.{out-StmtKind}
 use Rattle.exchange_model.specs.declared.stmt.StmtKind.TheOpen as stmt
 use Rattle.exchange_model.specs.Inside.{Spot, joined, spots, inner_spots}
-use Rattle.exchange_model.specs.Kept.{IsExchange, all_spots, points_from}
+use Rattle.exchange_model.specs.Kept.{IsExchange, all_spots}
 use Rattle.exchange_model.specs.PartCounts.{when_spots, parts_spots}
 use Rattle.exchange_model.proofs.Counted.{inner_spots-out}
 use Rattle.source_meaning.specs.Named.{Layer}
 use Rattle.source_meaning.specs.Rests.{first_point}
 use Rattle.source_meaning.proofs.Lists.{all_contained}
+use Rattle.source_meaning.proofs.Points.{points_many}
 use Rattle.flow_points.specs.Places.{Place, IsPlace, StandsAt}
 use Rattle.flow_table.specs.Texts.{HoldsNone, Walked, nothing_left, statement, Chosen, no_choice, choice, Inside, of_none, of_if, of_case, of_on, Texts, no_block, block, ArePlaces}
 use Rattle.flow_table.proofs.Standing.{texts_stand}
@@ -58,17 +58,6 @@ mutual
 texts_points : (b : ℕ) (blocks : List Block) (ps : List Place) → Texts b blocks ps → points ps ≡ numbers (all_spots blocks)
 texts_points b blocks ps (no_block c) = refl
 texts_points b blocks ps (block c k rest qs rs w t) = two qs rs (spots k.body) (all_spots rest) (walked_points b k.body None qs w) (texts_points (b + 1) rest rs t)
-
-points_many : (b : ℕ) (blocks : List Block) → length (points_from b blocks) ≡ length (all_spots blocks)
-unfolding points_from
-points_many b [] = refl
-points_many b (k ∷ blocks) =
-    let here : List PointInfo = map (λ (s : Spot). record { block = b; line = s.line }) (spots k.body) in
-    let long : length here ≡ length (spots k.body) = length-map (spots k.body) (λ (s : Spot). record { block = b; line = s.line }) in
-    let rest = points_many (b + 1) blocks in
-    let left = length-append here (points_from (b + 1) blocks) in
-    let right = length-append (spots k.body) (all_spots blocks) in
-    omega arith
 
 -- places whose points count from a number on
 counted_at : (n a : ℕ) (ps : List Place) → points ps ≡ range_with_len a n → (i : ℕ) (p : Place) → slice_get ps i ≡ Some p → p.point ≡ a + i

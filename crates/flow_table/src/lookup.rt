@@ -48,7 +48,7 @@ pub fn label_point(exchange: &Exchange, block: u32, label: u32) -> Option<u32>
 }
 
 /// The place of the ENTER of a signal in a block; 0 where there is none.
-#[tactic(auto, using(crate::proofs::Lookups::enter_found))]
+#[tactic(auto, using(source_meaning::proofs::Entering::enter_found))]
 fn place_of_enter(exchange: &Exchange, block: u32, signal: u32) -> u32
     ensures { result ≡ enter_place exchange.now block signal }
 {
@@ -56,7 +56,7 @@ fn place_of_enter(exchange: &Exchange, block: u32, signal: u32) -> u32
 }
 
 /// Whether a block receives a signal.
-#[tactic(auto, using(crate::proofs::Lookups::receives_is))]
+#[tactic(auto, using(source_meaning::proofs::Entering::receives_is))]
 fn receives(exchange: &Exchange, block: u32, signal: u32) -> bool
     ensures { result ≡ receives_signal exchange.now signal block }
 {

@@ -7,7 +7,6 @@
 #![tactic(auto)]
 
 mod granting;
-mod holding;
 mod laws;
 mod pairs;
 mod table;

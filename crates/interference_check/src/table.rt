@@ -14,12 +14,11 @@ ghost use Rattle.checked.specs.Kept.{IsChecked};
 ghost use Rattle.interference_check.specs.Pairs.{OfPair};
 ghost use Rattle.interference_check.specs.Tables.{ArePairsOf, HasTests, IsFound, IsTold, Tells};
 
-use crate::holding::{all_hold, are_apart};
 use crate::pairs::may_follow;
 use checked::Checked;
 use entry_summary::Summary;
 use job_types::JobStart;
-use pair_tests::{Test, Verdict, tests_of, verdict_of};
+use pair_tests::{Test, Verdict, all_hold, are_apart, tests_of, verdict_of};
 use plex_num::{Memory, Seq};
 use std::alloc::Global;
 use std::marker::Model;

@@ -1,3 +1,4 @@
+pub mod Counting
 pub mod Picks
-pub mod Removed
 pub mod Rooms
+pub mod Sound

@@ -2,10 +2,9 @@
 --
 -- Room is told apart from the lists, since it says nothing of the jobs: what is said to stay as it was is said of
 -- the lists alone.
-use Rattle.std.specs.Prelude.{◌≡◌, ◌≤◌, ◌-◌, ℕ, List, length}
+use Rattle.std.specs.Prelude.{◌≡◌, ◌≤◌, ◌+◌, ◌-◌, ℕ}
 use Rattle.plex_num.specs.declared.level.Level.{Level}
 use Rattle.plex_num.specs.declared.level.Level.TheVariants.{A, B, C, D}
-use Rattle.job_types.specs.declared.job.Job.{Job}
 use Rattle.job_types.specs.Waiting.{Waiting}
 
 -- for how many more jobs each list has room
@@ -29,6 +28,10 @@ with_room B n r = record r { b = n }
 with_room C n r = record r { c = n }
 with_room D n r = record r { d = n }
 
+-- the room of all levels together
+abbrev pub rooms : Room → ℕ
+rooms r = r.a + r.b + r.c + r.d
+
 -- the levels beside this one have the room that they had
 abbrev pub HasOthersOf : Level → Room → Room → Type 0
 HasOthersOf l old new = new ≡ with_room l (room_at l new) old
@@ -44,23 +47,7 @@ pub record NoLess (old new : Room) : Type 0 where
   pub c : old.c ≤ new.c
   pub d : old.d ≤ new.d
 
--- one list of jobs beside its room
-pub record Queued : Type 0 where
-  pub jobs : List Job
-  pub room : ℕ
-
--- the list of these jobs where there is a place for so many
-abbrev pub queued : List Job → ℕ → Queued
-queued jobs places = record { jobs = jobs; room = places - length jobs }
-
 -- the four lists beside their room
 pub record Buffered : Type 0 where
   pub waiting : Waiting
   pub room : Room
-
--- these four lists
-abbrev pub buffered : Queued → Queued → Queued → Queued → Buffered
-buffered a b c d = record {
-  waiting = record { a = a.jobs; b = b.jobs; c = c.jobs; d = d.jobs };
-  room = record { a = a.room; b = b.room; c = c.room; d = d.room };
-}

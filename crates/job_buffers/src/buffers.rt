@@ -1,44 +1,56 @@
-// The four lists.
+// The jobs that wait.
 ghost use Rattle.std.specs.Prelude.{◌≡◌, ◌+◌, ◌<◌, ◌≤◌, ◌↔◌, IsNone, OnOk, MatchResult};
 ghost use Rattle.std.specs.Option.{option_copied};
 ghost use Rattle.job_buffers.specs.Room.{HasOthersOf, NoLess, room_at, without_one};
 ghost use Rattle.job_types.specs.Waiting.{after_pick, count_of, joins, nobody, others, pick, waiting_count};
 
-use crate::queue::Queue;
+use crate::queue::Placed;
+use crate::queues::Queues;
+use crate::stays::Stays;
 use job_types::Job;
 use plex_num::{Level, Memory};
 use std::alloc::Global;
 use std::marker::Model;
 
 /// The jobs that wait, in four lists by level, each job behind those of its level that joined before it. Contracts see
-/// the lists, and for how many more jobs each of them has room.
+/// the lists, and for how many more jobs each of them has room. Each call takes the same time, spread over many calls,
+/// whatever waits; but `remove_all` takes that of the jobs that wait.
 pub struct Buffers {
-    a: Queue,
-    b: Queue,
-    c: Queue,
-    d: Queue,
+    queues: Queues,
+    stays: Stays,
+    pushed: u64,
+    waiting: u64,
 }
 
 impl Drop for Buffers {
     fn drop(self) {
         let Buffers {
-            a: _,
-            b: _,
-            c: _,
-            d: _,
+            queues: _,
+            stays: _,
+            pushed: _,
+            waiting: _,
         } = self;
     }
 }
 
 impl Model for Buffers {
     ghost use Rattle.std.specs.Coded.{codes};
-    ghost use Rattle.job_buffers.specs.Room.{Buffered, buffered};
+    ghost use Rattle.std.specs.HashMap.{spare};
+    ghost use Rattle.job_buffers.specs.Room.{Buffered};
+    ghost use Rattle.job_buffers.specs.Standing.{stays_in, waiting_of, IsSound};
 
     ghost Value = { Buffered };
 
     ghost coded = { Prim.hlevel codes };
 
-    ghost view = { λ w. buffered w.a w.b w.c w.d };
+    ghost view = { λ w. record {
+      waiting = waiting_of (stays_in w.stays.table) w.queues.lists;
+      room = w.queues.room;
+    } };
+
+    ghost invariant = { λ w.
+        IsSound (stays_in w.stays.table) (spare w.stays.table) w.pushed w.waiting
+        w.queues.lists w.queues.room };
 }
 
 impl Buffers {
@@ -47,10 +59,10 @@ impl Buffers {
         ensures { result.waiting ≡ nobody }
     {
         Buffers {
-            a: Queue::new(alloc),
-            b: Queue::new(alloc),
-            c: Queue::new(alloc),
-            d: Queue::new(alloc),
+            queues: Queues::new(alloc),
+            stays: Stays::new(alloc),
+            pushed: 0,
+            waiting: 0,
         }
     }
 
@@ -61,12 +73,17 @@ impl Buffers {
         ensures no_less { room_at level self.old.room ≤ room_at level self.new.room }
         ensures others { HasOthersOf level self.old.room self.new.room }
     {
-        match level {
-            Level::A => self.a.reserve(more),
-            Level::B => self.b.reserve(more),
-            Level::C => self.c.reserve(more),
-            Level::D => self.d.reserve(more),
+        let room = self.queues.room_at(level);
+        if more <= room {
+            return Ok(());
         }
+        let rooms = self.queues.rooms() as u64;
+        let wanted = (more - room) as u64;
+        if wanted > u64::MAX - self.pushed - rooms {
+            return Err(Memory);
+        }
+        self.stays.reserve((rooms + wanted) as usize)?;
+        self.queues.make_room(level, more)
     }
 
     /// The job joins the list of its level; where memory is refused, it is dropped and all lists stay as they were.
@@ -77,12 +94,9 @@ impl Buffers {
         ensures room { room_at job.level self.old.room ≤ room_at job.level self.new.room + 1 }
         ensures others { HasOthersOf job.level self.old.room self.new.room }
     {
-        match job.level {
-            Level::A => self.a.push(job),
-            Level::B => self.b.push(job),
-            Level::C => self.c.push(job),
-            Level::D => self.d.push(job),
-        }
+        self.reserve(job.level, 1)?;
+        self.push_reserved(job);
+        Ok(())
     }
 
     /// The job joins the list of its level, which must have room for it.
@@ -91,12 +105,10 @@ impl Buffers {
         ensures waiting { self.new.waiting ≡ joins job self.old.waiting }
         ensures room { self.new.room ≡ without_one job.level self.old.room }
     {
-        match job.level {
-            Level::A => self.a.push_reserved(job),
-            Level::B => self.b.push_reserved(job),
-            Level::C => self.c.push_reserved(job),
-            Level::D => self.d.push_reserved(job),
-        }
+        let stay = self.stays.join(job.forlopp, self.pushed);
+        self.pushed += 1;
+        self.waiting += 1;
+        self.queues.push_reserved(job.level, Placed { job, stay });
     }
 
     /// The job that is next: the front of the first list of A, B, C and D that is not empty. `None` exactly where no job waits.
@@ -104,16 +116,10 @@ impl Buffers {
         ensures job { option_copied result ≡ pick self.now.waiting }
         ensures none { IsNone result ↔ (self.now.waiting ≡ nobody) }
     {
-        if let Some(job) = self.a.front() {
-            return Some(job);
+        match self.queues.front() {
+            Some(placed) => Some(&placed.job),
+            None => None,
         }
-        if let Some(job) = self.b.front() {
-            return Some(job);
-        }
-        if let Some(job) = self.c.front() {
-            return Some(job);
-        }
-        self.d.front()
     }
 
     /// Takes the job that is next out of its list. `None` exactly where no job waits.
@@ -123,16 +129,13 @@ impl Buffers {
         ensures left { self.new.waiting ≡ after_pick self.old.waiting }
         ensures room { NoLess self.old.room self.new.room }
     {
-        if let Some(job) = self.a.take_front() {
-            return Some(job);
-        }
-        if let Some(job) = self.b.take_front() {
-            return Some(job);
-        }
-        if let Some(job) = self.c.take_front() {
-            return Some(job);
-        }
-        self.d.take_front()
+        let Some(placed) = self.queues.take_front() else {
+            return None;
+        };
+        self.stays.leave(placed.job.forlopp);
+        self.waiting -= 1;
+        self.queues.tidy(&self.stays, self.waiting);
+        Some(placed.job)
     }
 
     /// Removes the jobs of a forlopp from all lists, and tells how many went. The others keep their order.
@@ -141,11 +144,10 @@ impl Buffers {
         ensures left { self.new.waiting ≡ others forlopp self.old.waiting }
         ensures room { NoLess self.old.room self.new.room }
     {
-        let of_a = self.a.remove_forlopp(forlopp);
-        let of_b = self.b.remove_forlopp(forlopp);
-        let of_c = self.c.remove_forlopp(forlopp);
-        let of_d = self.d.remove_forlopp(forlopp);
-        of_a + of_b + of_c + of_d
+        let gone = self.stays.end(forlopp);
+        self.waiting -= gone;
+        self.queues.tidy(&self.stays, self.waiting);
+        gone
     }
 
     /// Removes all jobs from all lists, and tells how many went.
@@ -154,10 +156,10 @@ impl Buffers {
         ensures left { self.new.waiting ≡ nobody }
         ensures room { NoLess self.old.room self.new.room }
     {
-        let of_a = self.a.remove_all();
-        let of_b = self.b.remove_all();
-        let of_c = self.c.remove_all();
-        let of_d = self.d.remove_all();
-        of_a + of_b + of_c + of_d
+        let gone = self.waiting;
+        self.queues.clear();
+        self.stays.clear();
+        self.waiting = 0;
+        gone
     }
 }

@@ -9,6 +9,8 @@
 
 mod buffers;
 mod queue;
+mod queues;
+mod stays;
 #[cfg(test)]
 mod tests;
 

@@ -1,149 +1,166 @@
-// The jobs of one level that wait.
-ghost use Rattle.std.specs.Prelude.{◌≡◌, ◌+◌, ◌-◌, ◌<◌, ◌≤◌, ◌^◌, ◌++◌, ◌∷◌, [], length, slice_get, drop, OnOk, count_by, MatchResult};
-ghost use Rattle.std.specs.List.{list_any};
+// The jobs that were placed at one level.
+ghost use Rattle.std.specs.Prelude.{◌≡◌, ◌-◌, ◌<◌, ◌≤◌, ◌++◌, ◌∷◌, [], drop, filter, length, position, slice_get, MatchResult};
+ghost use Rattle.std.specs.List.{position_or_len};
 ghost use Rattle.std.specs.Option.{option_copied};
-ghost use Rattle.job_types.specs.Waiting.{is_of, others_in};
+ghost use Rattle.std.specs.VecDeque.{deque_capacity};
+ghost use Rattle.job_buffers.specs.Standing.{counts, stays_in, IsTidied};
 
+use crate::stays::Stays;
 use job_types::Job;
 use plex_num::Memory;
 use std::alloc::Global;
 use std::collections::VecDeque;
 use std::marker::Model;
 
-/// A list holds fewer jobs than this, so that the jobs of all four can be counted.
-const MOST: usize = 0x4000_0000_0000_0000;
+/// A job in a list, and the number of the stay in which it joined.
+#[derive(Drop)]
+pub struct Placed {
+    pub job: Job,
+    pub stay: u64,
+}
 
-/// A list of jobs, the one that has waited longest first.
+/// A list of placed jobs, the one that was placed first in front, and for how many more there is room.
 pub struct Queue {
-    jobs: VecDeque<Job>,
+    placed: VecDeque<Placed>,
+    room: usize,
 }
 
 impl Drop for Queue {
     fn drop(self) {
-        let Queue { jobs: _ } = self;
+        let Queue { placed: _, room: _ } = self;
     }
 }
 
 impl Model for Queue {
-    ghost use Rattle.std.specs.Prelude.{◌<◌, ◌-◌, ◌^◌, min, length};
+    ghost use Rattle.std.specs.Prelude.{◌+◌, ◌≤◌, length};
     ghost use Rattle.std.specs.VecDeque.{deque_capacity};
     ghost use Rattle.std.specs.Coded.{codes};
-    ghost use Rattle.job_buffers.specs.Room.{Queued, queued};
+    ghost use Rattle.job_buffers.specs.Standing.{Queued};
 
     ghost Value = { Queued };
 
     ghost coded = { Prim.hlevel codes };
 
-    ghost view = { λ q. queued q.jobs.items (min (deque_capacity q.jobs) (2 ^ 62 - 1)) };
+    ghost view = { λ q. record { placed = q.placed.items; room = q.room } };
 
-    ghost invariant = { λ q. length q.jobs.items < 2 ^ 62 };
+    ghost invariant = { λ q. length q.placed.items + q.room ≤ deque_capacity q.placed };
 }
 
 impl Queue {
     /// No jobs; it takes no memory.
     pub fn new(alloc: Global) -> Queue
-        ensures { result.jobs ≡ [] }
+        ensures placed { result.placed ≡ [] }
+        ensures room { result.room ≡ 0 }
     {
         Queue {
-            jobs: VecDeque::new(alloc),
+            placed: VecDeque::new(alloc),
+            room: 0,
         }
     }
 
-    /// Makes room for that many more jobs.
-    pub fn reserve(&mut self, more: usize) -> Result<(), Memory>
-        ensures jobs { self.new.jobs ≡ self.old.jobs }
-        ensures room { OnOk result (more ≤ self.new.room) }
-        ensures no_less { self.old.room ≤ self.new.room }
+    /// For how many more jobs there is room.
+    pub fn room(&self) -> usize
+        ensures { result ≡ self.now.room }
     {
-        if more >= MOST - self.jobs.len() {
-            return Err(Memory);
-        }
-        match self.jobs.reserve(more) {
-            Ok(()) => Ok(()),
+        self.room
+    }
+
+    /// Makes room for that many more jobs.
+    pub fn make_room(&mut self, more: usize) -> Result<(), Memory>
+        ensures placed { self.new.placed ≡ self.old.placed }
+        ensures room { MatchResult result
+            (λ _. self.new.room ≡ more)
+            (λ _. self.new.room ≡ self.old.room) }
+    {
+        match self.placed.reserve(more) {
+            Ok(()) => {
+                self.room = more;
+                Ok(())
+            }
             Err(_) => Err(Memory),
         }
     }
 
-    /// The job stands last; where memory is refused, it is dropped and the list stays as it was.
-    pub fn push(&mut self, job: Job) -> Result<(), Memory>
-        ensures jobs { MatchResult result
-            (λ _. self.new.jobs ≡ self.old.jobs ++ job ∷ [])
-            (λ _. self.new.jobs ≡ self.old.jobs) }
-        ensures room { self.old.room ≤ self.new.room + 1 }
-    {
-        self.reserve(1)?;
-        self.push_reserved(job);
-        Ok(())
-    }
-
     /// The job stands last; there must be room for it.
-    pub fn push_reserved(&mut self, job: Job)
+    pub fn push_reserved(&mut self, placed: Placed)
         requires { 0 < self.old.room }
-        ensures jobs { self.new.jobs ≡ self.old.jobs ++ job ∷ [] }
+        ensures placed { self.new.placed ≡ self.old.placed ++ placed ∷ [] }
         ensures room { self.new.room ≡ self.old.room - 1 }
     {
-        self.jobs.push_back_reserved(job);
+        self.placed.push_back_reserved(placed);
+        self.room -= 1;
     }
 
     /// The first job.
-    pub fn front(&self) -> Option<&Job>
-        ensures { option_copied result ≡ slice_get self.now.jobs 0 }
+    pub fn front(&self) -> Option<&Placed>
+        ensures { option_copied result ≡ slice_get self.now.placed 0 }
     {
-        self.jobs.front()
+        self.placed.front()
     }
 
     /// Takes the first job.
-    pub fn take_front(&mut self) -> Option<Job>
-        ensures job { result ≡ slice_get self.old.jobs 0 }
-        ensures left { self.new.jobs ≡ drop 1 self.old.jobs }
-        ensures room { self.old.room ≤ self.new.room }
+    pub fn take_front(&mut self) -> Option<Placed>
+        ensures placed { result ≡ slice_get self.old.placed 0 }
+        ensures rest { self.new.placed ≡ drop 1 self.old.placed }
+        ensures room { self.new.room ≡ self.old.room }
     {
-        self.jobs.pop_front()
+        self.placed.pop_front()
     }
 
-    /// Whether a job of a forlopp waits here.
-    fn has_forlopp(&self, forlopp: u64) -> bool
-        ensures { result ≡ list_any (is_of forlopp) self.now.jobs }
+    /// Lets go of the jobs in front that wait no longer, and of all such jobs where they are more than half of the list;
+    /// so many jobs wait in all lists together.
+    pub fn tidy(&mut self, stays: &Stays, waiting: u64)
+        ensures tidied { IsTidied (stays_in stays.now.table) self.old.placed self.new.placed }
+        ensures room { self.new.room ≡ self.old.room }
     {
-        self.jobs.iter().any(|job| job.forlopp == forlopp)
-    }
-
-    /// Removes the jobs of a forlopp, and tells how many went. Most often none waits, and then no job is moved.
-    #[tactic(auto, using(crate::proofs::Removed::none_goes, crate::proofs::Removed::all_stay))]
-    pub fn remove_forlopp(&mut self, forlopp: u64) -> u64
-        ensures count { result ≡ count_by (is_of forlopp) self.old.jobs }
-        ensures small { result < 2 ^ 62 }
-        ensures left { self.new.jobs ≡ others_in forlopp self.old.jobs }
-        ensures room { self.old.room ≤ self.new.room }
-    {
-        if self.has_forlopp(forlopp) {
-            self.keep_others(forlopp)
+        if self.placed.len() as u64 / 2 > waiting {
+            keep_waiting(&mut self.placed, stays);
         } else {
-            0
+            let gone = ended_in_front(&self.placed, stays);
+            drop_front(&mut self.placed, gone);
         }
     }
 
-    /// Keeps the jobs of all other forlopps, and tells how many went.
-    fn keep_others(&mut self, forlopp: u64) -> u64
-        ensures count { result ≡ count_by (is_of forlopp) self.old.jobs }
-        ensures small { result < 2 ^ 62 }
-        ensures left { self.new.jobs ≡ others_in forlopp self.old.jobs }
-        ensures room { self.old.room ≤ self.new.room }
+    /// All jobs go.
+    pub fn clear(&mut self)
+        ensures placed { self.new.placed ≡ [] }
+        ensures room { self.new.room ≡ self.old.room }
     {
-        let before = self.jobs.len();
-        self.jobs.retain(|job| job.forlopp != forlopp);
-        (before - self.jobs.len()) as u64
+        self.placed.clear();
     }
+}
 
-    /// Removes all jobs, and tells how many went.
-    pub fn remove_all(&mut self) -> u64
-        ensures count { result ≡ length self.old.jobs }
-        ensures small { result < 2 ^ 62 }
-        ensures left { self.new.jobs ≡ [] }
-        ensures room { self.old.room ≤ self.new.room }
-    {
-        let count = self.jobs.len();
-        self.jobs.clear();
-        count as u64
+/// Keeps the jobs that still wait.
+fn keep_waiting(placed: &mut VecDeque<Placed>, stays: &Stays)
+    ensures items { placed.new.items ≡ filter (counts (stays_in stays.now.table)) placed.old.items }
+    ensures fewer { length placed.new.items ≤ length placed.old.items }
+    ensures capacity { deque_capacity placed.new ≡ deque_capacity placed.old }
+{
+    placed.retain(|placed| stays.counts(placed));
+}
+
+/// How many jobs in front wait no longer.
+#[tactic(auto, using(crate::proofs::Counting::first_or_length))]
+fn ended_in_front(placed: &VecDeque<Placed>, stays: &Stays) -> usize
+    ensures { result ≡ position_or_len (counts (stays_in stays.now.table)) placed.now.items }
+{
+    first_waiting(placed, stays).unwrap_or(placed.len())
+}
+
+/// The place of the first job that still waits.
+fn first_waiting(placed: &VecDeque<Placed>, stays: &Stays) -> Option<usize>
+    ensures { result ≡ position (counts (stays_in stays.now.table)) placed.now.items }
+{
+    placed.iter().position(|placed| stays.counts(placed))
+}
+
+/// Lets go of that many jobs in front.
+#[tactic(auto, using(crate::proofs::Counting::drop_one_more))]
+fn drop_front(placed: &mut VecDeque<Placed>, count: usize)
+    ensures items { placed.new.items ≡ drop count placed.old.items }
+    ensures capacity { deque_capacity placed.new ≡ deque_capacity placed.old }
+{
+    for _turn in 0..count {
+        let _ = placed.pop_front();
     }
 }

@@ -69,9 +69,15 @@ fn a_forlopp_leaves_all_lists(rt: HostRuntime) -> Result<(), Fail> {
     for (case, forlopp, gone) in removals {
         assert_eq!(rt; buffers.remove_forlopp(forlopp), gone, "{case}");
     }
+    for (entry, level) in [(9, Level::B), (10, Level::A)] {
+        buffers.push(job(entry, level, 7))?;
+    }
+    assert_eq!(rt; buffers.remove_forlopp(7), 2, "one that joined again");
+    buffers.push(job(11, Level::B, 7))?;
     for (case, entry) in [
         ("the first of the rest", Some(1)),
         ("the second", Some(3)),
+        ("one that joined after the removals", Some(11)),
         ("no more", None),
     ] {
         assert_eq!(rt; buffers.take().map(|job| job.entry), entry, "{case}");

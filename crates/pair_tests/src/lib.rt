@@ -6,6 +6,7 @@
 
 mod asking;
 mod clash;
+mod jobs;
 mod laws;
 mod near;
 mod pair;
@@ -14,6 +15,7 @@ mod sooner;
 mod verdict;
 
 pub use asking::tests_of;
+pub use jobs::{all_hold, are_apart};
 pub use laws::first_conflict_is_one;
 pub use pair::{Conflict, Test, Verdict};
 pub use passing::passes;

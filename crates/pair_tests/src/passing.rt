@@ -1,58 +1,18 @@
 // Whether two jobs may run at once.
-ghost use Rattle.std.specs.Prelude.{◌≡◌, ◌≢◌, ◌↔◌, IsTrue, Some, slice_index};
-ghost use Rattle.std.specs.List.{All, Contains};
+ghost use Rattle.std.specs.Prelude.{◌≡◌, ◌↔◌, IsTrue, Some};
 ghost use Rattle.std.specs.List.Sorted.{IsStrictlySortedBy};
-ghost use Rattle.job_types.specs.declared.chain.Held.{Held};
 ghost use Rattle.entry_summary.specs.Orders.{access_order};
 ghost use Rattle.pair_tests.specs.declared.pair.Test.{Test};
 ghost use Rattle.pair_tests.specs.Asked.{AllHold, Asked, AskedRelease, AskedSeizing, AskedWith};
-ghost use Rattle.pair_tests.specs.Pairs.{Holds, IsTest, Passes};
+ghost use Rattle.pair_tests.specs.Pairs.{IsTest, Passes};
 
 use crate::asking::{asked, release_test};
+use crate::jobs::{are_apart, holds};
 use crate::near::near;
 use crate::pair::Test;
 use crate::verdict::first_conflict;
 use entry_summary::{Access, Summary};
-use job_types::{Held, JobStart};
-
-/// The value at a place, 0 where there is none.
-fn value_at(values: &[u32], place: u8) -> u32
-    ensures { result ≡ slice_index values.now place }
-{
-    match values.get(place as usize) {
-        Some(value) => *value,
-        None => 0,
-    }
-}
-
-/// Whether all records of a chain are of other files.
-fn are_of_others(chain: &[Held], file: u32) -> bool
-    ensures { IsTrue result ↔ All (λ (h : Held). h.file ≢ file) chain.now }
-{
-    chain.iter().all(|held| held.file != file)
-}
-
-/// Whether a chain has no record of a file.
-fn holds_none(chain: &[Held], file: u32) -> bool
-    ensures { IsTrue result ↔ ((h : Held) → Contains chain.now h → h.file ≢ file) }
-{
-    are_of_others(chain, file)
-}
-
-/// Whether a test holds of these two jobs.
-fn holds(test: Test, a: &JobStart, b: &JobStart) -> bool
-    ensures { IsTrue result ↔ Holds a.now b.now test }
-{
-    match test {
-        Test::Differ { first, later } => {
-            value_at(a.job.values.as_slice(), first) != value_at(b.job.values.as_slice(), later)
-        }
-        Test::FirstNot { first, value } => value_at(a.job.values.as_slice(), first) != value,
-        Test::LaterNot { later, value } => value_at(b.job.values.as_slice(), later) != value,
-        Test::InForlopp => a.job.forlopp != 0,
-        Test::HoldsNo { file } => holds_none(a.chain.as_slice(), file),
-    }
-}
+use job_types::JobStart;
 
 /// Whether a test holds, if there is one.
 #[tactic(auto, using(crate::proofs::Holding::none_asked, crate::proofs::Holding::one_asked))]
@@ -140,17 +100,6 @@ fn tests_hold(first: &Summary, later: &Summary, a: &JobStart, b: &JobStart) -> b
     let fields = fields_hold(first.accesses.as_slice(), others, a, b);
     let release = release_holds(first.fault, others, a, b);
     fields & release
-}
-
-/// Whether two jobs are not of one forlopp other than 0.
-fn are_apart(a: &JobStart, b: &JobStart) -> bool
-    ensures { IsTrue result
-        ↔ (a.now.job.forlopp ≡ b.now.job.forlopp → a.now.job.forlopp ≡ 0) }
-{
-    if a.job.forlopp == 0 {
-        return true;
-    }
-    a.job.forlopp != b.job.forlopp
 }
 
 /// Whether the two jobs may run at once, the first before the later one in the single run: no conflict of their summaries, all

@@ -97,12 +97,6 @@ module _ (x : Exchange) (k : Kept) (kept : IsExchange x) (checked : IsChecked x 
     pub makes_here : (steps : ℕ) → steps ≡ run.made → JobMakes code s steps
     makes_here steps is = subst (JobMakes code s) (sym is) (makes x k kept checked true_of s books top l rest (fly_here s fly) code store seat run has)
 
-    pub runs_here : 0 < books.running
-    runs_here = some_run x k kept checked true_of s books top l rest (fly_here s fly)
-
-    pub be_here : MayBe books.state start.job.forlopp
-    be_here = subst (λ (a : JobStart). MayBe books.state a.job.forlopp) (sym start_is) (may_be x k kept checked true_of s books top l rest (fly_here s fly))
-
     pub stores_here : MayStore (free_to_write mid) (retired_world y start done books.state mid.values).trace
     stores_here =
         subst (λ (z : (Top × JobDone) × (JobStart × Exchange)). MayStore (free_to_write z.0.0) (retired_world z.1.1 z.1.0 z.0.1 books.state z.0.0.values).trace)

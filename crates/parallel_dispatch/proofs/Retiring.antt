@@ -111,16 +111,6 @@ module _ (x : Exchange) (k : Kept) (kept : IsExchange x) (checked : IsChecked x 
 
   -- ## It may retire
 
-  pub some_run : 0 < books.running
-  some_run = (let count = fly.running in omega (arith, count))
-
-  pub may_be : MayBe books.state a.job.forlopp
-  may_be = by a.job.forlopp (ahead_live x s (a ∷ starts_of rest) (with_words books.state s.store) fly.valid fly.ahead).0
-    where
-      by : (n : ℕ) → MayBe (with_words books.state s.store) n → MayBe books.state n
-      by zero may = tt
-      by (suc n) may = record { drawn = may.drawn; before = may.before; alive = may.alive }
-
   chains_same : books.state.chains ≡ s.chains
   chains_same = ap (λ (t : State). t.chains) fly.ahead.same
 

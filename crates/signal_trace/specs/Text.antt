@@ -47,9 +47,13 @@ send_line x number forlopp s =
 abbrev pub send_text : Exchange → (number forlopp : ℕ) → Sent → List ℕ
 send_text x number forlopp s = written (send_line x number forlopp s)
 
--- a job, and the signals that it sent, in order
+-- the signals that a job sent, in order
+abbrev pub sends_text : Exchange → TracedJob → List ℕ
+sends_text x t = flat_map (send_text x t.number t.start.job.forlopp) t.sends
+
+-- a job, and the signals that it sent
 abbrev pub job_text : Exchange → TracedJob → List ℕ
-job_text x t = written (job_line x t) ++ flat_map (send_text x t.number t.start.job.forlopp) t.sends
+job_text x t = written (job_line x t) ++ sends_text x t
 
 -- the text of these jobs
 unfoldable pub trace_text : Exchange → List TracedJob → List ℕ

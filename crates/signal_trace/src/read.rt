@@ -1,5 +1,5 @@
 // A whole filter.
-ghost use Rattle.std.specs.Prelude.{◌≡◌, ◌≤◌, ◌^◌, length};
+ghost use Rattle.std.specs.Prelude.{◌≤◌, ◌^◌, length};
 ghost use Rattle.signal_trace.specs.Filter.{IsUnlessMemory, filter_of};
 
 use crate::fault::FilterFault;

@@ -1,7 +1,7 @@
 // The text of the jobs that a filter shows.
-ghost use Rattle.std.specs.Prelude.{◌≡◌, ◌++◌, IfOk, OnOk, flat_map};
+ghost use Rattle.std.specs.Prelude.{◌≡◌, ◌++◌, IfOk, OnOk};
 ghost use Rattle.report_text.specs.Report.{written};
-ghost use Rattle.signal_trace.specs.Text.{entry_words, forlopp_word, job_line, job_text, outcome_word, place_words, send_line, send_text, trace_text};
+ghost use Rattle.signal_trace.specs.Text.{entry_words, forlopp_word, job_line, job_text, outcome_word, place_words, send_text, sends_text, trace_text};
 
 use crate::tracer::TracedJob;
 use exchange_model::Exchange;
@@ -52,8 +52,7 @@ fn add_start(text: &mut Seq<u8>, exchange: &Exchange, job: &TracedJob) -> Result
 
 /// The line of each signal that a job sent.
 fn add_sends(text: &mut Seq<u8>, exchange: &Exchange, job: &TracedJob) -> Result<(), Memory>
-    ensures { OnOk result (text.new ≡ text.old
-        ++ flat_map (send_text exchange.now job.now.number job.now.start.job.forlopp) job.now.sends) }
+    ensures { OnOk result (text.new ≡ text.old ++ sends_text exchange.now job.now) }
 {
     for sent in job.sends.as_slice() {
         add_sent(text, exchange, job.number, job.start.job.forlopp, sent)?;

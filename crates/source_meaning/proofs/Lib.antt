@@ -26,6 +26,7 @@ pub mod Touching
 pub mod WordValues
 pub mod Stores
 pub mod Entries
+pub mod Entering
 pub mod Points
 pub mod Sending
 pub mod Receiving

@@ -63,7 +63,7 @@ module _ (x : Exchange) (b : ℕ) where
   row_spot : (s : Stmt) (rest : List Stmt) (end : Option ℕ) → IsRow x b (s ∷ rest) end → Contains (all_spots x.blocks) (record { point = s.point; line = s.line })
   row_spot s rest end row = row_spots (s ∷ rest) end row (record { point = s.point; line = s.line }) (first_is (record { point = s.point; line = s.line }) (inner_spots s.kind ++ spots rest))
 
-points_many : (b : ℕ) (blocks : List Block) → length (points_from b blocks) ≡ length (all_spots blocks)
+pub points_many : (b : ℕ) (blocks : List Block) → length (points_from b blocks) ≡ length (all_spots blocks)
 unfolding points_from
 points_many b [] = refl
 points_many b (k ∷ blocks) =

@@ -4,8 +4,8 @@ ghost use Rattle.std.specs.List.{All, Contains};
 ghost use Rattle.job_types.specs.declared.chain.Held.{Held};
 ghost use Rattle.pair_tests.specs.Pairs.{Holds};
 
+use crate::pair::Test;
 use job_types::{Held, JobStart};
-use pair_tests::Test;
 
 /// The value at a place, 0 where there is none.
 fn value_at(values: &[u32], place: u8) -> u32
@@ -32,7 +32,7 @@ fn holds_none(chain: &[Held], file: u32) -> bool
 }
 
 /// Whether a test holds of these two jobs.
-fn holds(test: Test, a: &JobStart, b: &JobStart) -> bool
+pub(crate) fn holds(test: Test, a: &JobStart, b: &JobStart) -> bool
     ensures { IsTrue result ↔ Holds a.now b.now test }
 {
     match test {
@@ -47,14 +47,14 @@ fn holds(test: Test, a: &JobStart, b: &JobStart) -> bool
 }
 
 /// Whether all of these tests hold of the two.
-pub(crate) fn all_hold(tests: &[Test], a: &JobStart, b: &JobStart) -> bool
+pub fn all_hold(tests: &[Test], a: &JobStart, b: &JobStart) -> bool
     ensures { IsTrue result ↔ All (Holds a.now b.now) tests.now }
 {
     tests.iter().all(|test| holds(*test, a, b))
 }
 
 /// Whether two jobs are not of one forlopp other than 0.
-pub(crate) fn are_apart(a: &JobStart, b: &JobStart) -> bool
+pub fn are_apart(a: &JobStart, b: &JobStart) -> bool
     ensures { IsTrue result
         ↔ (a.now.job.forlopp ≡ b.now.job.forlopp → a.now.job.forlopp ≡ 0) }
 {

@@ -1,5 +1,5 @@
 use Rattle.pair_tests.proofs.Holding.{held_test}
-use Rattle.interference_check.proofs.holding.holds.Goals as goal
+use Rattle.pair_tests.proofs.jobs.holds.Goals as goal
 
 pub returns-in-HoldsNo : goal.returns-in-HoldsNo
 returns-in-HoldsNo c =
