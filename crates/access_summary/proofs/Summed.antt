@@ -1,7 +1,8 @@
 -- What is made for one entry after the other.
-use Rattle.std.proofs.Common.{◌≡◌, ◌⊎◌, ◌↔◌, inl, inr, ⊎_elim, ℕ, zero, suc, Bool, true, false, nat_lt, ◌+◌, ◌<◌, ◌≤◌, List, [], ◌∷◌, ◌++◌, length, Some, slice_get, Contains, refl, sym, ap, ◌∙◌, subst, arith, length-append}
+use Rattle.std.proofs.Common.{◌≡◌, ◌⊎◌, ◌↔◌, inl, inr, ⊎_elim, ℕ, zero, suc, Bool, true, false, nat_lt, ◌+◌, ◌<◌, ◌≤◌, List, [], ◌∷◌, ◌++◌, length, Option, Some, None, slice_get, Contains, refl, sym, ap, ◌∙◌, subst, arith, length-append}
 use Rattle.std.proofs.lemmas.List.Elements.{Contains-append_left, Contains-append_right, Contains-append_cases}
 use Rattle.std.proofs.lemmas.Option.{none-some, same_Some, slice_get_within}
+use Rattle.std.specs.Prelude.{IfSome}
 use Rattle.std.specs.List.Sorted.{IsStrictlySortedBy}
 use Rattle.std.specs.declared.cmp.Ordering.TheVariants.{Less}
 use Rattle.std.specs.Ordering.{nat_cmp, ordering_then}
@@ -55,6 +56,15 @@ summaries_more x n one all new is grown g = record {
 
 pub summaries_end : (x : Exchange) (n count : ℕ) (all : List Summary) → count ≡ length x.entries → n ≤ count → count ≤ n → SummariesGo x n all → AreSummaries x all
 summaries_end x n count all is low high g = (let h = g.long in record { each_entry = omega (arith, is, low, high, h); is = g.is })
+
+-- what holds where something is told
+pub some_has : {A P : Type 0} (o : Option A) (a : A) → o ≡ Some a → IfSome o (λ x. P) → P
+some_has None a is h = absurd (none-some a is)
+some_has (Some b) a is h = h
+
+pub told_is : (x : Exchange) (o : Option (List Summary)) (all : List Summary) → o ≡ Some all → IfSome o (AreSummaries x) → AreSummaries x all
+told_is x None all is h = absurd (none-some all is)
+told_is x (Some l) all is h = subst (AreSummaries x) (same_Some l all is) h
 
 -- facts
 

@@ -1,5 +1,6 @@
 // The least facts of an exchange, and the summaries by them.
-ghost use Rattle.std.specs.Prelude.{◌≡◌, ◌↔◌, ◌++◌, map, IfOk, OnOk};
+ghost use Rattle.std.specs.Prelude.{◌≡◌, ◌↔◌, ◌++◌, None, map, IfOk, IfSome, OnOk};
+ghost use Rattle.std.specs.Option.{IsSome};
 ghost use Rattle.std.specs.List.{Contains};
 ghost use Rattle.std.specs.List.Sorted.{IsStrictlySortedBy};
 ghost use Rattle.flow_points.specs.declared.fact.Fact.{Fact as FactType};
@@ -7,7 +8,7 @@ ghost use Rattle.flow_points.specs.Facts.{IsLeast};
 ghost use Rattle.flow_table.specs.Rows.{IsTable};
 ghost use Rattle.flow_table.specs.Texts.{ArePlaces, seen};
 ghost use Rattle.fact_rows.specs.Orders.{fact_order};
-ghost use Rattle.least_facts.specs.Least.{IsFor};
+ghost use Rattle.least_facts.specs.Least.{HasLearned};
 ghost use Rattle.entry_accesses.specs.Numbered.{AreNumbers};
 ghost use Rattle.entry_summary.specs.Summaries.{IsSummary};
 ghost use Rattle.access_summary.specs.Least.{AreSummaries};
@@ -22,10 +23,35 @@ use least_facts::Analyser;
 use plex_num::{Memory, Seq};
 use std::alloc::Global;
 
+/// How many facts are looked at, about, to tell what entries do where they have few. That takes an eighth of a second.
+const MOST_LOOKS: usize = 524_288;
+
+/// How many of one entry, which take the memory of some three megabytes.
+const MOST_OF_ENTRY: usize = 32_768;
+
 /// The summary of each entry, by the least facts.
-#[tactic(auto, using(crate::proofs::Summed::summaries_begin, crate::proofs::Summed::summaries_end))]
 pub fn summaries_of(alloc: Global, exchange: &Exchange) -> Result<Seq<Summary>, Memory>
     ensures { IfOk result (AreSummaries exchange.now) }
+{
+    let told = summaries_within(alloc, exchange, None)?;
+    Ok(told.unwrap())
+}
+
+/// The same where the entries have few facts; `None` where so many are to be looked at that it would take long, or much memory.
+pub fn summaries_if_few(alloc: Global, exchange: &Exchange) -> Result<Option<Seq<Summary>>, Memory>
+    ensures { IfOk result (λ told. IfSome told (AreSummaries exchange.now)) }
+{
+    summaries_within(alloc, exchange, Some(MOST_LOOKS))
+}
+
+/// The summary of each entry, if there is no bound, or if so many facts are to be looked at, at most.
+fn summaries_within(
+    alloc: Global,
+    exchange: &Exchange,
+    most: Option<usize>,
+) -> Result<Option<Seq<Summary>>, Memory>
+    ensures told { IfOk result (λ told. IfSome told (AreSummaries exchange.now)) }
+    ensures all { IfOk result (λ told. most ≡ None → IsSome told) }
 {
     exchange.kept();
     let table = table_of(alloc, exchange)?;
@@ -33,21 +59,47 @@ pub fn summaries_of(alloc: Global, exchange: &Exchange) -> Result<Seq<Summary>, 
     let numbers = numbers_of(alloc, exchange)?;
     let mut analyser = Analyser::new(alloc, exchange, &table)?;
     let mut summaries = Seq::new(alloc);
+    let mut left = most;
     for entry in 0..exchange.entries.len() {
+        let told = analyser.learn(alloc, exchange, &table, entry as u32, most_of_entry(left))?;
+        let Some(looked) = told else {
+            return Ok(None);
+        };
+        left = less(left, looked);
         summaries.push(summarise(
             alloc,
             exchange,
             &table,
             places.as_slice(),
             &numbers,
-            &mut analyser,
+            &analyser,
             entry as u32,
         )?)?;
     }
-    Ok(summaries)
+    Ok(Some(summaries))
 }
 
-/// The summary of an entry, by the least facts.
+/// How many facts of one entry may be looked at, where so many of all may.
+fn most_of_entry(left: Option<usize>) -> Option<usize>
+    ensures { left ≡ None → result ≡ None }
+{
+    match left {
+        Some(left) => Some(left.min(MOST_OF_ENTRY)),
+        None => None,
+    }
+}
+
+/// What is left of a bound, if there is one.
+fn less(left: Option<usize>, looked: usize) -> Option<usize>
+    ensures { left ≡ None → result ≡ None }
+{
+    match left {
+        Some(left) => Some(left.saturating_sub(looked)),
+        None => None,
+    }
+}
+
+/// The summary of an entry of which the analyser has learned the least facts.
 #[tactic(auto, using(crate::proofs::Summed::summary_of_least))]
 fn summarise(
     alloc: Global,
@@ -55,17 +107,15 @@ fn summarise(
     table: &FlowTable,
     places: &[PlaceAt<'_>],
     numbers: &CellNumbers,
-    analyser: &mut Analyser,
+    analyser: &Analyser,
     entry: u32,
 ) -> Result<Summary, Memory>
     requires table { IsTable exchange.now table.now }
     requires places { ArePlaces exchange.now (map seen places.now) }
     requires numbers { AreNumbers exchange.now numbers.now }
-    requires own { IsFor exchange.now table.now analyser.old }
-    ensures summary { IfOk result (IsSummary exchange.now (IsLeast exchange.now) entry) }
-    ensures own { OnOk result (IsFor exchange.now table.now analyser.new) }
+    requires learned { HasLearned exchange.now entry analyser.now }
+    ensures { IfOk result (IsSummary exchange.now (IsLeast exchange.now) entry) }
 {
-    analyser.learn(alloc, exchange, table, entry)?;
     let known = analyser.known();
     let summary = summary_of(alloc, exchange, table, places, numbers, known, entry)?;
     Ok(summary)

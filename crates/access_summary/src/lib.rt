@@ -7,5 +7,5 @@
 mod least;
 mod summary;
 
-pub use least::{least_facts, summaries_of};
+pub use least::{least_facts, summaries_if_few, summaries_of};
 pub use summary::summary_of;

@@ -16,4 +16,4 @@ pub use checked::Checked;
 pub use deciding::check;
 pub use fault::CertFault;
 pub use laws::refused_is_not_closed;
-pub use own::keep_own;
+pub use own::{keep_own, keep_own_if_few};

@@ -1,15 +1,17 @@
 // What is kept of the certificate of an exchange itself.
-ghost use Rattle.std.specs.Prelude.{◌↔◌, IfOk};
+ghost use Rattle.std.specs.Prelude.{◌↔◌, IfOk, IfSome};
 ghost use Rattle.std.specs.List.{Contains};
 ghost use Rattle.flow_points.specs.declared.fact.Fact.{Fact};
 ghost use Rattle.flow_points.specs.Facts.{IsLeast};
+ghost use Rattle.access_summary.specs.Least.{AreSummaries};
 ghost use Rattle.checked.specs.Kept.{IsChecked};
 
 use crate::checked::Checked;
-use access_summary::{least_facts, summaries_of};
+use access_summary::{least_facts, summaries_if_few, summaries_of};
+use entry_summary::Summary;
 use exchange_model::Exchange;
 use fact_list::FactList;
-use plex_num::Memory;
+use plex_num::{Memory, Seq};
 use std::alloc::Global;
 
 /// What the exchange's own certificate says of the entries: its least facts, which need no second look, and the summary of each
@@ -19,9 +21,39 @@ pub fn keep_own(alloc: Global, exchange: &Exchange) -> Result<Checked, Memory>
     ensures least { IfOk result
         (λ k. (f : Fact) → Contains k.facts f ↔ IsLeast exchange.now f) }
 {
+    let summaries = summaries_of(alloc, exchange)?;
+    kept_by_least(alloc, exchange, summaries)
+}
+
+/// The same where the entries have few facts; `None` where so many are to be looked at that it would take long, or much memory.
+pub fn keep_own_if_few(alloc: Global, exchange: &Exchange) -> Result<Option<Checked>, Memory>
+    ensures checked { IfOk result (λ kept. IfSome kept (IsChecked exchange.now)) }
+    ensures least { IfOk result (λ kept. IfSome kept
+        (λ k. (f : Fact) → Contains k.facts f ↔ IsLeast exchange.now f)) }
+{
+    let told = summaries_if_few(alloc, exchange)?;
+    match told {
+        Some(summaries) => {
+            let kept = kept_by_least(alloc, exchange, summaries)?;
+            Ok(Some(kept))
+        }
+        None => Ok(None),
+    }
+}
+
+/// The least facts, with these summaries by them.
+fn kept_by_least(
+    alloc: Global,
+    exchange: &Exchange,
+    summaries: Seq<Summary>,
+) -> Result<Checked, Memory>
+    requires { AreSummaries exchange.now summaries }
+    ensures checked { IfOk result (IsChecked exchange.now) }
+    ensures least { IfOk result
+        (λ k. (f : Fact) → Contains k.facts f ↔ IsLeast exchange.now f) }
+{
     exchange.kept();
     let facts = least_facts(alloc, exchange)?;
-    let summaries = summaries_of(alloc, exchange)?;
     let known = FactList::new(facts);
     Ok(Checked::new(known, summaries))
 }

@@ -13,7 +13,7 @@ use Rattle.job_types.specs.declared.job.Job.{Job}
 use Rattle.job_types.specs.Waiting.{is_of, others_in}
 use Rattle.job_buffers.specs.declared.stays.Stay.{Stay}
 use Rattle.job_buffers.specs.declared.queue.Placed.{Placed}
-use Rattle.job_buffers.specs.Standing.{AreBefore, Fits, FrontCounts, IsBefore, IsTidied, counting, counts, from_first, is_stay, jobs_of, joined, left, updated}
+use Rattle.job_buffers.specs.Standing.{AreBefore, Fits, FrontCounts, IsBefore, IsTidied, counting, counts, is_stay, jobs_of, joined, left, updated}
 
 -- ---- counts of jobs
 
@@ -259,6 +259,10 @@ pub counting_first : (stays : ℕ → Option Stay) (p : Placed) (ps : List Place
 counting_first stays p ps e = λ i. map (λ (p : Placed). p.job) (cond (e i) (p ∷ filter (counts stays) ps) (filter (counts stays) ps))
 
 -- ---- lists are tidied
+
+-- a list from the first job on that still waits
+abbrev from_first : (ℕ → Option Stay) → List Placed → List Placed
+from_first stays ps = drop (position_or_len (counts stays) ps) ps
 
 from_cons : (stays : ℕ → Option Stay) (p : Placed) (ps : List Placed) → from_first stays (p ∷ ps) ≡ cond (counts stays p) (p ∷ ps) (from_first stays ps)
 from_cons stays p ps = at (counts stays p) (position_or_len (counts stays) ps)

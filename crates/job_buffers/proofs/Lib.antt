@@ -1,4 +1,2 @@
 pub mod Counting
-pub mod Picks
-pub mod Rooms
 pub mod Sound

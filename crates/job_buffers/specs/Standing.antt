@@ -3,8 +3,8 @@
 -- A forlopp stays from the moment when a first job of it joins to the moment when none of its jobs waits: the last one
 -- was taken, or all were removed. Each stay has a number of its own, and a job that was placed in the lists waits as long
 -- as the stay in which it joined goes on.
-use Rattle.std.specs.Prelude.{◌≡◌, ℕ, ◌+◌, ◌-◌, ◌<◌, ◌≤◌, ◌^◌, Bool, true, false, nat_eq, nat_lt, List, [], ◌∷◌, ◌++◌, map, drop, filter, Option, Some, None, if◌then◌else◌}
-use Rattle.std.specs.List.{AllByRecursion, position_or_len}
+use Rattle.std.specs.Prelude.{◌≡◌, ℕ, ◌+◌, ◌-◌, ◌<◌, ◌≤◌, ◌^◌, Bool, true, false, nat_eq, nat_lt, List, [], ◌∷◌, ◌++◌, map, filter, Option, Some, None, if◌then◌else◌}
+use Rattle.std.specs.List.{AllByRecursion}
 use Rattle.std.specs.HashMap.{HashMap, get}
 use Rattle.plex_num.specs.declared.level.Level.{Level}
 use Rattle.plex_num.specs.declared.level.Level.TheVariants.{A, B, C, D}
@@ -54,10 +54,6 @@ counts stays p = is_stay p.stay (stays p.job.forlopp)
 -- the jobs of a list that still wait
 abbrev pub counting : (ℕ → Option Stay) → List Placed → List Job
 counting stays ps = map (λ (p : Placed). p.job) (filter (counts stays) ps)
-
--- a list from the first job on that still waits
-abbrev pub from_first : (ℕ → Option Stay) → List Placed → List Placed
-from_first stays ps = drop (position_or_len (counts stays) ps) ps
 
 -- all joined in stays that began before a number
 abbrev pub AreBefore : ℕ → List Placed → Type 0

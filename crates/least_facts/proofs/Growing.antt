@@ -1,6 +1,7 @@
 -- What is known grows until nothing is marked; then it is all that is least.
-use Rattle.std.proofs.Common.{◌≡◌, ◌⊎◌, inl, inr, ⊎_elim, ℕ, zero, suc, ◌+◌, ◌*◌, ◌<◌, ◌≤◌, Bool, true, false, nat_eq, nat_lt, if◌then◌else◌, List, [], ◌∷◌, ◌++◌, length, drop, get_or, Option, Some, slice_get, refl, sym, ap, ◌∙◌, subst, arith, add-one, drop-cons, length-append}
-use Rattle.std.specs.Prelude.{◌↔◌}
+use Rattle.std.proofs.Common.{◌≡◌, ◌⊎◌, inl, inr, ⊎_elim, ℕ, zero, suc, ◌+◌, ◌*◌, ◌<◌, ◌≤◌, Bool, true, false, nat_eq, nat_lt, if◌then◌else◌, List, [], ◌∷◌, ◌++◌, length, drop, get_or, Option, Some, None, slice_get, refl, sym, ap, ◌∙◌, subst, arith, add-one, drop-cons, length-append}
+use Rattle.std.specs.Prelude.{◌↔◌, IfSome}
+use Rattle.std.specs.Option.{IsSome}
 use Rattle.std.specs.List.{All, Contains}
 use Rattle.std.specs.List.Sorted.{IsStrictlySortedBy}
 use Rattle.std.specs.Ordering.{nat_cmp}
@@ -45,9 +46,11 @@ use Rattle.fact_flows.specs.Given.{GivenAt, GivenAtStart}
 use Rattle.fact_rows.specs.declared.place.Counts.{Counts}
 use Rattle.fact_rows.specs.Orders.{fact_order}
 use Rattle.fact_rows.specs.Known.{Adds, AreFacts, Fits, KnowNothing, Knows, Rows, missing, slots_of}
+use Rattle.least_facts.specs.declared.analyser.Analyser.{Analyser}
 use Rattle.least_facts.specs.declared.answers.AnswerTable.{AnswerTable}
 use Rattle.least_facts.specs.Answers.{AreAnswers, known_answer, returned, Returns as ReturnsTo}
 use Rattle.least_facts.specs.Growing.{AreFound, Grows, IsAdded, IsFresh, IsSame, Settled, Went}
+use Rattle.least_facts.specs.Least.{HasLearned}
 use Rattle.least_facts.proofs.Fitting.{least_below, least_fits}
 
 none_in : {A : Type 0} (x : A) → Contains [] x → ⊥
@@ -364,6 +367,16 @@ visit_less x t e k new_k p all old m r is went rising returning = subst (λ l. m
         let up : suc (missing new_k) ≤ missing k = omega (arith, lt) in
         less_more (missing new_k * (n + 1) + length new) (missing k * (n + 1)) (length (p ∷ old))
         (less_sum (missing new_k * (n + 1)) (missing k * (n + 1)) (suc (missing new_k) * (n + 1)) (length new) n (suc-mul (missing new_k) (n + 1)) (mul-le-mul_right (n + 1) up) few)
+
+-- where there is no bound, all that is wanted is found
+
+pub found_always : {P : Type 0} (looked : Option ℕ) → IfSome looked (λ n. P) → IsSome looked → P
+found_always None found some = cc
+found_always (Some n) found some = found
+
+pub learned_some : (x : Exchange) (t : FlowTable) (e : ℕ) (a : Analyser) (looked : Option ℕ) → IfSome looked (λ n. AreFound x t e a.rows) → IfSome looked (λ n. HasLearned x e a)
+learned_some x t e a None found = found
+learned_some x t e a (Some n) found = record { rows = record { exact = found.exact } }
 
 -- what is found is listed
 

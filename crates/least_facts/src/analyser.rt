@@ -1,5 +1,6 @@
 // The least facts of an entry.
-ghost use Rattle.std.specs.Prelude.{◌≡◌, ◌↔◌, ℕ, IfOk, OnOk};
+ghost use Rattle.std.specs.Prelude.{◌≡◌, ◌↔◌, ℕ, None, IfOk, IfSome, OnOk};
+ghost use Rattle.std.specs.Option.{IsSome};
 ghost use Rattle.std.specs.List.{Contains};
 ghost use Rattle.std.specs.List.Sorted.{IsStrictlySortedBy};
 ghost use Rattle.flow_points.specs.declared.fact.Fact.{Fact};
@@ -37,21 +38,34 @@ impl Analyser {
         })
     }
 
-    /// Learns the least facts of an entry, in place of what it has learned before. After `Memory` the analyser is of no more use.
+    /// Learns the least facts of an entry, in place of what it has learned before; how many facts it looked at for that, some of
+    /// them again. `None` where there is a bound, `most`, and more are to be looked at: then nothing of use is learned. After
+    /// `Memory` the analyser is of no more use.
     pub fn learn(
         &mut self,
         alloc: Global,
         exchange: &Exchange,
         table: &FlowTable,
         entry: u32,
-    ) -> Result<(), Memory>
+        most: Option<usize>,
+    ) -> Result<Option<usize>, Memory>
         requires table { IsTable exchange.now table.now }
         requires own { IsFor exchange.now table.now self.old }
-        ensures learned { OnOk result (HasLearned exchange.now entry self.new) }
+        ensures learned { IfOk result (λ looked.
+            IfSome looked (λ _. HasLearned exchange.now entry self.new)) }
+        ensures all { IfOk result (λ looked. most ≡ None → IsSome looked) }
         ensures own { OnOk result (IsFor exchange.now table.now self.new) }
     {
-        find(alloc, exchange, table, &self.answers, entry, &mut self.rows)?;
-        Ok(())
+        let looked = find(
+            alloc,
+            exchange,
+            table,
+            &self.answers,
+            entry,
+            most,
+            &mut self.rows,
+        )?;
+        Ok(looked)
     }
 
     /// The facts that it has learned.
@@ -77,7 +91,15 @@ impl Analyser {
         ensures order { IfOk result (λ facts. IsStrictlySortedBy fact_order facts) }
         ensures own { OnOk result (IsFor exchange.now table.now self.new) }
     {
-        find(alloc, exchange, table, &self.answers, entry, &mut self.rows)?;
+        find(
+            alloc,
+            exchange,
+            table,
+            &self.answers,
+            entry,
+            None,
+            &mut self.rows,
+        )?;
         let facts = self.rows.facts(alloc)?;
         Ok(facts)
     }

@@ -1,5 +1,6 @@
 // The search for what follows from nothing.
-ghost use Rattle.std.specs.Prelude.{◌≡◌, ◌∷◌, [], OnOk};
+ghost use Rattle.std.specs.Prelude.{◌≡◌, ◌∷◌, [], None, IfOk, IfSome, IsTrue, OnOk};
+ghost use Rattle.std.specs.Option.{IsSome};
 ghost use Rattle.std.specs.Ordering.{nat_cmp};
 ghost use Rattle.std.specs.BTreeSet.{IsOrdered};
 ghost use Rattle.flow_table.specs.Rows.{IsTable};
@@ -19,19 +20,24 @@ use plex_num::{Memory, Seq};
 use std::alloc::Global;
 use std::collections::BTreeSet;
 
-/// Finds the least facts of an entry, so that the rows know these and no others.
+/// Finds the least facts of an entry, so that the rows know these and no others; how many facts it looked at for that. `None` where
+/// there is a bound, `most`, and more are to be looked at: then the rows know some of them.
 pub(crate) fn find(
     alloc: Global,
     exchange: &Exchange,
     table: &FlowTable,
     answers: &AnswerTable,
     entry: u32,
+    most: Option<usize>,
     rows: &mut FactRows,
-) -> Result<(), Memory>
+) -> Result<Option<usize>, Memory>
     requires table { IsTable exchange.now table.now }
     requires answers { AreAnswers exchange.now answers.now }
     requires slots { rows.old.marks.slots ≡ slots_of table.now }
-    ensures { OnOk result (AreFound exchange.now table.now entry rows.new) }
+    ensures found { IfOk result (λ looked.
+        IfSome looked (λ _. AreFound exchange.now table.now entry rows.new)) }
+    ensures all { IfOk result (λ looked. most ≡ None → IsSome looked) }
+    ensures slots { OnOk result (rows.new.marks.slots ≡ slots_of table.now) }
 {
     exchange.kept();
     rows.begin(entry);
@@ -47,8 +53,12 @@ pub(crate) fn find(
         rows,
         &mut marked,
     )?;
+    let mut looked: usize = 0;
     while let Some(point) = take(&mut marked) {
-        visit(
+        if is_over(most, looked) {
+            return Ok(None);
+        }
+        let more = visit(
             alloc,
             exchange,
             table,
@@ -58,11 +68,22 @@ pub(crate) fn find(
             rows,
             &mut marked,
         )?;
+        looked = looked.saturating_add(more);
     }
-    Ok(())
+    Ok(Some(looked))
 }
 
-/// Adds what the flows from a point give, which was marked.
+/// Whether there is a bound, and more facts were looked at.
+fn is_over(most: Option<usize>, looked: usize) -> bool
+    ensures { IsTrue result → most ≡ None → ⊥ }
+{
+    match most {
+        Some(most) => looked > most,
+        None => false,
+    }
+}
+
+/// Adds what the flows from a point give, which was marked; how many facts these are, and one more.
 fn visit(
     alloc: Global,
     exchange: &Exchange,
@@ -72,7 +93,7 @@ fn visit(
     point: u32,
     rows: &mut FactRows,
     marked: &mut Marked,
-) -> Result<(), Memory>
+) -> Result<usize, Memory>
     requires table { IsTable exchange.now table.now }
     requires answers { AreAnswers exchange.now answers.now }
     requires grows { Grows exchange.now table.now entry rows.old (point ∷ marks_of marked.old) [] }
@@ -95,7 +116,7 @@ fn visit(
     )?;
     let _ = marked.points.len();
     let _ = marked.returning.len();
-    Ok(())
+    Ok(facts.len().saturating_add(1))
 }
 
 /// Adds these facts, and marks where something new came to be known.

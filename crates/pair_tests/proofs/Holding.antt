@@ -14,10 +14,10 @@ use Rattle.pair_tests.specs.declared.pair.Conflict.{Conflict}
 use Rattle.pair_tests.specs.declared.pair.Test.{Test}
 use Rattle.pair_tests.specs.declared.pair.Test.TheVariants as test
 use Rattle.pair_tests.specs.Clashes.{IsLeast}
-use Rattle.pair_tests.specs.Asked.{asked_of, release_test, AskedWith, Asked, AskedSeizing, AskedRelease, AllHold}
-use Rattle.pair_tests.specs.Nearby.{AreNear}
+use Rattle.pair_tests.specs.Asked.{asked_of, asks, release_test, AskedWith, Asked, AskedSeizing, AskedRelease, AllHold}
+use Rattle.pair_tests.specs.Nearby.{passes_reads, AreNear}
 use Rattle.pair_tests.specs.Pairs.{Holds, IsConflict, IsTest, Passes}
-use Rattle.pair_tests.proofs.Tested.{with_pushed, all_pushed, seizing_pushed, near_asked, asked_all, of_asked, of_release, test_cases}
+use Rattle.pair_tests.proofs.Tested.{with_pushed, all_pushed, seizing_pushed, near_asked, asked_all, none_asked_with, writes_asked, of_asked, of_release, test_cases}
 
 none_in : {A : Type 0} (x : A) → Contains [] x → ⊥
 none_in x c = (let lt = c.1 in omega arith)
@@ -76,6 +76,14 @@ module _ (a b : JobStart) where
 
   pub with_end : (one : Access) (others : List Access) (i : ℕ) → length others ≤ i → AllHold (AskedWith one (take i others)) a b → IsTrue true ↔ AllHold (AskedWith one others) a b
   with_end one others i past h = (λ k. subst (λ l. AllHold (AskedWith one l) a b) (take_all i others past) h, λ k. refl)
+
+  pub none_with : (one : Access) (all : List Access) → asks one ≡ false → IsTrue true ↔ AllHold (AskedWith one all) a b
+  none_with one all nothing = (λ h. none_hold (AskedWith one all) (λ t k. none_asked_with one all t nothing k), λ h. refl)
+
+  pub with_writes : (one : Access) (all writes : List Access) (r : Bool) → passes_reads one ≡ true → AreNear one true all writes
+      → IsTrue r ↔ AllHold (AskedWith one writes) a b → IsTrue r ↔ AllHold (AskedWith one all) a b
+  with_writes one all writes r reads w h =
+      (λ k. fewer (AskedWith one all) (AskedWith one writes) (writes_asked one all writes reads w) (h.0 k), λ k. h.1 (fewer (AskedWith one writes) (AskedWith one all) (asked_all one true all writes w) k))
 
   pub with_near : (one : Access) (all reads writes : List Access) (x y : Bool) → AreNear one false all reads → AreNear one true all writes
       → IsTrue x ↔ AllHold (AskedWith one reads) a b → IsTrue y ↔ AllHold (AskedWith one writes) a b → IsTrue (x && y) ↔ AllHold (AskedWith one all) a b

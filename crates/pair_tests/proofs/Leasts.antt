@@ -21,6 +21,12 @@ unfolding IsLeast
 least_one None = λ c e. none-some c e
 least_one (Some b) = (refl, λ d e before. none_before_itself b (subst (λ x. Precedes x b) (sym (same_Some b d e)) before))
 
+-- of the same conflicts
+pub least_same : (P R : Conflict → Type 0) → ((c : Conflict) → P c → R c) → ((c : Conflict) → R c → P c) → (result : Option Conflict) → IsLeast P result → IsLeast R result
+unfolding IsLeast
+least_same P R to from None least = λ c h. least c (from c h)
+least_same P R to from (Some b) least = (to b least.0, λ c h. least.1 c (from c h))
+
 pub least_joined : (P Q R : Conflict → Type 0) → ((c : Conflict) → P c → R c) → ((c : Conflict) → Q c → R c) → ((c : Conflict) → R c → P c ⊎ Q c)
     → (one other result : Option Conflict) → IsLeast P one → IsLeast Q other → IsSooner one other result → IsLeast R result
 unfolding IsLeast

@@ -1,18 +1,20 @@
 -- The accesses of one number stand side by side in a list in order.
-use Rattle.std.proofs.Common.{◌≡◌, ◌⊎◌, inl, inr, ⊎_elim, ℕ, ◌+◌, ◌-◌, ◌<◌, ◌≤◌, Bool, true, false, ◌&&◌, nat_eq, List, length, take, drop, get_or, Option, Some, None, refl, sym, ap, ◌∙◌, subst, arith}
+use Rattle.std.proofs.Common.{◌≡◌, ◌⊎◌, inl, inr, ⊎_elim, ℕ, ◌+◌, ◌-◌, ◌<◌, ◌≤◌, Bool, true, false, ◌&&◌, ◌||◌, ◌≢◌, not, nat_eq, List, length, take, drop, get_or, Option, Some, None, refl, sym, ap, ◌∙◌, subst, arith}
 use Rattle.std.specs.declared.cmp.Ordering.{Ordering}
 use Rattle.std.specs.declared.cmp.Ordering.TheVariants.{Less, Equal, Greater}
 use Rattle.std.specs.Cmp.{IsTotalOrder, nat_cmp_total}
 use Rattle.std.specs.Ordering.{nat_cmp, is_lt, is_le}
-use Rattle.std.specs.Prelude.{if◌then◌else◌}
+use Rattle.std.specs.Prelude.{if◌then◌else◌, IsTrue, slice_get}
+use Rattle.std.specs.Bool.{MatchBool}
 use Rattle.std.specs.List.{Contains}
-use Rattle.std.specs.List.Sorted.{IsPartitionPoint, IsPartitionedBy, IsStrictlySortedBy}
+use Rattle.std.specs.List.Sorted.{IsPartitionedBy, IsStrictlySortedBy}
 use Rattle.std.proofs.lemmas.Bool.{cases_lt, eqb-true}
 use Rattle.std.proofs.lemmas.Bool.Decides.{nat_tests}
 use Rattle.std.proofs.lemmas.Cmp.{tied_itself, alike_right}
+use Rattle.std.proofs.lemmas.List.Elements.{AllWithin-none}
 use Rattle.std.proofs.lemmas.List.{get_or-take, get_or-drop, length-take, length-drop}
 use Rattle.std.proofs.lemmas.Map.Keys.{Less-from_sorted}
-use Rattle.std.proofs.lemmas.Option.{none-some}
+use Rattle.std.proofs.lemmas.Option.{get_or_from_slice_get, none-some}
 use Rattle.flow_points.specs.declared.fact.Value.{Value}
 use Rattle.flow_points.specs.declared.fact.Value.TheVariants.{Arg, Const, Any}
 use Rattle.entry_summary.specs.declared.summary.Access.{Access}
@@ -24,8 +26,10 @@ use Rattle.pair_tests.specs.declared.pair.Test.{Test}
 use Rattle.pair_tests.specs.declared.pair.Conflict.TheVariants as conflict
 use Rattle.pair_tests.specs.Clashes.{share, meet, clash_of, ClashesWith, IsLeast, IsSooner}
 use Rattle.pair_tests.specs.Asked.{asked_of, selector_test}
-use Rattle.pair_tests.specs.Nearby.{file_access, lowest, highest, IsNear, AreNear}
-use Rattle.pair_tests.proofs.Leasts.{least_joined}
+use Rattle.pair_tests.specs.declared.near.Bound.{Bound}
+use Rattle.pair_tests.specs.declared.near.Bound.TheVariants.{Below, UpTo}
+use Rattle.pair_tests.specs.Nearby.{file_access, lowest, highest, passes_reads, within, IsNear, AreCounted, AreNear, ArePast, AreWithin}
+use Rattle.pair_tests.proofs.Leasts.{least_joined, least_same}
 use Rattle.pair_tests.proofs.Conflicting.{shared, both, chosen}
 
 accesses_total : IsTotalOrder access_order
@@ -59,6 +63,45 @@ up_to_parted xs high up i j d le lt passes =
     (λ before. ap is_le (up_to (get_or xs i d) (get_or xs j d) high (Less-from_sorted access_order xs i j d up before lt) passes))
     (λ past. (let e : i ≡ j = omega arith in subst (λ k. is_le (access_order (get_or xs k d) high) ≡ true) (sym e) passes))
     (cases_lt i j)
+
+pub parted : (b : Bound) (xs : List Access) → IsStrictlySortedBy access_order xs → IsPartitionedBy (within b) xs
+parted (Below low) xs up = below_parted xs low up
+parted (UpTo high) xs up = up_to_parted xs high up
+
+-- so many are within a bound, and none is from there on
+
+pub none_within : (b : Bound) (xs : List Access) (count : ℕ) → count ≡ 0 → AreWithin b xs count
+none_within b xs count e = subst (AreWithin b xs) (sym e) (record { there = omega arith; each = AllWithin-none (λ a. within b a ≡ true) xs 0 })
+
+pub first_within : (b : Bound) (xs : List Access) (count : ℕ) (a : Access) (r : Bool) → IsStrictlySortedBy access_order xs → count ≢ 0 → count ≤ length xs
+    → slice_get xs (count - 1) ≡ Some a → r ≡ within b a → IsTrue r → AreWithin b xs count
+first_within b xs count a r up some there at is h = record {
+  there = there;
+  each = λ k d low high.
+      (let le : k ≤ count - 1 = omega (arith, high) in
+      let lt : count - 1 < length xs = omega (arith, there, high) in
+      parted b xs up k (count - 1) d le lt (ap (within b) (get_or_from_slice_get xs (count - 1) a d at) ∙ sym is ∙ h));
+}
+
+pub all_past : (b : Bound) (xs : List Access) (place : ℕ) → length xs ≤ place → ArePast b xs place
+all_past b xs place past = record { each = λ k d low high. absurd (omega (arith, past, low, high)) }
+
+pub one_within : (b : Bound) (xs : List Access) (place : ℕ) (a : Access) (r : Bool) → IsStrictlySortedBy access_order xs → place < length xs
+    → slice_get xs place ≡ Some a → r ≡ within b a → MatchBool (not r) (ArePast b xs place) (AreWithin b xs (place + 1))
+one_within b xs place a true up lt at is = record {
+  there = omega (arith, lt);
+  each = λ k d low high.
+      (let le : k ≤ place = omega (arith, high) in
+      parted b xs up k place d le lt (ap (within b) (get_or_from_slice_get xs place a d at) ∙ sym is));
+}
+one_within b xs place a false up lt at is = record { each = λ k d low high. no_longer k d low high (within b (get_or xs k d)) refl }
+  where
+    no_longer : (k : ℕ) (d : Access) → place ≤ k → k < length xs → (t : Bool) → within b (get_or xs k d) ≡ t → t ≡ false
+    no_longer k d low high false e = refl
+    no_longer k d low high true e = sym (parted b xs up place k d low high e) ∙ ap (within b) (get_or_from_slice_get xs place a d at) ∙ sym is
+
+pub counted : (b : Bound) (xs : List Access) (count : ℕ) → AreWithin b xs count → ArePast b xs count → AreCounted b xs count
+counted b xs count front past = record { there = front.there; parts = (front.each, past.each) }
 
 -- what is near stands between the two bounds
 
@@ -126,11 +169,9 @@ both_ways true e f = cc
 both_ways false e f = cc
 
 pub near_part : (one : Access) (v : Bool) (low high : Access) (xs some : List Access) (from to : ℕ)
-    → low ≡ lowest one v → high ≡ highest one v → to ≤ length xs
-    → IsPartitionPoint (λ a. is_lt (access_order a low) ≡ true) (λ a. is_lt (access_order a low) ≡ false) xs from
-    → IsPartitionPoint (λ a. is_le (access_order a high) ≡ true) (λ a. is_le (access_order a high) ≡ false) xs to
+    → low ≡ lowest one v → high ≡ highest one v → AreCounted (Below low) xs from → AreCounted (UpTo high) xs to
     → some ≡ drop from (take to xs) → AreNear one v xs some
-near_part one v low high xs some from to is_low is_high bound below upto is =
+near_part one v low high xs some from to is_low is_high begins ends is =
     subst (AreNear one v xs) (sym is)
     (record {
       each = part_from xs from to;
@@ -140,14 +181,14 @@ near_part one v low high xs some from to is_low is_high bound below upto is =
     placed : (b : Access) (k : ℕ) → k < length xs → get_or xs k b ≡ b → is_lt (access_order b low) ≡ false → is_le (access_order b high) ≡ true → Contains (drop from (take to xs)) b
     placed b k lt at l h =
         let above : from ≤ k = ⊎_elim
-        (λ past. absurd (both_ways (is_lt (access_order b low)) (subst (λ x. is_lt (access_order x low) ≡ true) at (below.0 k b (omega arith) past)) l))
+        (λ past. absurd (both_ways (is_lt (access_order b low)) (subst (λ x. is_lt (access_order x low) ≡ true) at (begins.parts.0 k b (omega arith) past)) l))
         (λ up. up)
         (cases_lt k from) in
         let under : k < to = ⊎_elim
         (λ up. up)
-        (λ past. absurd (both_ways (is_le (access_order b high)) h (subst (λ x. is_le (access_order x high) ≡ false) at (upto.1 k b past lt))))
+        (λ past. absurd (both_ways (is_le (access_order b high)) h (subst (λ x. is_le (access_order x high) ≡ false) at (ends.parts.1 k b past lt))))
         (cases_lt k to) in
-        part_has xs from to k b bound above under at
+        part_has xs from to k b ends.there above under at
 
 -- what clashes with an access, or asks for a test, is near
 
@@ -178,7 +219,44 @@ pub asked_near : (one b : Access) (t : Test) → asked_of one b ≡ Some t → I
 asked_near (Field w n u) (Field v m z) t e = by_write (Field w n u) v (Field v m z) (same_field v n m z (shared n m w v (asks (share n m w v) (selector_test u z) t e).0).number)
 asked_near _ _ t e = absurd (none-some t e)
 
+-- what an access that reads has to do with an access, that one writes
+
+with_writing : (v : Bool) → (false || v) ≡ true → v ≡ true
+with_writing v e = e
+
+is_reading : (w : Bool) → not w ≡ true → w ≡ false
+is_reading true e = cc
+is_reading false e = refl
+
+one_writing : (w v : Bool) → not w ≡ true → (w || v) ≡ true → v ≡ true
+one_writing w v reads e = subst (λ u. (u || v) ≡ true) (is_reading w reads) e
+
+pub clash_writes : (one b : Access) (c : Conflict) → passes_reads one ≡ true → clash_of one b ≡ Some c → IsNear one true b
+clash_writes (Variable w n) (Variable v m) c reads e =
+    let s = shared n m w v (chosen (share n m w v) (conflict.Variable n) c e).0 in
+    subst (λ u. Variable v m ≡ Variable u n) (one_writing w v reads s.writes) (same_variable v n m s.number)
+clash_writes (Field w n u) (Field v m z) c reads e =
+    let s = shared n m w v (both (share n m w v) (meet u z) (chosen (share n m w v && meet u z) (conflict.Field n u z) c e).0).0 in
+    subst (λ t. (y : Value) × (Field v m z ≡ Field t n y)) (one_writing w v reads s.writes) (same_field v n m z s.number)
+clash_writes (Seizes f) b c reads e = cc
+clash_writes (Frees f) b c reads e = cc
+clash_writes _ _ c reads e = absurd (none-some c e)
+
+pub asked_writes : (one b : Access) (t : Test) → passes_reads one ≡ true → asked_of one b ≡ Some t → IsNear one true b
+asked_writes (Field w n u) (Field v m z) t reads e =
+    let s = shared n m w v (asks (share n m w v) (selector_test u z) t e).0 in
+    subst (λ i. (y : Value) × (Field v m z ≡ Field i n y)) (one_writing w v reads s.writes) (same_field v n m z s.number)
+asked_writes _ _ t reads e = absurd (none-some t e)
+
 -- the first of the conflicts with those that are near
+pub least_writes : (one : Access) (all some : List Access) (writes : Option Conflict) → passes_reads one ≡ true → AreNear one true all some
+    → IsLeast (ClashesWith one some) writes → IsLeast (ClashesWith one all) writes
+least_writes one all some writes reads w first =
+    least_same (ClashesWith one some) (ClashesWith one all)
+    (λ c h. record { other = h.other; there = w.each h.other h.there; clash = h.clash })
+    (λ c h. record { other = h.other; there = w.near h.other h.there (clash_writes one h.other c reads h.clash); clash = h.clash })
+    writes first
+
 pub least_near : (one : Access) (all some_reads some_writes : List Access) (reads writes result : Option Conflict)
     → AreNear one false all some_reads → AreNear one true all some_writes
     → IsLeast (ClashesWith one some_reads) reads → IsLeast (ClashesWith one some_writes) writes → IsSooner reads writes result → IsLeast (ClashesWith one all) result

@@ -23,12 +23,12 @@ use Rattle.pair_tests.specs.declared.pair.Test.TheVariants as test
 use Rattle.pair_tests.specs.contracts.pair.TestOrd.TheImpl.Laws.{total-law}
 use Rattle.pair_tests.specs.Orders.{test_order}
 use Rattle.pair_tests.specs.Clashes.{share}
-use Rattle.pair_tests.specs.Asked.{selector_test, asked_of, release_test, AskedWith, Asked, AskedSeizing, AskedRelease, Adds}
-use Rattle.pair_tests.specs.Nearby.{AreNear}
+use Rattle.pair_tests.specs.Asked.{selector_test, asked_of, asks as ask, release_test, AskedWith, Asked, AskedSeizing, AskedRelease, Adds}
+use Rattle.pair_tests.specs.Nearby.{passes_reads, AreNear}
 use Rattle.pair_tests.specs.Pairs.{ShareField, IsTest, two_values, first_value, later_value, in_forlopp, holds_none}
 use Rattle.pair_tests.proofs.Preceding.{number_equal}
 use Rattle.pair_tests.proofs.Conflicting.{shared, sharing}
-use Rattle.pair_tests.proofs.Nearing.{asks, asked_near}
+use Rattle.pair_tests.proofs.Nearing.{asks, asked_near, asked_writes}
 
 none_in : {A : Type 0} (x : A) → Contains [] x → ⊥
 none_in x c = (let lt = c.1 in omega arith)
@@ -84,6 +84,18 @@ near_asked one all reads writes r w t h =
     (λ n. inr (record { other = h.other; there = w.near h.other h.there n; asks = h.asks }))
     (asked_near one h.other t h.asks)
 
+-- where none is asked for, and where those that write ask for all
+
+pub none_asked_with : (one : Access) (others : List Access) (t : Test) → ask one ≡ false → AskedWith one others t → ⊥
+none_asked_with one others t nothing h = asked_none one h.other nothing h.asks
+  where
+    asked_none : (one b : Access) → ask one ≡ false → asked_of one b ≡ Some t → ⊥
+    asked_none (Field w n u) b nothing e = cc
+    asked_none _ b nothing e = none-some t e
+
+pub writes_asked : (one : Access) (all writes : List Access) → passes_reads one ≡ true → AreNear one true all writes → (t : Test) → AskedWith one all t → AskedWith one writes t
+writes_asked one all writes reads w t h = record { other = h.other; there = w.near h.other h.there (asked_writes one h.other t reads h.asks); asks = h.asks }
+
 pub asked_all : (one : Access) (v : Bool) (all some : List Access) → AreNear one v all some → (t : Test) → AskedWith one some t → AskedWith one all t
 asked_all one v all some n t h = record { other = h.other; there = n.each h.other h.there; asks = h.asks }
 
@@ -130,11 +142,26 @@ with_more one others i d o old now new lt same before one_more =
 pub with_end : (one : Access) (others : List Access) (i : ℕ) (old new : List Test) → length others ≤ i → Adds (AskedWith one (take i others)) old new → Adds (AskedWith one others) old new
 with_end one others i old new past h = subst (λ l. Adds (AskedWith one l) old new) (take_all i others past) h
 
+pub with_none : (one : Access) (all : List Access) (old : List Test) → ask one ≡ false → Adds (AskedWith one all) old old
+with_none one all old nothing = adds_nothing (AskedWith one all) old (λ t h. none_asked_with one all t nothing h)
+
+pub with_writes : (one : Access) (all writes : List Access) (old new : List Test) → passes_reads one ≡ true → AreNear one true all writes
+    → Adds (AskedWith one writes) old new → Adds (AskedWith one all) old new
+with_writes one all writes old new reads w h = record {
+  kept = h.kept;
+  added = λ t k. h.added t (writes_asked one all writes reads w t k);
+  each = λ t c. ⊎_elim (λ o. inl o) (λ k. inr (asked_all one true all writes w t k)) (h.each t c);
+}
+
 pub with_near : (one : Access) (all reads writes : List Access) (old now new : List Test) → AreNear one false all reads → AreNear one true all writes
-    → Adds (AskedWith one reads) old now → Adds (AskedWith one writes) now new → Adds (AskedWith one all) old new
+    → Adds (AskedWith one writes) old now → Adds (AskedWith one reads) now new → Adds (AskedWith one all) old new
 with_near one all reads writes old now new r w first second =
-    adds_joined (AskedWith one reads) (AskedWith one writes) (AskedWith one all)
-    (asked_all one false all reads r) (asked_all one true all writes w) (near_asked one all reads writes r w) old now new first second
+    adds_joined (AskedWith one writes) (AskedWith one reads) (AskedWith one all)
+    (asked_all one true all writes w) (asked_all one false all reads r) (λ t h. swapped (near_asked one all reads writes r w t h)) old now new first second
+  where
+    swapped : {A B : Type 0} → A ⊎ B → B ⊎ A
+    swapped (inl a) = inr a
+    swapped (inr b) = inl b
 
 pub all_begin : (others : List Access) (old : List Test) → Adds (Asked [] others) old old
 all_begin others old = adds_nothing (Asked [] others) old (λ t h. none_in h.one h.there)

@@ -1,5 +1,5 @@
 -- Which tests two accesses ask for, and what it is for tests to hold.
-use Rattle.std.specs.Prelude.{◌≡◌, ◌⊎◌, Bool, true, List, Option, Some, None, if◌then◌else◌}
+use Rattle.std.specs.Prelude.{◌≡◌, ◌⊎◌, Bool, true, false, List, Option, Some, None, if◌then◌else◌}
 use Rattle.std.specs.List.{Contains}
 use Rattle.job_types.specs.declared.job.JobStart.{JobStart}
 use Rattle.flow_points.specs.declared.fact.Value.{Value}
@@ -25,6 +25,11 @@ selector_test Any v = None
 abbrev pub asked_of : Access → Access → Option Test
 asked_of (access.Field w n u) (access.Field v m z) = if share n m w v then selector_test u z else None
 asked_of _ _ = None
+
+-- whether an access of the first asks for tests at all
+abbrev pub asks : Access → Bool
+asks (access.Field w n u) = true
+asks _ = false
 
 -- that of an access of the later, where the first may fault
 abbrev pub release_test : Access → Option Test

@@ -5,12 +5,12 @@ ghost use Rattle.std.specs.List.Sorted.{IsStrictlySortedBy};
 ghost use Rattle.entry_summary.specs.declared.summary.Access.TheVariants as access;
 ghost use Rattle.entry_summary.specs.Orders.{access_order};
 ghost use Rattle.pair_tests.specs.declared.pair.Test.{Test};
-ghost use Rattle.pair_tests.specs.Asked.{asked_of, release_test as release_test_of, selector_test as selector_test_of, Adds, Asked, AskedRelease, AskedSeizing, AskedWith};
+ghost use Rattle.pair_tests.specs.Asked.{asked_of, asks as asks_of, release_test as release_test_of, selector_test as selector_test_of, Adds, Asked, AskedRelease, AskedSeizing, AskedWith};
 ghost use Rattle.pair_tests.specs.Orders.{test_order};
 ghost use Rattle.pair_tests.specs.Pairs.{IsTest};
 
 use crate::clash::share;
-use crate::near::near;
+use crate::near::{Hints, near, passes_reads};
 use crate::pair::Test;
 use entry_summary::{Access, Summary};
 use flow_points::Value;
@@ -100,25 +100,47 @@ fn push_among(one: Access, others: &[Access], tests: &mut Seq<Test>) -> Result<(
     Ok(())
 }
 
+/// Whether an access asks for tests: it is one of a field of a plain file.
+pub fn asks(one: Access) -> bool
+    ensures { result ≡ asks_of one }
+{
+    match one {
+        Access::Field { .. } => true,
+        _ => false,
+    }
+}
+
 /// Appends the tests of an access of the first with one of the later.
-#[tactic(auto, using(crate::proofs::Tested::with_near))]
-fn push_with(one: Access, others: &[Access], tests: &mut Seq<Test>) -> Result<(), Memory>
+#[tactic(auto, using(crate::proofs::Tested::with_none, crate::proofs::Tested::with_writes, crate::proofs::Tested::with_near))]
+fn push_with(
+    one: Access,
+    others: &[Access],
+    hints: &mut Hints,
+    tests: &mut Seq<Test>,
+) -> Result<(), Memory>
     requires { IsStrictlySortedBy access_order others.now }
     ensures { OnOk result (Adds (AskedWith one others.now) tests.old tests.new) }
 {
-    push_among(one, near(others, one, false), tests)?;
-    push_among(one, near(others, one, true), tests)?;
+    if !asks(one) {
+        return Ok(());
+    }
+    push_among(one, near(others, one, true, &mut hints.writes), tests)?;
+    if passes_reads(one) {
+        return Ok(());
+    }
+    push_among(one, near(others, one, false, &mut hints.reads), tests)?;
     Ok(())
 }
 
-/// Appends the tests of accesses of the first with those of the later.
+/// Appends the tests of accesses of the first with those of the later. Lists in order are gone through once.
 #[tactic(auto, using(crate::proofs::Tested::all_begin, crate::proofs::Tested::all_more, crate::proofs::Tested::all_end))]
 fn push_fields(ones: &[Access], others: &[Access], tests: &mut Seq<Test>) -> Result<(), Memory>
     requires { IsStrictlySortedBy access_order others.now }
     ensures { OnOk result (Adds (Asked ones.now others.now) tests.old tests.new) }
 {
+    let mut hints = Hints::new();
     for one in ones {
-        push_with(*one, others, tests)?;
+        push_with(*one, others, &mut hints, tests)?;
     }
     Ok(())
 }

@@ -5,7 +5,7 @@ ghost use Rattle.std.specs.List.Sorted.{IsStrictlySortedBy};
 ghost use Rattle.entry_summary.specs.Orders.{access_order};
 ghost use Rattle.pair_tests.specs.Clashes.{above_of, clash_of, only_if as only_if_of, meet as meet_of, share as share_of, Clashes, ClashesAbove, ClashesWith, IsLeast};
 
-use crate::near::near;
+use crate::near::{Hints, near, passes_reads};
 use crate::pair::Conflict;
 use crate::sooner::{number_of, sooner};
 use entry_summary::Access;
@@ -128,25 +128,29 @@ fn first_among(one: Access, others: &[Access]) -> Option<Conflict>
 }
 
 /// The first conflict of an access of the first with one of the later.
-#[tactic(auto, using(crate::proofs::Nearing::least_near))]
-fn first_with(one: Access, others: &[Access]) -> Option<Conflict>
+#[tactic(auto, using(crate::proofs::Nearing::least_writes, crate::proofs::Nearing::least_near))]
+fn first_with(one: Access, others: &[Access], hints: &mut Hints) -> Option<Conflict>
     requires { IsStrictlySortedBy access_order others.now }
     ensures { IsLeast (ClashesWith one others.now) result }
 {
-    let reads = first_among(one, near(others, one, false));
-    let writes = first_among(one, near(others, one, true));
+    let writes = first_among(one, near(others, one, true, &mut hints.writes));
+    if passes_reads(one) {
+        return writes;
+    }
+    let reads = first_among(one, near(others, one, false, &mut hints.reads));
     sooner(reads, writes)
 }
 
-/// The first conflict of accesses of the first with those of the later.
+/// The first conflict of accesses of the first with those of the later. Lists in order are gone through once.
 #[tactic(auto, using(crate::proofs::Leasts::of_none, crate::proofs::Leasts::of_more))]
 pub fn first_clash(ones: &[Access], others: &[Access]) -> Option<Conflict>
     requires { IsStrictlySortedBy access_order others.now }
     ensures { IsLeast (Clashes ones.now others.now) result }
 {
     let mut least = None;
+    let mut hints = Hints::new();
     for one in ones {
-        least = sooner(least, first_with(*one, others));
+        least = sooner(least, first_with(*one, others, &mut hints));
     }
     least
 }

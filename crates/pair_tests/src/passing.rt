@@ -6,9 +6,9 @@ ghost use Rattle.pair_tests.specs.declared.pair.Test.{Test};
 ghost use Rattle.pair_tests.specs.Asked.{AllHold, Asked, AskedRelease, AskedSeizing, AskedWith};
 ghost use Rattle.pair_tests.specs.Pairs.{IsTest, Passes};
 
-use crate::asking::{asked, release_test};
+use crate::asking::{asked, asks, release_test};
 use crate::jobs::{are_apart, holds};
-use crate::near::near;
+use crate::near::{Hints, near, passes_reads};
 use crate::pair::Test;
 use crate::verdict::first_conflict;
 use entry_summary::{Access, Summary};
@@ -39,24 +39,31 @@ fn hold_among(one: Access, others: &[Access], a: &JobStart, b: &JobStart) -> boo
 }
 
 /// Whether the tests of an access of the first with one of the later hold.
-#[tactic(auto, using(crate::proofs::Holding::with_near))]
-fn hold_with(one: Access, others: &[Access], a: &JobStart, b: &JobStart) -> bool
+#[tactic(auto, using(crate::proofs::Holding::none_with, crate::proofs::Holding::with_near))]
+fn hold_with(one: Access, others: &[Access], hints: &mut Hints, a: &JobStart, b: &JobStart) -> bool
     requires { IsStrictlySortedBy access_order others.now }
     ensures { IsTrue result ↔ AllHold (AskedWith one others.now) a.now b.now }
 {
-    let reads = hold_among(one, near(others, one, false), a, b);
-    let writes = hold_among(one, near(others, one, true), a, b);
+    if !asks(one) {
+        return true;
+    }
+    let writes = hold_among(one, near(others, one, true, &mut hints.writes), a, b);
+    if passes_reads(one) {
+        return writes;
+    }
+    let reads = hold_among(one, near(others, one, false, &mut hints.reads), a, b);
     reads & writes
 }
 
-/// Whether the tests of accesses of the first with those of the later hold.
+/// Whether the tests of accesses of the first with those of the later hold. Lists in order are gone through once.
 #[tactic(auto, using(crate::proofs::Holding::all_begin, crate::proofs::Holding::all_more, crate::proofs::Holding::all_fails, crate::proofs::Holding::all_end))]
 fn fields_hold(ones: &[Access], others: &[Access], a: &JobStart, b: &JobStart) -> bool
     requires { IsStrictlySortedBy access_order others.now }
     ensures { IsTrue result ↔ AllHold (Asked ones.now others.now) a.now b.now }
 {
+    let mut hints = Hints::new();
     for one in ones {
-        if !hold_with(*one, others, a, b) {
+        if !hold_with(*one, others, &mut hints, a, b) {
             return false;
         }
     }

@@ -19,9 +19,12 @@ visit-requires-clause-grows c =
 pub loop-point-smaller : goal.loop-point-smaller
 loop-point-smaller c =
     visit_less c.args.exchange.now c.args.table.now c.args.entry c.loop-point.rows c.visit.new.rows c.in-Some.point (marks_of c.loop-point.marked) (marks_of c.take.new.marked) c.visit.new.marked.points.keys c.visit.new.marked.returning.keys
-    (taken c.take.result c.in-Some.point (marks_of c.loop-point.marked) (marks_of c.take.new.marked) c.in-Some.is c.take.ensures) c.in_ok-visit.ensures.went c.in_ok-visit.ensures.points c.in_ok-visit.ensures.returning
+    (taken c.take.result c.in-Some.point (marks_of c.loop-point.marked) (marks_of c.take.new.marked) c.in-Some.is c.take.ensures) c.in_ok-more.ensures.went c.in_ok-more.ensures.points c.in_ok-more.ensures.returning
 
-pub returns : goal.returns
-returns c =
+pub returns-then-is_over-clause-all : goal.returns-then-is_over-clause-all
+returns-then-is_over-clause-all c = λ none. absurd (c.is_over.ensures c.if-is_over.true none)
+
+pub returns-clause-found : goal.returns-clause-found
+returns-clause-found c =
     found_all c.args.exchange.now c.args.table.now c.args.entry c.loop-point.rows (marks_of c.loop-point.marked)
     (none_taken c.take.result (marks_of c.loop-point.marked) (marks_of c.take.new.marked) c.in_default.not-Some c.take.ensures) c.loop-point.invariant

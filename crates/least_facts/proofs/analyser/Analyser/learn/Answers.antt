@@ -1,4 +1,5 @@
+use Rattle.least_facts.proofs.Growing.{learned_some}
 use Rattle.least_facts.proofs.analyser.Analyser.learn.Goals as goal
 
 pub returns-clause-learned : goal.returns-clause-learned
-returns-clause-learned c = record { rows = record { exact = c.in_ok-find.ensures.exact } }
+returns-clause-learned c = learned_some c.args.exchange.now c.args.table.now c.args.entry _ c.in_ok-looked.looked c.in_ok-looked.ensures.found
