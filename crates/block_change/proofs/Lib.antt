@@ -1,0 +1,14 @@
+pub mod Lists
+pub mod Fresh
+pub mod Distinct
+pub mod Misfitting
+pub mod Moving
+pub mod Placed
+pub mod Wording
+pub mod Alike
+pub mod Chaining
+pub mod Valid
+pub mod Moved
+pub mod Entered
+pub mod Unchanged
+pub mod Once

@@ -1,0 +1,8 @@
+use Rattle.block_change.proofs.Unchanged.{carried_same, fits_itself}
+use Rattle.block_change.proofs.laws.the_same_exchange_changes_nothing.Goals as goal
+
+pub returns-clause-fits : goal.returns-clause-fits
+returns-clause-fits c = fits_itself
+
+pub returns-clause-state : goal.returns-clause-state
+returns-clause-state c = carried_same

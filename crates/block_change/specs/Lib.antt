@@ -1,0 +1,6 @@
+pub mod Names
+pub mod Same
+pub mod Misfits
+pub mod Renamed
+pub mod Carried
+pub mod Moves
