@@ -1,7 +1,7 @@
 """Exchange texts with signal files, made by chance, which break no rule and whose jobs come far.
 
-`made_case(chance)` gives a `Case`. An exchange has one to four blocks, and each of these one to three families of entries. A family
-says what its jobs are made for:
+`made_case(chance)` gives a `Case`, and `made_table(case, chance)` a table of periodic signals for it. An exchange has one to four blocks,
+and each of these one to three families of entries. A family says what its jobs are made for:
 
   call   one seizes a record, later ones of its forlopp work on it, and the last one frees it
   row    works on the records of a plain file that its line names
@@ -31,6 +31,7 @@ TURNS = {"short": [1, 2, 5, 20], "long": [200, 800, 2000, 6000], "very long": [6
 NESTING = ("IF", "CASE", "ON", "loop by GOTO")
 LAST = ("EXIT", "SEND direct", "TRANSFER", "RETURN")
 DEEPEST = 3
+LARGEST = 4294967295
 
 
 def weighed(chance, weights):
@@ -612,8 +613,8 @@ class Maker:
 class Lines:
     """Makes the signal file of an exchange that is made."""
 
-    def __init__(self, maker):
-        self.maker, self.chance = maker, maker.chance
+    def __init__(self, maker, chance):
+        self.maker, self.chance = maker, chance
         self.entries = [(signal, block) for signal in maker.buffered for block in signal.receivers]
         self.weights = [{"own": 0.15, "free": 0.15, "grab": 0.4, "shout": 0.4}.get(signal.role, 1) for signal, _ in self.entries]
         self.new, self.none = self.chance.choice([(0.95, 0.02), (0.85, 0.05), (0.7, 0.15), (0.5, 0.35), (0.9, 0.0)])
@@ -665,16 +666,46 @@ class Lines:
         return end.join(self.written) + (end if self.chance.random() < 0.9 or end == "\r\n" else "")
 
 
-class Case:
-    """An exchange, a signal file, a limit of jobs, and how often each kind of statement stands in the exchange."""
+class Periods(Lines):
+    """Makes a table of periodic signals for an exchange that is made."""
 
-    def __init__(self, exchange, signals, limit, counts):
-        self.exchange, self.signals, self.limit, self.counts = exchange, signals, limit, counts
+    def range(self):
+        every, times = self.chance.choice([1, 1, 1, 2, 3, 7, 50]), self.chance.choice([1, 1, 2, 3, 5, 8, 20])
+        largest = LARGEST - every * (times - 1)
+        return every, largest if self.chance.random() < 0.05 else self.chance.choice([0, 0, 0, 1, 2, 3, 9, 40]), times
+
+    def text(self):
+        for _ in range(self.chance.choice([0, 1, 1, 2, 3, 5, 8]) if self.entries else 0):
+            if self.chance.random() < 0.1:
+                self.written.append(self.chance.choice(["", "! a comment", " \t"]))
+            signal, block = self.chance.choices(self.entries, self.weights)[0]
+            every, first, times = self.range()
+            values = "".join(f" {value}" for value in self.values(signal, block))
+            ending = "NONE" if self.chance.random() < self.none else "NEW"
+            self.written.append(f"EVERY {every} FROM {first} TIMES {times} {signal.name} {block.name}{values} {ending}")
+        return "\n".join(self.written) + self.chance.choice(["\n", "\n", ""])
+
+
+class Case:
+    """An exchange, a signal file, a limit of jobs, and who made the exchange."""
+
+    def __init__(self, exchange, signals, limit, maker):
+        self.exchange, self.signals, self.limit, self.maker = exchange, signals, limit, maker
+
+    @property
+    def counts(self):
+        """How often each kind of statement stands in the exchange."""
+        return self.maker.counts
 
 
 def made_case(chance):
     maker = Maker(chance)
     exchange = maker.text()
-    signals = Lines(maker).text()
+    signals = Lines(maker, chance).text()
     limit = chance.randint(1, 30) if chance.random() < 0.08 else 400
-    return Case(exchange.encode(), signals.encode(), limit, maker.counts)
+    return Case(exchange.encode(), signals.encode(), limit, maker)
+
+
+def made_table(case, chance):
+    """A table for the exchange and the signal file of a case."""
+    return Periods(case.maker, chance).text().encode()

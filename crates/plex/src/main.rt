@@ -1,6 +1,13 @@
 // The program `plex`: the words of its command, real files and the standard output, given to the one call that does the work.
+// Where the standard output does not tell what went wrong, a line on the standard error does.
 #![tactic(auto)]
 
+ghost use Rattle.std.specs.Prelude.{◌≡◌, ◌≤◌, ◌↔◌, None};
+ghost use Rattle.plex_program.specs.Program.{exit_number};
+
+mod noting_shelf;
+
+use noting_shelf::NotingShelf;
 use plex_io::{FileShelf, NoGate, OutSink, Word};
 use plex_num::{Memory, Seq};
 use plex_program::{Status, plex};
@@ -15,7 +22,7 @@ use std::thread::Threads;
 fn main(rt: HostRuntime) -> ExitCode {
     let status = match words_of(&rt, rt.alloc()) {
         Ok(words) => run(&rt, rt.alloc(), &words),
-        Err(Memory) => Status::Memory,
+        Err(Memory) => complain(&rt, Status::Memory, None),
     };
     ExitCode::from(status.number())
 }
@@ -38,8 +45,46 @@ fn words_of(rt: &(impl std::rt::Env + AllocGlobal), alloc: Global) -> Result<Vec
 }
 
 /// The program over real files and the standard output.
-fn run<R: Threads + Wait + Sync + Files + Print>(rt: &R, alloc: Global, words: &[Word]) -> Status {
-    let mut shelf = FileShelf::new(rt);
+fn run<R: Threads + Wait + Sync + Files + Print + Eprint>(
+    rt: &R,
+    alloc: Global,
+    words: &[Word],
+) -> Status {
+    let mut shelf = NotingShelf::new(FileShelf::new(rt));
     let mut sink = OutSink::new(rt);
-    plex(rt, alloc, words, &mut shelf, &mut sink, &NoGate)
+    let status = plex(rt, alloc, words, &mut shelf, &mut sink, &NoGate);
+    complain(rt, status, shelf.unread())
+}
+
+/// Says on the standard error what went wrong where the standard output does not tell it, and gives the status back. A line that
+/// cannot be written changes nothing.
+fn complain<R: Eprint>(rt: &R, status: Status, unread: Option<&Word>) -> Status
+    ensures { result ≡ status }
+{
+    let Some(told) = reason(status) else {
+        return status;
+    };
+    let name = match unread {
+        Some(name) => str::from_utf8(name.as_slice()).ok(),
+        None => None,
+    };
+    let _ = match name {
+        Some(name) => {
+            eprintln!(rt; "plex: {told}: {name:?}; see docs/FORMATS.md, Exit statuses")
+        }
+        None => eprintln!(rt; "plex: {told}; see docs/FORMATS.md, Exit statuses"),
+    };
+    status
+}
+
+/// What went wrong, for a status with which the standard output tells nothing, or not all.
+fn reason(status: Status) -> Option<&'static str>
+    ensures { result ≡ None ↔ ¬ (6 ≤ exit_number status × exit_number status ≤ 8) }
+{
+    match status {
+        Status::Read => Some("a file that the command names could not be read"),
+        Status::Write => Some("the output could not be written whole"),
+        Status::Memory => Some("out of memory"),
+        _ => None,
+    }
 }
