@@ -15,7 +15,6 @@ use Rattle.source_meaning.specs.Job.{job}
 use Rattle.source_meaning.specs.Retirement.{retires}
 use Rattle.source_meaning.specs.SingleRun.{turn}
 use Rattle.source_meaning.specs.State.{State}
-use Rattle.source_meaning.specs.Valid.{MayBe}
 use Rattle.entry_summary.specs.declared.summary.Summary.{Summary}
 use Rattle.start_permit.specs.Granted.{MayRead, MayWrite}
 use Rattle.checked.specs.Kept.{IsChecked, Kept}
@@ -37,7 +36,7 @@ use Rattle.parallel_dispatch.specs.Moves.{AreCounted, Flying, HasSummary, MayFly
 use Rattle.parallel_dispatch.specs.Told.{AreTrue, IsSummaryOf}
 use Rattle.parallel_dispatch.specs.Windows.{View}
 use Rattle.parallel_dispatch.proofs.Issuing.{fits_beside, fly_more, for_job, is_job, upcoming_parts}
-use Rattle.parallel_dispatch.proofs.Retiring.{Leaves, back, done_is, fly_fewer, makes, may_be, may_write_there, some_run, turn_ended}
+use Rattle.parallel_dispatch.proofs.Retiring.{Leaves, back, done_is, fly_fewer, makes, may_write_there, turn_ended}
 
 -- ## One more flies
 

@@ -1,5 +1,5 @@
 -- The oldest job retires.
-use Rattle.std.proofs.Common.{◌≡◌, ◌≢◌, inl, inr, ℕ, zero, suc, ◌+◌, ◌<◌, ◌≤◌, List, [], ◌∷◌, length, Some, None, refl, sym, ap, ◌∙◌, subst, arith}
+use Rattle.std.proofs.Common.{◌≡◌, ◌≢◌, inl, inr, ℕ, ◌+◌, ◌≤◌, List, [], ◌∷◌, length, Some, None, refl, sym, ap, ◌∙◌, subst, arith}
 use Rattle.std.specs.List.{AllByRecursion}
 use Rattle.job_types.specs.declared.job.JobStart.{JobStart}
 use Rattle.job_types.specs.declared.outcome.JobDone.{JobDone}
@@ -14,7 +14,7 @@ use Rattle.source_meaning.specs.Retirement.{retires}
 use Rattle.source_meaning.specs.SingleRun.{begun, ended_as, ending_at, turn}
 use Rattle.source_meaning.specs.State.{State}
 use Rattle.source_meaning.specs.Traces.{Answers, store_after, trace_of}
-use Rattle.source_meaning.specs.Valid.{IsFitting, MayBe}
+use Rattle.source_meaning.specs.Valid.{IsFitting}
 use Rattle.source_meaning.proofs.Agreeing.{agree_answers, job_length}
 use Rattle.source_meaning.proofs.Growing.{job_store, job_told}
 use Rattle.source_meaning.proofs.Retiring.{turn_valid}
@@ -23,7 +23,7 @@ use Rattle.order_laws.specs.Books.{AreAhead, settles}
 use Rattle.order_laws.specs.Ends.{words_left}
 use Rattle.order_laws.specs.Windows.{done_by}
 use Rattle.order_laws.proofs.Arriving.{arrivals_keep}
-use Rattle.order_laws.proofs.Following.{ahead_live, ahead_retire, ahead_store, ahead_words, turn_store}
+use Rattle.order_laws.proofs.Following.{ahead_retire, ahead_store, ahead_words, turn_store}
 use Rattle.order_laws.proofs.Keeping.{end_keeps}
 use Rattle.order_laws.proofs.Moving.{window_first, window_fits, window_next}
 use Rattle.order_laws.proofs.Starting.{goes_on}

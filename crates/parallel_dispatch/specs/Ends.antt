@@ -4,7 +4,7 @@ use Rattle.machine_code.specs.declared.code.Code.{Code}
 use Rattle.exchange_model.specs.declared.exchange.Exchange.{Exchange}
 use Rattle.source_meaning.specs.SingleRun.{Ending, end_state, ending_at, jobs_at_end}
 use Rattle.source_meaning.specs.State.{State}
-use Rattle.retire_order.specs.Accounts.{with_words}
+use Rattle.retire_order.specs.Accounts.{Account, with_words}
 use Rattle.shared_store.specs.Loans.{unlent}
 use Rattle.shared_store.specs.Seats.{RootView, StoreId}
 use Rattle.parallel_dispatch.specs.Made.{AllMake}
@@ -16,8 +16,9 @@ pub record EndsAs (x : Exchange) (code : Code) (first : State) (limit : ℕ) (bo
   pub ends : ending_at limit (end_state x limit first) ≡ Some ending
   pub made : AllMake x code first (jobs_at_end x limit first) steps
 
--- the same with the words of a root, which is that of the store and has lent nothing
-pub record IsOver (x : Exchange) (code : Code) (store : StoreId) (first : State) (limit : ℕ) (books : State) (root : RootView) (ending : Ending) (steps : ℕ) : Type 0 where
+-- the same with the words of a root, which is that of the store and has lent nothing; nobody runs any more
+pub record IsOver (x : Exchange) (code : Code) (store : StoreId) (first : State) (limit : ℕ) (books : Account) (root : RootView) (ending : Ending) (steps : ℕ) : Type 0 where
+  pub nobody : books.running ≡ 0
   pub home : root.0 ≡ store
   pub bare : root.1 ≡ unlent root.1.values
-  pub ends : EndsAs x code first limit books root.1.values ending steps
+  pub ends : EndsAs x code first limit books.state root.1.values ending steps

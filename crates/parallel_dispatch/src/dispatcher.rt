@@ -63,9 +63,10 @@ pub fn dispatch<R: Threads + Wait + Sync, G: Gate + Sync>(
     requires faithful { Faithful exchange.now code.now }
     requires checked { IsChecked exchange.now checked.now }
     requires valid { IsValid exchange.now (with_words books.state root.1.values) }
-    ensures { IfOk result (λ end. EndsAs exchange.now code.now
+    ensures end { IfOk result (λ end. EndsAs exchange.now code.now
         (with_words books.state root.1.values) books.limit
         end.books.state end.words (ending_of end.ending) end.steps) }
+    ensures nobody { IfOk result (λ end. end.books.running ≡ 0) }
 {
     exchange.kept();
     let table = table_of(alloc, exchange)?;

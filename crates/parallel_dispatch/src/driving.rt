@@ -62,7 +62,7 @@ pub(crate) fn run_jobs<
     requires window { (window.old.loans ≡ []) × (window.old.flown ≡ 0) × (0 < window.old.room) }
     ensures { IfOk result (λ over. IsOver B.exchange B.code B.store
         (with_words books.old.state root.1.values) books.old.limit
-        books.new.state over.root (ending_of over.ending) over.steps) }
+        books.new over.root (ending_of over.ending) over.steps) }
 {
     let_arrive(setting.exchange, books)?;
     let mut root = root;

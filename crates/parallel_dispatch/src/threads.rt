@@ -46,7 +46,7 @@ pub(crate) fn run_named<B: Naming + Send + Sync, R: Threads + Wait + Sync, G: Ga
     requires can { CanRun B.exchange B.store books root }
     ensures { IfOk result (λ end. IsOver B.exchange B.code B.store
         (with_words books.state root.1.values) books.limit
-        end.0.state end.1.root (ending_of end.1.ending) end.1.steps) }
+        end.0 end.1.root (ending_of end.1.ending) end.1.steps) }
 {
     let shop = Shop::<B>::new(setting.alloc, workers)?;
     run_shop(
@@ -94,7 +94,7 @@ fn run_shop<'x, B: Naming + Send + Sync, R: Threads + Wait + Sync, G: Gate + Syn
     requires can { CanRun B.exchange B.store books root }
     ensures { IfOk result (λ end. IsOver B.exchange B.code B.store
         (with_words books.state root.1.values) books.limit
-        end.0.state end.1.root (ending_of end.1.ending) end.1.steps) }
+        end.0 end.1.root (ending_of end.1.ending) end.1.steps) }
 {
     thread::scope(
         thread::scope_env(),
@@ -107,7 +107,7 @@ fn run_shop<'x, B: Naming + Send + Sync, R: Threads + Wait + Sync, G: Gate + Syn
                 × CanRun B.exchange B.store books root }
             ensures { IfOk result (λ end. IsOver B.exchange B.code B.store
                 (with_words books.state root.1.values) books.limit
-                end.0.state end.1.root (ending_of end.1.ending) end.1.steps) }
+                end.0 end.1.root (ending_of end.1.ending) end.1.steps) }
         {
             drive(
                 rt, scope, alloc, exchange, layout, table, code, checked, store, book, shop, gate,
@@ -144,7 +144,7 @@ fn drive<'s, 'e: 's, B: Naming + Send + Sync, R: Threads + Wait + Sync, G: Gate 
     requires can { CanRun B.exchange B.store books root }
     ensures { IfOk result (λ end. IsOver B.exchange B.code B.store
         (with_words books.state root.1.values) books.limit
-        end.0.state end.1.root (ending_of end.1.ending) end.1.steps) }
+        end.0 end.1.root (ending_of end.1.ending) end.1.steps) }
 {
     let setting = Setting {
         alloc,

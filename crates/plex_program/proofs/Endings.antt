@@ -2,11 +2,11 @@
 use Rattle.std.proofs.Common.{◌≡◌, ℕ, List, Option, Some, None, Result, Ok, Err, IfSome, IsSomeAnd, ◌⊎◌, ap, refl, sym, subst, ◌∙◌, inl, inr}
 use Rattle.plex_io.specs.Files.{Files}
 use Rattle.plex_program.specs.Words.{Word, shape}
-use Rattle.plex_program.specs.Answer.{IsAnswer, IsAnswerBy, IsAnswerOf, Out, Performs, answer_of, performed, refused_answer, refused_status, usage_answer}
-use Rattle.plex_program.specs.Program.{Answers, Ends, EndsAs, EndsBy, HasStatus, IsComplete, IsEnding, IsMade, IsPlain, Makes, QuitsBy, WriteCause, not_held}
+use Rattle.plex_program.specs.Answer.{IsAnswer, IsAnswerBy, Out, Performs, answer_of, performed, refused_answer, refused_status, usage_answer}
+use Rattle.plex_program.specs.Program.{Answers, Ends, EndsAs, IsComplete, IsEnding, IsMade, IsPlain, Makes, QuitsBy, WriteCause, not_held}
 use Rattle.plex_program.specs.declared.command.Command.{Command}
 use Rattle.plex_program.specs.declared.perform.Refused.{Refused}
-use Rattle.plex_program.specs.declared.perform.Refused.TheVariants.{Certificate, Signals, Source}
+use Rattle.plex_program.specs.declared.perform.Refused.TheVariants.{Certificate, Filter, NewSource, Signals, Source, Table}
 use Rattle.plex_program.specs.declared.perform.Answer.{Answer}
 use Rattle.plex_program.specs.declared.perform.Stop.TheVariants as stop
 use Rattle.plex_program.specs.declared.program.Quit.{Quit}
@@ -34,6 +34,9 @@ ends_as Is a before after status.Signals is ends = record { answer = a; is = is;
 ends_as Is a before after status.Restart is ends = record { answer = a; is = is; ends = ends }
 ends_as Is a before after status.Limit is ends = record { answer = a; is = is; ends = ends }
 ends_as Is a before after status.Certificate is ends = record { answer = a; is = is; ends = ends }
+ends_as Is a before after status.Table is ends = record { answer = a; is = is; ends = ends }
+ends_as Is a before after status.Change is ends = record { answer = a; is = is; ends = ends }
+ends_as Is a before after status.Filter is ends = record { answer = a; is = is; ends = ends }
 
 pub ends_held : (held : Option Files) (words : List Word) (a : Answer) (before after : Option (List ℕ)) (s : Status) → IfSome held (λ files. IsAnswer words files a) → Ends a before after s → IfSome held (λ files. EndsAs (IsAnswer words files) before after s)
 ends_held None words a before after s is ends = tt
@@ -90,6 +93,9 @@ plain_ending status.Read e = absurd e
 plain_ending status.Write e = absurd e
 plain_ending status.Memory e = absurd e
 plain_ending status.Certificate e = absurd e
+plain_ending status.Table e = absurd e
+plain_ending status.Change e = tt
+plain_ending status.Filter e = absurd e
 
 no_usage_ending : (s : Status) → IsEnding s → s ≡ status.Usage → ⊥
 no_usage_ending s e is = subst IsEnding is e
@@ -113,12 +119,18 @@ plain_refused : (r : Refused) → IsPlain (refused_status r)
 plain_refused (Source f) = tt
 plain_refused (Signals f) = tt
 plain_refused (Certificate f) = tt
+plain_refused (Table f) = tt
+plain_refused (NewSource f) = tt
+plain_refused (Filter f) = tt
 
 no_usage_refused : (r : Refused) → refused_status r ≡ status.Usage → ⊥
 unfolding IsUsage
 no_usage_refused (Source f) e = other status.Source (λ u. u) e
 no_usage_refused (Signals f) e = other status.Signals (λ u. u) e
 no_usage_refused (Certificate f) e = other status.Certificate (λ u. u) e
+no_usage_refused (Table f) e = other status.Table (λ u. u) e
+no_usage_refused (NewSource f) e = other status.Source (λ u. u) e
+no_usage_refused (Filter f) e = other status.Filter (λ u. u) e
 
 -- a refusal
 pub answered_refused : (held : Option Files) (words : List Word) (c : Command) (b a : ℕ) (r : Refused) (res : Result Answer Quit) → Some c ≡ shape words → Performs held (performed c) b a (Err (stop.Refused r)) → Makes (refused_answer r) res → Answers held words b a res

@@ -1,6 +1,5 @@
 -- Summaries whose accesses stand in order.
-use Rattle.std.proofs.Common.{◌≡◌, ℕ, List, length, Some, slice_get, ◌<◌}
-use Rattle.std.specs.List.{All}
+use Rattle.std.proofs.Common.{List}
 use Rattle.std.proofs.lemmas.Option.{slice_get-get_or}
 use Rattle.exchange_model.specs.declared.exchange.Exchange.{Exchange}
 use Rattle.entry_summary.specs.declared.summary.Summary.{Summary}

@@ -8,7 +8,7 @@ use Rattle.signal_file.specs.Lines.{signal_lines}
 use Rattle.retire_order.proofs.Fitting.{signal_lines_few, signal_lines_fit}
 use Rattle.plex_program.specs.Answer.{Reads, or_unread}
 use Rattle.plex_program.specs.Reading.{signals_fault}
-use Rattle.plex_program.specs.Runs.{AreRead}
+use Rattle.plex_program.specs.Runs.{AreOfText, AreRead}
 use Rattle.plex_program.specs.declared.perform.Refused.TheVariants.{Signals}
 use Rattle.plex_program.specs.declared.perform.Stop.TheVariants as stop
 
@@ -27,3 +27,6 @@ lines_are_read x text lines small is = record {
   where
     short : (most : ℕ) → most ≤ 2 ^ 24 → (n : ℕ) → n ≤ most → n ≤ 2 ^ 24
     short most le n few = omega (arith, le, few)
+
+pub lines_of_text : (x : Exchange) (text : List ℕ) (lines : List Line) → Ok lines ≡ signal_lines x text → AreOfText x lines
+lines_of_text x text lines is = record { text = text; are = sym is }

@@ -1,6 +1,6 @@
 -- Over a shelf whose count of faults stays 0, and a sink that tells its size and has room for the text, each end is that of the answer, or
 -- memory was refused.
-use Rattle.std.proofs.Common.{◌≡◌, ℕ, ◌+◌, ◌<◌, ◌≤◌, List, [], ◌++◌, length, take, Some, ◌⊎◌, inl, inr, refl, sym, ap, ◌∙◌, arith, min, append-nil}
+use Rattle.std.proofs.Common.{◌≡◌, ℕ, ◌+◌, ◌<◌, ◌≤◌, List, ◌++◌, length, take, Some, ◌⊎◌, inl, inr, refl, sym, ap, ◌∙◌, arith, min, append-nil}
 use Rattle.std.proofs.lemmas.List.{length-take, length-append}
 use Rattle.std.proofs.lemmas.Option.{same_Some}
 use Rattle.plex_io.specs.Causes.{Rose}
@@ -49,6 +49,9 @@ whole_end words files old new status.Signals ends read write room = inr (written
 whole_end words files old new status.Restart ends read write room = inr (written _ _ _ _ ends.answer ends.is ends.ends)
 whole_end words files old new status.Limit ends read write room = inr (written _ _ _ _ ends.answer ends.is ends.ends)
 whole_end words files old new status.Certificate ends read write room = inr (written _ _ _ _ ends.answer ends.is ends.ends)
+whole_end words files old new status.Table ends read write room = inr (written _ _ _ _ ends.answer ends.is ends.ends)
+whole_end words files old new status.Change ends read write room = inr (written _ _ _ _ ends.answer ends.is ends.ends)
+whole_end words files old new status.Filter ends read write room = inr (written _ _ _ _ ends.answer ends.is ends.ends)
 
 -- want of memory, and nothing was written
 pub silent_end : (old new : List ℕ) (s : Status) → (s ≡ status.Memory → Some new ≡ Some old) → s ≡ status.Memory → new ≡ old

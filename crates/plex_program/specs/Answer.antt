@@ -1,5 +1,6 @@
 -- What the program answers: a status and a text for each list of words and each set of files.
-use Rattle.std.specs.Prelude.{◌≡◌, ℕ, ◌≤◌, nat_lt, List, [], length, map, Option, Some, None, Result, Ok, Err, IfOk, IfErr, IfSome, IsSomeAnd, unwrap_or, if◌then◌else◌}
+use Rattle.std.specs.Prelude.{◌≡◌, ℕ, ◌≤◌, nat_le, nat_lt, Bool, true, false, not, ◌&&◌, List, [], ◌++◌, length, map, Option, Some, None, Result, Ok, Err, IfOk, IfErr, IfSome, IsSomeAnd, unwrap_or, if◌then◌else◌}
+use Rattle.std.specs.Option.{option_map}
 use Rattle.plex_io.specs.Causes.{Rose}
 use Rattle.plex_io.specs.Files.{Files}
 use Rattle.plex_limits.specs.declared.limits.TheConstants.{MOST_BYTES}
@@ -10,11 +11,23 @@ use Rattle.exchange_model.specs.declared.exchange.Exchange.{Exchange}
 use Rattle.signal_file.specs.declared.fault.SignalFault.{SignalFault}
 use Rattle.signal_file.specs.declared.line.Line.{Line}
 use Rattle.signal_file.specs.Lines.{signal_lines}
-use Rattle.source_meaning.specs.SingleRun.{Ending, Finished, Limited, Restarted, end_state, ending_at, opening}
-use Rattle.source_meaning.specs.State.{State}
+use Rattle.job_table.specs.declared.fault.TableFault.{TableFault as ReadFault}
+use Rattle.job_table.specs.declared.period.Period.{Period}
+use Rattle.job_table.specs.Merged.{merged}
+use Rattle.job_table.specs.Table.{table_periods}
+use Rattle.source_meaning.specs.SingleRun.{Ending, Finished, Limited, Restarted, after, end_state, ending_at, opening}
+use Rattle.source_meaning.specs.State.{State, has_stopped}
 use Rattle.retire_order.specs.Lines.{coming_of}
 use Rattle.report_text.specs.Load.{load_text}
-use Rattle.report_text.specs.Report.{report_text}
+use Rattle.report_text.specs.Report.{event_lines, report_text, text_of}
+use Rattle.block_change.specs.declared.misfit.Misfit.{Misfit}
+use Rattle.block_change.specs.Carried.{IsCarried}
+use Rattle.block_change.specs.Misfits.{misfit}
+use Rattle.signal_trace.specs.declared.fault.FilterFault.{FilterFault as ShowFault}
+use Rattle.signal_trace.specs.declared.show.Show.{Show}
+use Rattle.signal_trace.specs.Filter.{filter_of}
+use Rattle.signal_trace.specs.Text.{trace_text}
+use Rattle.signal_trace.specs.Trace.{trace}
 use Rattle.load_maker.specs.Exchange.{exchange_text}
 use Rattle.load_maker.specs.Signals.{signals_text}
 use Rattle.machine_code.specs.declared.code.Code.{Code}
@@ -26,19 +39,22 @@ use Rattle.analysis_text.specs.Analysis.{IsAnalysis}
 use Rattle.certificate_text.specs.declared.certificate.Certificate.{Certificate}
 use Rattle.certificate_text.specs.Text.{certificate_text}
 use Rattle.certificate.specs.Certified.{IsCertificate}
-use Rattle.plex_program.specs.Reading.{large_signals, resolve_fault, signals_fault, tree_of_file}
+use Rattle.plex_program.specs.Reading.{filter_fault, large_filter, large_signals, large_table, resolve_fault, signals_fault, table_fault, tree_of_file}
 use Rattle.plex_program.specs.Certificates.{IsJudged}
-use Rattle.plex_program.specs.Text.{refusal_text, usage_text}
+use Rattle.plex_program.specs.Text.{change_text, misfit_text, refusal_text, usage_text}
 use Rattle.plex_program.specs.Words.{Word, shape}
 use Rattle.plex_program.specs.declared.fault.CertificateFault.{CertificateFault}
 use Rattle.plex_program.specs.declared.fault.SourceFault.{SourceFault}
 use Rattle.plex_program.specs.declared.command.TheConstants.{USUAL_JOBS}
 use Rattle.plex_program.specs.declared.command.Command.{Command}
-use Rattle.plex_program.specs.declared.command.Command.TheVariants.{Run, Single, Analyse, Certify, List as Listing, Load}
+use Rattle.plex_program.specs.declared.command.Command.TheVariants.{Run, Single, Analyse, Certify, List as Listing, Load, Timed, Change, Trace}
+use Rattle.plex_program.specs.declared.command.ChangeWords.{ChangeWords}
 use Rattle.plex_program.specs.declared.command.RunWords.{RunWords}
+use Rattle.plex_program.specs.declared.command.TimedWords.{TimedWords}
+use Rattle.plex_program.specs.declared.command.TraceWords.{TraceWords}
 use Rattle.plex_program.specs.declared.perform.Answer.{Answer}
 use Rattle.plex_program.specs.declared.perform.Refused.{Refused}
-use Rattle.plex_program.specs.declared.perform.Refused.TheVariants.{Certificate as Uncertified, Signals, Source}
+use Rattle.plex_program.specs.declared.perform.Refused.TheVariants.{Certificate as Uncertified, Filter, NewSource, Signals, Source, Table}
 use Rattle.plex_program.specs.declared.perform.Stop.{Stop}
 use Rattle.plex_program.specs.declared.perform.Stop.TheVariants as stop
 use Rattle.plex_program.specs.declared.program.Status.{Status}
@@ -132,6 +148,56 @@ run_of w files =
     goes_on (lines_at x w.signals files) (λ lines.
     Ok (run_answer x lines w.jobs)))
 
+-- the lines and the signals of a table, as one list, or the fault of the table
+abbrev pub or_untabled : List Line → Result (List Period) ReadFault → Out (List Line)
+or_untabled lines (Ok periods) = Ok (merged lines periods)
+or_untabled lines (Err f) = Err (Some (Table (table_fault f)))
+
+abbrev pub merged_of_file : Exchange → List Line → Option (List ℕ) → Out (List Line)
+merged_of_file x lines None = Err (Some (Table large_table))
+merged_of_file x lines (Some text) = or_untabled lines (table_periods x (length lines) text)
+
+-- the same for the table of a file
+abbrev pub merged_at : Exchange → List Line → Word → Files → Out (List Line)
+merged_at x lines name files = goes_on (text_at name files) (λ text. merged_of_file x lines text)
+
+-- a run of the lines of the signal file, merged with the signals of the table
+abbrev pub timed_of : TimedWords → Files → Out Answer
+timed_of w files =
+    goes_on (exchange_at w.run.exchange files) (λ x.
+    goes_on (lines_at x w.run.signals files) (λ lines.
+    goes_on (merged_at x lines w.table files) (λ all.
+    Ok (run_answer x all w.run.jobs))))
+
+-- the lines of a filter, or its fault
+abbrev pub or_unshown : Result (List Show) ShowFault → Out (List Show)
+or_unshown (Ok shows) = Ok shows
+or_unshown (Err f) = Err (Some (Filter (filter_fault f)))
+
+abbrev pub shows_of_file : Exchange → Option (List ℕ) → Out (List Show)
+shows_of_file x None = Err (Some (Filter large_filter))
+shows_of_file x (Some text) = or_unshown (filter_of x text)
+
+-- the lines of the filter of a file
+abbrev pub shows_at : Exchange → Word → Files → Out (List Show)
+shows_at x name files = goes_on (text_at name files) (λ text. shows_of_file x text)
+
+-- an answer, and this text before its own
+abbrev pub behind : List ℕ → Answer → Answer
+behind text a = record { status = a.status; text = text ++ a.text }
+
+-- the jobs of the single run that a filter shows, and then its report
+abbrev pub trace_answer : Exchange → List Line → List Show → ℕ → Answer
+trace_answer x lines shows jobs =
+    behind (trace_text x (trace x jobs (opening x (map coming_of lines)) shows)) (run_answer x lines jobs)
+
+abbrev pub trace_of : TraceWords → Files → Out Answer
+trace_of w files =
+    goes_on (exchange_at w.run.exchange files) (λ x.
+    goes_on (lines_at x w.run.signals files) (λ lines.
+    goes_on (shows_at x w.filter files) (λ shows.
+    Ok (trace_answer x lines shows w.run.jobs))))
+
 -- what comes of the value, or the refusal
 abbrev pub GoesOn : {A : Type 0} → Out A → (A → Out Answer → Type 0) → Out Answer → Type 0
 GoesOn (Ok a) Go o = Go a o
@@ -160,6 +226,77 @@ RunsWith w name files =
 abbrev pub RunComes : RunWords → Option Word → Files → Out Answer → Type 0
 RunComes w None files o = run_of w files ≡ o
 RunComes w (Some name) files o = RunsWith w name files o
+
+-- a fault of the exchange that is to take the place of another one is told as one of the new exchange
+abbrev pub new_refusal : Refused → Refused
+new_refusal (Source f) = NewSource f
+new_refusal r = r
+
+abbrev pub as_new : {A : Type 0} → Out A → Out A
+as_new (Ok a) = Ok a
+as_new (Err r) = Err (option_map new_refusal r)
+
+-- the same of a stop
+abbrev pub new_stop : Stop → Stop
+new_stop (stop.Refused r) = stop.Refused (new_refusal r)
+new_stop s = s
+
+-- the new exchange, of a file
+abbrev pub new_exchange_at : Word → Files → Out Exchange
+new_exchange_at name files = as_new (exchange_at name files)
+
+-- the state of the single run of these lines after so many jobs
+abbrev pub state_at : Exchange → List Line → ℕ → State
+state_at x lines n = after x (opening x (map coming_of lines)) n
+
+-- blocks are changed after so many jobs where the run may have so many, has them, and has not stopped with the last of them
+abbrev pub is_changed : Exchange → List Line → (jobs at : ℕ) → Bool
+is_changed x lines jobs at = nat_le at jobs && (nat_le at (end_of x lines jobs).ended && not (has_stopped (state_at x lines at)))
+
+-- a run that ended so, after so many jobs, has not so many as this, or stopped with the last of them
+abbrev pub ends_before : Ending → (ended at : ℕ) → Bool
+ends_before Restarted ended at = true
+ends_before Finished ended at = nat_lt ended at
+ends_before Limited ended at = nat_lt ended at
+
+-- the report of what follows on a state of the exchange
+abbrev pub further_answer : Exchange → State → ℕ → Answer
+further_answer x s jobs = ended_answer x (end_state x jobs s) (ending_of jobs (end_state x jobs s))
+
+-- the events up to the change, the change, and the report of what follows on the new exchange
+abbrev pub changed_answer : (old new : Exchange) → (before carried : State) → (jobs at : ℕ) → Answer
+changed_answer old new before carried jobs at = behind (text_of (event_lines old before.events) ++ change_text at) (further_answer new carried jobs)
+
+-- this state of the old exchange is carried over to the new one after so many jobs, and the run goes on there
+pub record IsChanged (old new : Exchange) (before : State) (jobs at : ℕ) (a : Answer) : Type 0 where
+  pub carried : State
+  pub is : IsCarried old new before carried
+  pub answers : a ≡ changed_answer old new before carried jobs at
+
+-- a run whose blocks are changed, or one without a change
+abbrev pub ChangesOrNot : (old new : Exchange) → List Line → (jobs at : ℕ) → Bool → Answer → Type 0
+ChangesOrNot old new lines jobs at true a = IsChanged old new (state_at old lines at) jobs at a
+ChangesOrNot old new lines jobs at false a = a ≡ run_answer old lines jobs
+
+-- what the new exchange has not
+abbrev pub misfit_answer : Exchange → Misfit → Answer
+misfit_answer old m = record { status = status.Change; text = misfit_text old m }
+
+abbrev pub AnswersChange : (old new : Exchange) → List Line → (jobs at : ℕ) → Option Misfit → Answer → Type 0
+AnswersChange old new lines jobs at None a = ChangesOrNot old new lines jobs at (is_changed old lines jobs at) a
+AnswersChange old new lines jobs at (Some m) a = a ≡ misfit_answer old m
+
+-- an answer comes, which is such a one
+abbrev pub IsAnAnswer : (Answer → Type 0) → Out Answer → Type 0
+IsAnAnswer Is (Ok a) = Is a
+IsAnAnswer Is (Err r) = ⊥
+
+abbrev pub ChangeComes : ChangeWords → Files → Out Answer → Type 0
+ChangeComes w files =
+    GoesOn (exchange_at w.run.exchange files) (λ old.
+    GoesOn (lines_at old w.run.signals files) (λ lines.
+    GoesOn (new_exchange_at w.new files) (λ new.
+    IsAnAnswer (AnswersChange old new lines w.run.jobs w.at (misfit old new)))))
 
 -- the compiled code of an exchange, which leaves what the source means
 abbrev pub code_of : Exchange → Code
@@ -218,12 +355,18 @@ performed (Analyse name) files o = FromExchange name AnswersAnalysis files o
 performed (Certify name) files o = FromExchange name AnswersCertificate files o
 performed (Listing name) files o = list_of name files ≡ o
 performed (Load calls) files o = load_of calls ≡ o
+performed (Timed w) files o = timed_of w files ≡ o
+performed (Change w) files o = ChangeComes w files o
+performed (Trace w) files o = trace_of w files ≡ o
 
 -- the status of a refusal
 abbrev pub refused_status : Refused → Status
 refused_status (Source f) = status.Source
 refused_status (Signals f) = status.Signals
 refused_status (Uncertified f) = status.Certificate
+refused_status (Table f) = status.Table
+refused_status (NewSource f) = status.Source
+refused_status (Filter f) = status.Filter
 
 -- the status and the text of a refusal
 abbrev pub refused_answer : Refused → Answer

@@ -100,9 +100,13 @@ exit_number status.Read = 6
 exit_number status.Write = 7
 exit_number status.Memory = 8
 exit_number status.Certificate = 9
+exit_number status.Table = 11
+exit_number status.Change = 12
+exit_number status.Filter = 13
 
--- the status of a run
+-- the status of a run, or of a change that does not fit
 abbrev pub IsEnding : Status → Type 0
+IsEnding status.Change = Unit {0}
 IsEnding status.Done = Unit {0}
 IsEnding status.Restart = Unit {0}
 IsEnding status.Limit = Unit {0}

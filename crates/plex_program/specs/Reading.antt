@@ -1,5 +1,5 @@
 -- The tree of an exchange text, or its first fault: a fault of its size, then of its tokens, then of its sentence. The fault of a
--- signal file.
+-- signal file, of a table and of a filter.
 use Rattle.std.specs.Prelude.{ℕ, ◌≤◌, ◌+◌, List, slice_get, Option, Some, None, Result, Ok, Err}
 use Rattle.plex_lexer.specs.Lexed.{tokens_of}
 use Rattle.plex_lexer.specs.Cursors.{lines}
@@ -24,9 +24,17 @@ use Rattle.front_end.specs.declared.fault.TextFault.{TextFault}
 use Rattle.front_end.specs.declared.fault.TextFault.TheVariants as resolving
 use Rattle.signal_file.specs.declared.fault.SignalFault.{SignalFault}
 use Rattle.signal_file.specs.declared.fault.SignalFault.TheVariants as reading
+use Rattle.job_table.specs.declared.fault.TableFault.{TableFault as ReadFault}
+use Rattle.job_table.specs.declared.fault.TableFault.TheVariants as tabling
+use Rattle.signal_trace.specs.declared.fault.FilterFault.{FilterFault as ShowFault}
+use Rattle.signal_trace.specs.declared.fault.FilterFault.TheVariants as showing
+use Rattle.plex_program.specs.declared.fault.FilterFault.{FilterFault}
+use Rattle.plex_program.specs.declared.fault.FilterRule.TheVariants as filter_rule
 use Rattle.plex_program.specs.declared.fault.SignalsFault.{SignalsFault}
 use Rattle.plex_program.specs.declared.fault.SignalsRule.TheVariants as signals_rule
 use Rattle.plex_program.specs.declared.fault.SourceFault.{SourceFault}
+use Rattle.plex_program.specs.declared.fault.TableFault.{TableFault}
+use Rattle.plex_program.specs.declared.fault.TableRule.TheVariants as table_rule
 use Rattle.plex_program.specs.declared.fault.Rule.{Rule}
 use Rattle.plex_program.specs.declared.fault.Rule.TheVariants as rule
 
@@ -123,3 +131,26 @@ signals_fault (reading.WrongData line) = record { line = line; rule = signals_ru
 signals_fault (reading.FallingCount line) = record { line = line; rule = signals_rule.FallingCount }
 signals_fault (reading.BadAs line) = record { line = line; rule = signals_rule.BadAs }
 signals_fault reading.Memory = large_signals
+
+-- the same of a table
+abbrev pub large_table : TableFault
+large_table = record { line = 0; rule = table_rule.TooLarge }
+
+abbrev pub table_fault : ReadFault → TableFault
+table_fault (tabling.BadLine line) = record { line = line; rule = table_rule.BadLine }
+table_fault (tabling.UnknownSignal line) = record { line = line; rule = table_rule.UnknownSignal }
+table_fault (tabling.UnknownBlock line) = record { line = line; rule = table_rule.UnknownBlock }
+table_fault (tabling.WrongData line) = record { line = line; rule = table_rule.WrongData }
+table_fault (tabling.BadRange line) = record { line = line; rule = table_rule.BadRange }
+table_fault (tabling.TooMany line) = record { line = line; rule = table_rule.TooMany }
+table_fault tabling.Memory = large_table
+
+-- the same of a filter
+abbrev pub large_filter : FilterFault
+large_filter = record { line = 0; rule = filter_rule.TooLarge }
+
+abbrev pub filter_fault : ShowFault → FilterFault
+filter_fault (showing.BadLine line) = record { line = line; rule = filter_rule.BadLine }
+filter_fault (showing.UnknownBlock line) = record { line = line; rule = filter_rule.UnknownBlock }
+filter_fault (showing.UnknownSignal line) = record { line = line; rule = filter_rule.UnknownSignal }
+filter_fault showing.Memory = large_filter

@@ -1,20 +1,33 @@
 -- The lines that are written in place of a report.
-use Rattle.std.specs.Prelude.{List, ℕ, [], ◌∷◌, ◌++◌, codes}
+use Rattle.std.specs.Prelude.{List, ℕ, [], ◌∷◌, ◌++◌, codes, slice_get}
 use Rattle.std.specs.Fmt.{decimal}
 use Rattle.std.specs.List.{flat_map}
+use Rattle.std.specs.Option.{option_map_or}
+use Rattle.exchange_model.specs.declared.exchange.Exchange.{Exchange}
+use Rattle.exchange_model.specs.Cells.{Placed, placed_files}
+use Rattle.report_text.specs.Names.{name_of_block}
+use Rattle.signal_trace.specs.Text.{entry_words}
+use Rattle.block_change.specs.declared.misfit.Misfit.{Misfit}
+use Rattle.block_change.specs.declared.misfit.Misfit.TheVariants.{Entry as EntryMisfit, File as FileMisfit}
 use Rattle.flow_points.specs.declared.fact.Fact.{Fact}
 use Rattle.certificate_text.specs.declared.certificate.Shape.{Shape}
 use Rattle.certificate_text.specs.Text.{fact_line}
 use Rattle.plex_program.specs.declared.fault.CertificateFault.{CertificateFault}
 use Rattle.plex_program.specs.declared.fault.CertificateFault.TheVariants as certificate
+use Rattle.plex_program.specs.declared.fault.FilterFault.{FilterFault}
+use Rattle.plex_program.specs.declared.fault.FilterRule.{FilterRule}
+use Rattle.plex_program.specs.declared.fault.FilterRule.TheVariants as filter_rule
 use Rattle.plex_program.specs.declared.fault.SourceFault.{SourceFault}
 use Rattle.plex_program.specs.declared.fault.Rule.{Rule}
 use Rattle.plex_program.specs.declared.fault.Rule.TheVariants as rule
 use Rattle.plex_program.specs.declared.fault.SignalsFault.{SignalsFault}
 use Rattle.plex_program.specs.declared.fault.SignalsRule.{SignalsRule}
 use Rattle.plex_program.specs.declared.fault.SignalsRule.TheVariants as signals_rule
+use Rattle.plex_program.specs.declared.fault.TableFault.{TableFault}
+use Rattle.plex_program.specs.declared.fault.TableRule.{TableRule}
+use Rattle.plex_program.specs.declared.fault.TableRule.TheVariants as table_rule
 use Rattle.plex_program.specs.declared.perform.Refused.{Refused}
-use Rattle.plex_program.specs.declared.perform.Refused.TheVariants.{Certificate, Signals, Source}
+use Rattle.plex_program.specs.declared.perform.Refused.TheVariants.{Certificate, Filter, NewSource, Signals, Source, Table}
 
 -- the end of a line
 abbrev pub LF : List ℕ
@@ -45,6 +58,10 @@ rule_name rule.Limit = codes "LIMIT"
 abbrev pub fault_text : SourceFault → List ℕ
 fault_text f = codes "SOURCE line " ++ decimal f.line ++ codes " " ++ rule_name f.rule ++ LF
 
+-- `NEWSOURCE line L RULE`
+abbrev pub new_fault_text : SourceFault → List ℕ
+new_fault_text f = codes "NEW" ++ fault_text f
+
 abbrev pub signals_rule_name : SignalsRule → List ℕ
 signals_rule_name signals_rule.TooLarge = codes "TOOLARGE"
 signals_rule_name signals_rule.BadLine = codes "BADLINE"
@@ -57,6 +74,29 @@ signals_rule_name signals_rule.BadAs = codes "BADAS"
 -- `SIGNALS line L RULE`
 abbrev pub signals_text : SignalsFault → List ℕ
 signals_text f = codes "SIGNALS line " ++ decimal f.line ++ codes " " ++ signals_rule_name f.rule ++ LF
+
+abbrev pub table_rule_name : TableRule → List ℕ
+table_rule_name table_rule.TooLarge = codes "TOOLARGE"
+table_rule_name table_rule.BadLine = codes "BADLINE"
+table_rule_name table_rule.UnknownSignal = codes "UNKNOWNSIGNAL"
+table_rule_name table_rule.UnknownBlock = codes "UNKNOWNBLOCK"
+table_rule_name table_rule.WrongData = codes "WRONGDATA"
+table_rule_name table_rule.BadRange = codes "BADRANGE"
+table_rule_name table_rule.TooMany = codes "TOOMANY"
+
+-- `TABLE line L RULE`
+abbrev pub table_text : TableFault → List ℕ
+table_text f = codes "TABLE line " ++ decimal f.line ++ codes " " ++ table_rule_name f.rule ++ LF
+
+abbrev pub filter_rule_name : FilterRule → List ℕ
+filter_rule_name filter_rule.TooLarge = codes "TOOLARGE"
+filter_rule_name filter_rule.BadLine = codes "BADLINE"
+filter_rule_name filter_rule.UnknownBlock = codes "UNKNOWNBLOCK"
+filter_rule_name filter_rule.UnknownSignal = codes "UNKNOWNSIGNAL"
+
+-- `FILTER line L RULE`
+abbrev pub filter_text : FilterFault → List ℕ
+filter_text f = codes "FILTER line " ++ decimal f.line ++ codes " " ++ filter_rule_name f.rule ++ LF
 
 -- a number behind a space
 abbrev pub spaced : ℕ → List ℕ
@@ -90,12 +130,28 @@ certificate_text (certificate.WrongExchange x c) = other_exchange x c
 certificate_text (certificate.Strange f) = fact_text (codes "CERTIFICATE STRANGE ") f
 certificate_text (certificate.Missing f) = fact_text (codes "CERTIFICATE MISSING ") f
 
--- the first fault of the exchange text, of the signal file or of the certificate
+-- the first fault of the exchange text, of the signal file, of the certificate, of the table, of the new exchange text or of the filter
 unfoldable pub refusal_text : Refused → List ℕ
 refusal_text (Source f) = fault_text f
 refusal_text (Signals f) = signals_text f
 refusal_text (Certificate f) = certificate_text f
+refusal_text (Table f) = table_text f
+refusal_text (NewSource f) = new_fault_text f
+refusal_text (Filter f) = filter_text f
+
+-- `BLOCK.FILE`, a file by its number
+abbrev pub file_words : Exchange → ℕ → List ℕ
+file_words x n = option_map_or (λ (p : Placed). name_of_block x.blocks p.block ++ codes "." ++ p.file.name) (slice_get (placed_files x.blocks) n) []
+
+-- `CHANGE ENTRY SIG BLOCK` or `CHANGE FILE BLOCK.FILE`, what an exchange has and another one has not
+abbrev pub misfit_text : Exchange → Misfit → List ℕ
+misfit_text x (EntryMisfit e) = codes "CHANGE ENTRY " ++ entry_words x e ++ LF
+misfit_text x (FileMisfit f) = codes "CHANGE FILE " ++ file_words x f ++ LF
+
+-- `CHANGE job K`
+abbrev pub change_text : ℕ → List ℕ
+change_text at = codes "CHANGE job " ++ decimal at ++ LF
 
 -- the usage line
 unfoldable pub usage_text : List ℕ
-usage_text = codes "usage: plex run E S [--workers N] [--jobs N] [--cert F] | plex single E S [--jobs N] | plex analyse E | plex certify E | plex list E | plex load N" ++ LF
+usage_text = codes "usage: plex run E S [--workers N] [--jobs N] [--cert F] | plex single E S [--jobs N] | plex analyse E | plex certify E | plex list E | plex load N | plex timed E S T [--workers N] [--jobs N] | plex change E S E2 K [--workers N] [--jobs N] | plex trace E S Q [--jobs N]" ++ LF

@@ -7,8 +7,11 @@ use Rattle.plex_num.specs.Number.{number_of}
 use Rattle.plex_program.specs.declared.command.TheConstants.{MOST_CALLS, USUAL_JOBS, USUAL_WORKERS}
 use Rattle.plex_program.specs.declared.command.Bounds.{Bounds}
 use Rattle.plex_program.specs.declared.command.Command.{Command}
-use Rattle.plex_program.specs.declared.command.Command.TheVariants.{Run, Single, Analyse, Certify, List as Listing, Load}
+use Rattle.plex_program.specs.declared.command.Command.TheVariants.{Run, Single, Analyse, Certify, List as Listing, Load, Timed, Change, Trace}
+use Rattle.plex_program.specs.declared.command.ChangeWords.{ChangeWords}
 use Rattle.plex_program.specs.declared.command.RunWords.{RunWords}
+use Rattle.plex_program.specs.declared.command.TimedWords.{TimedWords}
+use Rattle.plex_program.specs.declared.command.TraceWords.{TraceWords}
 
 -- a word
 abbrev pub Word : Type 0
@@ -72,13 +75,50 @@ run_words (e ∷ s ∷ options) =
 abbrev pub jobs_beside : List Word → Option Word → Option ℕ
 jobs_beside options limit = (if nat_eq (length options) (words_of limit) then jobs_told limit else None)
 
--- the same without workers and a certificate: one job runs at a time
+-- a run of these files without workers and a certificate: one job runs at a time
+abbrev pub single_run : (exchange signals : Word) → (options : List Word) → Option RunWords
+single_run e s options =
+    option_map (λ jobs. record { exchange = e; signals = s; workers = 1; jobs = jobs; certificate = None })
+    (jobs_beside options (value_of (codes "--jobs") options))
+
 abbrev pub single_words : List Word → Option RunWords
 single_words [] = None
 single_words (e ∷ []) = None
-single_words (e ∷ s ∷ options) =
-    option_map (λ jobs. record { exchange = e; signals = s; workers = 1; jobs = jobs; certificate = None })
-    (jobs_beside options (value_of (codes "--jobs") options))
+single_words (e ∷ s ∷ options) = single_run e s options
+
+-- a run of these files without a certificate
+abbrev pub plain_run : (exchange signals : Word) → (options : List Word) → Option RunWords
+plain_run e s options =
+    option_map (λ (b : Bounds). record { exchange = e; signals = s; workers = b.workers; jobs = b.jobs; certificate = None })
+    (bounds_beside options (value_of (codes "--workers") options) (value_of (codes "--jobs") options) None)
+
+-- an exchange file, a signal file, a table and options
+abbrev pub timed_words : List Word → Option TimedWords
+timed_words [] = None
+timed_words (e ∷ []) = None
+timed_words (e ∷ s ∷ []) = None
+timed_words (e ∷ s ∷ t ∷ options) = option_map (λ (w : RunWords). record { run = w; table = t }) (plain_run e s options)
+
+-- a change to this exchange after so many jobs of a run, where both are told
+abbrev pub change_at : Word → Option ℕ → Option RunWords → Option ChangeWords
+change_at n None run = None
+change_at n (Some at) None = None
+change_at n (Some at) (Some w) = Some (record { run = w; new = n; at = at })
+
+-- an exchange file, a signal file, another exchange file, after how many jobs, and options
+abbrev pub change_words : List Word → Option ChangeWords
+change_words [] = None
+change_words (e ∷ []) = None
+change_words (e ∷ s ∷ []) = None
+change_words (e ∷ s ∷ n ∷ []) = None
+change_words (e ∷ s ∷ n ∷ k ∷ options) = change_at n (allowed_jobs (number_of k)) (plain_run e s options)
+
+-- an exchange file, a signal file, a filter and options
+abbrev pub trace_words : List Word → Option TraceWords
+trace_words [] = None
+trace_words (e ∷ []) = None
+trace_words (e ∷ s ∷ []) = None
+trace_words (e ∷ s ∷ q ∷ options) = option_map (λ (w : RunWords). record { run = w; filter = q }) (single_run e s options)
 
 -- the only one of these words
 abbrev pub only_word : List Word → Option Word
@@ -107,4 +147,7 @@ shape (name ∷ rest) =
     else (if bytes_eq name (codes "certify") then option_map Certify (only_word rest)
     else (if bytes_eq name (codes "list") then option_map Listing (only_word rest)
     else (if bytes_eq name (codes "load") then option_map Load (calls_in rest)
-    else None))))))
+    else (if bytes_eq name (codes "timed") then option_map Timed (timed_words rest)
+    else (if bytes_eq name (codes "change") then option_map Change (change_words rest)
+    else (if bytes_eq name (codes "trace") then option_map Trace (trace_words rest)
+    else None)))))))))

@@ -4,7 +4,7 @@ ghost use Rattle.std.specs.Option.{option_map};
 ghost use Rattle.std.specs.Str.{bytes_eq};
 ghost use Rattle.plex_limits.specs.declared.limits.TheConstants.{MOST_JOBS};
 ghost use Rattle.plex_program.specs.Runs.{AreWithin, AreWorkers, HasBounds, IsBounded};
-ghost use Rattle.plex_program.specs.Words.{allowed_calls, allowed_jobs, allowed_workers, both_bounds, bounds_beside, calls_in, jobs_beside, jobs_told, only_word, run_words, shape, single_words, value_of, words_of, workers_told};
+ghost use Rattle.plex_program.specs.Words.{allowed_calls, allowed_jobs, allowed_workers, both_bounds, bounds_beside, calls_in, change_at, change_words, jobs_beside, jobs_told, only_word, plain_run, run_words, shape, single_run, single_words, timed_words, trace_words, value_of, words_of, workers_told};
 
 use plex_io::Word;
 use plex_limits::{MOST_JOBS, MOST_WORKERS};
@@ -36,6 +36,13 @@ pub enum Command {
     List(Word),
     /// `load N`: the summary of the run of a load of so many calls, from 1 to 10,000.
     Load(u32),
+    /// `timed E S T [--workers N] [--jobs N]`: the report of the run of an exchange file and a signal file that is merged with the signals of a
+    /// table.
+    Timed(TimedWords),
+    /// `change E S E2 K [--workers N] [--jobs N]`: the report of a run that goes on with another exchange after so many jobs.
+    Change(ChangeWords),
+    /// `trace E S Q [--jobs N]`: the jobs of the run that a filter shows, and its report.
+    Trace(TraceWords),
 }
 
 /// The words of a run after its name.
@@ -51,6 +58,35 @@ pub struct RunWords {
     pub jobs: u32,
     /// The name of the file with the certificate, where one is given.
     pub certificate: Option<Word>,
+}
+
+/// The words of a run with a table after its name.
+#[derive(Drop)]
+pub struct TimedWords {
+    /// The words of the run without the table, which has no certificate.
+    pub run: RunWords,
+    /// The name of the file with the table of periodic signals.
+    pub table: Word,
+}
+
+/// The words of a change of blocks after its name.
+#[derive(Drop)]
+pub struct ChangeWords {
+    /// The words of the run without the change, which has no certificate.
+    pub run: RunWords,
+    /// The name of the file with the exchange that takes the place of the first one.
+    pub new: Word,
+    /// After how many jobs it does, from 1 to 10,000,000.
+    pub at: u32,
+}
+
+/// The words of a trace after its name.
+#[derive(Drop)]
+pub struct TraceWords {
+    /// The words of the run that is traced, with one worker and without a certificate.
+    pub run: RunWords,
+    /// The name of the file with the filter.
+    pub filter: Word,
 }
 
 /// The command that these words are; `None` where they are none.
@@ -73,6 +109,12 @@ pub fn read_command(alloc: Global, words: &[Word]) -> Result<Option<Command>, Me
         Ok(as_list(read_only(alloc, rest)?))
     } else if is_word(name.as_slice(), b"load") {
         Ok(as_load(calls_in(rest)))
+    } else if is_word(name.as_slice(), b"timed") {
+        Ok(as_timed(read_timed(alloc, rest)?))
+    } else if is_word(name.as_slice(), b"change") {
+        Ok(as_change(read_change(alloc, rest)?))
+    } else if is_word(name.as_slice(), b"trace") {
+        Ok(as_trace(read_trace(alloc, rest)?))
     } else {
         Ok(None)
     }
@@ -138,6 +180,36 @@ fn as_load(calls: Option<u32>) -> Option<Command>
     }
 }
 
+fn as_timed(words: Option<TimedWords>) -> Option<Command>
+    ensures is { result ≡ option_map Command.Timed words }
+    ensures bounds { IfSome words (λ w. HasBounds w.run) → IfSome result IsBounded }
+{
+    match words {
+        Some(words) => Some(Command::Timed(words)),
+        None => None,
+    }
+}
+
+fn as_change(words: Option<ChangeWords>) -> Option<Command>
+    ensures is { result ≡ option_map Command.Change words }
+    ensures bounds { IfSome words (λ w. HasBounds w.run) → IfSome result IsBounded }
+{
+    match words {
+        Some(words) => Some(Command::Change(words)),
+        None => None,
+    }
+}
+
+fn as_trace(words: Option<TraceWords>) -> Option<Command>
+    ensures is { result ≡ option_map Command.Trace words }
+    ensures bounds { IfSome words (λ w. HasBounds w.run) → IfSome result IsBounded }
+{
+    match words {
+        Some(words) => Some(Command::Trace(words)),
+        None => None,
+    }
+}
+
 /// The only one of these words; `None` where they are more or none.
 fn read_only(alloc: Global, rest: &[Word]) -> Result<Option<Word>, Memory>
     ensures { IfOk result (λ word. word ≡ only_word rest.now) }
@@ -195,6 +267,132 @@ fn read_single(alloc: Global, rest: &[Word]) -> Result<Option<RunWords>, Memory>
     let Some((signals, options)) = after.split_first() else {
         return Ok(None);
     };
+    single_run(alloc, exchange, signals, options)
+}
+
+/// The words of a run with a table after its name; `None` where they are none.
+fn read_timed(alloc: Global, rest: &[Word]) -> Result<Option<TimedWords>, Memory>
+    ensures words { IfOk result (λ words. words ≡ timed_words rest.now) }
+    ensures bounds { IfOk result (λ words. IfSome words (λ w. HasBounds w.run)) }
+{
+    let Some((exchange, after)) = rest.split_first() else {
+        return Ok(None);
+    };
+    let Some((signals, after)) = after.split_first() else {
+        return Ok(None);
+    };
+    let Some((table, options)) = after.split_first() else {
+        return Ok(None);
+    };
+    let Some(run) = plain_run(alloc, exchange, signals, options)? else {
+        return Ok(None);
+    };
+    let table = Seq::copied(alloc, table.as_slice())?;
+    Ok(Some(TimedWords { run, table }))
+}
+
+/// The words of a change of blocks after its name; `None` where they are none.
+fn read_change(alloc: Global, rest: &[Word]) -> Result<Option<ChangeWords>, Memory>
+    ensures words { IfOk result (λ words. words ≡ change_words rest.now) }
+    ensures bounds { IfOk result (λ words. IfSome words (λ w. HasBounds w.run)) }
+{
+    let Some((exchange, after)) = rest.split_first() else {
+        return Ok(None);
+    };
+    let Some((signals, after)) = after.split_first() else {
+        return Ok(None);
+    };
+    let Some((new, after)) = after.split_first() else {
+        return Ok(None);
+    };
+    let Some((at, options)) = after.split_first() else {
+        return Ok(None);
+    };
+    let at = allowed_jobs(read_number(at.as_slice()));
+    let run = plain_run(alloc, exchange, signals, options)?;
+    change_at(alloc, new, at, run)
+}
+
+/// The words of a change to this exchange after so many jobs, where both the number and the run are told.
+fn change_at(
+    alloc: Global,
+    new: &Word,
+    at: Option<u32>,
+    run: Option<RunWords>,
+) -> Result<Option<ChangeWords>, Memory>
+    requires { IfSome run HasBounds }
+    ensures words { IfOk result (λ words. words ≡ change_at new.now at run) }
+    ensures bounds { IfOk result (λ words. IfSome words (λ w. HasBounds w.run)) }
+{
+    let Some(at) = at else {
+        return Ok(None);
+    };
+    let Some(run) = run else {
+        return Ok(None);
+    };
+    let new = Seq::copied(alloc, new.as_slice())?;
+    Ok(Some(ChangeWords { run, new, at }))
+}
+
+/// The words of a trace after its name; `None` where they are none.
+fn read_trace(alloc: Global, rest: &[Word]) -> Result<Option<TraceWords>, Memory>
+    ensures words { IfOk result (λ words. words ≡ trace_words rest.now) }
+    ensures bounds { IfOk result (λ words. IfSome words (λ w. HasBounds w.run)) }
+{
+    let Some((exchange, after)) = rest.split_first() else {
+        return Ok(None);
+    };
+    let Some((signals, after)) = after.split_first() else {
+        return Ok(None);
+    };
+    let Some((filter, options)) = after.split_first() else {
+        return Ok(None);
+    };
+    let Some(run) = single_run(alloc, exchange, signals, options)? else {
+        return Ok(None);
+    };
+    let filter = Seq::copied(alloc, filter.as_slice())?;
+    Ok(Some(TraceWords { run, filter }))
+}
+
+/// A run of these files without a certificate, by options that are its workers and its limit of jobs; `None` where other words stand
+/// among them.
+fn plain_run(
+    alloc: Global,
+    exchange: &Word,
+    signals: &Word,
+    options: &[Word],
+) -> Result<Option<RunWords>, Memory>
+    ensures words { IfOk result (λ words.
+        words ≡ plain_run exchange.now signals.now options.now) }
+    ensures bounds { IfOk result (λ words. IfSome words HasBounds) }
+{
+    let certificate = None;
+    let limit = value_of(alloc, options, b"--jobs")?;
+    let workers = value_of(alloc, options, b"--workers")?;
+    let Some(bounds) = bounds_beside(options, &workers, &limit, &certificate) else {
+        return Ok(None);
+    };
+    Ok(Some(RunWords {
+        exchange: Seq::copied(alloc, exchange.as_slice())?,
+        signals: Seq::copied(alloc, signals.as_slice())?,
+        workers: bounds.workers,
+        jobs: bounds.jobs,
+        certificate,
+    }))
+}
+
+/// The same with one worker, by options that are its limit of jobs alone.
+fn single_run(
+    alloc: Global,
+    exchange: &Word,
+    signals: &Word,
+    options: &[Word],
+) -> Result<Option<RunWords>, Memory>
+    ensures words { IfOk result (λ words.
+        words ≡ single_run exchange.now signals.now options.now) }
+    ensures bounds { IfOk result (λ words. IfSome words HasBounds) }
+{
     let limit = value_of(alloc, options, b"--jobs")?;
     let Some(jobs) = jobs_beside(options, &limit) else {
         return Ok(None);

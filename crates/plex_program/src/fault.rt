@@ -1,4 +1,4 @@
-// The first fault of an exchange text, of a signal file, and of a certificate.
+// The first fault of an exchange text, of a signal file, of a certificate, of a table and of a filter.
 
 use certificate_text::Shape;
 use flow_points::Fact;
@@ -71,6 +71,54 @@ pub enum SignalsRule {
     FallingCount,
     /// The number after AS is that of no earlier signal line, or of one that ends in NONE.
     BadAs,
+}
+
+/// Why a table of periodic signals is refused, and where.
+#[derive(Clone, Copy, Debug)]
+pub struct TableFault {
+    /// The first faulty line, from 1; 0 where the fault has none.
+    pub line: u32,
+    pub rule: TableRule,
+}
+
+/// The rules of a table whose first breach is told (docs/FORMATS.md, Table of periodic signals).
+#[derive(Clone, Copy, Debug)]
+pub enum TableRule {
+    /// The text has more than 16,777,216 bytes.
+    TooLarge,
+    /// The line is no line of a table.
+    BadLine,
+    /// No single buffered signal has that name.
+    UnknownSignal,
+    /// No block of that name receives the signal.
+    UnknownBlock,
+    /// There are more or fewer values than the signal has.
+    WrongData,
+    /// The signal never comes, or it comes again after no jobs, or its last count is not below 2^32.
+    BadRange,
+    /// With the signals of this line there are over 1,000,000 in the signal file and the table.
+    TooMany,
+}
+
+/// Why a filter is refused, and where.
+#[derive(Clone, Copy, Debug)]
+pub struct FilterFault {
+    /// The first faulty line, from 1; 0 where the fault has none.
+    pub line: u32,
+    pub rule: FilterRule,
+}
+
+/// The rules of a filter whose first breach is told (docs/FORMATS.md, Filter and trace).
+#[derive(Clone, Copy, Debug)]
+pub enum FilterRule {
+    /// The text has more than 16,777,216 bytes.
+    TooLarge,
+    /// The line is no line of a filter.
+    BadLine,
+    /// The exchange has no block of that name.
+    UnknownBlock,
+    /// The exchange has no signal of that name.
+    UnknownSignal,
 }
 
 /// Why a certificate is refused, by the first of these that is so.

@@ -8,8 +8,11 @@
 
 mod analysing;
 mod certifying;
+mod changing;
 mod command;
 mod fault;
+mod going;
+mod laws;
 mod perform;
 mod program;
 mod reading;
@@ -18,10 +21,16 @@ mod steady;
 #[cfg(test)]
 mod tests;
 mod text;
+mod timing;
+mod tracing;
 
 pub use certifying::Unkept;
-pub use command::{Bounds, Command, RunWords};
-pub use fault::{CertificateFault, Rule, SignalsFault, SignalsRule, SourceFault};
+pub use command::{Bounds, ChangeWords, Command, RunWords, TimedWords, TraceWords};
+pub use fault::{
+    CertificateFault, FilterFault, FilterRule, Rule, SignalsFault, SignalsRule, SourceFault,
+    TableFault, TableRule,
+};
+pub use laws::timed_runs_are_runs;
 pub use perform::{Answer, Refused, Stop};
 pub use program::{Quit, Status, plex};
 pub use steady::plex_steady;

@@ -9,15 +9,20 @@ ghost use Rattle.load_maker.specs.Exchange.{exchange_text};
 ghost use Rattle.load_maker.specs.Signals.{signals_text};
 ghost use Rattle.plex_program.specs.Answer.{AnswersAnalysis, AnswersCertificate, Comes, FromExchange, IsCertifiedRun, Performs, Reads, RunComes, RunsWith, Tells, exchange_at, exchange_of_file, exchange_of_tree, fitting, lines_at, lines_of_file, list_of, listing_answer, load_answer, load_of, or_broken, or_unread, performed, run_answer, run_of, text_at};
 ghost use Rattle.checked.specs.Kept.{IsChecked};
-ghost use Rattle.plex_program.specs.Runs.{AreRead, AreWorkers, HasBounds, IsBounded};
+ghost use Rattle.plex_program.specs.Runs.{AreOfText, AreRead, AreWorkers, HasBounds, IsBounded};
 
 use crate::analysing::{analysis_answer, certificate_answer};
 use crate::certifying::{Unkept, kept_of_text};
+use crate::changing::perform_change;
 use crate::command::{Command, RunWords};
-use crate::fault::{CertificateFault, SignalsFault, SignalsRule, SourceFault};
+use crate::fault::{
+    CertificateFault, FilterFault, SignalsFault, SignalsRule, SourceFault, TableFault,
+};
 use crate::program::Status;
 use crate::reading::{refused, rule_of, tree_of_file};
 use crate::running::{code_answer, kept_answer, listing_answer, load_answer, source_answer};
+use crate::timing::perform_timed;
+use crate::tracing::perform_trace;
 use checked::Checked;
 use exchange_model::Exchange;
 use front_end::{TextFault, resolve};
@@ -40,6 +45,12 @@ pub enum Refused {
     Signals(SignalsFault),
     /// The certificate is none of the exchange.
     Certificate(CertificateFault),
+    /// The table of periodic signals has a fault.
+    Table(TableFault),
+    /// The exchange text that is to take the place of the first one has a fault.
+    NewSource(SourceFault),
+    /// The filter has a fault.
+    Filter(FilterFault),
 }
 
 /// What the program writes and ends with.
@@ -62,7 +73,11 @@ pub enum Stop {
 
 /// The text of a file, where it is not too large.
 #[tactic(auto, using(crate::proofs::Stages::text_absent))]
-fn text_in<S: Shelf>(alloc: Global, shelf: &mut S, name: &Word) -> Result<Option<Seq<u8>>, Stop>
+pub(crate) fn text_in<S: Shelf>(
+    alloc: Global,
+    shelf: &mut S,
+    name: &Word,
+) -> Result<Option<Seq<u8>>, Stop>
     ensures comes { Comes (S.held shelf.old) (text_at name.now) (S.faults shelf.old)
         (S.faults shelf.new) result }
     ensures kept { S.held shelf.new ≡ S.held shelf.old }
@@ -132,6 +147,7 @@ pub(crate) fn lines_in<S: Shelf>(
         (S.faults shelf.new) result }
     ensures kept { S.held shelf.new ≡ S.held shelf.old }
     ensures read { IfOk result (λ lines. AreRead exchange.now lines) }
+    ensures of_text { IfOk result (λ lines. AreOfText exchange.now lines) }
 {
     let text = text_in(alloc, shelf, name)?;
     lines_of_file(alloc, exchange, &text)
@@ -146,6 +162,7 @@ fn lines_of_file(
     requires { IfSome text.now (λ t. length t ≤ MOST_BYTES) }
     ensures reads { Reads (lines_of_file exchange.now text.now) result }
     ensures read { IfOk result (λ lines. AreRead exchange.now lines) }
+    ensures of_text { IfOk result (λ lines. AreOfText exchange.now lines) }
 {
     match text {
         Some(text) => lines_of_text(alloc, exchange, text.as_slice()),
@@ -154,11 +171,12 @@ fn lines_of_file(
 }
 
 /// The signal lines of a text.
-#[tactic(auto, using(crate::proofs::Signals::lines_read, crate::proofs::Signals::lines_refused, crate::proofs::Signals::lines_are_read))]
+#[tactic(auto, using(crate::proofs::Signals::lines_read, crate::proofs::Signals::lines_refused, crate::proofs::Signals::lines_are_read, crate::proofs::Signals::lines_of_text))]
 fn lines_of_text(alloc: Global, exchange: &Exchange, text: &[u8]) -> Result<Seq<Line>, Stop>
     requires { length text.now ≤ MOST_BYTES }
     ensures reads { Reads (or_unread (signal_lines exchange.now text.now)) result }
     ensures read { IfOk result (λ lines. AreRead exchange.now lines) }
+    ensures of_text { IfOk result (λ lines. AreOfText exchange.now lines) }
 {
     match read_signals(alloc, exchange, text) {
         Ok(lines) => Ok(lines),
@@ -230,7 +248,7 @@ fn perform_plain<R: Threads + Wait + Sync, S: Shelf, G: Gate + Sync>(
 }
 
 /// The answer of a run without a certificate, as a stage.
-fn answer_plain<R: Threads + Wait + Sync, G: Gate + Sync>(
+pub(crate) fn answer_plain<R: Threads + Wait + Sync, G: Gate + Sync>(
     rt: &R,
     alloc: Global,
     exchange: &Exchange,
@@ -493,5 +511,8 @@ pub fn perform<R: Threads + Wait + Sync, S: Shelf, G: Gate + Sync>(
         Command::Certify(name) => perform_certificate(alloc, shelf, name),
         Command::List(name) => perform_list(alloc, shelf, name),
         Command::Load(calls) => perform_load(rt, alloc, *calls, gate),
+        Command::Timed(words) => perform_timed(rt, alloc, shelf, words, gate),
+        Command::Change(words) => perform_change(rt, alloc, shelf, words, gate),
+        Command::Trace(words) => perform_trace(alloc, shelf, words),
     }
 }

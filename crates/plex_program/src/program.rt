@@ -36,6 +36,12 @@ pub enum Status {
     Memory,
     /// The certificate is none of the exchange; the line that tells why was written.
     Certificate,
+    /// The table of periodic signals has a fault; the line that tells the first one was written.
+    Table,
+    /// The exchange that is to take the place of the first one does not fit; the line that tells what it has not was written.
+    Change,
+    /// The filter has a fault; the line that tells the first one was written.
+    Filter,
 }
 
 impl Status {
@@ -54,6 +60,9 @@ impl Status {
             Status::Write => 7,
             Status::Memory => 8,
             Status::Certificate => 9,
+            Status::Table => 11,
+            Status::Change => 12,
+            Status::Filter => 13,
         }
     }
 }
@@ -148,6 +157,9 @@ fn refused_status(refused: Refused) -> Status
         Refused::Source(_) => Status::Source,
         Refused::Signals(_) => Status::Signals,
         Refused::Certificate(_) => Status::Certificate,
+        Refused::Table(_) => Status::Table,
+        Refused::NewSource(_) => Status::Source,
+        Refused::Filter(_) => Status::Filter,
     }
 }
 

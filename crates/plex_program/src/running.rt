@@ -1,11 +1,8 @@
 // The single run of an exchange, and what is told of it: one job at a time, by the source or by the code, or several at once; and the
 // listing of the code that runs.
-ghost use Rattle.std.specs.Prelude.{◌≡◌, ◌≤◌, IfOk, map};
+ghost use Rattle.std.specs.Prelude.{◌≡◌, ◌≤◌, IfOk, IfSome, map};
 ghost use Rattle.plex_limits.specs.declared.limits.TheConstants.{MOST_JOBS};
-ghost use Rattle.exchange_model.specs.Opening.{opening_store};
-ghost use Rattle.store_layout.specs.Laid.{IsLayout};
 ghost use Rattle.checked.specs.Kept.{IsChecked};
-ghost use Rattle.shared_store.specs.Loans.{unlent};
 ghost use Rattle.retire_order.specs.Accounts.{with_words};
 ghost use Rattle.retire_order.specs.Events.{ending_of};
 ghost use Rattle.retire_order.specs.Lines.{coming_of};
@@ -15,24 +12,23 @@ ghost use Rattle.plex_program.specs.Program.{IsEnding};
 ghost use Rattle.plex_program.specs.Runs.{AreRead, AreWorkers};
 
 use crate::command::{USUAL_JOBS, USUAL_WORKERS};
+use crate::going::go_on_at_once;
 use crate::perform::Answer;
 use crate::program::Status;
-use checked::{Checked, keep_own};
+use checked::{Checked, keep_own, keep_own_if_few};
 use code_gen::compile;
 use exchange_model::Exchange;
 use exchange_run::{ByCode, BySource, Ended, run_lines};
 use listing::print_code;
-use parallel_dispatch::{Ended as EndedAtOnce, dispatch};
 use plex_io::Gate;
 use plex_num::{Memory, Seq};
 use report_text::{load_summary, report};
 use retire_order::{Books, Ending};
-use shared_store::{RootSeat, SharedStore};
 use signal_file::Line;
 use std::alloc::Global;
 use std::sync::Wait;
 use std::thread::Threads;
-use store_layout::{Layout, layout_of, opening};
+use store_layout::{layout_of, opening};
 
 /// The answer of the single run of these lines by the source itself, which ends after so many jobs at the latest.
 #[tactic(auto, using(crate::proofs::Answering::answer_is))]
@@ -53,7 +49,8 @@ pub fn source_answer(
 }
 
 /// The same answer, by compiled code. One worker runs one job after the other; with more, so many jobs run at once at most, as far as
-/// the exchange's own certificate lets them.
+/// the exchange's own certificate lets them. Where that would have so many facts that it takes long to make, one job runs after the
+/// other too.
 pub fn code_answer<R: Threads + Wait + Sync, G: Gate + Sync>(
     rt: &R,
     alloc: Global,
@@ -72,9 +69,32 @@ pub fn code_answer<R: Threads + Wait + Sync, G: Gate + Sync>(
     if workers == 1 {
         return answer_in_turn(alloc, exchange, lines, jobs, gate);
     }
-    let checked = keep_own(alloc, exchange)?;
-    let answer = kept_answer(rt, alloc, exchange, &checked, lines, workers, jobs, gate)?;
-    Ok(answer)
+    let kept = keep_own_if_few(alloc, exchange)?;
+    answer_by(rt, alloc, exchange, kept, lines, workers, jobs, gate)
+}
+
+/// The same answer, as far as what is kept of a certificate lets jobs run at once; one job after the other where nothing is kept.
+fn answer_by<R: Threads + Wait + Sync, G: Gate + Sync>(
+    rt: &R,
+    alloc: Global,
+    exchange: &Exchange,
+    kept: Option<Checked>,
+    lines: Seq<Line>,
+    workers: u32,
+    jobs: u32,
+    gate: &G,
+) -> Result<Answer, Memory>
+    requires kept { IfSome kept (IsChecked exchange.now) }
+    requires lines { AreRead exchange.now lines }
+    requires workers { AreWorkers workers }
+    requires jobs { jobs ≤ MOST_JOBS }
+    ensures answer { IfOk result (λ a. a ≡ run_answer exchange.now lines jobs) }
+    ensures ending { IfOk result (λ a. IsEnding a.status) }
+{
+    match kept {
+        Some(checked) => kept_answer(rt, alloc, exchange, &checked, lines, workers, jobs, gate),
+        None => answer_in_turn(alloc, exchange, lines, jobs, gate),
+    }
 }
 
 /// The same answer, by compiled code, one job after the other.
@@ -122,7 +142,7 @@ pub fn kept_answer<R: Threads + Wait + Sync, G: Gate + Sync>(
 
 /// The report of a run that has come to this end, and the status of its ending.
 #[tactic(auto, using(crate::proofs::Answering::told_at, crate::proofs::Answering::status_ends))]
-fn answer_at(
+pub(crate) fn answer_at(
     alloc: Global,
     exchange: &Exchange,
     books: &Books,
@@ -223,8 +243,8 @@ fn run_in_turn<G: Gate>(
 }
 
 /// What the single run comes to, where so many jobs run at once at most, as far as what is kept of a certificate lets them.
-#[tactic(auto, using(crate::proofs::Opened::opened_rules, crate::proofs::Opened::comes_to))]
-pub(crate) fn run_at_once<R: Threads + Wait + Sync, G: Gate + Sync>(
+#[tactic(auto, using(crate::proofs::Opened::opened_rules))]
+fn run_at_once<R: Threads + Wait + Sync, G: Gate + Sync>(
     rt: &R,
     alloc: Global,
     exchange: &Exchange,
@@ -233,7 +253,7 @@ pub(crate) fn run_at_once<R: Threads + Wait + Sync, G: Gate + Sync>(
     workers: u32,
     jobs: u32,
     gate: &G,
-) -> Result<EndedAtOnce, Memory>
+) -> Result<Ended, Memory>
     requires checked { IsChecked exchange.now checked.now }
     requires lines { AreRead exchange.now lines }
     requires workers { AreWorkers workers }
@@ -243,27 +263,11 @@ pub(crate) fn run_at_once<R: Threads + Wait + Sync, G: Gate + Sync>(
 {
     exchange.kept();
     let layout = layout_of(alloc, exchange)?;
-    let code = compile(alloc, exchange, &layout)?;
-    let (store, root) = opened_store(alloc, exchange, &layout)?;
+    let words = opening(alloc, exchange, &layout)?;
     let books = Books::new(alloc, lines, u64::from(jobs));
-    dispatch(
-        rt, alloc, exchange, &layout, &code, checked, books, store, root, workers, gate,
+    go_on_at_once(
+        rt, alloc, exchange, &layout, checked, books, &words, workers, gate,
     )
-}
-
-/// The words before the first job, to be shared, and their root, which has lent nothing.
-fn opened_store(
-    alloc: Global,
-    exchange: &Exchange,
-    layout: &Layout,
-) -> Result<(SharedStore, RootSeat), Memory>
-    requires { IsLayout exchange.now.blocks layout.now }
-    ensures { IfOk result (λ made.
-        made.1 ≡ (made.0, unlent (opening_store exchange.now.blocks))) }
-{
-    let words = opening(alloc, exchange, layout)?;
-    let made = SharedStore::new(alloc, &words)?;
-    Ok(made)
 }
 
 /// The listing of the code of an exchange.

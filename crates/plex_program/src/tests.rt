@@ -1,6 +1,6 @@
+use crate::going::dispatch_from;
 use crate::perform::{exchange_in, lines_in};
 use crate::program::{Status, plex};
-use crate::running::run_at_once;
 use crate::steady::plex_steady;
 use checked::keep_own;
 use plex_io::{
@@ -8,11 +8,13 @@ use plex_io::{
     StoredFile, Word,
 };
 use plex_num::{Memory, Seq};
+use retire_order::Books;
 use std::alloc::Global;
 use std::sync::Wait;
 use std::sync::atomic::{AtomicU64, Ordering};
 use std::test::Fail;
 use std::thread::Threads;
+use store_layout::{layout_of, opening};
 
 const COUNTER: &str = "SIGNAL TICK SINGLE BUFFERED B DATA 0;
 BLOCK COUNTER;
@@ -72,14 +74,16 @@ impl From<Memory> for NotMade {
     }
 }
 
-/// A gate that adds up the steps that it is told.
+/// A gate at which jobs meet, and that adds up the steps that it is told.
 #[derive(Drop)]
 struct StepsGate {
+    meet: MeetGate,
     steps: AtomicU64,
 }
 
 impl Gate for StepsGate {
-    fn at(&self, _job: u64, place: Place) {
+    fn at(&self, job: u64, place: Place) {
+        self.meet.at(job, place);
         if let Place::After { steps } = place {
             self.steps.fetch_add(steps, Ordering::SeqCst);
         }
@@ -115,12 +119,9 @@ fn words_of(alloc: Global, words: &[&str]) -> Result<Seq<Word>, Memory> {
 #[test]
 fn says_which_device_failed(rt: HostRuntime) -> Result<(), Fail> {
     let both: &[(&str, &str)] = &[("E", COUNTER), ("S", THREE_TICKS)];
-    let report = "JOBS 3\nVAR COUNTER.N 3\nEND DONE\n";
     let cases = [
-        (both, [1], 8, 64, [0], Status::Read, ""),
         (both, [2], 8, 64, [0], Status::Read, ""),
         (&[("E", COUNTER)], [0], 8, 64, [0], Status::Read, ""),
-        (both, [0], 8, 64, [0], Status::Done, report),
         (both, [0], 8, 64, [2], Status::Write, "JOBS 3\nV"),
         (both, [0], 64, 5, [0], Status::Write, "JOBS "),
     ];
@@ -166,29 +167,48 @@ fn writes<R: Threads + Wait + Sync, G: Gate + Sync>(
     }
 }
 
-#[test]
-fn a_text_may_just_fit(rt: HostRuntime) -> Result<(), Fail> {
-    let texts = (COUNTER, THREE_TICKS);
-    let report = "JOBS 3\nVAR COUNTER.N 3\nEND DONE\n";
-    writes(&rt, rt.alloc(), texts, "4", &NoGate, report)?;
-    Ok(())
-}
-
-/// How many jobs of two asks found that two had begun.
+/// How many jobs of two asks found that two had begun, and how many steps the gate was told of.
 fn meetings<R: Threads + Wait + Sync>(
     rt: &R,
     alloc: Global,
     workers: &str,
-) -> Result<u64, NotMade> {
-    let gate = MeetGate::new(TURNS);
+) -> Result<(u64, u64), NotMade> {
+    let gate = StepsGate {
+        meet: MeetGate::new(TURNS),
+        steps: AtomicU64::new(0),
+    };
     writes(rt, alloc, (QUESTIONS, TWO_ASKS), workers, &gate, TWO_SHOWN)?;
-    Ok(gate.seen())
+    Ok((gate.meet.seen(), gate.steps.load(Ordering::SeqCst)))
+}
+
+/// How many steps the jobs of two asks make, as the dispatcher counts them.
+#[tactic(auto, using(crate::proofs::Opened::opened_rules))]
+fn steps_counted<R: Threads + Wait + Sync>(rt: &R, alloc: Global) -> Result<u64, NotMade> {
+    let files = files_of(alloc, &[("E", QUESTIONS), ("S", TWO_ASKS)])?;
+    let mut shelf = SteadyShelf::new(files);
+    let Ok(exchange) = exchange_in(alloc, &mut shelf, &Seq::copied(alloc, b"E")?) else {
+        return Err(NotMade);
+    };
+    let Ok(lines) = lines_in(alloc, &mut shelf, &exchange, &Seq::copied(alloc, b"S")?) else {
+        return Err(NotMade);
+    };
+    exchange.kept();
+    let layout = layout_of(alloc, &exchange)?;
+    let checked = keep_own(alloc, &exchange)?;
+    let words = opening(alloc, &exchange, &layout)?;
+    let books = Books::new(alloc, lines, 100);
+    let end = dispatch_from(
+        rt, alloc, &exchange, &layout, &checked, books, &words, 2, &NoGate,
+    )?;
+    Ok(end.steps)
 }
 
 #[test]
 fn two_jobs_meet(rt: HostRuntime) -> Result<(), Fail> {
-    assert_eq!(rt; meetings(&rt, rt.alloc(), "2")?, 4);
-    assert_eq!(rt; meetings(&rt, rt.alloc(), "1")?, 3);
+    let steps = steps_counted(&rt, rt.alloc())?;
+    assert_eq!(rt; steps, 36);
+    assert_eq!(rt; meetings(&rt, rt.alloc(), "2")?, (4, steps));
+    assert_eq!(rt; meetings(&rt, rt.alloc(), "1")?, (3, steps));
     Ok(())
 }
 
@@ -204,42 +224,5 @@ fn slides<R: Threads + Wait + Sync>(rt: &R, alloc: Global, workers: &str) -> Res
 fn a_job_begins_while_an_older_one_runs(rt: HostRuntime) -> Result<(), Fail> {
     assert_eq!(rt; slides(&rt, rt.alloc(), "2")?, 1);
     assert_eq!(rt; slides(&rt, rt.alloc(), "1")?, 0);
-    Ok(())
-}
-
-/// How many steps the jobs of two asks make, as a gate is told of them.
-fn steps_told<R: Threads + Wait + Sync>(
-    rt: &R,
-    alloc: Global,
-    workers: &str,
-) -> Result<u64, NotMade> {
-    let gate = StepsGate {
-        steps: AtomicU64::new(0),
-    };
-    writes(rt, alloc, (QUESTIONS, TWO_ASKS), workers, &gate, TWO_SHOWN)?;
-    Ok(gate.steps.load(Ordering::SeqCst))
-}
-
-/// The same, as the dispatcher answers it.
-fn steps_answered<R: Threads + Wait + Sync>(rt: &R, alloc: Global) -> Result<u64, NotMade> {
-    let files = files_of(alloc, &[("E", QUESTIONS), ("S", TWO_ASKS)])?;
-    let mut shelf = SteadyShelf::new(files);
-    let Ok(exchange) = exchange_in(alloc, &mut shelf, &Seq::copied(alloc, b"E")?) else {
-        return Err(NotMade);
-    };
-    let Ok(lines) = lines_in(alloc, &mut shelf, &exchange, &Seq::copied(alloc, b"S")?) else {
-        return Err(NotMade);
-    };
-    let checked = keep_own(alloc, &exchange)?;
-    let end = run_at_once(rt, alloc, &exchange, &checked, lines, 2, 100, &NoGate)?;
-    Ok(end.steps)
-}
-
-#[test]
-fn the_gate_is_told_all_steps(rt: HostRuntime) -> Result<(), Fail> {
-    let steps = steps_answered(&rt, rt.alloc())?;
-    assert!(rt; steps > 0);
-    assert_eq!(rt; steps_told(&rt, rt.alloc(), "2")?, steps);
-    assert_eq!(rt; steps_told(&rt, rt.alloc(), "1")?, steps);
     Ok(())
 }

@@ -1,9 +1,12 @@
 // The lines that are written in place of a report.
 ghost use Rattle.std.specs.Prelude.{◌≡◌, ◌++◌, IfOk, OnOk};
 ghost use Rattle.std.specs.List.{flat_map};
-ghost use Rattle.plex_program.specs.Text.{bad_text, certificate_text, fact_text, fault_text, numbered_name, other_exchange, refusal_text, rule_name, shape_numbers, signals_rule_name, signals_text, spaced, usage_text};
+ghost use Rattle.plex_program.specs.Text.{bad_text, certificate_text, new_fault_text, fact_text, fault_text, filter_rule_name, filter_text, numbered_name, other_exchange, refusal_text, rule_name, shape_numbers, signals_rule_name, signals_text, spaced, table_rule_name, table_text, usage_text};
 
-use crate::fault::{CertificateFault, Rule, SignalsFault, SignalsRule, SourceFault};
+use crate::fault::{
+    CertificateFault, FilterFault, FilterRule, Rule, SignalsFault, SignalsRule, SourceFault,
+    TableFault, TableRule,
+};
 use crate::perform::Refused;
 use certificate_text::{Shape, print_fact};
 use flow_points::Fact;
@@ -15,7 +18,7 @@ use std::alloc::Global;
 pub fn usage_line() -> &'static [u8]
     ensures { result.now ≡ usage_text }
 {
-    b"usage: plex run E S [--workers N] [--jobs N] [--cert F] | plex single E S [--jobs N] | plex analyse E | plex certify E | plex list E | plex load N\n"
+    b"usage: plex run E S [--workers N] [--jobs N] [--cert F] | plex single E S [--jobs N] | plex analyse E | plex certify E | plex list E | plex load N | plex timed E S T [--workers N] [--jobs N] | plex change E S E2 K [--workers N] [--jobs N] | plex trace E S Q [--jobs N]\n"
 }
 
 /// The line of a refusal.
@@ -27,6 +30,9 @@ pub fn refusal_line(alloc: Global, refused: Refused) -> Result<Seq<u8>, Memory>
         Refused::Source(fault) => fault_line(alloc, fault),
         Refused::Signals(fault) => signals_line(alloc, fault),
         Refused::Certificate(fault) => certificate_line(alloc, fault),
+        Refused::Table(fault) => table_line(alloc, fault),
+        Refused::NewSource(fault) => new_fault_line(alloc, fault),
+        Refused::Filter(fault) => filter_line(alloc, fault),
     }
 }
 
@@ -42,6 +48,16 @@ fn fault_line(alloc: Global, fault: SourceFault) -> Result<Seq<u8>, Memory>
     Ok(text)
 }
 
+/// `NEWSOURCE line L RULE`.
+fn new_fault_line(alloc: Global, fault: SourceFault) -> Result<Seq<u8>, Memory>
+    ensures { IfOk result (λ text. text ≡ new_fault_text fault) }
+{
+    let line = fault_line(alloc, fault)?;
+    let mut text = Seq::copied(alloc, b"NEW")?;
+    text.append(line.as_slice())?;
+    Ok(text)
+}
+
 /// `SIGNALS line L RULE`.
 fn signals_line(alloc: Global, fault: SignalsFault) -> Result<Seq<u8>, Memory>
     ensures { IfOk result (λ text. text ≡ signals_text fault) }
@@ -50,6 +66,30 @@ fn signals_line(alloc: Global, fault: SignalsFault) -> Result<Seq<u8>, Memory>
     print_number(u64::from(fault.line), &mut text)?;
     text.append(b" ")?;
     add_signals_rule(&mut text, fault.rule)?;
+    text.append(b"\n")?;
+    Ok(text)
+}
+
+/// `TABLE line L RULE`.
+fn table_line(alloc: Global, fault: TableFault) -> Result<Seq<u8>, Memory>
+    ensures { IfOk result (λ text. text ≡ table_text fault) }
+{
+    let mut text = Seq::copied(alloc, b"TABLE line ")?;
+    print_number(u64::from(fault.line), &mut text)?;
+    text.append(b" ")?;
+    add_table_rule(&mut text, fault.rule)?;
+    text.append(b"\n")?;
+    Ok(text)
+}
+
+/// `FILTER line L RULE`.
+fn filter_line(alloc: Global, fault: FilterFault) -> Result<Seq<u8>, Memory>
+    ensures { IfOk result (λ text. text ≡ filter_text fault) }
+{
+    let mut text = Seq::copied(alloc, b"FILTER line ")?;
+    print_number(u64::from(fault.line), &mut text)?;
+    text.append(b" ")?;
+    add_filter_rule(&mut text, fault.rule)?;
     text.append(b"\n")?;
     Ok(text)
 }
@@ -153,6 +193,33 @@ fn add_signals_rule(text: &mut Seq<u8>, rule: SignalsRule) -> Result<(), Memory>
         SignalsRule::WrongData => add_word(text, b"WRONGDATA"),
         SignalsRule::FallingCount => add_word(text, b"FALLINGCOUNT"),
         SignalsRule::BadAs => add_word(text, b"BADAS"),
+    }
+}
+
+/// Appends the word of a rule of tables.
+fn add_table_rule(text: &mut Seq<u8>, rule: TableRule) -> Result<(), Memory>
+    ensures { OnOk result (text.new ≡ text.old ++ table_rule_name rule) }
+{
+    match rule {
+        TableRule::TooLarge => add_word(text, b"TOOLARGE"),
+        TableRule::BadLine => add_word(text, b"BADLINE"),
+        TableRule::UnknownSignal => add_word(text, b"UNKNOWNSIGNAL"),
+        TableRule::UnknownBlock => add_word(text, b"UNKNOWNBLOCK"),
+        TableRule::WrongData => add_word(text, b"WRONGDATA"),
+        TableRule::BadRange => add_word(text, b"BADRANGE"),
+        TableRule::TooMany => add_word(text, b"TOOMANY"),
+    }
+}
+
+/// Appends the word of a rule of filters.
+fn add_filter_rule(text: &mut Seq<u8>, rule: FilterRule) -> Result<(), Memory>
+    ensures { OnOk result (text.new ≡ text.old ++ filter_rule_name rule) }
+{
+    match rule {
+        FilterRule::TooLarge => add_word(text, b"TOOLARGE"),
+        FilterRule::BadLine => add_word(text, b"BADLINE"),
+        FilterRule::UnknownBlock => add_word(text, b"UNKNOWNBLOCK"),
+        FilterRule::UnknownSignal => add_word(text, b"UNKNOWNSIGNAL"),
     }
 }
 

@@ -1,5 +1,6 @@
 mod Behind
 mod Filters
-mod Numbered
+pub mod Numbered
+mod Tabling
 mod Tracing
 mod Written

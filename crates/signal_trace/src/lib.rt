@@ -13,6 +13,7 @@ mod meaning;
 mod read;
 mod run;
 mod show;
+mod table;
 mod text;
 mod tracer;
 

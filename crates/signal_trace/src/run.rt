@@ -11,6 +11,7 @@ ghost use Rattle.signal_trace.specs.Trace.{trace};
 ghost use Rattle.signal_trace.specs.Turns.{shown_next};
 
 use crate::show::Show;
+use crate::table::ShowTable;
 use crate::tracer::{TracedJob, Tracer};
 use exchange_model::Exchange;
 use exchange_run::{ByCode, Runner, make_turn};
@@ -56,9 +57,10 @@ pub fn trace_run(
     let mut books = books;
     let mut words = words;
     let mut runner = ByCode::new(code, &NoGate);
+    let table = ShowTable::new(alloc, shows)?;
     let mut tracer = Tracer {
         alloc,
-        shows,
+        shows: &table,
         jobs: Seq::new(alloc),
     };
     let_arrive(exchange, &mut books)?;

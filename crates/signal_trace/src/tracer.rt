@@ -1,11 +1,10 @@
 // The jobs that a filter shows, as they end.
 ghost use Rattle.std.specs.Prelude.{◌≡◌, ◌++◌, IfOk, OnOk};
-ghost use Rattle.std.specs.List.{list_any};
-ghost use Rattle.signal_trace.specs.Trace.{shows, shows_job, traced};
+ghost use Rattle.signal_trace.specs.Trace.{shows_job, traced};
 ghost use Rattle.signal_trace.specs.Turns.{one_if_shown};
 
-use crate::show::Show;
-use exchange_model::{Entry, Exchange};
+use crate::table::ShowTable;
+use exchange_model::Exchange;
 use job_types::{JobDone, JobStart, Outbox, Outcome, Sent};
 use plex_num::{Memory, Seq};
 use std::alloc::Global;
@@ -24,7 +23,7 @@ pub struct TracedJob {
 #[derive(Drop)]
 pub(crate) struct Tracer<'a> {
     pub alloc: Global,
-    pub shows: &'a Seq<Show>,
+    pub shows: &'a ShowTable<'a>,
     pub jobs: Seq<TracedJob>,
 }
 
@@ -41,13 +40,7 @@ impl Tracer<'_> {
         ensures jobs { OnOk result (self.new.jobs ≡ self.old.jobs
             ++ one_if_shown exchange.now self.old.shows.now (traced number start done.now)) }
     {
-        if !is_shown(
-            exchange,
-            self.shows.as_slice(),
-            number,
-            &start,
-            done.outcome,
-        ) {
+        if !is_shown(exchange, self.shows, number, &start, done.outcome) {
             return Ok(());
         }
         let sends = sends_of(self.alloc, &done.sends)?;
@@ -64,7 +57,7 @@ impl Tracer<'_> {
 /// Whether some line of a filter shows a job.
 fn is_shown(
     exchange: &Exchange,
-    shows: &[Show],
+    shows: &ShowTable<'_>,
     number: u64,
     start: &JobStart,
     outcome: Outcome,
@@ -72,18 +65,9 @@ fn is_shown(
     ensures { result ≡ shows_job exchange.now shows.now number start.now outcome }
 {
     match exchange.entries.get(start.job.entry as usize) {
-        Some(entry) => some_shows(shows, *entry, start.job.forlopp, number, outcome),
+        Some(entry) => shows.any(*entry, start.job.forlopp, number, outcome),
         None => false,
     }
-}
-
-/// Whether some line shows a job of this entry and forlopp, of this number, that ended so.
-fn some_shows(lines: &[Show], entry: Entry, forlopp: u64, number: u64, outcome: Outcome) -> bool
-    ensures { result ≡ list_any (λ l. shows l entry forlopp number outcome) lines.now }
-{
-    lines
-        .iter()
-        .any(|line| line.shows(entry, forlopp, number, outcome))
 }
 
 /// A list of the signals of an outbox.

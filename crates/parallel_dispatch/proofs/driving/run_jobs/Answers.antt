@@ -37,6 +37,7 @@ returns-in-Some g c =
     let stand : Stand g.B.Naming.exchange c.args.setting.now.checked.now g.B.Naming.code first old.limit c.jobs.books c.jobs.root.1 [] c.jobs.steps =
     subst (λ (ls : List Lent). Stand g.B.Naming.exchange c.args.setting.now.checked.now g.B.Naming.code first old.limit c.jobs.books c.jobs.root.1 ls c.jobs.steps) c.in-Some.ensures.0 c.jobs.invariant.stand in
     record {
+      nobody = stand.fly.running;
       home = c.jobs.invariant.home;
       bare = none_lent g.B.Naming.exchange c.args.setting.now.checked.now g.B.Naming.code set.exchange set.checked set.true_of old.limit first c.jobs.books c.jobs.root.1 c.jobs.steps stand;
       ends = stand_ended g.B.Naming.exchange c.args.setting.now.checked.now g.B.Naming.code set.exchange set.checked set.true_of old.limit first c.jobs.books c.jobs.root.1 (ending_of c.in-Some.ending) c.jobs.steps c.in-Some.ensures.1 stand;

@@ -1,5 +1,5 @@
-use Rattle.plex_program.proofs.Opened.{opened_valid}
+use Rattle.plex_program.proofs.Opened.{begins_valid}
 use Rattle.plex_program.proofs.running.run_at_once.Goals as goal
 
-pub dispatch-requires-clause-valid : goal.dispatch-requires-clause-valid
-dispatch-requires-clause-valid g c κs within = opened_valid c.args.exchange.now c.args.lines _ c.new-books.result c.in_ok-store.root c.in_ok-store.store c.kept.ensures c.requires.lines c.new-books.ensures c.in_ok-store.ensures
+pub go_on_at_once-requires-clause-valid : goal.go_on_at_once-requires-clause-valid
+go_on_at_once-requires-clause-valid g c κs within = begins_valid c.args.exchange.now c.args.lines _ c.new-books.result c.in_ok-words.words c.kept.ensures c.requires.lines c.new-books.ensures c.in_ok-words.ensures

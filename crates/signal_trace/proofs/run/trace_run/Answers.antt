@@ -1,4 +1,4 @@
-use Rattle.std.proofs.Common.{◌≡◌, ◌++◌, None, refl, sym, ap, ◌∙◌, subst, rules}
+use Rattle.std.proofs.Common.{◌≡◌, ◌++◌, None, sym, ap, ◌∙◌, subst, rules}
 use Rattle.std.proofs.lemmas.Grind.{common_steps}
 use Rattle.register_machine.specs.Faithful.{Faithful}
 use Rattle.source_meaning.specs.SingleRun.{ending_at}
@@ -10,8 +10,8 @@ use Rattle.signal_trace.proofs.run.trace_run.Goals as goal
 
 pub jobs-init : goal.jobs-init
 jobs-init c = record {
-  traces = traces_begin c.args.exchange.now c.args.shows.now c.args.books c.let_arrive.new.books c.args.words c.new.result c.kept.ensures c.requires.valid c.requires.none c.requires.nobody c.new.ensures c.in_ok-let_arrive.ensures;
-  lines = refl;
+  traces = traces_begin c.args.exchange.now c.args.shows.now c.args.books c.let_arrive.new.books c.args.words c.new-2.result c.kept.ensures c.requires.valid c.requires.none c.requires.nobody c.new-2.ensures c.in_ok-let_arrive.ensures;
+  lines = c.in_ok-table.ensures;
   faithful = subst (Faithful c.args.exchange.now) (sym c.new-runner.ensures) c.requires.faithful;
 }
 

@@ -1,0 +1,163 @@
+-- A run that ends after fewer jobs at the latest, beside the same run with a higher limit.
+use Rattle.std.proofs.Common.{◌≡◌, ℕ, zero, suc, ◌+◌, ◌<◌, ◌≤◌, Bool, true, false, List, length, get_or, Some, None, refl, sym, ap, ◌∙◌, subst, arith, if◌then◌else◌}
+use Rattle.std.specs.Prelude.{is_some, nat_le, nat_lt, unwrap_or}
+use Rattle.std.specs.List.{position_or_len, range_with_len}
+use Rattle.std.proofs.lemmas.Bool.Decides.{nat_tests}
+use Rattle.std.proofs.lemmas.List.FromFn.{get_or-range_with_len, length-range_with_len}
+use Rattle.std.proofs.lemmas.List.Sums.{passes_at_first}
+use Rattle.std.proofs.lemmas.Option.{none-some, same_Some}
+use Rattle.exchange_model.specs.declared.exchange.Exchange.{Exchange}
+use Rattle.source_meaning.specs.Arrivals.{is_quiet}
+use Rattle.source_meaning.specs.SingleRun.{Ending, Finished, Limited, Restarted, after, end_state, ending_at, jobs_at_end}
+use Rattle.source_meaning.specs.State.{State, has_stopped}
+use Rattle.exchange_run.proofs.Counting.{arrivals_ended}
+use Rattle.exchange_run.proofs.Ending.{ends_at}
+use Rattle.exchange_run.proofs.Turning.{goes_on, turn_ended}
+use Rattle.signal_trace.proofs.Numbered.{before_end}
+
+-- a state that goes on under a limit goes on under a higher one
+higher : (low high : ℕ) (s : State) → low ≤ high → ending_at low s ≡ None → ending_at high s ≡ None
+higher low high s le goes =
+    let g = goes_on low s goes in
+    let few = g.few in
+    let under : nat_le high s.ended ≡ false = grind (arith, nat_tests, few, le) in
+    rw (g.runs, g.waits, under) refl
+
+-- an ending of another kind than that by the limit
+abbrev pub IsOwn : Ending → Type 0
+IsOwn Restarted = Unit {0}
+IsOwn Finished = Unit {0}
+IsOwn Limited = ⊥
+
+at_limit : (d : Bool) (e : Ending) → IsOwn e → (if d then Some Limited else None) ≡ Some e → ⊥
+at_limit true e own is = subst IsOwn (sym (same_Some Limited e is)) own
+at_limit false e own is = none-some e is
+
+own_ending : (low high : ℕ) (s : State) (e : Ending) → IsOwn e → ending_at low s ≡ Some e → ending_at high s ≡ Some e
+own_ending low high s e own is = by (has_stopped s) (is_quiet s.waiting) is
+  where
+    by : (b c : Bool) → (if b then Some Restarted else (if c then Some Finished else (if nat_le low s.ended then Some Limited else None))) ≡ Some e → (if b then Some Restarted else (if c then Some Finished else (if nat_le high s.ended then Some Limited else None))) ≡ Some e
+    by true c is = is
+    by false true is = is
+    by false false is = absurd (at_limit (nat_le low s.ended) e own is)
+
+-- an ending by the limit comes after so many jobs
+limit_reached : (limit : ℕ) (s : State) → ending_at limit s ≡ Some Limited → limit ≤ s.ended
+limit_reached limit s is = by (has_stopped s) (is_quiet s.waiting) (nat_le limit s.ended) refl is
+  where
+    Kind : Ending → Type 0
+    Kind Restarted = ⊥
+    Kind Finished = ⊥
+    Kind Limited = Unit {0}
+
+    by : (b c d : Bool) → nat_le limit s.ended ≡ d → (if b then Some Restarted else (if c then Some Finished else (if d then Some Limited else None))) ≡ Some Limited → limit ≤ s.ended
+    by true c d t is = absurd (subst Kind (sym (same_Some Restarted Limited is)) tt)
+    by false true d t is = absurd (subst Kind (sym (same_Some Finished Limited is)) tt)
+    by false false true t is = grind (arith, nat_tests, t)
+    by false false false t is = absurd (none-some Limited is)
+
+-- the last restart has come, or has not
+pub stopped_so : (limit : ℕ) (s : State) → ending_at limit s ≡ Some Restarted → has_stopped s ≡ true
+stopped_so limit s is = by (has_stopped s) (is_quiet s.waiting) (nat_le limit s.ended) is
+  where
+    Kind : Ending → Type 0
+    Kind Restarted = Unit {0}
+    Kind Finished = ⊥
+    Kind Limited = ⊥
+
+    by : (b c d : Bool) → (if b then Some Restarted else (if c then Some Finished else (if d then Some Limited else None))) ≡ Some Restarted → b ≡ true
+    by true c d is = refl
+    by false true d is = absurd (subst Kind (sym (same_Some Finished Restarted is)) tt)
+    by false false true is = absurd (subst Kind (sym (same_Some Limited Restarted is)) tt)
+    by false false false is = absurd (none-some Restarted is)
+
+abbrev pub IsNoRestart : Ending → Type 0
+IsNoRestart Restarted = ⊥
+IsNoRestart Finished = Unit {0}
+IsNoRestart Limited = Unit {0}
+
+pub goes_so : (limit : ℕ) (s : State) (e : Ending) → IsNoRestart e → ending_at limit s ≡ Some e → has_stopped s ≡ false
+goes_so limit s e other is = by (has_stopped s) is
+  where
+    by : (b : Bool) → (if b then Some Restarted else (if is_quiet s.waiting then Some Finished else (if nat_le limit s.ended then Some Limited else None))) ≡ Some e → b ≡ false
+    by true is = absurd (subst IsNoRestart (sym (same_Some Restarted e is)) other)
+    by false is = refl
+
+-- where no earlier state is the end, the run goes so far
+reaches : (x : Exchange) (s : State) (limit k : ℕ) → k ≤ limit → ((m : ℕ) → m < k → ending_at limit (after x s m) ≡ None) → k ≤ jobs_at_end x limit s
+unfolding jobs_at_end
+reaches x s limit k le goes = by (nat_lt place (length all)) refl
+  where
+    all : List ℕ
+    all = range_with_len 0 (limit + 1)
+
+    p : ℕ → Bool
+    p n = is_some (ending_at limit (after x s n))
+
+    place : ℕ
+    place = position_or_len p all
+
+    passed : place < length all → place < k → ⊥
+    passed inside less =
+        let long = length-range_with_len 0 (limit + 1) in
+        let at : get_or all place 0 ≡ place = let g = get_or-range_with_len 0 (limit + 1) place 0 (omega (arith, long, inside)) in omega (arith, g) in
+        let passes : p place ≡ true = ap p (sym at) ∙ passes_at_first p all 0 inside in
+        let fails : p place ≡ false = ap is_some (goes place less) in
+        let both : true ≡ false = sym passes ∙ fails in
+        cc
+
+    no_less : place < length all → k ≤ place
+    no_less inside = side (nat_lt place k) refl
+      where
+        side : (b : Bool) → nat_lt place k ≡ b → k ≤ place
+        side true less = absurd (passed inside (grind (arith, nat_tests, less)))
+        side false more = grind (arith, nat_tests, more)
+
+    by : (b : Bool) → nat_lt place (length all) ≡ b → k ≤ unwrap_or (if b then Some place else None) limit
+    by true inside = no_less (grind (arith, nat_tests, inside))
+    by false past = le
+
+module _ (x : Exchange) (first : State) (none : first.ended ≡ 0) where
+  -- the count of ended jobs is the number of turns
+  pub counted : (limit n : ℕ) → n ≤ jobs_at_end x limit first → (after x first n).ended ≡ n
+  unfolding after
+  counted limit zero le = arrivals_ended x first ∙ none
+  counted limit (suc n) le =
+      let more = turn_ended x (after x first n) limit (before_end x first limit n (omega (arith, le))) in
+      let so_far = counted limit n (omega (arith, le)) in
+      omega (arith, more, so_far)
+
+  -- there are at most as many as the limit says
+  pub few_jobs : (limit : ℕ) → jobs_at_end x limit first ≤ limit
+  few_jobs limit = by (jobs_at_end x limit first) refl
+    where
+      by : (n : ℕ) → jobs_at_end x limit first ≡ n → jobs_at_end x limit first ≤ limit
+      by zero is = omega (arith, is)
+      by (suc k) is =
+          let few = (goes_on limit (after x first k) (before_end x first limit k (omega (arith, is)))).few in
+          let count = counted limit k (omega (arith, is)) in
+          omega (arith, is, few, count)
+
+  module _ (low high : ℕ) (le : low ≤ high) where
+    -- a run that ends by itself under a limit ends so under a higher one
+    pub same_end : (e : Ending) → IsOwn e → ending_at low (end_state x low first) ≡ Some e → jobs_at_end x high first ≡ jobs_at_end x low first
+    same_end e own is =
+        let few = few_jobs low in
+        ends_at x first high (jobs_at_end x low first) e (omega (arith, few, le))
+        (λ m lt. higher low high (after x first m) le (before_end x first low m lt))
+        (own_ending low high (end_state x low first) e own is)
+
+    pub same_ending : (e : Ending) → IsOwn e → ending_at low (end_state x low first) ≡ Some e → ending_at high (end_state x high first) ≡ Some e
+    same_ending e own is = ap (λ n. ending_at high (after x first n)) (same_end e own is) ∙ own_ending low high (end_state x low first) e own is
+
+    -- it goes at least as far
+    pub as_far : jobs_at_end x low first ≤ jobs_at_end x high first
+    as_far =
+        let few = few_jobs low in
+        reaches x first high (jobs_at_end x low first) (omega (arith, few, le)) (λ m lt. higher low high (after x first m) le (before_end x first low m lt))
+
+-- an ending before so many jobs is none by the limit
+pub own_before : (limit : ℕ) (s : State) (e : Ending) → ending_at limit s ≡ Some e → s.ended < limit → IsOwn e
+own_before limit s Restarted is less = tt
+own_before limit s Finished is less = tt
+own_before limit s Limited is less = (let le = limit_reached limit s is in omega (arith, le, less))

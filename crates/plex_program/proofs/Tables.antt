@@ -1,0 +1,47 @@
+-- The lines of a signal file and the signals of a table, as a stage.
+use Rattle.std.proofs.Common.{◌≡◌, ℕ, ◌≤◌, ◌<◌, ◌^◌, List, length, Result, Ok, Err, ap, sym, subst, ◌∙◌, arith}
+use Rattle.std.specs.Prelude.{IfOk}
+use Rattle.plex_limits.specs.declared.limits.TheConstants.{MOST_BYTES}
+use Rattle.exchange_model.specs.declared.exchange.Exchange.{Exchange}
+use Rattle.signal_file.specs.declared.line.Line.{Line}
+use Rattle.job_table.specs.declared.fault.TableFault.{TableFault as ReadFault}
+use Rattle.job_table.specs.declared.period.Period.{Period}
+use Rattle.job_table.specs.Merged.{all_lines, by_count, line_count, merged, number_in}
+use Rattle.job_table.specs.Table.{table_periods}
+use Rattle.job_table.proofs.Fit.{merged_fit}
+use Rattle.job_table.proofs.Numbering.{length-numbered}
+use Rattle.job_table.proofs.Sorting.{length-by_count}
+use Rattle.job_table.proofs.Turns.{length-all_lines}
+use Rattle.plex_program.specs.Answer.{Reads, or_untabled}
+use Rattle.plex_program.specs.Reading.{table_fault}
+use Rattle.plex_program.specs.Runs.{AreOfText, AreRead}
+use Rattle.plex_program.specs.declared.perform.Refused.TheVariants.{Table}
+use Rattle.plex_program.specs.declared.perform.Stop.{Stop}
+use Rattle.plex_program.specs.declared.perform.Stop.TheVariants as stop
+
+-- a text that is not too large for a file
+pub table_fits : (text : List ℕ) → length text ≤ MOST_BYTES → length text ≤ 2 ^ 24
+table_fits text small = short MOST_BYTES (omega arith) (length text) small
+  where
+    short : (most : ℕ) → most ≤ 2 ^ 24 → (n : ℕ) → n ≤ most → n ≤ 2 ^ 24
+    short most le n few = omega (arith, le, few)
+
+pub table_read : (lines : List Line) (said : Result (List Period) ReadFault) (periods : List Period) (r : Result (List Line) Stop) → Ok periods ≡ said → Reads (Ok (merged lines periods)) r → Reads (or_untabled lines said) r
+table_read lines said periods r is reads = subst (λ s. Reads (or_untabled lines s) r) is reads
+
+pub table_refused : (lines : List Line) (said : Result (List Period) ReadFault) (f : ReadFault) → Err f ≡ said → Reads (or_untabled lines said) (Err (stop.Refused (Table (table_fault f))))
+table_refused lines said f is = ap (or_untabled lines) (sym is)
+
+-- merged lines fit the exchange, and are few
+all_read : (x : Exchange) (lines : List Line) (table : List ℕ) (periods : List Period) → AreOfText x lines → Ok periods ≡ table_periods x (length lines) table → line_count lines periods < 2 ^ 32 → AreRead x (merged lines periods)
+all_read x lines table periods of_text is few =
+    let sorted = by_count (all_lines lines periods) in
+    let many : length (merged lines periods) ≡ line_count lines periods = length-numbered (number_in sorted) 1 sorted ∙ length-by_count (all_lines lines periods) ∙ length-all_lines lines periods in
+    record {
+      fit = merged_fit x of_text.text table lines periods of_text.are (sym is);
+      few = omega (arith, many, few);
+    }
+
+pub merged_are_read : (x : Exchange) (lines : List Line) (table : List ℕ) (periods : List Period) (r : Result (List Line) Stop) → AreOfText x lines → Ok periods ≡ table_periods x (length lines) table → line_count lines periods < 2 ^ 32 → Reads (Ok (merged lines periods)) r → IfOk r (AreRead x)
+merged_are_read x lines table periods (Ok all) of_text is few reads = subst (λ o. IfOk o (AreRead x)) reads (all_read x lines table periods of_text is few)
+merged_are_read x lines table periods (Err e) of_text is few reads = tt

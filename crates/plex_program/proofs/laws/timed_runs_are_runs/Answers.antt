@@ -1,0 +1,5 @@
+use Rattle.plex_program.proofs.WrittenOut.{timed_is_run}
+use Rattle.plex_program.proofs.laws.timed_runs_are_runs.Goals as goal
+
+pub returns : goal.returns
+returns c = timed_is_run

@@ -1,0 +1,219 @@
+// The single run that goes on with books and words, which need not be those before the first line: several jobs at once, or one after
+// the other.
+ghost use Rattle.std.specs.Prelude.{◌≡◌, ◌≤◌, IfOk, IfSome, map};
+ghost use Rattle.plex_limits.specs.declared.limits.TheConstants.{MOST_JOBS};
+ghost use Rattle.store_layout.specs.Laid.{IsLayout};
+ghost use Rattle.checked.specs.Kept.{IsChecked};
+ghost use Rattle.retire_order.specs.Accounts.{with_words};
+ghost use Rattle.retire_order.specs.Events.{ending_of};
+ghost use Rattle.retire_order.specs.Lines.{coming_of};
+ghost use Rattle.exchange_run.specs.Runs.{ComesTo, RunsTo};
+ghost use Rattle.source_meaning.specs.Valid.{IsValid};
+ghost use Rattle.plex_program.specs.Runs.{AreRead, AreWorkers};
+
+use checked::{Checked, keep_own_if_few};
+use code_gen::compile;
+use exchange_model::Exchange;
+use exchange_run::{ByCode, Ended, make_turn};
+use parallel_dispatch::{Ended as EndedAtOnce, dispatch};
+use plex_io::Gate;
+use plex_num::{Memory, Seq};
+use retire_order::{Books, let_arrive};
+use shared_store::SharedStore;
+use signal_file::Line;
+use std::alloc::Global;
+use std::sync::Wait;
+use std::thread::Threads;
+use store_layout::{Layout, layout_of, opening};
+
+/// What the single run of these lines comes to, which ends after so many jobs at the latest, and that nobody runs any more. At most so
+/// many jobs run at once.
+#[tactic(auto, using(crate::proofs::Opened::opened_rules))]
+pub fn run_first<R: Threads + Wait + Sync, G: Gate + Sync>(
+    rt: &R,
+    alloc: Global,
+    exchange: &Exchange,
+    lines: Seq<Line>,
+    workers: u32,
+    jobs: u32,
+    gate: &G,
+) -> Result<Ended, Memory>
+    requires lines { AreRead exchange.now lines }
+    requires workers { AreWorkers workers }
+    requires jobs { jobs ≤ MOST_JOBS }
+    ensures end { IfOk result (λ end. ComesTo exchange.now (map coming_of lines) jobs
+        end.books.state end.words (ending_of end.ending)) }
+    ensures nobody { IfOk result (λ end. end.books.running ≡ 0) }
+{
+    exchange.kept();
+    let layout = layout_of(alloc, exchange)?;
+    let words = opening(alloc, exchange, &layout)?;
+    let books = Books::new(alloc, lines, u64::from(jobs));
+    go_on(rt, alloc, exchange, &layout, books, words, workers, gate)
+}
+
+/// What the single run comes to that goes on with these books and words, which stand for a valid state, and that nobody runs any more. At
+/// most so many jobs run at once.
+pub fn go_on<R: Threads + Wait + Sync, G: Gate + Sync>(
+    rt: &R,
+    alloc: Global,
+    exchange: &Exchange,
+    layout: &Layout,
+    books: Books,
+    words: Seq<u32>,
+    workers: u32,
+    gate: &G,
+) -> Result<Ended, Memory>
+    requires layout { IsLayout exchange.now.blocks layout.now }
+    requires nobody { books.running ≡ 0 }
+    requires limit { books.limit ≤ MOST_JOBS }
+    requires workers { AreWorkers workers }
+    requires valid { IsValid exchange.now (with_words books.state words) }
+    ensures end { IfOk result (λ end. RunsTo exchange.now (with_words books.state words)
+        books.limit end.books.state end.words (ending_of end.ending)) }
+    ensures nobody { IfOk result (λ end. end.books.running ≡ 0) }
+{
+    let kept = kept_for(alloc, exchange, workers)?;
+    go_on_by(
+        rt, alloc, exchange, layout, kept, books, words, workers, gate,
+    )
+}
+
+/// The same, as far as what is kept of a certificate lets jobs run at once; one job after the other where nothing is kept.
+fn go_on_by<R: Threads + Wait + Sync, G: Gate + Sync>(
+    rt: &R,
+    alloc: Global,
+    exchange: &Exchange,
+    layout: &Layout,
+    kept: Option<Checked>,
+    books: Books,
+    words: Seq<u32>,
+    workers: u32,
+    gate: &G,
+) -> Result<Ended, Memory>
+    requires layout { IsLayout exchange.now.blocks layout.now }
+    requires kept { IfSome kept (IsChecked exchange.now) }
+    requires nobody { books.running ≡ 0 }
+    requires limit { books.limit ≤ MOST_JOBS }
+    requires workers { AreWorkers workers }
+    requires valid { IsValid exchange.now (with_words books.state words) }
+    ensures end { IfOk result (λ end. RunsTo exchange.now (with_words books.state words)
+        books.limit end.books.state end.words (ending_of end.ending)) }
+    ensures nobody { IfOk result (λ end. end.books.running ≡ 0) }
+{
+    match kept {
+        Some(checked) => go_on_at_once(
+            rt, alloc, exchange, layout, &checked, books, &words, workers, gate,
+        ),
+        None => go_on_in_turn(alloc, exchange, layout, books, words, gate),
+    }
+}
+
+/// What is kept of the exchange's own certificate for so many workers; nothing for one alone, or where it would have too many facts.
+fn kept_for(alloc: Global, exchange: &Exchange, workers: u32) -> Result<Option<Checked>, Memory>
+    ensures { IfOk result (λ kept. IfSome kept (IsChecked exchange.now)) }
+{
+    if workers == 1 {
+        return Ok(None);
+    }
+    let kept = keep_own_if_few(alloc, exchange)?;
+    Ok(kept)
+}
+
+/// The same, as far as what is kept of a certificate lets jobs run at once.
+pub fn go_on_at_once<R: Threads + Wait + Sync, G: Gate + Sync>(
+    rt: &R,
+    alloc: Global,
+    exchange: &Exchange,
+    layout: &Layout,
+    checked: &Checked,
+    books: Books,
+    words: &Seq<u32>,
+    workers: u32,
+    gate: &G,
+) -> Result<Ended, Memory>
+    requires layout { IsLayout exchange.now.blocks layout.now }
+    requires checked { IsChecked exchange.now checked.now }
+    requires nobody { books.running ≡ 0 }
+    requires limit { books.limit ≤ MOST_JOBS }
+    requires workers { AreWorkers workers }
+    requires valid { IsValid exchange.now (with_words books.state words.now) }
+    ensures end { IfOk result (λ end. RunsTo exchange.now (with_words books.state words.now)
+        books.limit end.books.state end.words (ending_of end.ending)) }
+    ensures nobody { IfOk result (λ end. end.books.running ≡ 0) }
+{
+    let end = dispatch_from(
+        rt, alloc, exchange, layout, checked, books, words, workers, gate,
+    )?;
+    Ok(Ended {
+        books: end.books,
+        words: end.words,
+        ending: end.ending,
+    })
+}
+
+/// The same, with the number of instructions that the runs of the jobs made.
+#[tactic(auto, using(crate::proofs::Opened::root_rules))]
+pub fn dispatch_from<R: Threads + Wait + Sync, G: Gate + Sync>(
+    rt: &R,
+    alloc: Global,
+    exchange: &Exchange,
+    layout: &Layout,
+    checked: &Checked,
+    books: Books,
+    words: &Seq<u32>,
+    workers: u32,
+    gate: &G,
+) -> Result<EndedAtOnce, Memory>
+    requires layout { IsLayout exchange.now.blocks layout.now }
+    requires checked { IsChecked exchange.now checked.now }
+    requires nobody { books.running ≡ 0 }
+    requires limit { books.limit ≤ MOST_JOBS }
+    requires workers { AreWorkers workers }
+    requires valid { IsValid exchange.now (with_words books.state words.now) }
+    ensures end { IfOk result (λ end. RunsTo exchange.now (with_words books.state words.now)
+        books.limit end.books.state end.words (ending_of end.ending)) }
+    ensures nobody { IfOk result (λ end. end.books.running ≡ 0) }
+{
+    exchange.kept();
+    let code = compile(alloc, exchange, layout)?;
+    let (store, root) = SharedStore::new(alloc, words)?;
+    let end = dispatch(
+        rt, alloc, exchange, layout, &code, checked, books, store, root, workers, gate,
+    )?;
+    Ok(end)
+}
+
+/// The same, one job after the other.
+fn go_on_in_turn<G: Gate>(
+    alloc: Global,
+    exchange: &Exchange,
+    layout: &Layout,
+    books: Books,
+    words: Seq<u32>,
+    gate: &G,
+) -> Result<Ended, Memory>
+    requires layout { IsLayout exchange.now.blocks layout.now }
+    requires nobody { books.running ≡ 0 }
+    requires valid { IsValid exchange.now (with_words books.state words) }
+    ensures end { IfOk result (λ end. RunsTo exchange.now (with_words books.state words)
+        books.limit end.books.state end.words (ending_of end.ending)) }
+    ensures nobody { IfOk result (λ end. end.books.running ≡ 0) }
+{
+    exchange.kept();
+    let code = compile(alloc, exchange, layout)?;
+    let mut books = books;
+    let mut words = words;
+    let mut runner = ByCode::new(&code, gate);
+    let_arrive(exchange, &mut books)?;
+    'jobs: loop {
+        if let Some(ending) = books.finished() {
+            return Ok(Ended {
+                books,
+                words,
+                ending,
+            });
+        }
+        make_turn(exchange, layout, &mut books, &mut words, &mut runner)?;
+    }
+}

@@ -1,0 +1,164 @@
+// The single run, and the jobs of it that a filter shows.
+ghost use Rattle.std.specs.Prelude.{◌≡◌, ◌≤◌, Ok, IfOk, IfSome, length, map};
+ghost use Rattle.plex_limits.specs.declared.limits.TheConstants.{MOST_BYTES, MOST_JOBS};
+ghost use Rattle.source_meaning.specs.SingleRun.{opening};
+ghost use Rattle.retire_order.specs.Events.{ending_of};
+ghost use Rattle.retire_order.specs.Lines.{coming_of};
+ghost use Rattle.exchange_run.specs.Runs.{ComesTo};
+ghost use Rattle.signal_trace.specs.Filter.{filter_of};
+ghost use Rattle.signal_trace.specs.Trace.{trace};
+ghost use Rattle.plex_program.specs.Answer.{Comes, Reads, or_unshown, shows_at, shows_of_file, trace_answer, trace_of};
+ghost use Rattle.plex_program.specs.Program.{IsEnding};
+ghost use Rattle.plex_program.specs.Runs.{AreRead};
+
+use crate::command::TraceWords;
+use crate::fault::{FilterFault, FilterRule};
+use crate::perform::{Answer, Refused, Stop, exchange_in, lines_in, text_in};
+use crate::running::answer_at;
+use code_gen::compile;
+use exchange_model::Exchange;
+use plex_io::{Shelf, Word};
+use plex_num::{Memory, Seq};
+use retire_order::Books;
+use signal_file::Line;
+use signal_trace::{FilterFault as ShowFault, Show, Traced, read_filter, trace_run, trace_text};
+use std::alloc::Global;
+use store_layout::{layout_of, opening};
+
+/// `trace`.
+#[tactic(auto, using(crate::proofs::Stages::comes_stop, crate::proofs::Stages::comes_go, crate::proofs::Stages::comes_reads))]
+pub fn perform_trace<S: Shelf>(
+    alloc: Global,
+    shelf: &mut S,
+    words: &TraceWords,
+) -> Result<Answer, Stop>
+    requires { words.now.run.jobs ≤ MOST_JOBS }
+    ensures comes { Comes (S.held shelf.old) (trace_of words.now) (S.faults shelf.old)
+        (S.faults shelf.new) result }
+    ensures ending { IfOk result (λ a. IsEnding a.status) }
+{
+    let exchange = exchange_in(alloc, shelf, &words.run.exchange)?;
+    let lines = lines_in(alloc, shelf, &exchange, &words.run.signals)?;
+    let shows = shows_in(alloc, shelf, &exchange, &words.filter)?;
+    answer_trace(alloc, &exchange, lines, &shows, words.run.jobs)
+}
+
+/// The lines of the filter of a file.
+#[tactic(auto, using(crate::proofs::Stages::comes_stop, crate::proofs::Stages::comes_go, crate::proofs::Stages::comes_reads))]
+fn shows_in<S: Shelf>(
+    alloc: Global,
+    shelf: &mut S,
+    exchange: &Exchange,
+    name: &Word,
+) -> Result<Seq<Show>, Stop>
+    ensures comes { Comes (S.held shelf.old) (shows_at exchange.now name.now)
+        (S.faults shelf.old) (S.faults shelf.new) result }
+    ensures kept { S.held shelf.new ≡ S.held shelf.old }
+{
+    let text = text_in(alloc, shelf, name)?;
+    shows_of_file(alloc, exchange, &text)
+}
+
+/// The lines of a filter's text, which may be too large.
+fn shows_of_file(
+    alloc: Global,
+    exchange: &Exchange,
+    text: &Option<Seq<u8>>,
+) -> Result<Seq<Show>, Stop>
+    requires { IfSome text.now (λ t. length t ≤ MOST_BYTES) }
+    ensures { Reads (shows_of_file exchange.now text.now) result }
+{
+    match text {
+        Some(text) => shows_of_text(alloc, exchange, text.as_slice()),
+        None => Err(unshown(0, FilterRule::TooLarge)),
+    }
+}
+
+/// The lines of a filter's text.
+#[tactic(auto, using(crate::proofs::Traced::filter_read, crate::proofs::Traced::filter_refused, crate::proofs::Tables::table_fits))]
+fn shows_of_text(alloc: Global, exchange: &Exchange, text: &[u8]) -> Result<Seq<Show>, Stop>
+    requires { length text.now ≤ MOST_BYTES }
+    ensures { Reads (or_unshown (filter_of exchange.now text.now)) result }
+{
+    match read_filter(alloc, exchange, text) {
+        Ok(shows) => Ok(shows),
+        Err(ShowFault::BadLine { line }) => Err(unshown(line, FilterRule::BadLine)),
+        Err(ShowFault::UnknownBlock { line }) => Err(unshown(line, FilterRule::UnknownBlock)),
+        Err(ShowFault::UnknownSignal { line }) => Err(unshown(line, FilterRule::UnknownSignal)),
+        Err(ShowFault::Memory) => Err(Stop::Memory),
+    }
+}
+
+/// The stop at a fault of the filter.
+fn unshown(line: u32, rule: FilterRule) -> Stop
+    ensures { result ≡ Stop.Refused (Refused.Filter (record { line = line; rule = rule })) }
+{
+    Stop::Refused(Refused::Filter(FilterFault { line, rule }))
+}
+
+/// The answer of a trace, as a stage.
+fn answer_trace(
+    alloc: Global,
+    exchange: &Exchange,
+    lines: Seq<Line>,
+    shows: &Seq<Show>,
+    jobs: u32,
+) -> Result<Answer, Stop>
+    requires lines { AreRead exchange.now lines }
+    requires jobs { jobs ≤ MOST_JOBS }
+    ensures reads { Reads (Ok (trace_answer exchange.now lines shows.now jobs)) result }
+    ensures ending { IfOk result (λ a. IsEnding a.status) }
+{
+    match trace_answer(alloc, exchange, lines, shows, jobs) {
+        Ok(answer) => Ok(answer),
+        Err(Memory) => Err(Stop::Memory),
+    }
+}
+
+/// The jobs of the single run of these lines that the filter shows, and then its report.
+#[tactic(auto, using(crate::proofs::Traced::trace_is))]
+fn trace_answer(
+    alloc: Global,
+    exchange: &Exchange,
+    lines: Seq<Line>,
+    shows: &Seq<Show>,
+    jobs: u32,
+) -> Result<Answer, Memory>
+    requires lines { AreRead exchange.now lines }
+    requires jobs { jobs ≤ MOST_JOBS }
+    ensures answer { IfOk result (λ a. a ≡ trace_answer exchange.now lines shows.now jobs) }
+    ensures ending { IfOk result (λ a. IsEnding a.status) }
+{
+    let end = run_traced(alloc, exchange, lines, shows, jobs)?;
+    let mut text = trace_text(alloc, exchange, &end.jobs)?;
+    let report = answer_at(alloc, exchange, &end.books, &end.words, end.ending)?;
+    text.append(report.text.as_slice())?;
+    Ok(Answer {
+        status: report.status,
+        text,
+    })
+}
+
+/// The single run of these lines by compiled code, one job after the other, and the jobs of it that the filter shows.
+#[tactic(auto, using(crate::proofs::Traced::traced_rules))]
+fn run_traced(
+    alloc: Global,
+    exchange: &Exchange,
+    lines: Seq<Line>,
+    shows: &Seq<Show>,
+    jobs: u32,
+) -> Result<Traced, Memory>
+    requires lines { AreRead exchange.now lines }
+    requires jobs { jobs ≤ MOST_JOBS }
+    ensures end { IfOk result (λ t. ComesTo exchange.now (map coming_of lines) jobs
+        t.books.state t.words (ending_of t.ending)) }
+    ensures jobs { IfOk result (λ t. t.jobs
+        ≡ trace exchange.now jobs (opening exchange.now (map coming_of lines)) shows.now) }
+{
+    exchange.kept();
+    let layout = layout_of(alloc, exchange)?;
+    let code = compile(alloc, exchange, &layout)?;
+    let words = opening(alloc, exchange, &layout)?;
+    let books = Books::new(alloc, lines, u64::from(jobs));
+    trace_run(alloc, exchange, &layout, &code, books, words, shows)
+}
