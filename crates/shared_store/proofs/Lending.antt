@@ -1,5 +1,5 @@
 -- A new loan, and one that comes back, keep the rule.
-use Rattle.std.proofs.Common.{◌≡◌, ◌≢◌, ℕ, ◌+◌, ◌<◌, ◌^◌, true, false, [], ◌∷◌, ◌++◌, length, get_or, set, sym, refl, ap, ◌∙◌, subst, ⊎_elim, arith}
+use Rattle.std.proofs.Common.{◌≡◌, ◌≢◌, ℕ, ◌<◌, ◌^◌, true, false, [], ◌∷◌, ◌++◌, length, get_or, set, sym, refl, ap, ◌∙◌, subst, ⊎_elim, arith}
 use Rattle.std.proofs.lemmas.Bool.{cases_Bool, or_parts}
 use mathlib.Core.Logic.{dite}
 use mathlib.Core.Option.{some}
@@ -19,6 +19,7 @@ use Rattle.shared_store.specs.Rule.{Holds, Listing, Seats, Words, Lending, cut_l
 use Rattle.job_types.proofs.Touched.{length-stored}
 use Rattle.shared_store.proofs.Touched.{not_both, written_touched, stored_agree, stored_else, stored_small}
 use Rattle.shared_store.proofs.Loaned.{lent_out_none, lent_out_all, fresh_above, kept_out, kept_in, Differ-without, Apart-sym}
+use Rattle.shared_store.specs.Places.{place}
 use Rattle.shared_store.proofs.Views.{same_root}
 use Rattle.shared_store.proofs.RootSeats.{lent_was, seated_more, held_before, stayed, seated_fewer}
 
@@ -28,7 +29,7 @@ pub cuts : (id : ℕ) (t : Top) (v : View) (start : JobStart) (permit : Permit) 
 cuts id t v start permit is fits s r at =
     let here : get_elem? s.views id ≡ some (Root t) = at ∙ ap (λ (v : View). some v) is in
     let top : r.top ≡ t = same_root r.top t (sym r.seats.at_root ∙ subst (λ (k : ℕ). get_elem? s.views k ≡ some (Root t)) (r.seats.one_root id t here) here) in
-    let k : Words t s.views s.words = subst (λ (z : Top). Words z s.views s.words) top r.words in
+    let k : Words (length s.homes) t s.views s.words = subst (λ (z : Top). Words (length s.homes) z s.views s.words) top r.words in
     let g : Listing t = subst Listing top r.listing in let q : Seats t s.views = subst (λ (z : Top). Seats z s.views) top r.seats in
     let t' : Top = lender start permit t in let l : Lent = lent t start permit in let h : Hold = borrower start permit t in
     let above : (a : Lent) → Has t.loans a → a.number < l.number = λ a s. fresh_above t.loans a s in
@@ -53,7 +54,7 @@ cuts id t v start permit is fits s r at =
         first = k.first;
         fit = k.fit;
         mine = λ j i e u uw lt. ⊎_elim (λ (c : Holds s.views j i). k.mine j i c u uw lt)
-            (λ (c : (j ≡ length (set s.views id (Root t'))) × (h ≡ i)). subst (λ (z : Hold). get_or s.words (u + 1) 0 ≡ get_or (current z) u 0) c.1
+            (λ (c : (j ≡ length (set s.views id (Root t'))) × (h ≡ i)). subst (λ (z : Hold). get_or s.words (place (length s.homes) u) 0 ≡ get_or (current z) u 0) c.1
             (k.others u (lent_out_all t.loans u (λ a s. ⊎_elim
             (λ (wr : may_write a.permit u ≡ true). absurd (not_both (may_read permit u) (written_touched permit u (subst (λ (z : Hold). may_write z.lent.permit u ≡ true) (sym c.1) uw)) ((fits a s u).0 wr)))
             (λ (f : may_write a.permit u ≡ false). f) (cases_Bool (may_write a.permit u)))) lt))
@@ -67,7 +68,7 @@ pub rejoins : (id : ℕ) (t : Top) (v : View) (other : ℕ) (h : Hold) (u : View
 rejoins id t v other h u is is' s r at ne at' =
     let here : get_elem? s.views id ≡ some (Root t) = at ∙ ap (λ (v : View). some v) is in
     let top : r.top ≡ t = same_root r.top t (sym r.seats.at_root ∙ subst (λ (k : ℕ). get_elem? s.views k ≡ some (Root t)) (r.seats.one_root id t here) here) in
-    let k : Words t s.views s.words = subst (λ (z : Top). Words z s.views s.words) top r.words in
+    let k : Words (length s.homes) t s.views s.words = subst (λ (z : Top). Words (length s.homes) z s.views s.words) top r.words in
     let g : Listing t = subst Listing top r.listing in let q : Seats t s.views = subst (λ (z : Top). Seats z s.views) top r.seats in
     let t' : Top = taken_back t h in let n : ℕ = h.lent.number in
     let goes : both v u ≡ Root t' = (λ i. both (is i) (is' i)) in
@@ -89,7 +90,7 @@ rejoins id t v other h u is is' s r at ne at' =
       };
       seats = seated_fewer s.views id t t' q here h other ne held refl;
       words = record {
-        wide = k.wide ∙ ap (λ (m : ℕ). m + 1) (sym (length-stored h.touches t.values));
+        wide = k.wide ∙ ap (place (length s.homes)) (sym (length-stored h.touches t.values));
         first = k.first;
         fit = k.fit;
         mine = λ j i e w wr lt. let len = length-stored h.touches t.values in k.mine j i (stayed s.views id t t' q here h other ne held refl j i e).0 w wr (omega arith);

@@ -1,6 +1,7 @@
 pub mod Touched
 pub mod Loaned
 pub mod Views
+pub mod Places
 pub mod LoanSeats
 pub mod LoanSteps
 pub mod RootSeats

@@ -1,5 +1,5 @@
 -- What the seat of one loan may rely on, and what its step leaves behind.
-use Rattle.std.proofs.Common.{◌≡◌, ◌≢◌, ℕ, ◌+◌, ◌<◌, ◌^◌, true, false, List, [], ◌∷◌, ◌++◌, length, get_or, set, sym, refl, ap, ◌∙◌, subst, ⊎_elim, arith, length-set, get_or-set_same, get_or-set_other}
+use Rattle.std.proofs.Common.{◌≡◌, ◌≢◌, ℕ, ◌<◌, ◌^◌, true, false, List, [], ◌∷◌, ◌++◌, length, get_or, set, sym, refl, ap, ◌∙◌, subst, ⊎_elim, arith, length-set, get_or-set_same, get_or-set_other}
 use Rattle.std.proofs.lemmas.Bool.{cases_Bool}
 use mathlib.Core.Logic.{dite}
 use mathlib.Core.Option.{some}
@@ -21,6 +21,8 @@ use Rattle.job_types.proofs.Touched.{length-stored}
 use Rattle.shared_store.proofs.Touched.{not_both, written_touched, set_small, stored-snoc, stored_else, Sound-snoc}
 use Rattle.shared_store.proofs.Loaned.{lent_out_none, lent_out_all}
 use Rattle.shared_store.proofs.Views.{same_loan, loan-not-root, set_at}
+use Rattle.shared_store.specs.Places.{place}
+use Rattle.shared_store.proofs.Places.{place_later, place_same, place_within}
 
 -- a step of the seat id, whose loan stays the same but for its touches
 module _ (views : List View) (id : ℕ) (h h' : Hold) (at : Holds views id h) (same : h'.lent ≡ h.lent) where
@@ -52,7 +54,7 @@ module _ (views : List View) (id : ℕ) (h h' : Hold) (at : Holds views id h) (s
   }
 
 -- what the seat id of the loan h may rely on
-module _ (t : Top) (views : List View) (words : List ℕ) (r : Listing t) (q : Seats t views) (k : Words t views words) (id : ℕ) (h : Hold) (at : Holds views id h) where
+module _ (free : ℕ) (t : Top) (views : List View) (words : List ℕ) (r : Listing t) (q : Seats t views) (k : Words free t views words) (id : ℕ) (h : Hold) (at : Holds views id h) where
   pub has : Has t.loans h.lent
   has = q.listed id h at
 
@@ -70,23 +72,23 @@ module _ (t : Top) (views : List View) (words : List ℕ) (r : Listing t) (q : S
   long = length-stored h.touches h.lent.base ∙ r.long h.lent has
 
   -- the table's word is what the seat sees
-  pub found : (w : ℕ) → may_read h.lent.permit w ≡ true → w < length t.values → get_or words (w + 1) 0 ≡ get_or (current h) w 0
+  pub found : (w : ℕ) → may_read h.lent.permit w ≡ true → w < length t.values → get_or words (place free w) 0 ≡ get_or (current h) w 0
   found w touch lt = ⊎_elim (λ (wr : may_write h.lent.permit w ≡ true). k.mine id h at w wr lt)
       (λ (out : may_write h.lent.permit w ≡ false). k.others w (only_read w touch out) lt
       ∙ (sym (r.based h.lent has w touch) ∙ sym (stored_else h.lent.permit h.touches h.lent.base h.lent.base w (q.sound id h at) out)))
       (cases_Bool (may_write h.lent.permit w))
 
-  pub loaded_sound : (w : ℕ) → may_read h.lent.permit w ≡ true → w < length t.values → Sound h.lent.permit h.lent.base (h.touches ++ Load w (get_or words (w + 1) 0) ∷ [])
-  loaded_sound w touch lt = let wide = long in Sound-snoc h.lent.permit h.touches h.lent.base (Load w (get_or words (w + 1) 0)) (q.sound id h at)
+  pub loaded_sound : (w : ℕ) → may_read h.lent.permit w ≡ true → w < length t.values → Sound h.lent.permit h.lent.base (h.touches ++ Load w (get_or words (place free w) 0) ∷ [])
+  loaded_sound w touch lt = let wide = long in Sound-snoc h.lent.permit h.touches h.lent.base (Load w (get_or words (place free w) 0)) (q.sound id h at)
       (touch, omega arith, found w touch lt, tt)
 
-  pub loaded_words : (w n : ℕ) → Words t (set views id (Loan (touched h (Load w n)))) words
+  pub loaded_words : (w n : ℕ) → Words free t (set views id (Loan (touched h (Load w n)))) words
   loaded_words w n = record {
     wide = k.wide;
     first = k.first;
     fit = k.fit;
     mine = λ j i e u uw lt. ⊎_elim
-        (λ (c : (j ≡ id) × (Loan (touched h (Load w n)) ≡ Loan i)). subst (λ (z : Hold). may_write z.lent.permit u ≡ true → get_or words (u + 1) 0 ≡ get_or (current z) u 0) (ap hold_of c.1)
+        (λ (c : (j ≡ id) × (Loan (touched h (Load w n)) ≡ Loan i)). subst (λ (z : Hold). may_write z.lent.permit u ≡ true → get_or words (place free u) 0 ≡ get_or (current z) u 0) (ap hold_of c.1)
         (λ uw'. k.mine id h at u uw' lt ∙ sym (ap (λ (vs : List ℕ). get_or vs u 0) (stored-snoc h.touches h.lent.base (Load w n)))) uw)
         (λ (c : (j ≢ id) × Holds views j i). k.mine j i c.1 u uw lt) (at_set views id j (Loan (touched h (Load w n))) (Loan i) e);
     others = k.others;
@@ -95,22 +97,22 @@ module _ (t : Top) (views : List View) (words : List ℕ) (r : Listing t) (q : S
   pub stored_sound : (w x : ℕ) → may_write h.lent.permit w ≡ true → w < length t.values → x < 2 ^ 32 → Sound h.lent.permit h.lent.base (h.touches ++ Store w x ∷ [])
   stored_sound w x wr lt fits = let wide = long in Sound-snoc h.lent.permit h.touches h.lent.base (Store w x) (q.sound id h at) (wr, omega arith, fits, tt)
 
-  pub stored_words : (w x : ℕ) → may_write h.lent.permit w ≡ true → w < length t.values → x < 2 ^ 32 → Words t (set views id (Loan (touched h (Store w x)))) (set words (w + 1) x)
-  stored_words w x wr lt fits = let h' : Hold = touched h (Store w x) in let wide = k.wide in let wide' = long in record {
-    wide = length-set words (w + 1) x ∙ k.wide;
-    first = get_or-set_other words (w + 1) 0 x 0 (λ e. absurd (omega arith)) ∙ k.first;
-    fit = set_small words (w + 1) x fits k.fit;
+  pub stored_words : (w x : ℕ) → may_write h.lent.permit w ≡ true → w < length t.values → x < 2 ^ 32 → Words free t (set views id (Loan (touched h (Store w x)))) (set words (place free w) x)
+  stored_words w x wr lt fits = let h' : Hold = touched h (Store w x) in let inside = place_within free w (length t.values) (length words) (sym k.wide) lt in let later = place_later free w in let wide = long in record {
+    wide = length-set words (place free w) x ∙ k.wide;
+    first = get_or-set_other words (place free w) 0 x 0 (λ e. absurd (omega (arith, later, e))) ∙ k.first;
+    fit = set_small words (place free w) x fits k.fit;
     mine = λ j i e u uw lt'. ⊎_elim
-        (λ (c : (j ≡ id) × (Loan h' ≡ Loan i)). subst (λ (z : Hold). may_write z.lent.permit u ≡ true → get_or (set words (w + 1) x) (u + 1) 0 ≡ get_or (current z) u 0) (ap hold_of c.1)
-        (λ uw'. subst (λ (vs : List ℕ). get_or (set words (w + 1) x) (u + 1) 0 ≡ get_or vs u 0) (sym (stored-snoc h.touches h.lent.base (Store w x)))
+        (λ (c : (j ≡ id) × (Loan h' ≡ Loan i)). subst (λ (z : Hold). may_write z.lent.permit u ≡ true → get_or (set words (place free w) x) (place free u) 0 ≡ get_or (current z) u 0) (ap hold_of c.1)
+        (λ uw'. subst (λ (vs : List ℕ). get_or (set words (place free w) x) (place free u) 0 ≡ get_or vs u 0) (sym (stored-snoc h.touches h.lent.base (Store w x)))
         (dite (ℕ_discrete u w)
-        (λ (d : u ≡ w). subst (λ (n : ℕ). get_or (set words (w + 1) x) (n + 1) 0 ≡ get_or (set (current h) w x) n 0) (sym d)
-        (get_or-set_same words (w + 1) x 0 (omega arith) ∙ sym (get_or-set_same (current h) w x 0 (omega arith))))
-        (λ (d : u ≢ w). get_or-set_other words (w + 1) (u + 1) x 0 (λ e'. d (omega arith)) ∙ (k.mine id h at u uw' lt' ∙ sym (get_or-set_other (current h) w u x 0 d))))) uw)
+        (λ (d : u ≡ w). subst (λ (n : ℕ). get_or (set words (place free w) x) (place free n) 0 ≡ get_or (set (current h) w x) n 0) (sym d)
+        (get_or-set_same words (place free w) x 0 inside ∙ sym (get_or-set_same (current h) w x 0 (omega arith))))
+        (λ (d : u ≢ w). get_or-set_other words (place free w) (place free u) x 0 (λ e'. d (place_same free u w e')) ∙ (k.mine id h at u uw' lt' ∙ sym (get_or-set_other (current h) w u x 0 d))))) uw)
         (λ (c : (j ≢ id) × Holds views j i).
-        get_or-set_other words (w + 1) (u + 1) x 0 (λ e'. let d : u ≡ w = omega arith in
+        get_or-set_other words (place free w) (place free u) x 0 (λ e'. let d : u ≡ w = place_same free u w e' in
         no_other j i w c.1 c.0 (subst (λ (n : ℕ). may_write i.lent.permit n ≡ true) d uw) (written_touched h.lent.permit w wr)) ∙ k.mine j i c.1 u uw lt')
         (at_set views id j (Loan h') (Loan i) e);
-    others = λ u out lt'. get_or-set_other words (w + 1) (u + 1) x 0 (λ e'. let d : u ≡ w = omega arith in
+    others = λ u out lt'. get_or-set_other words (place free w) (place free u) x 0 (λ e'. let d : u ≡ w = place_same free u w e' in
         not_both (may_write h.lent.permit w) wr (subst (λ (n : ℕ). may_write h.lent.permit n ≡ false) d (lent_out_none t.loans h.lent u has out))) ∙ k.others u out lt';
   }

@@ -1,17 +1,21 @@
 -- A table in which nothing is lent meets the rule.
-use Rattle.std.proofs.Common.{◌≡◌, ℕ, zero, suc, ◌<◌, ◌^◌, List, [], ◌∷◌, get_or, sym, refl, subst, arith, add-one, lit<}
+use Rattle.std.proofs.Common.{◌≡◌, ℕ, zero, suc, ◌<◌, ◌^◌, List, [], ◌∷◌, length, get_or, flat_map, sym, refl, ◌∙◌, subst, lit<}
+use Rattle.std.proofs.lemmas.List.{length-map}
 use mathlib.Core.Option.{some, some-ne-none}
 use lib.ListN.{get_elem?}
 use Rattle.atomic_table.specs.Table.{opening}
 use Rattle.shared_store.specs.declared.view.Top.{Top}
 use Rattle.shared_store.specs.declared.view.Hold.{Hold}
 use Rattle.shared_store.specs.declared.view.View.TheVariants.{Root, Loan}
-use Rattle.shared_store.specs.Rule.{Holds, Lending}
+use Rattle.shared_store.specs.Places.{line}
+use Rattle.shared_store.specs.Rule.{Holds, Words, Lending}
+use Rattle.shared_store.proofs.Places.{row_wide, row_read, row_small}
 use Rattle.shared_store.proofs.Views.{loan-not-root}
 
 -- the table at the start
-pub opens : (words : List ℕ) (values : List ℕ) → words ≡ 0 ∷ values → ((w : ℕ) → get_or values w 0 < 2 ^ 32) → Lending (opening words [] (Root (record { values = values; loans = [] })))
-opens words values is small = subst (λ (ws : List ℕ). Lending (opening ws [] (Root (record { values = values; loans = [] })))) (sym is) record {
+pub opens : (words values : List ℕ) (slots : List (Unit {0})) (free : ℕ) → words ≡ flat_map (line free) (0 ∷ values) → length slots ≡ free → ((w : ℕ) → get_or values w 0 < 2 ^ 32)
+    → Lending (opening words slots (Root (record { values = values; loans = [] })))
+opens words values slots free is counted small = subst (λ (ws : List ℕ). Lending (opening ws slots (Root (record { values = values; loans = [] })))) (sym is) record {
   top = record { values = values; loans = [] };
   listing = record { differ = tt; distinct = λ a b s. absurd s; apart = λ a b s. absurd s; long = λ a s. absurd s; based = λ a s. absurd s; small = small; small_base = λ a s. absurd s };
   seats = record {
@@ -23,12 +27,12 @@ opens words values is small = subst (λ (ws : List ℕ). Lending (opening ws [] 
     live = λ a s. absurd s;
     sound = λ j i e. absurd (no_loan j i e);
   };
-  words = record {
-    wide = omega arith;
+  words = subst (λ (n : ℕ). Words n (record { values = values; loans = [] }) (Root (record { values = values; loans = [] }) ∷ []) (flat_map (line free) (0 ∷ values))) (sym (length-map slots some ∙ counted)) record {
+    wide = row_wide free values;
     first = refl;
-    fit = zero_first;
+    fit = row_small free (0 ∷ values) zero_first;
     mine = λ j i e. absurd (no_loan j i e);
-    others = λ w out lt. rw add-one refl;
+    others = λ w out lt. row_read free values w;
   };
 }
   where

@@ -1,5 +1,6 @@
 pub mod Sound
 pub mod Loans
+pub mod Places
 pub mod Seats
 pub mod Rule
 pub mod TestPermits

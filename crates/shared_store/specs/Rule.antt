@@ -1,9 +1,9 @@
 -- The rule of the shared words, and what its steps tell.
 --
--- The words are a table of one word more than there are cells: the cell w is the table's word w + 1. The rule is
--- in three parts: of the root's list alone, of the list and the seats, and of the words. A seat that was joined
--- into the root is `Spent`, and the rule says nothing of it.
-use Rattle.std.specs.Prelude.{◌≡◌, ◌≢◌, ℕ, ◌+◌, ◌<◌, ◌^◌, true, false, List, length, slice_index}
+-- Each cell has a place among the table's words, and the table's word 0 is none of them. The rule is in three parts: of
+-- the root's list alone, of the list and the seats, and of the words. A seat that was joined into the root is `Spent`,
+-- and the rule says nothing of it.
+use Rattle.std.specs.Prelude.{◌≡◌, ◌≢◌, ℕ, ◌<◌, ◌^◌, true, false, List, length, slice_index}
 use mathlib.Core.Option.{some}
 use lib.ListN.{get_elem?}
 use Rattle.atomic_table.specs.Table.{State, Me, Step}
@@ -16,6 +16,7 @@ use Rattle.shared_store.specs.declared.view.Top.{Top}
 use Rattle.shared_store.specs.declared.view.Hold.{Hold}
 use Rattle.shared_store.specs.declared.view.View.{View}
 use Rattle.shared_store.specs.declared.view.View.TheVariants.{Root, Loan, Spent}
+use Rattle.shared_store.specs.Places.{place}
 use Rattle.shared_store.specs.Sound.{Sound}
 use Rattle.shared_store.specs.Loans.{Has, Differ, lent_out, lender, borrower, current, touched, taken_back, with_value}
 
@@ -57,41 +58,41 @@ pub record Seats (t : Top) (views : List View) : Type 0 where
   pub sound : (j : ℕ) (h : Hold) → Holds views j h → Sound h.lent.permit h.lent.base h.touches
 
 -- The words: the first is 0, all are below 2^32, a word that a loan may write has what that loan's seat sees,
--- and any other has the root's value.
-pub record Words (t : Top) (views : List View) (words : List ℕ) : Type 0 where
-  pub wide : length words ≡ length t.values + 1
+-- and any other has the root's value. So many words stay free behind each cell.
+pub record Words (free : ℕ) (t : Top) (views : List View) (words : List ℕ) : Type 0 where
+  pub wide : length words ≡ place free (length t.values)
   pub first : slice_index words 0 ≡ 0
   pub fit : (i : ℕ) → slice_index words i < 2 ^ 32
   pub mine : (j : ℕ) (h : Hold) → Holds views j h → (w : ℕ) → may_write h.lent.permit w ≡ true
-      → w < length t.values → slice_index words (w + 1) ≡ slice_index (current h) w
+      → w < length t.values → slice_index words (place free w) ≡ slice_index (current h) w
   pub others : (w : ℕ) → lent_out t.loans w ≡ false → w < length t.values
-      → slice_index words (w + 1) ≡ slice_index t.values w
+      → slice_index words (place free w) ≡ slice_index t.values w
 
 -- the rule
 pub record Lending (s : St) : Type 0 where
   pub top : Top
   pub listing : Listing top
   pub seats : Seats top s.views
-  pub words : Words top s.views s.words
+  pub words : Words (length s.homes) top s.views s.words
 
 -- a loan's load: the seat has one load more, of what it sees there
 abbrev pub looked : Step (Unit {0}) → Sat → ℕ → Sat → Type 0
-looked st m n m' = (h : Hold) (w : ℕ) → m.0 ≡ Loan h → st.word ≡ w + 1
+looked st m n m' = (h : Hold) (w : ℕ) → m.0 ≡ Loan h → st.word ≡ place st.slots w
     → (m' ≡ (Loan (touched h (Load w n)), m.1)) × (n ≡ slice_index (current h) w) × (n < 2 ^ 32)
 
 -- a loan's store: the seat has one store more
 abbrev pub put : Step (Unit {0}) → Sat → ℕ → Sat → Type 0
-put st m n m' = (h : Hold) (w : ℕ) → m.0 ≡ Loan h → st.word ≡ w + 1
+put st m n m' = (h : Hold) (w : ℕ) → m.0 ≡ Loan h → st.word ≡ place st.slots w
     → m' ≡ (Loan (touched h (Store w n)), m.1)
 
 -- the root's load: nothing changes
 abbrev pub root_looked : Step (Unit {0}) → Sat → ℕ → Sat → Type 0
-root_looked st m n m' = (t : Top) (w : ℕ) → m.0 ≡ Root t → st.word ≡ w + 1
+root_looked st m n m' = (t : Top) (w : ℕ) → m.0 ≡ Root t → st.word ≡ place st.slots w
     → (m' ≡ m) × (n ≡ slice_index t.values w) × (n < 2 ^ 32)
 
 -- the root's store: that word alone changes
 abbrev pub root_put : Step (Unit {0}) → Sat → ℕ → Sat → Type 0
-root_put st m n m' = (t : Top) (w : ℕ) → m.0 ≡ Root t → st.word ≡ w + 1
+root_put st m n m' = (t : Top) (w : ℕ) → m.0 ≡ Root t → st.word ≡ place st.slots w
     → m' ≡ (Root (with_value t w n), m.1)
 
 -- how a loan cuts the root's view in two: what stays with the root, and what the new seat has

@@ -1,5 +1,5 @@
 -- What contracts see of a store and of its seats.
-use Rattle.std.specs.Prelude.{◌≡◌, ◌+◌, [], length}
+use Rattle.std.specs.Prelude.{◌≡◌, ℕ, ◌+◌, ◌≤◌, [], length}
 use Rattle.atomic_table.specs.Seated.{TableId}
 use Rattle.atomic_table.specs.Table.{Me}
 use Rattle.job_types.specs.declared.job.JobStart.{JobStart}
@@ -10,6 +10,7 @@ use Rattle.shared_store.specs.declared.view.Hold.{Hold}
 use Rattle.shared_store.specs.declared.view.View.{View}
 use Rattle.shared_store.specs.declared.view.View.TheVariants.{Root, Loan}
 use Rattle.shared_store.specs.Loans.{unlent, borrower}
+use Rattle.shared_store.specs.Places.{place}
 use Rattle.shared_store.specs.Sound.{Sound}
 
 -- which store it is
@@ -44,10 +45,15 @@ hold_of _ = borrower no_start no_permit (unlent [])
 -- the seat of a loan holds no slot of the table, has one base value for each cell, and its touches are sound
 pub record IsJobSeat (table : TableId) (me : Me (Unit {0}) View) : Type 0 where
   pub loan : me ≡ (Loan (hold_of me.0), [])
-  pub cells : length (hold_of me.0).lent.base + 1 ≡ table.words
+  pub cells : place table.slots (length (hold_of me.0).lent.base) ≡ table.words
   pub sound : Sound (hold_of me.0).lent.permit (hold_of me.0).lent.base (hold_of me.0).touches
 
 -- the root's seat holds no slot of the table, and has one value for each cell
 pub record IsRootSeat (table : TableId) (me : Me (Unit {0}) View) : Type 0 where
   pub root : me ≡ (Root (top_of me.0), [])
-  pub cells : length (top_of me.0).values + 1 ≡ table.words
+  pub cells : place table.slots (length (top_of me.0).values) ≡ table.words
+
+-- from the place of one cell to that of the next there are so many words, which are a line at most
+pub record IsStride (stride : ℕ) (table : TableId) : Type 0 where
+  pub apart : stride ≡ table.slots + 1
+  pub short : stride ≤ 8

@@ -9,6 +9,7 @@
 
 mod crossing;
 mod laws;
+mod row;
 mod rule;
 mod seat;
 mod store;

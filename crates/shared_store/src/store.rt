@@ -1,8 +1,10 @@
-ghost use Rattle.std.specs.Prelude.{◌≡◌, ℕ, ◌<◌, ◌^◌, true, false, ◌∷◌, length, slice_index, IfOk};
+ghost use Rattle.std.specs.Prelude.{◌≡◌, ◌<◌, true, false, length, slice_index, IfOk};
 ghost use Rattle.machine_code.specs.Permits.{may_read, may_write};
 ghost use Rattle.job_types.specs.declared.touch.Touch.TheVariants.{Load, Store};
+ghost use Rattle.shared_store.specs.Places.{place};
 ghost use Rattle.shared_store.specs.Loans.{current, touched, lender, borrower, taken_back, lent_out, seen_by, FitsBeside, unlent, with_value};
 
+use crate::row::{free_words, table_row};
 use crate::rule::{Cut, Look, Put, Rejoin, RootLook, RootPut, Rule, Terms};
 use crate::seat::{JobSeat, RootSeat};
 use crate::view::View;
@@ -17,6 +19,8 @@ use std::marker::{Brand, Model};
 #[derive(Drop)]
 pub struct SharedStore {
     table: Table<(), View, Seq<u32>, Rule, Global>,
+    /// How many words of the table there are from one cell to the next.
+    stride: usize,
 }
 
 impl Model for SharedStore {
@@ -27,6 +31,10 @@ impl Model for SharedStore {
     ghost coded = { table_id_coded };
 
     ghost view = { λ s. s.table.shared.table_id };
+
+    ghost use Rattle.shared_store.specs.Seats.{IsStride};
+
+    ghost invariant = { λ s. IsStride s.stride s.table.shared.table_id };
 }
 
 impl SharedStore {
@@ -81,10 +89,8 @@ impl SharedStore {
         ensures value { result ≡ slice_index (current seat.old.1) word }
         ensures seat { seat.new ≡ (seat.old.0, touched seat.old.1 (Load word result)) }
     {
-        let found = self
-            .table
-            .shared
-            .load::<Look>(&mut seat.seat, word as usize + 1);
+        let place = self.place_of(word);
+        let found = self.table.shared.load::<Look>(&mut seat.seat, place);
         found as u32
     }
 
@@ -95,9 +101,10 @@ impl SharedStore {
         requires permit { may_write seat.old.1.lent.permit word ≡ true }
         ensures { seat.new ≡ (seat.old.0, touched seat.old.1 (Store word value)) }
     {
+        let place = self.place_of(word);
         self.table
             .shared
-            .store::<Put>(&mut seat.seat, word as usize + 1, value as u64);
+            .store::<Put>(&mut seat.seat, place, value as u64);
     }
 
     /// The root's value of a word that no live loan may write.
@@ -108,10 +115,8 @@ impl SharedStore {
         ensures value { result ≡ slice_index root.old.1.values word }
         ensures same { root.new ≡ root.old }
     {
-        let found = self
-            .table
-            .shared
-            .load::<RootLook>(&mut root.seat, word as usize + 1);
+        let place = self.place_of(word);
+        let found = self.table.shared.load::<RootLook>(&mut root.seat, place);
         found as u32
     }
 
@@ -122,9 +127,17 @@ impl SharedStore {
         requires free { seen_by root.old.1.loans word ≡ false }
         ensures { root.new ≡ (root.old.0, with_value root.old.1 word value) }
     {
+        let place = self.place_of(word);
         self.table
             .shared
-            .store::<RootPut>(&mut root.seat, word as usize + 1, value as u64);
+            .store::<RootPut>(&mut root.seat, place, value as u64);
+    }
+
+    /// The table's word of a cell.
+    fn place_of(&self, word: u32) -> usize
+        ensures { result ≡ place self.now.slots word }
+    {
+        (word as usize + 1) * self.stride
     }
 }
 
@@ -133,20 +146,17 @@ fn table_of(alloc: Global, words: &Seq<u32>) -> Result<(SharedStore, RootSeat), 
     ensures { IfOk result (λ made. made.1 ≡ (made.0, unlent words.now)) }
 {
     let values = words.as_slice();
-    let row = table_row(alloc, values)?;
-    let (table, seat) = Table::of_words(alloc, row.as_slice(), words)?;
-    Ok((SharedStore { table }, RootSeat { seat }))
-}
-
-/// The words of the table: a 0, and then the words of the cells.
-fn table_row(alloc: Global, words: &[u32]) -> Result<Vec<u64>, AllocError>
-    ensures items { IfOk result (λ row. row.items ≡ 0 ∷ words.now) }
-    ensures fit { IfOk result (λ row. (k : ℕ) → slice_index words.now k < 2 ^ 32) }
-{
-    let mut row = Vec::with_capacity(alloc, words.len() + 1)?;
-    row.push_reserved(0);
-    for word in words {
-        row.push_reserved(*word as u64);
+    let free = free_words(values.len());
+    let row = table_row(alloc, values, free)?;
+    let slots = Vec::from_elem(alloc, (), free)?;
+    match Table::new(alloc, row.as_slice(), slots, words) {
+        Ok((table, seat)) => Ok((
+            SharedStore {
+                table,
+                stride: free + 1,
+            },
+            RootSeat { seat },
+        )),
+        Err(_) => Err(AllocError),
     }
-    Ok(row)
 }

@@ -18,7 +18,7 @@ use std::mem;
 // Each of these tells the address of the next instruction, and none where the job has ended.
 impl JobRun {
     /// The value of a register, numbered from 0 to 15.
-    pub(super) fn register(&self, r: u8) -> u32
+    pub(crate) fn register(&self, r: u8) -> u32
         requires { r < 16 }
         ensures { result ≡ reg self.now r }
     {

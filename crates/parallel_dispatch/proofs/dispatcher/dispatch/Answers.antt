@@ -1,3 +1,5 @@
+use Rattle.std.proofs.Common.{◌∙◌, sym}
+use Rattle.parallel_dispatch.proofs.Standing.{words_at_end}
 use Rattle.parallel_dispatch.proofs.True.{they_are_true}
 use Rattle.parallel_dispatch.proofs.dispatcher.dispatch.Goals as goal
 
@@ -10,3 +12,9 @@ run_named-requires-clause-set g c κs within = record {
   checked = c.requires.checked;
   true_of = they_are_true c.args.exchange.now c.args.checked.now c.kept.ensures c.requires.checked;
 }
+
+pub words_of-requires-clause-cells : goal.words_of-requires-clause-cells
+words_of-requires-clause-cells g c =
+    words_at_end c.args.exchange.now c.args.code.now _ _ _ _ _ _ c.kept.ensures c.requires.valid c.in_ok-books.ensures.ends
+    ∙ sym c.requires.layout.cells
+    ∙ sym c.words.ensures

@@ -1,8 +1,9 @@
-use Rattle.std.proofs.Common.{sym, ap, ◌∙◌, arith}
+use Rattle.std.proofs.Common.{sym, ap, ◌∙◌, subst, ◌<◌}
 use Rattle.shared_store.specs.Loans.{taken_back}
 use Rattle.shared_store.specs.Seats.{top_of, hold_of}
 use Rattle.shared_store.specs.Rule.{Sat, both}
 use Rattle.job_types.proofs.Touched.{length-stored}
+use Rattle.shared_store.proofs.Places.{place_later}
 use Rattle.shared_store.proofs.Lending.{rejoins}
 use Rattle.shared_store.proofs.Kept.{keeps_root}
 use Rattle.shared_store.proofs.store.SharedStore.take_back.Goals as goal
@@ -12,7 +13,7 @@ join_seat-requires c = let home = ap (λ p. p.0) c.root.view_is ∙ (c.requires.
   home,
   ap (λ p. p.0) c.seat.view_is ∙ (c.requires.seat ∙ sym c.self.view_is),
   ap (λ m. m.1) c.seat.invariant.loan,
-  omega arith,
+  subst (λ n. 0 < n) (cells ∙ words) (place_later _ _),
   rejoins _ (top_of c.root.inside.seat.me.0) _ _ (hold_of c.seat.inside.seat.me.0) _ (ap (λ m. m.0) c.root.invariant.root) (ap (λ m. m.0) c.seat.invariant.loan),
 )
 
