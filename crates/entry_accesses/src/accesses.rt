@@ -13,7 +13,7 @@ ghost use Rattle.entry_accesses.specs.Numbered.{AreNumbers};
 ghost use Rattle.entry_accesses.specs.Uses.{UseGives};
 
 use crate::numbers::CellNumbers;
-use crate::uses::{Use, push_uses};
+use crate::uses::{NumberedBlock, Use, push_uses};
 use entry_summary::Access;
 use exchange_model::Exchange;
 use flow_points::Value;
@@ -37,29 +37,12 @@ pub fn accesses_of<K: KnownFacts>(
         ↔ IsAccess exchange.now (K.knows known.now) entry a) }
     ensures rising { IfOk result (λ accesses. IsStrictlySortedBy access_order accesses) }
 {
-    let found = found_of(alloc, exchange, numbers, places, known, entry)?;
-    Ok(in_order(found))
-}
-
-/// The same in the order of the text, some more than once.
-fn found_of<K: KnownFacts>(
-    alloc: Global,
-    exchange: &Exchange,
-    numbers: &CellNumbers,
-    places: &[PlaceAt<'_>],
-    known: &K,
-    entry: u32,
-) -> Result<Seq<Access>, Memory>
-    requires places { ArePlaces exchange.now (map seen places.now) }
-    requires numbers { AreNumbers exchange.now numbers.now }
-    ensures { IfOk result (λ found. (a : AccessType) → Contains found a
-        ↔ IsAccess exchange.now (K.knows known.now) entry a) }
-{
+    // In the order of the text, some more than once.
     let mut found = Seq::new(alloc);
     for at in places {
         push_reached(alloc, exchange, numbers, known, entry, at, &mut found)?;
     }
-    Ok(found)
+    Ok(in_order(found))
 }
 
 /// Appends the accesses of a statement, if it is reached.
@@ -81,8 +64,13 @@ fn push_reached<K: KnownFacts>(
     if !known.is_reached(entry, at.point) {
         return Ok(());
     }
+    let here = NumberedBlock {
+        exchange,
+        numbers,
+        block: at.block,
+    };
     let mut uses = Seq::new(alloc);
-    push_uses(alloc, exchange, numbers, at.block, at.kind, &mut uses)?;
+    push_uses(alloc, &here, at.kind, &mut uses)?;
     push_all(alloc, known, entry, at.point, uses.as_slice(), accesses)?;
     Ok(())
 }

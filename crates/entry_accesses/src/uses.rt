@@ -46,66 +46,69 @@ pub enum Use {
     },
 }
 
+/// A block of an exchange, and the numbers of the exchange's variables and fields.
+#[derive(Clone, Copy)]
+pub struct NumberedBlock<'a> {
+    pub exchange: &'a Exchange,
+    pub numbers: &'a CellNumbers,
+    pub block: u32,
+}
+
 /// Appends all that a statement of a block does.
 pub fn push_uses(
     alloc: Global,
-    exchange: &Exchange,
-    numbers: &CellNumbers,
-    block: u32,
+    here: &NumberedBlock<'_>,
     kind: &StmtKind,
     uses: &mut Seq<Use>,
 ) -> Result<(), Memory>
-    requires of_block { IsOfBlock exchange.now block (out-StmtKind kind.now) }
-    requires numbers { AreNumbers exchange.now numbers.now }
-    ensures { OnOk result
-        (uses.new ≡ uses.old ++ layer_uses exchange.now block (out-StmtKind kind.now)) }
+    requires of_block { IsOfBlock here.now.exchange.now here.now.block (out-StmtKind kind.now) }
+    requires numbers { AreNumbers here.now.exchange.now here.now.numbers.now }
+    ensures { OnOk result (uses.new ≡ uses.old
+        ++ layer_uses here.now.exchange.now here.now.block (out-StmtKind kind.now)) }
 {
-    exchange.kept();
+    here.exchange.kept();
     let mut names = Seq::new(alloc);
     push_layer(kind, &mut names)?;
-    push_reads(exchange, numbers, block, names.as_slice(), uses)?;
-    push_held(exchange, numbers, block, kind, uses)?;
-    push_done(exchange, numbers, block, kind, uses)?;
+    push_reads(here, names.as_slice(), uses)?;
+    push_held(here, kind, uses)?;
+    push_done(here, kind, uses)?;
     Ok(())
 }
 
 /// Appends that these are read.
 #[tactic(auto, using(crate::proofs::Using::reads_begin))]
 fn push_reads(
-    exchange: &Exchange,
-    numbers: &CellNumbers,
-    block: u32,
+    here: &NumberedBlock<'_>,
     names: &[Operand],
     uses: &mut Seq<Use>,
 ) -> Result<(), Memory>
-    requires numbered { AllByRecursion (IsNumbered exchange.now block) (map named names.now) }
-    requires numbers { AreNumbers exchange.now numbers.now }
-    ensures { OnOk result
-        (uses.new ≡ uses.old ++ read_uses exchange.now block (map named names.now)) }
+    requires numbered { AllByRecursion (IsNumbered here.now.exchange.now here.now.block)
+        (map named names.now) }
+    requires numbers { AreNumbers here.now.exchange.now here.now.numbers.now }
+    ensures { OnOk result (uses.new ≡ uses.old
+        ++ read_uses here.now.exchange.now here.now.block (map named names.now)) }
 {
     for name in names {
-        push_operand(exchange, numbers, block, *name, false, uses)?;
+        push_operand(here, *name, false, uses)?;
     }
     Ok(())
 }
 
 /// Appends that what a block names is read or written.
 fn push_operand(
-    exchange: &Exchange,
-    numbers: &CellNumbers,
-    block: u32,
+    here: &NumberedBlock<'_>,
     operand: Operand,
     write: bool,
     uses: &mut Seq<Use>,
 ) -> Result<(), Memory>
-    requires numbered { IsNumbered exchange.now block (named operand) }
-    requires numbers { AreNumbers exchange.now numbers.now }
-    ensures { OnOk result
-        (uses.new ≡ uses.old ++ named_uses exchange.now block write (named operand)) }
+    requires numbered { IsNumbered here.now.exchange.now here.now.block (named operand) }
+    requires numbers { AreNumbers here.now.exchange.now here.now.numbers.now }
+    ensures { OnOk result (uses.new ≡ uses.old
+        ++ named_uses here.now.exchange.now here.now.block write (named operand)) }
 {
     match operand {
         Operand::Variable(variable) => {
-            let number = numbers.variable(block, variable);
+            let number = here.numbers.variable(here.block, variable);
             uses.push(Use::Variable { write, number })?;
         }
         Operand::Field {
@@ -113,8 +116,8 @@ fn push_operand(
             field,
             pointer,
         } => {
-            let number = numbers.field(file, field);
-            push_field(exchange, file, write, number, pointer, uses)?;
+            let number = here.numbers.field(file, field);
+            push_field(here.exchange, file, write, number, pointer, uses)?;
         }
     }
     Ok(())
@@ -154,22 +157,16 @@ fn field_use(forlopp: bool, write: bool, number: u32, pointer: u8) -> Use
 }
 
 /// Appends that a statement reads the variable in which the reference to its receiver is held, if it does.
-fn push_held(
-    exchange: &Exchange,
-    numbers: &CellNumbers,
-    block: u32,
-    kind: &StmtKind,
-    uses: &mut Seq<Use>,
-) -> Result<(), Memory>
-    requires of_block { IsOfBlock exchange.now block (out-StmtKind kind.now) }
-    requires numbers { AreNumbers exchange.now numbers.now }
+fn push_held(here: &NumberedBlock<'_>, kind: &StmtKind, uses: &mut Seq<Use>) -> Result<(), Memory>
+    requires of_block { IsOfBlock here.now.exchange.now here.now.block (out-StmtKind kind.now) }
+    requires numbers { AreNumbers here.now.exchange.now here.now.numbers.now }
     ensures { OnOk result (uses.new ≡ uses.old
-        ++ holder_uses exchange.now block (receiver_in (out-StmtKind kind.now))) }
+        ++ holder_uses here.now.exchange.now here.now.block (receiver_in (out-StmtKind kind.now))) }
 {
-    exchange.kept();
+    here.exchange.kept();
     if let Some(Receiver::Held(Holder::Variable(variable))) = receiver_of(kind) {
         let holder = Operand::Variable(variable);
-        push_operand(exchange, numbers, block, holder, false, uses)?;
+        push_operand(here, holder, false, uses)?;
     }
     Ok(())
 }
@@ -186,23 +183,17 @@ fn receiver_of(kind: &StmtKind) -> Option<Receiver>
 }
 
 /// Appends what a statement does besides reading: that it writes, searches, seizes or frees.
-fn push_done(
-    exchange: &Exchange,
-    numbers: &CellNumbers,
-    block: u32,
-    kind: &StmtKind,
-    uses: &mut Seq<Use>,
-) -> Result<(), Memory>
-    requires of_block { IsOfBlock exchange.now block (out-StmtKind kind.now) }
-    requires numbers { AreNumbers exchange.now numbers.now }
-    ensures { OnOk result
-        (uses.new ≡ uses.old ++ done_uses exchange.now block (out-StmtKind kind.now)) }
+fn push_done(here: &NumberedBlock<'_>, kind: &StmtKind, uses: &mut Seq<Use>) -> Result<(), Memory>
+    requires of_block { IsOfBlock here.now.exchange.now here.now.block (out-StmtKind kind.now) }
+    requires numbers { AreNumbers here.now.exchange.now here.now.numbers.now }
+    ensures { OnOk result (uses.new ≡ uses.old
+        ++ done_uses here.now.exchange.now here.now.block (out-StmtKind kind.now)) }
 {
-    exchange.kept();
+    here.exchange.kept();
     match kind {
         StmtKind::SetVariable { variable, .. } => {
             let variable = Operand::Variable(*variable);
-            push_operand(exchange, numbers, block, variable, true, uses)?;
+            push_operand(here, variable, true, uses)?;
         }
         StmtKind::SetField {
             file,
@@ -215,16 +206,16 @@ fn push_done(
                 field: *field,
                 pointer: *pointer,
             };
-            push_operand(exchange, numbers, block, field, true, uses)?;
+            push_operand(here, field, true, uses)?;
         }
         StmtKind::ForFirst { file, field, .. } => {
-            let number = numbers.field(*file, *field);
+            let number = here.numbers.field(*file, *field);
             push_search(number, uses)?;
         }
         StmtKind::Seize { file, .. } => uses.push(Use::Seizes { file: *file })?,
         StmtKind::Free { file, .. } => {
-            let first = numbers.field(*file, 0);
-            push_opened(exchange, *file, first, uses)?;
+            let first = here.numbers.field(*file, 0);
+            push_opened(here.exchange, *file, first, uses)?;
             uses.push(Use::Frees { file: *file })?;
         }
         _ => {}

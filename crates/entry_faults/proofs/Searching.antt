@@ -330,11 +330,11 @@ searching_end t r start old now stack none h = record {
 pub not_new : (t : FlowTable) (r : List Bool) (start : ℕ) (m : List Mark) (k : Mark) → Sound t r m [] → mark_at r m start ≡ k → (k ≡ New → ⊥) → IsOver t r start m m
 not_new t r start m k s is other = record { sound = s; start_seen = λ e. other (sym is ∙ e); seen = λ p n. n }
 
--- all points
+-- all points, the last one first
 
 pub record CirclesGo (t : FlowTable) (r : List Bool) (i : ℕ) (m : List Mark) : Type 0 where
   pub sound : Sound t r m []
-  pub seen : (p : ℕ) → p < i → mark_at r m p ≡ New → ⊥
+  pub seen : (p : ℕ) → p < length r → length r ≤ p + i → mark_at r m p ≡ New → ⊥
 
 pub fresh_sound : (t : FlowTable) (r : List Bool) (m : List Mark) → m ≡ fresh r → Sound t r m []
 fresh_sound t r m is = subst (λ n. Sound t r n []) (sym is) (record {
@@ -353,17 +353,17 @@ fresh_sound t r m is = subst (λ n. Sound t r n []) (sym is) (record {
     never p o (not_there out is_closed) = two_marks (mark_at r (fresh r) p) Open Closed (λ k. (let clash : 1 ≡ 0 = k in omega (arith, clash))) o is_closed
 
 pub circles_begin : (t : FlowTable) (r : List Bool) (m : List Mark) → m ≡ fresh r → CirclesGo t r 0 m
-circles_begin t r m is = record { sound = fresh_sound t r m is; seen = λ p lt. absurd (omega arith) }
+circles_begin t r m is = record { sound = fresh_sound t r m is; seen = λ p lt all. absurd (omega arith) }
 
-pub circles_more : (t : FlowTable) (r : List Bool) (i : ℕ) (m new : List Mark) → IsOver t r i m new → CirclesGo t r i m → CirclesGo t r (i + 1) new
-circles_more t r i m new o g = record { sound = o.sound; seen = seen }
+pub circles_more : (t : FlowTable) (r : List Bool) (i start : ℕ) (m new : List Mark) → start + i + 1 ≡ length r → IsOver t r start m new → CirclesGo t r i m → CirclesGo t r (i + 1) new
+circles_more t r i start m new place o g = record { sound = o.sound; seen = seen }
   where
-    seen : (p : ℕ) → p < i + 1 → mark_at r new p ≡ New → ⊥
-    seen p lt is =
+    seen : (p : ℕ) → p < length r → length r ≤ p + (i + 1) → mark_at r new p ≡ New → ⊥
+    seen p lt from is =
         ⊎_elim
-        (λ below. o.seen p (g.seen p below) is)
-        (λ from. (let e : p ≡ i = omega (arith, lt, from) in o.start_seen (subst (λ n. mark_at r new n ≡ New) e is)))
-        (cases_lt p i)
+        (λ before. (let e : p ≡ start = omega (arith, place, from, before) in o.start_seen (subst (λ n. mark_at r new n ≡ New) e is)))
+        (λ later. o.seen p (g.seen p lt later) is)
+        (cases_lt (p + i) (length r))
 
 of_mark : (k : Mark) → (k ≡ New) ⊎ (k ≡ Open) ⊎ (k ≡ Closed)
 of_mark New = inl refl
@@ -374,6 +374,6 @@ pub circles_end : (t : FlowTable) (r : List Bool) (i : ℕ) (m : List Mark) → 
 circles_end t r i m past g = (λ clash. absurd (let e : false ≡ true = clash in cc), λ c. absurd (never c (of_mark (mark_at r m c.point))))
   where
     never : (c : Circles t r) → (mark_at r m c.point ≡ New) ⊎ (mark_at r m c.point ≡ Open) ⊎ (mark_at r m c.point ≡ Closed) → ⊥
-    never c (inl is_new) = (let within = in_within r c.point (leaves t r c.point c.point c.route) in g.seen c.point (omega (arith, within, past)) is_new)
+    never c (inl is_new) = (let within = in_within r c.point (leaves t r c.point c.point c.route) in g.seen c.point within (omega (arith, past)) is_new)
     never c (inr (inl is_open)) = g.sound.opened c.point is_open
     never c (inr (inr is_closed)) = g.sound.none c.point is_closed c.route

@@ -12,13 +12,15 @@ use flow_table::FlowTable;
 use plex_num::{Memory, Seq};
 use std::alloc::Global;
 
-/// Whether a point leads back to itself, on ways from points that are reached.
+/// Whether a point leads back to itself, on ways from points that are reached. The last points come first, since most statements
+/// lead on: then few points are open at once.
 pub fn circles(alloc: Global, table: &FlowTable, reached: &Seq<bool>) -> Result<bool, Memory>
     ensures { IfOk result (λ round. (round ≡ true) ↔ Circles table.now reached.now) }
 {
     let mut marks = new_marks(alloc, reached.as_slice())?;
     let count = reached.len();
-    for start in 0..count {
+    for passed in 0..count {
+        let start = count - passed - 1;
         if search_from(alloc, table, reached, start, &mut marks)? {
             return Ok(true);
         }

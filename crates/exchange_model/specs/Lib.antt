@@ -7,3 +7,4 @@ pub mod Opening
 pub mod PartCounts
 pub mod PartFits
 pub mod Parts
+pub mod Relations

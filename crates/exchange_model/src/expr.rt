@@ -1,3 +1,6 @@
+ghost use Rattle.std.specs.Prelude.{◌≡◌};
+ghost use Rattle.exchange_model.specs.Relations.{stands};
+
 use plex_num::Seq;
 
 /// A sum of terms, from left to right. In an exchange no list in it is empty, and its first term has no minus.
@@ -71,4 +74,20 @@ pub enum Rel {
     AtMost,
     Above,
     AtLeast,
+}
+
+impl Rel {
+    /// Whether the first number stands so to the second.
+    pub fn holds(self, first: u32, second: u32) -> bool
+        ensures { result ≡ stands self first second }
+    {
+        match self {
+            Rel::Equal => first == second,
+            Rel::Unequal => first != second,
+            Rel::Below => first < second,
+            Rel::AtMost => first <= second,
+            Rel::Above => first > second,
+            Rel::AtLeast => first >= second,
+        }
+    }
 }

@@ -1,16 +1,17 @@
 -- What the numbers of all slots become, and what is known then.
-use Rattle.std.proofs.Common.{◌≡◌, ◌⊎◌, inl, inr, ⊎_elim, ◌↔◌, ℕ, zero, suc, ◌+◌, ◌-◌, ◌*◌, ◌<◌, ◌≤◌, Bool, true, false, not, List, [], ◌∷◌, length, get_or, set, map, drop, drop-cons, add-one, Contains, Option, Some, None, Result, IfOk, Ok, Err, refl, sym, subst, ap, ◌∙◌, arith, length-set, get_or-set_same, get_or-set_other}
-use Rattle.std.specs.Prelude.{IsTrue}
+use Rattle.std.proofs.Common.{◌≡◌, ◌⊎◌, inl, inr, ⊎_elim, ◌↔◌, ℕ, zero, suc, ◌+◌, ◌-◌, ◌*◌, ◌<◌, ◌≤◌, Bool, true, false, not, List, [], ◌∷◌, ◌++◌, slice_get, length, get_or, set, map, drop, drop-cons, add-one, Contains, Option, Some, None, Result, IfOk, Ok, Err, refl, sym, subst, ap, ◌∙◌, arith, length-set, get_or-set_same, get_or-set_other}
+use Rattle.std.specs.Prelude.{nat_eq, IsTrue}
 use Rattle.std.specs.declared.cmp.Ordering.TheVariants.{Less}
 use Rattle.std.specs.Bool.{MatchBool}
 use Rattle.std.specs.List.{All, sum_by}
 use Rattle.std.specs.Option.{IsSome, is_some}
 use Rattle.std.specs.List.Sorted.{IsStrictlySortedBy}
 use Rattle.std.specs.Ordering.{nat_cmp}
-use Rattle.std.proofs.lemmas.Bool.{cases_eq, cases_lt, true≢false}
+use Rattle.std.proofs.lemmas.Bool.{cases_eq, cases_lt, eqb-true, true≢false}
 use Rattle.std.proofs.lemmas.Cmp.{ranked}
 use Rattle.std.proofs.lemmas.List.{get_or-map, get_or_past, length-map, set-get_or}
-use Rattle.std.proofs.lemmas.List.Elements.{All-contains, All-from_recursion, All-get_or, All-head, All-nil, All-set, All-tail, All-weaker, Contains-get_or}
+use Rattle.std.proofs.lemmas.Option.{slice_get_within, get_or_from_slice_get}
+use Rattle.std.proofs.lemmas.List.Elements.{Contains-append_left, Contains-append_right, All-contains, All-from_recursion, All-get_or, All-head, All-nil, All-set, All-tail, All-weaker, Contains-get_or}
 use Rattle.std.proofs.lemmas.List.Sums.{sum_by-cons, sum_by-set}
 use Rattle.std.proofs.lemmas.Map.Keys.{sorted_head, sorted_tail}
 use Rattle.flow_points.specs.declared.fact.Slot.{Slot}
@@ -23,14 +24,13 @@ use Rattle.flow_table.specs.Giving.{AreValues}
 use Rattle.fact_rows.specs.declared.place.Counts.{Counts}
 use Rattle.fact_rows.specs.declared.place.Spot.{Spot}
 use Rattle.fact_rows.specs.declared.place.Spot.TheVariants.{Plane, Awaited}
-use Rattle.fact_rows.specs.declared.rows.Key.{Key}
 use Rattle.fact_rows.specs.declared.value.TheConstants.{ANY_NUMBER, AWAITED_NUMBERS}
 use Rattle.fact_rows.specs.Numbers.{AreNumbers}
 use Rattle.fact_rows.specs.Places.{Marks, at_spot, counts_of, spot_of, numbers_at}
 use Rattle.fact_rows.specs.Values.{number_in, value_in, numbers_of}
 use Rattle.fact_rows.specs.Known.{Rows, Knows, Fits, KnowNothing, Adds, missing}
 use Rattle.fact_rows.specs.Grids.{IsBlank, IsSetAt, SetsPlane, SetsAwaited, SetsAt}
-use Rattle.fact_rows.specs.Touched.{key, ArePlaned, IsKept, IsTouched}
+use Rattle.fact_rows.specs.Touched.{ArePlaned, IsKept, IsTouched}
 use Rattle.fact_rows.proofs.Laying.{has_spot, numbers_by, spots_apart, plane_slot, await_slot}
 use Rattle.fact_rows.proofs.Valuing.{value_back, number_same}
 
@@ -214,22 +214,22 @@ spot_more m p s n added new lt planes awaits h = by (spot_of m.slots p s) refl h
 
 -- ---- what is kept then
 
-pub still_kept : (m : Marks) (p : ℕ) (s : Slot) (n : ℕ) (added : Bool) (new : Marks) (touched later : List Key) (fresh : Bool)
-    → IsKept m touched → IsMore m p s n added new → (IsTrue fresh ↔ (numbers_at m p s ≡ [])) → IsTouched touched fresh (key p s) later → IsKept new later
+pub still_kept : (m : Marks) (p : ℕ) (s : Slot) (n : ℕ) (added : Bool) (new : Marks) (touched later : List ℕ) (fresh : Bool)
+    → IsKept m touched → IsMore m p s n added new → (IsTrue fresh ↔ (numbers_at m p s ≡ [])) → IsTouched touched fresh p later → IsKept new later
 still_kept m p s n added new touched later fresh kept more empty touch = record {
   planes = more.planes;
   awaits = more.awaits;
   listed = λ q t. ⊎_elim
-      (λ (same : (q ≡ p) × (t ≡ s)). inr (subst (λ r. Contains later (key r t)) (sym same.0) (subst (λ u. Contains later (key p u)) (sym same.1) here)))
-      (λ as_was. ⊎_elim (λ none. inl (as_was ∙ none)) (λ there. inr (touch.still (key q t) there)) (kept.listed q t))
+      (λ (same : (q ≡ p) × (t ≡ s)). inr (subst (Contains later) (sym same.0) here))
+      (λ as_was. ⊎_elim (λ none. inl (as_was ∙ none)) (λ there. inr (touch.still q there)) (kept.listed q t))
       (more.others q t);
 }
   where
-    here : Contains later (key p s)
-    here = ⊎_elim (λ none. touch.there (empty.1 none)) (λ there. touch.still (key p s) there) (kept.listed p s)
+    here : Contains later p
+    here = ⊎_elim (λ none. touch.there (empty.1 none)) (λ there. touch.still p there) (kept.listed p s)
 
 -- each number of a slot is one of its plane
-pub slot_below : (m : Marks) (touched : List Key) → IsKept m touched → (p : ℕ) (s : Slot) → ArePlaned (numbers_of s) (numbers_at m p s)
+pub slot_below : (m : Marks) (touched : List ℕ) → IsKept m touched → (p : ℕ) (s : Slot) → ArePlaned (numbers_of s) (numbers_at m p s)
 slot_below m touched kept p s = by (spot_of m.slots p s) refl
   where
     at_row : (bound : ℕ) (rows : List (List ℕ)) (i : ℕ) → All (ArePlaned bound) rows → ArePlaned bound (get_or rows i [])
@@ -245,7 +245,7 @@ slot_below m touched kept p s = by (spot_of m.slots p s) refl
 
 -- ---- what is known then
 
-module _ (e : ℕ) (m : Marks) (f : Fact) (added : Bool) (new : Marks) (touched : List Key) (of_entry : f.entry ≡ e) (fits : Fits m.slots f) (kept : IsKept m touched) (more : IsMore m f.point f.slot (number_in f.slot f.value) added new) where
+module _ (e : ℕ) (m : Marks) (f : Fact) (added : Bool) (new : Marks) (touched : List ℕ) (of_entry : f.entry ≡ e) (fits : Fits m.slots f) (kept : IsKept m touched) (more : IsMore m f.point f.slot (number_in f.slot f.value) added new) where
   abbrev before : Rows
   before = record { entry = e; marks = m }
 
@@ -328,7 +328,7 @@ pub record IsAdded (f : Fact) (old new : Rows) (added : Bool) : Type 0 where
   pub fresh : IsTrue added ↔ (Knows old f → ⊥)
   pub one : MatchBool added (missing new + 1 ≡ missing old) (new ≡ old)
 
-pub rows_added : (k : Rows) (e : ℕ) (m new : Marks) (f : Fact) (n : ℕ) (added : Bool) (touched : List Key)
+pub rows_added : (k : Rows) (e : ℕ) (m new : Marks) (f : Fact) (n : ℕ) (added : Bool) (touched : List ℕ)
     → record { entry = e; marks = m } ≡ k → f.entry ≡ k.entry → Fits k.marks.slots f → IsKept m touched → n ≡ number_in f.slot f.value → n < numbers_of f.slot
     → SetsAt m n added (spot_of m.slots f.point f.slot) new → IsAdded f k (record { entry = e; marks = new }) added
 rows_added k e m new f n added touched same of_entry fits kept is lt sets =
@@ -341,17 +341,34 @@ rows_added k e m new f n added touched same of_entry fits kept is lt sets =
       one = fact_counted e m f added new touched own_entry own_fits kept more;
     })
 
-pub rows_kept : (m new : Marks) (p : ℕ) (s : Slot) (n : ℕ) (added fresh : Bool) (touched later : List Key)
-    → IsKept m touched → n < numbers_of s → SetsAt m n added (spot_of m.slots p s) new → (IsTrue fresh ↔ (numbers_at m p s ≡ [])) → IsTouched touched fresh (key p s) later → IsKept new later
+pub rows_kept : (m new : Marks) (p : ℕ) (s : Slot) (n : ℕ) (added fresh : Bool) (touched later : List ℕ)
+    → IsKept m touched → n < numbers_of s → SetsAt m n added (spot_of m.slots p s) new → (IsTrue fresh ↔ (numbers_at m p s ≡ [])) → IsTouched touched fresh p later → IsKept new later
 rows_kept m new p s n added fresh touched later kept lt sets empty touch =
     still_kept m p s n added new touched later fresh kept (spot_more m p s n added new lt kept.planes kept.awaits sets) empty touch
 
--- where a slot is listed and no number comes to it, all is kept
-pub touch_kept : (m : Marks) (touched later : List Key) (fresh : Bool) (k : Key) → IsKept m touched → IsTouched touched fresh k later → IsKept m later
-touch_kept m touched later fresh k kept touch = record {
+-- a point that is noted
+pub not_fresh : (touched : List ℕ) (fresh : Bool) (p : ℕ) → fresh ≡ false → IsTouched touched fresh p touched
+not_fresh touched fresh p is = record { still = λ q c. c; there = λ t. absurd (true≢false (sym t ∙ is)) }
+
+pub noted_last : (touched : List ℕ) (fresh : Bool) (p : ℕ) → Contains touched p → IsTouched touched fresh p touched
+noted_last touched fresh p there = record { still = λ q c. c; there = λ t. there }
+
+pub noted_more : (touched later : List ℕ) (fresh : Bool) (p : ℕ) → later ≡ touched ++ p ∷ [] → IsTouched touched fresh p later
+noted_more touched later fresh p is = record {
+  still = λ q c. subst (λ l. Contains l q) (sym is) (Contains-append_left touched (p ∷ []) q c);
+  there = λ t. subst (λ l. Contains l p) (sym is) (Contains-append_right touched (p ∷ []) p (0, omega arith, refl));
+}
+
+pub last_there : (points : List ℕ) (last p : ℕ) → Some last ≡ slice_get points (length points - 1) → IsTrue (nat_eq last p) → Contains points p
+last_there points last p is same =
+    subst (Contains points) (eqb-true last p same) (length points - 1, slice_get_within points (length points - 1) last (sym is), get_or_from_slice_get points (length points - 1) last last (sym is))
+
+-- where a point is listed and no number comes to it, all is kept
+pub touch_kept : (m : Marks) (touched later : List ℕ) (fresh : Bool) (q : ℕ) → IsKept m touched → IsTouched touched fresh q later → IsKept m later
+touch_kept m touched later fresh q kept touch = record {
   planes = kept.planes;
   awaits = kept.awaits;
-  listed = λ p s. ⊎_elim inl (λ there. inr (touch.still (key p s) there)) (kept.listed p s);
+  listed = λ p s. ⊎_elim inl (λ there. inr (touch.still p there)) (kept.listed p s);
 }
 
 pub has_place : (k : Rows) (e : ℕ) (m : Marks) (f : Fact) → record { entry = e; marks = m } ≡ k → Fits k.marks.slots f → IsSome (spot_of m.slots f.point f.slot)
@@ -438,7 +455,7 @@ unreached_ok k e m_entry p m same apart = subst (λ (r : Rows). IsTrue false ↔
 pub begun_ok : (k : Rows) (e m_entry : ℕ) (m new : Marks) → record { entry = m_entry; marks = m } ≡ k → IsBlank m.slots new → KnowNothing e k.marks.slots (record { entry = e; marks = new })
 begun_ok k e m_entry m new same blank = subst (λ (r : Rows). KnowNothing e r.marks.slots (record { entry = e; marks = new })) same (blank_knows e m.slots new blank)
 
-pub begun_kept : (slots : List Counts) (new : Marks) (touched : List Key) → IsBlank slots new → touched ≡ [] → IsKept new touched
+pub begun_kept : (slots : List Counts) (new : Marks) (touched : List ℕ) → IsBlank slots new → touched ≡ [] → IsKept new touched
 begun_kept slots new touched blank none = subst (IsKept new) (sym none) (blank_kept slots new blank)
 
 pub new_ok : (slots : List Counts) (rows seen : List Row) (m : Marks) → slots ≡ map counts_of rows → seen ≡ rows → IsBlank (map counts_of seen) m → KnowNothing 0 slots (record { entry = 0; marks = m })

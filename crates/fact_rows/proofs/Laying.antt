@@ -1,5 +1,5 @@
 -- Where the planes of each point begin, and that each spot is that of one slot.
-use Rattle.std.proofs.Common.{◌≡◌, inl, inr, ℕ, zero, suc, ◌+◌, ◌-◌, ◌^◌, ◌<◌, ◌≤◌, Bool, true, false, List, [], ◌∷◌, ◌++◌, length, get_or, take, map, Option, Some, None, Result, IfOk, OnErr, Ok, Err, slice_get, refl, sym, subst, ap, ◌∙◌, arith, length-append}
+use Rattle.std.proofs.Common.{◌≡◌, inl, inr, ℕ, zero, suc, ◌+◌, ◌-◌, ◌*◌, ◌^◌, ◌<◌, ◌≤◌, Bool, true, false, List, [], ◌∷◌, ◌++◌, length, get_or, take, map, Option, Some, None, Result, IfOk, OnErr, Ok, Err, slice_get, refl, sym, subst, ap, ◌∙◌, arith, length-append}
 use Rattle.std.specs.Prelude.{nat_lt, if◌then◌else◌, slice_index_or}
 use Rattle.std.proofs.lemmas.Bool.{cases_lt, cases_order, cond-true, cond-false, lt-ltb, le-ltb, ltb-true}
 use Rattle.std.proofs.lemmas.List.{get_or_default, take_more, map-append, length-map, get_or_append_left, get_or-append_right, take_all}
@@ -14,9 +14,10 @@ use Rattle.fact_rows.specs.declared.value.TheConstants.{ANY_NUMBER, AWAITED_NUMB
 use Rattle.fact_rows.specs.Values.{is_awaits, numbers_of}
 use Rattle.fact_rows.specs.Places.{Marks, HasPlace, at_spot, counts_of, numbers_at, size_of, start_of, spot_below, spot_in, spot_if, spot_of}
 use Rattle.plex_num.specs.declared.seq.Memory.{Memory}
-use Rattle.fact_rows.specs.Spread.{Laid, row_of}
-use Rattle.fact_rows.specs.Grids.{IsLaid, IsBlank, IsSetAt, SetsAt}
-use Rattle.fact_rows.proofs.Spreading.{row_none}
+use Rattle.std.specs.List.{All}
+use Rattle.fact_rows.specs.declared.planes.Planes.{Planes}
+use Rattle.fact_rows.specs.Spread.{IsSound, row_of}
+use Rattle.fact_rows.specs.Grids.{IsLaid, IsGrid, IsBlank, IsSetAt, SetsAt}
 
 -- ---- where the planes of a point begin
 
@@ -292,15 +293,14 @@ module _ (old : Marks) (slots : List Counts) (planes awaits new : List (List ℕ
   await_set (Err e) spot u = u
 
 -- what memory refused leaves
-module _ (old : Marks) (slots : List Counts) (laid new_laid : List Laid) (places new_places : List ℕ) (awaits new_awaits : List Laid) (awaited new_awaited : List ℕ)
-    (view : record { slots = slots; planes = row_of laid places; awaits = row_of awaits awaited } ≡ old) where
-  pub plane_refused : (r : Result Bool Memory) → OnErr r (new_places ≡ places) → OnErr r (new_laid ≡ laid) → OnErr r (record { slots = slots; planes = row_of new_laid new_places; awaits = row_of awaits awaited } ≡ old)
-  plane_refused (Ok added) u v = u
-  plane_refused (Err e) same_places same_laid = (λ j. record { slots = slots; planes = row_of (same_laid j) (same_places j); awaits = row_of awaits awaited }) ∙ view
+module _ (old : Marks) (slots : List Counts) (planes awaits new : List (List ℕ)) (view : record { slots = slots; planes = planes; awaits = awaits } ≡ old) where
+  pub plane_refused : (r : Result Bool Memory) → OnErr r (new ≡ planes) → OnErr r (record { slots = slots; planes = new; awaits = awaits } ≡ old)
+  plane_refused (Ok added) u = u
+  plane_refused (Err e) same = (λ j. record { slots = slots; planes = same j; awaits = awaits }) ∙ view
 
-  pub await_refused : (r : Result Bool Memory) → OnErr r (new_awaited ≡ awaited) → OnErr r (new_awaits ≡ awaits) → OnErr r (record { slots = slots; planes = row_of laid places; awaits = row_of new_awaits new_awaited } ≡ old)
-  await_refused (Ok added) u v = u
-  await_refused (Err e) same_places same_laid = (λ j. record { slots = slots; planes = row_of laid places; awaits = row_of (same_laid j) (same_places j) }) ∙ view
+  pub await_refused : (r : Result Bool Memory) → OnErr r (new ≡ awaits) → OnErr r (record { slots = slots; planes = planes; awaits = new } ≡ old)
+  await_refused (Ok added) u = u
+  await_refused (Err e) same = (λ j. record { slots = slots; planes = planes; awaits = same j }) ∙ view
 
 -- ---- planes for the rows of a table, one point after the other
 
@@ -362,12 +362,11 @@ laying_first rows slots starts a b = subst (λ l. IsLaying rows 0 l starts 0) (s
 
 -- all planes of the rows, which have no numbers
 module _ (rows : List Row) (i size count : ℕ) (slots : List Counts) (starts : List ℕ) (l : IsLaying rows i slots starts size) (past : length rows ≤ i) where
-  pub laying_blank : (laid : List Laid) (places : List ℕ) (awaits : List Laid) (awaited : List ℕ) → laid ≡ [] → awaits ≡ []
-      → IsBlank (map counts_of rows) (record { slots = slots; planes = row_of laid places; awaits = row_of awaits awaited })
-  laying_blank laid places awaits awaited no_plane no_await = record {
+  pub laying_blank : (planes awaits : List (List ℕ)) → All (λ ns. ns ≡ []) planes → All (λ ns. ns ≡ []) awaits → IsBlank (map counts_of rows) (record { slots = slots; planes = planes; awaits = awaits })
+  laying_blank planes awaits no_plane no_await = record {
     slots_so = l.slots_so ∙ ap (map counts_of) (take_all i rows past);
-    planes = row_none laid places no_plane;
-    awaits = row_none awaits awaited no_await;
+    planes = no_plane;
+    awaits = no_await;
   }
 
   pub laying_laid : (items : List ℕ) (planes awaits : ℕ) → items ≡ starts → planes ≡ size → awaits ≡ count → count ≡ length rows → IsLaid slots items planes awaits
@@ -379,11 +378,70 @@ module _ (rows : List Row) (i size count : ℕ) (slots : List Counts) (starts : 
   })
 
 -- all planes are cleared
-pub cleared_blank : (old : Marks) (slots : List Counts) (laid new_laid : List Laid) (places : List ℕ) (awaits new_awaits : List Laid) (awaited : List ℕ)
-    → record { slots = slots; planes = row_of laid places; awaits = row_of awaits awaited } ≡ old → new_laid ≡ [] → new_awaits ≡ []
-    → IsBlank old.slots (record { slots = slots; planes = row_of new_laid places; awaits = row_of new_awaits awaited })
-cleared_blank old slots laid new_laid places awaits new_awaits awaited view no_plane no_await = record {
+pub cleared_blank : (old : Marks) (slots : List Counts) (planes awaits new_planes new_awaits : List (List ℕ)) → record { slots = slots; planes = planes; awaits = awaits } ≡ old
+    → All (λ ns. ns ≡ []) new_planes → All (λ ns. ns ≡ []) new_awaits → IsBlank old.slots (record { slots = slots; planes = new_planes; awaits = new_awaits })
+cleared_blank old slots planes awaits new_planes new_awaits view no_plane no_await = record {
   slots_so = ap (λ (m : Marks). m.slots) view;
-  planes = row_none new_laid places no_plane;
-  awaits = row_none new_awaits awaited no_await;
+  planes = no_plane;
+  awaits = no_await;
 }
+
+-- ---- the rows before and after a call
+
+module _ (now : Marks) (slots : List Counts) (starts : List ℕ) (planes awaits : Planes) (p : ℕ) (s : Slot) (i : ℕ) (view : record { slots = slots; planes = row_of planes; awaits = row_of awaits } ≡ now) (g : IsGrid slots starts planes awaits) where
+  pub plane_place : spot_of now.slots p s ≡ Some (Plane i) → i < length planes.set_numbers
+  plane_place spot = plane_inside now slots (row_of planes) (row_of awaits) p s view starts (length planes.set_numbers) (length awaits.set_numbers) g.laid i spot
+
+  pub await_place : spot_of now.slots p s ≡ Some (Awaited i) → i < length awaits.set_numbers
+  await_place spot = await_inside now slots (row_of planes) (row_of awaits) p s view starts (length planes.set_numbers) (length awaits.set_numbers) g.laid i spot
+
+pub grid_planes : (slots : List Counts) (starts : List ℕ) (planes awaits new : Planes) → IsGrid slots starts planes awaits → IsSound new → length new.set_numbers ≡ length planes.set_numbers → new.sets.width ≡ planes.sets.width → IsGrid slots starts new awaits
+grid_planes slots starts planes awaits new g sound long width = record {
+  laid = subst (λ n. IsLaid slots starts n (length awaits.set_numbers)) (sym long) g.laid;
+  planes_sound = sound;
+  planes_wide = width ∙ g.planes_wide;
+  awaits_sound = g.awaits_sound;
+  awaits_wide = g.awaits_wide;
+}
+
+pub grid_awaits : (slots : List Counts) (starts : List ℕ) (planes awaits new : Planes) → IsGrid slots starts planes awaits → IsSound new → length new.set_numbers ≡ length awaits.set_numbers → new.sets.width ≡ awaits.sets.width → IsGrid slots starts planes new
+grid_awaits slots starts planes awaits new g sound long width = record {
+  laid = subst (λ n. IsLaid slots starts (length planes.set_numbers) n) (sym long) g.laid;
+  planes_sound = g.planes_sound;
+  planes_wide = g.planes_wide;
+  awaits_sound = sound;
+  awaits_wide = width ∙ g.awaits_wide;
+}
+
+pub plane_few : (slots : List Counts) (starts : List ℕ) (planes awaits : Planes) (n : ℕ) → IsGrid slots starts planes awaits → n < ANY_NUMBER + 1 → n < 64 * planes.sets.width
+plane_few slots starts planes awaits n g lt = subst (λ w. n < 64 * w) (sym g.planes_wide) (omega arith)
+
+pub await_few : (slots : List Counts) (starts : List ℕ) (planes awaits : Planes) (n : ℕ) → IsGrid slots starts planes awaits → n < AWAITED_NUMBERS → n < 64 * awaits.sets.width
+await_few slots starts planes awaits n g lt = subst (λ w. n < 64 * w) (sym g.awaits_wide) (omega arith)
+
+-- ---- a slot that has a spot is before its point
+
+below_some : (first k count : ℕ) (spot : Spot) → spot_below first k count ≡ Some spot → k < count
+below_some first k count spot e = by (nat_lt k count) refl e
+  where
+    by : (t : Bool) → nat_lt k count ≡ t → (if t then Some (Plane (first + k)) else None) ≡ Some spot → k < count
+    by true lt same = ltb-true k count lt
+    by false lt none = absurd (none-some spot none)
+
+in_place : (start p : ℕ) (c : Counts) (s : Slot) (spot : Spot) → spot_in start p c s ≡ Some spot → HasPlace c s
+in_place start p c (Temp t) spot e = below_some start t c.temps spot e
+in_place start p c (Given t) spot e = below_some (start + c.temps) t c.given spot e
+in_place start p c (Answered t) spot e = below_some (start + c.temps + c.given) t c.answered spot e
+in_place start p c Depth spot e = tt
+in_place start p c Awaits spot e = tt
+
+-- the slot stands before the point
+pub record IsPlaced (slots : List Counts) (p : ℕ) (s : Slot) : Type 0 where
+  pub counts : Counts
+  pub there : slice_get slots p ≡ Some counts
+  pub slot : HasPlace counts s
+
+pub slot_placed : (slots : List Counts) (p : ℕ) (s : Slot) (spot : Spot) → spot_of slots p s ≡ Some spot → IsPlaced slots p s
+slot_placed slots p s spot e =
+    let a = spot_there slots p s spot e in
+    record { counts = a.counts; there = a.there; slot = in_place (start_of slots p) p a.counts s spot a.is }

@@ -1,7 +1,9 @@
+pub mod Narrowing
 pub mod Numbering
 pub mod Spreading
 pub mod Laying
 pub mod Valuing
 pub mod Holding
 pub mod Listing
+pub mod Keying
 pub mod Fitting

@@ -1,19 +1,19 @@
 -- Facts in their order: slot by slot, and of each slot by their numbers.
-use Rattle.std.proofs.Common.{◌≡◌, inl, inr, ⊎_elim, ℕ, suc, ◌+◌, ◌-◌, ◌<◌, ◌≤◌, true, List, [], ◌∷◌, ◌++◌, length, get_or, drop, map, Contains, Result, IfOk, Ok, Err, refl, sym, subst, ap, ◌∙◌, arith, append-nil, append_assoc}
+use Rattle.std.proofs.Common.{◌≡◌, inl, inr, ⊎_elim, ℕ, suc, ◌+◌, ◌-◌, ◌<◌, ◌≤◌, List, [], ◌∷◌, ◌++◌, length, get_or, drop, map, Contains, refl, sym, subst, ap, ◌∙◌, arith, append-nil, append_assoc}
 use Rattle.std.specs.declared.cmp.Ordering.{Ordering}
 use Rattle.std.specs.declared.cmp.Ordering.TheVariants.{Less, Equal, Greater}
 use Rattle.std.specs.List.{dedup}
 use Rattle.std.specs.List.Retain.{IsFiltered, DiffersFromLast}
 use Rattle.std.specs.List.Sorted.{IsPermutation, IsSorted, IsStrictlySortedBy}
-use Rattle.std.specs.Ordering.{eq_by_cmp, is_eq, nat_cmp, ordering_then}
+use Rattle.std.specs.Ordering.{nat_cmp, ordering_then}
 use Rattle.std.specs.Prelude.{nat_lt, nat_eq, if◌then◌else◌}
 use Rattle.std.proofs.lemmas.Bool.{cases_lt, cond-true, lt-ltb}
-use Rattle.std.specs.Cmp.{IsEquivalence}
-use Rattle.std.proofs.lemmas.Cmp.{eq_by_cmp_equiv, nat_cmp_total, ranked, tied_itself}
+use Rattle.std.specs.Cmp.{unsigned_ties}
+use Rattle.std.proofs.lemmas.Cmp.{nat_cmp_total, ranked, tied_itself}
 use Rattle.std.proofs.lemmas.List.{get_or_default}
 use Rattle.std.proofs.lemmas.List.Elements.{All-contains, All-from_recursion, recursion_from_All, Contains-append_cases, Contains-append_left, Contains-append_right, Contains-get_or}
 use Rattle.std.proofs.lemmas.List.Filters.{dedup_is}
-use Rattle.std.proofs.lemmas.List.Kept.{Contains-dedup, Contains-from_dedup, IsStrictlySortedBy-dedup}
+use Rattle.std.proofs.lemmas.List.Kept.{Contains-dedup_nat, Contains-from_dedup, IsStrictlySortedBy-dedup}
 use Rattle.std.proofs.lemmas.List.Sorted.{Contains-permutation, IsPermutation-sym}
 use Rattle.std.proofs.lemmas.Map.Keys.{sorted_head, sorted_tail}
 use Rattle.std.proofs.Math.ListN.{drop_of_length-le}
@@ -26,21 +26,20 @@ use Rattle.flow_points.specs.Facts.{fact}
 use Rattle.flow_points.specs.contracts.fact.SlotOrd.TheImpl as slots
 use Rattle.flow_points.specs.contracts.fact.SlotOrd.TheImpl.Laws as slot_laws
 use Rattle.flow_points.specs.contracts.fact.ValueOrd.TheImpl as values
-use Rattle.fact_rows.specs.declared.rows.Key.{Key}
-use Rattle.fact_rows.specs.contracts.rows.KeyPartialEq.TheImpl as same_keys
-use Rattle.fact_rows.specs.contracts.rows.KeyOrd.TheImpl.Laws as key_laws
+use Rattle.fact_rows.specs.declared.keys.Key.{Key}
 use Rattle.fact_rows.specs.declared.value.TheConstants.{ANY_NUMBER}
 use Rattle.fact_rows.specs.Places.{Marks, numbers_at}
 use Rattle.fact_rows.specs.Values.{numbered_value, value_in, numbers_of}
 use Rattle.fact_rows.specs.Orders.{fact_order}
 use Rattle.fact_rows.specs.Known.{Rows, Knows, AreFacts}
-use Rattle.fact_rows.specs.Touched.{key_order, key, IsKept, AreKeys, facts_at, facts_of}
+use Rattle.fact_rows.specs.Numbers.{AreNumbers}
+use Rattle.fact_rows.specs.Touched.{key_order, key, IsKept, facts_at, facts_of}
 use Rattle.fact_rows.proofs.Valuing.{arg_is, const_is, any_is}
 use Rattle.fact_rows.proofs.Holding.{from_map, to_map, first_or_rest, rising_past, slot_below, none_in, opens}
 
 -- ---- lists that rise
 
-in_more : {X : Type 0} (x : X) (xs : List X) (y : X) → Contains xs y → Contains (x ∷ xs) y
+pub in_more : {X : Type 0} (x : X) (xs : List X) (y : X) → Contains xs y → Contains (x ∷ xs) y
 in_more x xs y c = (let lt = c.1 in (suc c.0, omega arith, c.2))
 
 module _ {X : Type 0} (cmp : X → X → Ordering) where
@@ -48,11 +47,11 @@ module _ {X : Type 0} (cmp : X → X → Ordering) where
   unfolding IsStrictlySortedBy
   sorted_none = tt
 
-  sorted_cons : (x : X) (xs : List X) → ((y : X) → Contains xs y → cmp x y ≡ Less) → IsStrictlySortedBy cmp xs → IsStrictlySortedBy cmp (x ∷ xs)
+  pub sorted_cons : (x : X) (xs : List X) → ((y : X) → Contains xs y → cmp x y ≡ Less) → IsStrictlySortedBy cmp xs → IsStrictlySortedBy cmp (x ∷ xs)
   unfolding IsStrictlySortedBy
   sorted_cons x xs h up = (recursion_from_All (λ y. cmp x y ≡ Less) xs (λ k d lt. h (get_or xs k d) (Contains-get_or xs k d lt)), up)
 
-  before_rest : (x : X) (xs : List X) → IsStrictlySortedBy cmp (x ∷ xs) → (y : X) → Contains xs y → cmp x y ≡ Less
+  pub before_rest : (x : X) (xs : List X) → IsStrictlySortedBy cmp (x ∷ xs) → (y : X) → Contains xs y → cmp x y ≡ Less
   before_rest x xs up y c = All-contains (λ z. cmp x z ≡ Less) xs y (All-from_recursion (λ z. cmp x z ≡ Less) xs (sorted_head cmp x xs up)) c
 
   pub sorted_append : (xs ys : List X) → IsStrictlySortedBy cmp xs → IsStrictlySortedBy cmp ys → ((x y : X) → Contains xs x → Contains ys y → cmp x y ≡ Less) → IsStrictlySortedBy cmp (xs ++ ys)
@@ -62,7 +61,7 @@ module _ {X : Type 0} (cmp : X → X → Ordering) where
       (λ y c. ⊎_elim (λ left. before_rest x xs up_x y left) (λ right. h x y (0, omega arith, refl) right) (Contains-append_cases xs ys y c))
       (sorted_append xs ys (sorted_tail cmp x xs up_x) up_y (λ u v c d. h u v (in_more x xs u c) d))
 
-  sorted_map : (f : ℕ → X) (bound : ℕ) → ((a b : ℕ) → a < b → b < bound → cmp (f a) (f b) ≡ Less) → (ns : List ℕ) → IsStrictlySortedBy nat_cmp ns → ((n : ℕ) → Contains ns n → n < bound) → IsStrictlySortedBy cmp (map f ns)
+  pub sorted_map : (f : ℕ → X) (bound : ℕ) → ((a b : ℕ) → a < b → b < bound → cmp (f a) (f b) ≡ Less) → (ns : List ℕ) → IsStrictlySortedBy nat_cmp ns → ((n : ℕ) → Contains ns n → n < bound) → IsStrictlySortedBy cmp (map f ns)
   sorted_map f bound less [] up below = sorted_none
   sorted_map f bound less (n ∷ ns) up below =
       sorted_cons (f n) (map f ns)
@@ -152,7 +151,7 @@ listed_to e m (j ∷ ks) k n c there =
     (λ rest. Contains-append_right (facts_at e j (numbers_at m j.point j.slot)) (facts_of e m ks) (fact e k.point k.slot (value_in k.slot n)) (listed_to e m ks k n rest there))
     (first_or_rest j ks k c)
 
-module _ (e : ℕ) (m : Marks) (touched : List Key) (kept : IsKept m touched) where
+module _ (e : ℕ) (m : Marks) (touched : List ℕ) (kept : IsKept m touched) where
   abbrev rows : Rows
   rows = record { entry = e; marks = m }
 
@@ -174,8 +173,8 @@ module _ (e : ℕ) (m : Marks) (touched : List Key) (kept : IsKept m touched) wh
       (fact_less_key e k.point later.own.point k.slot later.own.slot (value_in k.slot here.0) (value_in later.own.slot later.number)
       (before_rest key_order k ks up later.own later.one))))
 
-  pub facts_exact : (ks : List Key) → AreKeys touched ks → AreFacts (Knows rows) (facts_of e m ks)
-  facts_exact ks are = record { rising = facts_rise ks are.rising; each = each_known; listed = all_listed }
+  pub facts_exact : (ks : List Key) → IsStrictlySortedBy key_order ks → ((p : ℕ) (s : Slot) (n : ℕ) → Contains (numbers_at m p s) n → Contains ks (key p s)) → AreFacts (Knows rows) (facts_of e m ks)
+  facts_exact ks up all = record { rising = facts_rise ks up; each = each_known; listed = all_listed }
     where
       each_known : (f : Fact) → Contains (facts_of e m ks) f → Knows rows f
       each_known f c =
@@ -185,14 +184,10 @@ module _ (e : ℕ) (m : Marks) (touched : List Key) (kept : IsKept m touched) wh
       all_listed : (f : Fact) → Knows rows f → Contains (facts_of e m ks) f
       all_listed f known =
           let there = from_map (value_in f.slot) (numbers_at m f.point f.slot) f.value known.value in
-          let key_there : Contains ks (key f.point f.slot) = ⊎_elim
-          (λ none. absurd (none_in there.0 (subst (λ l. Contains l there.0) none there.1)))
-          (λ touched_one. are.listed (key f.point f.slot) touched_one)
-          (kept.listed f.point f.slot) in
           let is : fact e f.point f.slot (value_in f.slot there.0) ≡ f = (λ i. record { entry = sym known.entry i; point = f.point; slot = f.slot; value = there.2 i }) in
-          subst (Contains (facts_of e m ks)) is (listed_to e m ks (key f.point f.slot) there.0 key_there there.1)
+          subst (Contains (facts_of e m ks)) is (listed_to e m ks (key f.point f.slot) there.0 (all f.point f.slot there.0 there.1) there.1)
 
--- ---- the slots in order
+-- ---- slots that are the same
 
 pub nat_same : (a b : ℕ) → nat_cmp a b ≡ Equal → a ≡ b
 nat_same a b e = ranked a b Equal (sym e)
@@ -224,46 +219,19 @@ slot_same Awaits (Answered b) e = absurd (cc)
 slot_same Awaits Depth e = absurd (cc)
 slot_same Awaits Awaits e = refl
 
-equal_ties : (j k : Key) → same_keys.ghosts.eq j k ≡ eq_by_cmp key_order j k
-equal_ties j k = key_laws.matches_eq-law j k
+-- ---- the points in order
 
-equal_keys : IsEquivalence same_keys.ghosts.eq
-equal_keys = record {
-  refl = λ j. equal_ties j j ∙ by_order.refl j;
-  symm = λ j k. equal_ties j k ∙ by_order.symm j k ∙ sym (equal_ties k j);
-  congr = λ j k i h. equal_ties j i ∙ by_order.congr j k i (sym (equal_ties j k) ∙ h) ∙ sym (equal_ties k i);
+pub points_in_order : (points copy sorted once : List ℕ) → copy ≡ points → IsPermutation copy sorted → IsSorted nat_cmp sorted → IsFiltered (DiffersFromLast nat_eq) [] sorted once → AreNumbers (Contains points) once
+points_in_order points copy sorted once same moved up kept = record {
+  rising = subst (IsStrictlySortedBy nat_cmp) (sym is) (IsStrictlySortedBy-dedup nat_cmp_total unsigned_ties sorted up);
+  each = λ p c. subst (λ l. Contains l p) same (Contains-permutation sorted copy p (IsPermutation-sym copy sorted moved) (Contains-from_dedup nat_eq sorted p (subst (λ l. Contains l p) is c)));
+  listed = λ p c. subst (λ l. Contains l p) (sym is) (Contains-dedup_nat sorted p (Contains-permutation copy sorted p moved (subst (λ l. Contains l p) (sym same) c)));
 }
   where
-    by_order : IsEquivalence (eq_by_cmp key_order)
-    by_order = eq_by_cmp_equiv key_laws.total-law
-
-key_same : (j k : Key) → same_keys.ghosts.eq j k ≡ true → j ≡ k
-key_same j k e = by (nat_cmp j.point k.point) refl (is_equal (key_order j k) (sym (equal_ties j k) ∙ e))
-  where
-    is_equal : (o : Ordering) → is_eq o ≡ true → o ≡ Equal
-    is_equal Less e = absurd (cc)
-    is_equal Equal e = refl
-    is_equal Greater e = absurd (cc)
-
-    by : (o : Ordering) → nat_cmp j.point k.point ≡ o → ordering_then o (slots.ghosts.cmp j.slot k.slot) ≡ Equal → j ≡ k
-    by Less p s = absurd (cc)
-    by Equal p s = (λ i. record { point = nat_same j.point k.point p i; slot = slot_same j.slot k.slot s i })
-    by Greater p s = absurd (cc)
-
-pub keys_in_order : (keys copy sorted once : List Key) → copy ≡ keys → IsPermutation copy sorted → IsSorted key_order sorted → IsFiltered (DiffersFromLast same_keys.ghosts.eq) [] sorted once → AreKeys keys once
-keys_in_order keys copy sorted once same moved up kept = record {
-  rising = subst (IsStrictlySortedBy key_order) (sym is) (IsStrictlySortedBy-dedup key_laws.total-law equal_ties sorted up);
-  each = λ k c. subst (λ l. Contains l k) same (Contains-permutation sorted copy k (IsPermutation-sym copy sorted moved) (Contains-from_dedup same_keys.ghosts.eq sorted k (subst (λ l. Contains l k) is c)));
-  listed = λ k c. subst (λ l. Contains l k) (sym is) (Contains-dedup equal_keys key_same sorted k (Contains-permutation copy sorted k moved (subst (λ l. Contains l k) (sym same) c)));
-}
-  where
-    is : once ≡ dedup same_keys.ghosts.eq sorted
-    is = dedup_is same_keys.ghosts.eq sorted once kept
+    is : once ≡ dedup nat_eq sorted
+    is = dedup_is nat_eq sorted once kept
 
 -- ---- the list of facts grows by a slot
-
-pub facts_begin : (e : ℕ) (m : Marks) (ks : List Key) (now : List Fact) → now ≡ [] → now ++ facts_of e m ks ≡ facts_of e m ks
-facts_begin e m ks now none = ap (λ l. l ++ facts_of e m ks) none
 
 pub facts_more : (e : ℕ) (m : Marks) (ks : List Key) (i : ℕ) (d : Key) (numbers : List ℕ) (now new all : List Fact) → i < length ks → numbers ≡ numbers_at m (get_or ks i d).point (get_or ks i d).slot → new ≡ now ++ facts_at e (get_or ks i d) numbers
     → now ++ facts_of e m (drop i ks) ≡ all → new ++ facts_of e m (drop (i + 1) ks) ≡ all
@@ -276,10 +244,3 @@ facts_more e m ks i d numbers now new all lt are to h =
 
 pub facts_end : (e : ℕ) (m : Marks) (ks : List Key) (i : ℕ) (now all : List Fact) → length ks ≤ i → now ++ facts_of e m (drop i ks) ≡ all → now ≡ all
 facts_end e m ks i now all past h = sym (append-nil now) ∙ sym (ap (λ l. now ++ facts_of e m l) (drop_of_length-le ks past)) ∙ h
-
-pub facts_ok : {E : Type 0} (k : Rows) (e : ℕ) (m : Marks) (touched seen once keys : List Key) (r : Result (List Fact) E) → record { entry = e; marks = m } ≡ k → IsKept m touched → seen ≡ touched → AreKeys seen once → keys ≡ once
-    → IfOk r (λ facts. facts ≡ facts_of e m keys) → IfOk r (AreFacts (Knows k))
-facts_ok k e m touched seen once keys (Ok facts) same kept are_touched are are_once h =
-    let all : AreKeys touched keys = subst (AreKeys touched) (sym are_once) (subst (λ l. AreKeys l once) are_touched are) in
-    subst (λ (rows : Rows). AreFacts (Knows rows) facts) same (subst (AreFacts (Knows (record { entry = e; marks = m }))) (sym h) (facts_exact e m touched kept keys all))
-facts_ok k e m touched seen once keys (Err x) same kept are_touched are are_once h = h

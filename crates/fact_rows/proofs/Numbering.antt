@@ -1,19 +1,21 @@
 -- Numbers as bits of words.
-use Rattle.std.proofs.Common.{◌≡◌, ◌⊎◌, inl, inr, ⊎_elim, ◌↔◌, ℕ, zero, suc, ◌+◌, ◌-◌, ◌*◌, ◌/◌, ◌%◌, ◌^◌, ◌<◌, ◌≤◌, Bool, true, false, not, ◌&&◌, cond, eqb, List, [], ◌∷◌, ◌++◌, length, get_or, set, replicate, Contains, refl, sym, subst, ap, ◌∙◌, arith, length-append, length-set, get_or-set_same, get_or-set_other, eq-eqb, ne_eqb, w64, append_assoc, append-nil}
-use Rattle.std.specs.Prelude.{bit_and, bit_or, IsTrue}
+use Rattle.std.proofs.Common.{◌≡◌, ◌⊎◌, inl, inr, ◌↔◌, ℕ, zero, suc, ◌+◌, ◌-◌, ◌*◌, ◌/◌, ◌%◌, ◌^◌, ◌<◌, ◌≤◌, Bool, true, false, not, cond, eqb, List, [], ◌∷◌, ◌++◌, length, get_or, set, replicate, Contains, refl, sym, subst, ap, ◌∙◌, arith, length-append, length-set, get_or-set_same, get_or-set_other, eq-eqb, ne_eqb, w64, append_assoc, append-nil}
+use Rattle.std.specs.Prelude.{bit_and, bit_or, nat_eq, IsTrue}
+use Rattle.std.specs.Cmp.Lexicographic.{pointwise}
+use Rattle.std.proofs.lemmas.Slice.Eq.{bytes_eq-Decides}
 use Rattle.std.specs.Bool.{MatchBool}
 use Rattle.std.specs.Int.{bit_at}
 use Rattle.std.specs.List.{filter, list_all, range_with_len}
 use Rattle.std.specs.List.Sorted.{IsStrictlySortedBy}
 use Rattle.std.specs.Ordering.{nat_cmp}
-use Rattle.std.proofs.lemmas.Bool.{cases_eq, cases_lt, cases_Bool, eqb-true, and_from, and_parts, not-true, true≢false}
+use Rattle.std.proofs.lemmas.Bool.{cases_eq, cases_lt, eqb-true, and_from, and_parts, not-true, true≢false}
 use Rattle.std.proofs.lemmas.List.{get_or-replicate, get_or_past, length-replicate}
 use Rattle.std.proofs.lemmas.List.Elements.{All-contains, All-contains_itself, All-filter, filter_passes, filter-append}
 use Rattle.std.proofs.lemmas.List.FromFn.{length-range_with_len, get_or-range_with_len}
 use Rattle.std.proofs.lemmas.List.Kept.{IsStrictlySortedBy-filter}
 use Rattle.std.proofs.lemmas.Map.Keys.{sorted_from_strictly_increasing}
 use Rattle.std.proofs.lemmas.Nat.{one_shl, pow_pos}
-use Rattle.std.proofs.lemmas.Nat.Bits.{bit_at_set_same, bit_at_set_other, bit_at-zero, bit_at_or, bit_at-lt, and_pow, bit_at_above, shr_and_one, same_from_bits, same_from_bits_below}
+use Rattle.std.proofs.lemmas.Nat.Bits.{bit_at_set_same, bit_at_set_other, bit_at-zero, bit_at-lt, and_pow, same_from_bits_below}
 use Rattle.fact_rows.specs.Numbers.{has_bit, numbers, AreNumbers, bit_number, bits_of}
 
 -- ---- filters
@@ -63,20 +65,20 @@ range_first : (a n k : ℕ) → n + 1 ≡ k → range_with_len a k ≡ a ∷ ran
 range_first a n zero e = absurd (omega arith)
 range_first a n (suc k) e = (let much : k ≡ n = omega arith in ap (λ m. a ∷ range_with_len (a + 1) m) much)
 
-in_range : (a n x : ℕ) → Contains (range_with_len a n) x → (a ≤ x) × (x < a + n)
+pub in_range : (a n x : ℕ) → Contains (range_with_len a n) x → (a ≤ x) × (x < a + n)
 in_range a n x c =
     let lt = c.1 in
     let within : c.0 < n = omega (arith, length-range_with_len a n) in
     let is : x ≡ a + c.0 = sym c.2 ∙ get_or-range_with_len a n c.0 x within in
     (omega arith, omega arith)
 
-range_has : (a n x : ℕ) → a ≤ x → x < a + n → Contains (range_with_len a n) x
+pub range_has : (a n x : ℕ) → a ≤ x → x < a + n → Contains (range_with_len a n) x
 range_has a n x from upto =
     let within : x - a < n = omega arith in
     let is : a + (x - a) ≡ x = omega arith in
     (x - a, omega (arith, length-range_with_len a n), get_or-range_with_len a n (x - a) x within ∙ is)
 
-range_rises : (a n : ℕ) → IsStrictlySortedBy nat_cmp (range_with_len a n)
+pub range_rises : (a n : ℕ) → IsStrictlySortedBy nat_cmp (range_with_len a n)
 range_rises a n = sorted_from_strictly_increasing (range_with_len a n) (λ k h.
     let long = length-range_with_len a n in
     omega (arith, get_or-range_with_len a n k 0 (omega arith), get_or-range_with_len a n (k + 1) 0 (omega arith)))
@@ -113,15 +115,6 @@ numbers_of_zero words zero_words = filter_none (has_bit words) (range_with_len 0
 
 pub numbers_zero : (n : ℕ) → numbers (zeros n) ≡ []
 numbers_zero n = numbers_of_zero (zeros n) (zero_at n)
-
--- the test `(word >> k) & 1 == 1`
-pub bit_test : (word k : ℕ) → eqb (bit_and (word / 2 ^ k) 1) 1 ≡ eqb (bit_at word k) 1
-bit_test word k = ap (λ b. eqb b 1) (shr_and_one word k)
-
-pub tested : (words : List ℕ) (i : ℕ) → i < 64 * length words → IsTrue (eqb (bit_and (get_or words (i / 64) 0 / 2 ^ (i % 64)) 1) 1) ↔ Contains (numbers words) i
-tested words i within =
-    let e = bit_test (get_or words (i / 64) 0) (i % 64) in
-    (λ t. number_there words i within (sym e ∙ t), λ c. e ∙ (number_set words i c).1)
 
 -- ---- a number more
 
@@ -242,6 +235,14 @@ module _ (words : List ℕ) (i : ℕ) (within : i < 64 * length words) where
             | inr apart ↦ there n s.0 (set_other n apart ∙ s.1)
           ])
 
+  pub set_long : length new_words ≡ length words
+  set_long = as_long
+
+-- ---- the same words
+
+pub same_words : (words others : List ℕ) (r : Bool) → r ≡ pointwise nat_eq words others → IsTrue r → words ≡ others
+same_words words others r is t = (bytes_eq-Decides words others).0 (sym is ∙ t)
+
 -- ---- no number
 
 all_zero_at : (words : List ℕ) → list_all (λ (w : ℕ). eqb w 0) words ≡ true → (k : ℕ) → get_or words k 0 ≡ 0
@@ -273,181 +274,6 @@ zero_exact words r fits is = (
   λ t. numbers_of_zero words (all_zero_at words (sym is ∙ t)),
   λ none. is ∙ each_zero words (none_there words fits none),
 )
-
--- ---- the numbers of two lists of words
-
--- words joined as far as a place
-pub record IsJoined (mine theirs now : List ℕ) (place : ℕ) (added : Bool) : Type 0 where
-  pub fits : (k : ℕ) → get_or mine k 0 < 2 ^ 64
-  pub others_fit : (k : ℕ) → get_or theirs k 0 < 2 ^ 64
-  pub as_many : length now ≡ length mine
-  pub done : (k : ℕ) → k < place → get_or now k 0 ≡ bit_or (get_or mine k 0) (get_or theirs k 0)
-  pub rest : (k : ℕ) → place ≤ k → get_or now k 0 ≡ get_or mine k 0
-  pub grew : added ≡ true → (k : ℕ) × (k < place) × (get_or now k 0 ≡ get_or mine k 0 → ⊥)
-  pub same : added ≡ false → (k : ℕ) → k < place → get_or now k 0 ≡ get_or mine k 0
-
-pub join_begin : (mine theirs : List ℕ) → ((k : ℕ) → get_or mine k 0 < 2 ^ 64) → ((k : ℕ) → get_or theirs k 0 < 2 ^ 64) → IsJoined mine theirs mine 0 false
-join_begin mine theirs fits others_fit = record {
-  fits = fits;
-  others_fit = others_fit;
-  as_many = refl;
-  done = λ k lt. absurd (omega arith);
-  rest = λ k le. refl;
-  grew = λ e. absurd (true≢false (sym e));
-  same = λ e k lt. refl;
-}
-
-pub join_more : (mine theirs now : List ℕ) (place : ℕ) (added more : Bool) → IsJoined mine theirs now place added → place < length now
-    → (IsTrue more ↔ (IsTrue added ⊎ (bit_or (get_or now place 0) (get_or theirs place 0) ≡ get_or now place 0 → ⊥)))
-    → IsJoined mine theirs (set now place (bit_or (get_or now place 0) (get_or theirs place 0))) (place + 1) more
-join_more mine theirs now place added more j lt is = record {
-  fits = j.fits;
-  others_fit = j.others_fit;
-  as_many = length-set now place v ∙ j.as_many;
-  done = λ k below. elim (cases_eq k place) as (λ _. get_or new k 0 ≡ bit_or (get_or mine k 0) (get_or theirs k 0)) [
-    | inl here ↦ ap (λ n. get_or new n 0) here ∙ at_place ∙ ap (λ n. bit_or (get_or mine n 0) (get_or theirs n 0)) (sym here)
-    | inr apart ↦ other k apart ∙ j.done k (omega arith)
-  ];
-  rest = λ k above. other k (λ e. omega arith) ∙ j.rest k (omega arith);
-  grew = λ t. ⊎_elim
-      (λ old. let g = j.grew old in (g.0, (let low = g.1 in omega arith), λ e. g.2 (sym (other g.0 (let low = g.1 in λ s. omega arith)) ∙ e)))
-      (λ apart. (place, omega arith, λ e. apart (sym (get_or-set_same now place v 0 lt) ∙ e ∙ sym (j.rest place (omega arith)))))
-      (is.0 t);
-  same = λ f k below. elim (cases_eq k place) as (λ _. get_or new k 0 ≡ get_or mine k 0) [
-    | inl here ↦ ap (λ n. get_or new n 0) here ∙ get_or-set_same now place v 0 lt ∙ still f ∙ j.rest place (omega arith) ∙ ap (λ n. get_or mine n 0) (sym here)
-    | inr apart ↦ other k apart ∙ j.same (not_before f) k (omega arith)
-  ];
-}
-  where
-    v : ℕ
-    v = bit_or (get_or now place 0) (get_or theirs place 0)
-
-    new : List ℕ
-    new = set now place v
-
-    other : (k : ℕ) → (k ≡ place → ⊥) → get_or new k 0 ≡ get_or now k 0
-    other k apart = get_or-set_other now place k v 0 apart
-
-    at_place : get_or new place 0 ≡ bit_or (get_or mine place 0) (get_or theirs place 0)
-    at_place = get_or-set_same now place v 0 lt ∙ ap (λ w. bit_or w (get_or theirs place 0)) (j.rest place (omega arith))
-
-    still : more ≡ false → v ≡ get_or now place 0
-    still f = elim (cases_eq v (get_or now place 0)) [ inl same ↦ same | inr apart ↦ absurd (true≢false (sym (is.1 (inr apart)) ∙ f)) ]
-
-    not_before : more ≡ false → added ≡ false
-    not_before f = elim (cases_Bool added) [ inl t ↦ absurd (true≢false (sym (is.1 (inl t)) ∙ f)) | inr e ↦ e ]
-
--- a bit of two joined words
-either : (a b r : ℕ) → eqb (bit_at (bit_or a b) r) 1 ≡ true → (eqb (bit_at a r) 1 ≡ true) ⊎ (eqb (bit_at b r) 1 ≡ true)
-either a b r t =
-    let one : bit_at (bit_or a b) r ≡ 1 = eqb-true (bit_at (bit_or a b) r) 1 t in
-    let most = bit_at_or a b r in
-    let x : ℕ = bit_at a r in
-    let y : ℕ = bit_at b r in
-    elim (cases_eq x 1) [
-      | inl yes_x ↦ inl (eq-eqb x 1 yes_x)
-      | inr no_x ↦ inr (eq-eqb y 1 (omega (arith, bit_at-lt a r, bit_at-lt b r)))
-    ]
-
-from_first : (a b r : ℕ) → eqb (bit_at a r) 1 ≡ true → eqb (bit_at (bit_or a b) r) 1 ≡ true
-from_first a b r t = (let one = eqb-true (bit_at a r) 1 t in eq-eqb (bit_at (bit_or a b) r) 1 (omega (arith, bit_at_or a b r, bit_at-lt b r)))
-
-from_second : (a b r : ℕ) → eqb (bit_at b r) 1 ≡ true → eqb (bit_at (bit_or a b) r) 1 ≡ true
-from_second a b r t = (let one = eqb-true (bit_at b r) 1 t in eq-eqb (bit_at (bit_or a b) r) 1 (omega (arith, bit_at_or a b r, bit_at-lt a r)))
-
-found_below : (p : ℕ → Bool) (n : ℕ) → ((r : ℕ) × (r < n) × (p r ≡ true)) ⊎ ((r : ℕ) → r < n → p r ≡ false)
-found_below p zero = inr (λ r lt. absurd (omega arith))
-found_below p (suc n) = by (found_below p n) (cases_Bool (p n))
-  where
-    by : ((r : ℕ) × (r < n) × (p r ≡ true)) ⊎ ((r : ℕ) → r < n → p r ≡ false) → (p n ≡ true) ⊎ (p n ≡ false) → ((r : ℕ) × (r < suc n) × (p r ≡ true)) ⊎ ((r : ℕ) → r < suc n → p r ≡ false)
-    by (inl f) here = inl (f.0, (let lt = f.1 in omega arith), f.2)
-    by (inr none) (inl t) = inl (n, omega arith, t)
-    by (inr none) (inr e) = inr (λ r lt. elim (cases_eq r n) as (λ _. p r ≡ false) [ inl same ↦ ap p same ∙ e | inr apart ↦ none r (omega arith) ])
-
--- one of them has a bit that the other lacks, where the joined word is another one
-new_bit : (a b : ℕ) → a < 2 ^ 64 → b < 2 ^ 64 → (bit_or a b ≡ a → ⊥) → (r : ℕ) × (r < 64) × (eqb (bit_at b r) 1 ≡ true) × (eqb (bit_at a r) 1 ≡ false)
-new_bit a b fits all apart =
-    let p : ℕ → Bool = λ r. eqb (bit_at b r) 1 && not (eqb (bit_at a r) 1) in
-    elim (found_below p 64) [
-      | inl f ↦ (let both = and_parts (eqb (bit_at b f.0) 1) (not (eqb (bit_at a f.0) 1)) f.2 in (f.0, f.1, both.0, not-true (eqb (bit_at a f.0) 1) both.1))
-      | inr none ↦ absurd (apart (same_from_bits (bit_or a b) a (λ r. elim (cases_lt r 64) as (λ _. bit_at (bit_or a b) r ≡ bit_at a r) [
-        | inl lt ↦ alike r (none r lt)
-        | inr past ↦ omega (arith, bit_at_or a b r, bit_at_above a 64 r fits past, bit_at_above b 64 r all past)
-      ])))
-    ]
-  where
-    alike : (r : ℕ) → (eqb (bit_at b r) 1 && not (eqb (bit_at a r) 1)) ≡ false → bit_at (bit_or a b) r ≡ bit_at a r
-    alike r e =
-        let x : ℕ = bit_at a r in
-        let y : ℕ = bit_at b r in
-        elim (cases_eq x 1) as (λ _. bit_at (bit_or a b) r ≡ x) [
-          | inl one ↦ omega (arith, bit_at_or a b r, bit_at-lt b r)
-          | inr other ↦ elim (cases_eq y 1) as (λ _. bit_at (bit_or a b) r ≡ x) [
-            | inl one ↦ absurd (true≢false (sym (and_from (eqb y 1) (not (eqb x 1)) (eq-eqb y 1 one) (ap not (ne_eqb x 1 other))) ∙ e))
-            | inr none ↦ omega (arith, bit_at_or a b r, bit_at-lt a r, bit_at-lt b r)
-          ]
-        ]
-
-module _ (mine theirs now : List ℕ) (place : ℕ) (added : Bool) (j : IsJoined mine theirs now place added) (all : length mine ≤ place) (long : length theirs ≡ length mine) where
-  or_at : (n : ℕ) → n < 64 * length mine → get_or now (n / 64) 0 ≡ bit_or (get_or mine (n / 64) 0) (get_or theirs (n / 64) 0)
-  or_at n lt = j.done (n / 64) (omega arith)
-
-  bit_now : (n : ℕ) → n < 64 * length mine → has_bit now n ≡ eqb (bit_at (bit_or (get_or mine (n / 64) 0) (get_or theirs (n / 64) 0)) (n % 64)) 1
-  bit_now n lt = ap (λ w. eqb (bit_at w (n % 64)) 1) (or_at n lt)
-
-  there_now : (n : ℕ) → n < 64 * length mine → has_bit now n ≡ true → Contains (numbers now) n
-  there_now n lt t = number_there now n (omega (arith, j.as_many)) t
-
-  pub join_numbers : AreNumbers (λ n. Contains (numbers mine) n ⊎ Contains (numbers theirs) n) (numbers now)
-  join_numbers = record { rising = numbers_rise now; each = each_now; listed = listed_now }
-    where
-      each_now : (n : ℕ) → Contains (numbers now) n → Contains (numbers mine) n ⊎ Contains (numbers theirs) n
-      each_now n c =
-          let s = number_set now n c in
-          let lt : n < 64 * length mine = omega (arith, s.0, j.as_many) in
-          ⊎_elim
-          (λ t. inl (number_there mine n lt t))
-          (λ t. inr (number_there theirs n (omega arith) t))
-          (either (get_or mine (n / 64) 0) (get_or theirs (n / 64) 0) (n % 64) (sym (bit_now n lt) ∙ s.1))
-
-      listed_now : (n : ℕ) → Contains (numbers mine) n ⊎ Contains (numbers theirs) n → Contains (numbers now) n
-      listed_now n (inl c) = (let s = number_set mine n c in there_now n s.0 (bit_now n s.0 ∙ from_first (get_or mine (n / 64) 0) (get_or theirs (n / 64) 0) (n % 64) s.1))
-      listed_now n (inr c) =
-          let s = number_set theirs n c in
-          let lt : n < 64 * length mine = omega (arith, s.0) in
-          there_now n lt (bit_now n lt ∙ from_second (get_or mine (n / 64) 0) (get_or theirs (n / 64) 0) (n % 64) s.1)
-
-  pub join_added : IsTrue added ↔ ((n : ℕ) × Contains (numbers theirs) n × (Contains (numbers mine) n → ⊥))
-  join_added = (
-    λ t.
-        let g = j.grew t in
-        let k : ℕ = g.0 in
-        let inside : k < length mine = omega (arith, k_inside k g.2) in
-        let joined : get_or now k 0 ≡ bit_or (get_or mine k 0) (get_or theirs k 0) = j.done k g.1 in
-        let f = new_bit (get_or mine k 0) (get_or theirs k 0) (j.fits k) (j.others_fit k) (λ e. g.2 (joined ∙ e)) in (
-          64 * k + f.0,
-          number_there theirs (64 * k + f.0) (omega (arith, f.1)) (at_row theirs k f.0 f.1 ∙ f.2),
-          λ c. true≢false (sym (number_set mine (64 * k + f.0) c).1 ∙ at_row mine k f.0 f.1 ∙ f.3),
-        ),
-    λ h. elim (cases_Bool added) [
-      | inl t ↦ t
-      | inr e ↦ absurd (kept e h.0 h.1 h.2)
-    ],
-  )
-    where
-      k_inside : (k : ℕ) → (get_or now k 0 ≡ get_or mine k 0 → ⊥) → k < length mine
-      k_inside k apart = elim (cases_lt k (length mine)) [
-        | inl lt ↦ lt
-        | inr past ↦ absurd (apart (get_or_past now k 0 (omega (arith, j.as_many)) ∙ sym (get_or_past mine k 0 past)))
-      ]
-
-      kept : added ≡ false → (n : ℕ) → Contains (numbers theirs) n → (Contains (numbers mine) n → ⊥) → ⊥
-      kept e n c apart =
-          let s = number_set theirs n c in
-          let lt : n < 64 * length mine = omega (arith, s.0) in
-          let t : has_bit now n ≡ true = bit_now n lt ∙ from_second (get_or mine (n / 64) 0) (get_or theirs (n / 64) 0) (n % 64) s.1 in
-          let same : get_or now (n / 64) 0 ≡ get_or mine (n / 64) 0 = j.same e (n / 64) (omega arith) in
-          apart (number_there mine n lt (ap (λ w. eqb (bit_at w (n % 64)) 1) (sym same) ∙ t))
 
 -- ---- the numbers in order
 

@@ -1,209 +1,367 @@
--- A row of planes that are laid out in any order: what it becomes where a number is added.
-use Rattle.std.proofs.Common.{◌≡◌, ◌⊎◌, inl, inr, ℕ, zero, suc, ◌+◌, ◌-◌, ◌<◌, Bool, List, [], ◌∷◌, ◌++◌, length, get_or, set, replicate, Contains, ◌↔◌, Option, Some, None, Result, IfOk, OnErr, Ok, Err, slice_get, refl, sym, subst, ap, ◌∙◌, arith, length-set, get_or-set_same, get_or-set_other}
-use Rattle.std.specs.Prelude.{nat_eq, IsTrue}
+-- A row of sets that share their bits: what it becomes where a set is laid out, kept or changed.
+use Rattle.std.proofs.Common.{◌≡◌, ◌⊎◌, inl, inr, ℕ, ◌+◌, ◌-◌, ◌*◌, ◌^◌, ◌<◌, ◌≤◌, Bool, true, false, List, [], ◌++◌, length, get_or, set, take, drop, replicate, Contains, ◌↔◌, refl, sym, subst, ap, ◌∙◌, arith, append-nil, length-append, length-set, get_or-set_same, get_or-set_other}
+use Rattle.std.specs.Prelude.{nat_eq, nat_lt, IsTrue}
 use Rattle.std.specs.Bool.{MatchBool}
 use Rattle.std.specs.List.{All}
-use Rattle.std.proofs.lemmas.Bool.{cases_eq, cases_lt, cond-true, cond-false, eq-eqb, ne_eqb}
-use Rattle.std.proofs.lemmas.List.{ext_get_or, length-replicate, get_or-replicate}
+use Rattle.std.proofs.lemmas.Bool.{cases_eq, cases_lt, cond-true, cond-false, eq-eqb, ne_eqb, lt-ltb, le-ltb, false≢true}
+use Rattle.std.proofs.lemmas.List.{ext_get_or, get_or_default, length-drop, length-replicate, length-take-le, drop-append-le, take-append-le, take_all}
 use Rattle.std.proofs.lemmas.List.FromFn.{length-map-range_with_len, get_or-map-range_with_len}
-use Rattle.std.proofs.lemmas.List.Elements.{All-replicate}
-use Rattle.std.proofs.lemmas.Option.{none-some, same_Some, slice_get_past, slice_get_within, slice_get-get_or, get_or_from_slice_get}
-use Rattle.plex_num.specs.declared.seq.Memory.{Memory}
-use Rattle.plex_num.proofs.Lists.{slice_get-append_left, slice_get-append_right, slice_get-append_seam}
-use Rattle.fact_rows.specs.Numbers.{AreNumbers}
+use Rattle.std.proofs.lemmas.List.Elements.{All-get_or, All-replicate, All-set, All-weaker}
+use Rattle.std.proofs.Math.Seq.{drop-append_seam}
+use Rattle.fact_rows.specs.declared.sets.Sets.{Sets}
+use Rattle.fact_rows.specs.declared.planes.Planes.{Planes}
+use Rattle.fact_rows.specs.Numbers.{AreNumbers, numbers}
 use Rattle.fact_rows.specs.Grids.{IsSetAt}
-use Rattle.fact_rows.specs.Spread.{Laid, shown_at, row_of, IsLaidAt, IsNotLaid, IsMore, IsMoreAt, IsLaidOut}
+use Rattle.fact_rows.specs.Spread.{words_at, set_in, shown_at, row_of, AreWordsAt, HasSet, IsAlike, IsGrown, IsLonger, IsPassed, IsSound, IsWordsOf}
+use Rattle.fact_rows.proofs.Numbering.{numbers_zero}
 
--- ---- lists
+-- ---- the words of a set
 
-get_set_same : {A : Type 0} (xs : List A) (k : ℕ) (x : A) → k < length xs → slice_get (set xs k x) k ≡ Some x
-get_set_same xs k x lt = slice_get-get_or (set xs k x) k x (let long = length-set xs k x in omega (arith, lt, long)) ∙ ap Some (get_or-set_same xs k x x lt)
+words_before : (words rest : List ℕ) (width o : ℕ) → o + width ≤ length words → words_at (words ++ rest) width o ≡ words_at words width o
+words_before words rest width o le =
+    ap (take width) (drop-append-le o words rest (omega arith)) ∙ take-append-le width (drop o words) rest (let long = length-drop o words in omega (arith, le, long))
 
-get_set_other : {A : Type 0} (xs : List A) (k j : ℕ) (x : A) → (j ≡ k → ⊥) → slice_get (set xs k x) j ≡ slice_get xs j
-get_set_other [] k j x apart = refl
-get_set_other (y ∷ xs) zero zero x apart = absurd (apart refl)
-get_set_other (y ∷ xs) zero (suc j) x apart = refl
-get_set_other (y ∷ xs) (suc k) zero x apart = refl
-get_set_other (y ∷ xs) (suc k) (suc j) x apart = get_set_other xs k j x (λ e. apart (ap suc e))
+words_last : (words own : List ℕ) (width : ℕ) → length own ≡ width → words_at (words ++ own) width (length words) ≡ own
+words_last words own width long = ap (take width) (drop-append_seam words own) ∙ take_all width own (omega arith)
 
-only_one : {A : Type 0} (x y : A) (m : ℕ) → slice_get (x ∷ []) m ≡ Some y → x ≡ y
-only_one x y zero there = same_Some x y there
-only_one x y (suc m) there = absurd (none-some y there)
+words_long : (words : List ℕ) (width o : ℕ) → o + width ≤ length words → length (words_at words width o) ≡ width
+words_long words width o le = length-take-le width (drop o words) (let long = length-drop o words in omega (arith, le, long))
 
--- ---- what a place shows
+-- a list of which all items were written
+pub written_over : (count : ℕ) (old new : List ℕ) → count ≡ length old → length new ≡ length old → take count (new ++ drop (length new) old) ≡ new
+written_over count old new long same = take-append-le count new (drop (length new) old) (omega (arith, long, same)) ∙ take_all count new (omega (arith, long, same))
 
-own_shown : (i : ℕ) (o : Option Laid) (l : Laid) → o ≡ Some l → l.0 ≡ i → shown_at i o ≡ l.1
-own_shown i o l there own = ap (shown_at i) there ∙ cond-true (nat_eq l.0 i) l.1 [] (eq-eqb l.0 i own)
+-- a set is kept behind the others
+pub set_kept : (s new : Sets) (n : ℕ) (own : List ℕ) → length own ≡ s.width → new.first ≡ s.first → new.width ≡ s.width → n ≡ s.first + length s.words.items → new.words.items ≡ s.words.items ++ own → HasSet new n own
+set_kept s new n own long first width is words = record {
+  from = omega (arith, first, is);
+  within = omega (arith, first, width, is, long, ap length words, length-append s.words.items own);
+  is =
+      (let place : n - new.first ≡ length s.words.items = omega (arith, first, is) in
+      sym ((λ i. words_at (words i) (width i) (place i)) ∙ words_last s.words.items own s.width long));
+}
 
-other_shown : (i : ℕ) (o : Option Laid) → ((l : Laid) → o ≡ Some l → l.0 ≡ i → ⊥) → shown_at i o ≡ []
-other_shown i None apart = refl
-other_shown i (Some l) apart = cond-false (nat_eq l.0 i) l.1 [] (ne_eqb l.0 i (apart l refl))
+pub set_longer : (s new : Sets) (own : List ℕ) → new.first ≡ s.first → new.width ≡ s.width → new.words.items ≡ s.words.items ++ own → IsLonger s new
+set_longer s new own first width words = record { same_first = first; same_width = width; rest = own; all = words }
+
+pub as_long : (words : List ℕ) (first width : ℕ) → IsGrown words first width words first width
+as_long words first width = record { same_first = refl; same_width = refl; rest = []; all = sym (append-nil words) }
+
+-- a number that has the words of a set is its number
+pub set_found : (s : Sets) (n : ℕ) (kept own : List ℕ) → n + s.width ≤ s.first + length s.words.items → IsWordsOf s.words.items s.first s.width n kept → kept ≡ own → HasSet s n own
+set_found s n kept own within h same = record { from = h.from; within = within; is = sym same ∙ h.is }
+
+-- ---- the set of a number
+
+set_below : (words : List ℕ) (first width n : ℕ) → n < first → set_in words first width n ≡ []
+set_below words first width n lt = cond-true (nat_lt n first) [] (numbers (words_at words width (n - first))) (lt-ltb n first lt)
+
+set_there : (words : List ℕ) (first width n : ℕ) → first ≤ n → set_in words first width n ≡ numbers (words_at words width (n - first))
+set_there words first width n le = cond-false (nat_lt n first) [] (numbers (words_at words width (n - first))) (le-ltb n first le)
+
+set_before : (words rest : List ℕ) (first width n : ℕ) → n + width ≤ first + length words → set_in (words ++ rest) first width n ≡ set_in words first width n
+set_before words rest first width n le = elim (cases_lt n first) as (λ _. set_in (words ++ rest) first width n ≡ set_in words first width n) [
+  | inl lt ↦ set_below (words ++ rest) first width n lt ∙ sym (set_below words first width n lt)
+  | inr ge ↦ set_there (words ++ rest) first width n ge ∙ ap numbers (words_before words rest width (n - first) (omega arith)) ∙ sym (set_there words first width n ge)
+]
 
 -- ---- the row
 
-module _ (laid : List Laid) (places : List ℕ) where
-  pub row_long : length (row_of laid places) ≡ length places
-  unfolding row_of
-  row_long = length-map-range_with_len (λ i. shown_at i (slice_get laid (get_or places i 0))) 0 (length places)
+-- the set that is kept of the i-th
+abbrev kept_at : Planes → ℕ → List ℕ
+kept_at p i = set_in p.sets.words.items p.sets.first p.sets.width (get_or p.set_numbers i 0)
 
-  row_at : (i : ℕ) → i < length places → get_or (row_of laid places) i [] ≡ shown_at i (slice_get laid (get_or places i 0))
-  unfolding row_of
-  row_at i lt = get_or-map-range_with_len (λ j. shown_at j (slice_get laid (get_or places j 0))) 0 (length places) i i [] lt (omega arith)
+shown_own : (p : Planes) (i : ℕ) → i ≡ p.own → shown_at p i ≡ numbers p.laid.items
+shown_own p i own = cond-true (nat_eq i p.own) (numbers p.laid.items) (kept_at p i) (eq-eqb i p.own own)
 
-  -- what is read at the place of a plane
-  pub laid_within : (i k : ℕ) → IsLaidAt laid places i k → k < length laid
-  laid_within i k h = slice_get_within laid k h.own h.there
+shown_kept : (p : Planes) (i : ℕ) → (i ≡ p.own → ⊥) → shown_at p i ≡ kept_at p i
+shown_kept p i apart = cond-false (nat_eq i p.own) (numbers p.laid.items) (kept_at p i) (ne_eqb i p.own apart)
 
-  own_read : (i k : ℕ) → i < length places → (h : IsLaidAt laid places i k) → h.own.1 ≡ get_or (row_of laid places) i []
-  own_read i k lt h = sym (own_shown i (slice_get laid (get_or places i 0)) h.own (ap (slice_get laid) (sym h.place) ∙ h.there) h.owner) ∙ sym (row_at i lt)
+row_long : (p : Planes) → length (row_of p) ≡ length p.set_numbers
+unfolding row_of
+row_long p = length-map-range_with_len (shown_at p) 0 (length p.set_numbers)
 
-  pub laid_read : (i k : ℕ) (l : Laid) → i < length places → IsLaidAt laid places i k → (get_or laid k l).1 ≡ get_or (row_of laid places) i []
-  laid_read i k l lt h = ap (λ (a : Laid). a.1) (get_or_from_slice_get laid k h.own l h.there) ∙ own_read i k lt h
+row_at : (p : Planes) (i : ℕ) → i < length p.set_numbers → get_or (row_of p) i [] ≡ shown_at p i
+unfolding row_of
+row_at p i lt = get_or-map-range_with_len (shown_at p) 0 (length p.set_numbers) i i [] lt (omega arith)
 
-  pub none_read : (i : ℕ) → i < length places → IsNotLaid laid places i → [] ≡ get_or (row_of laid places) i []
-  none_read i lt h = sym (other_shown i (slice_get laid (get_or places i 0)) h.other) ∙ sym (row_at i lt)
-
--- nothing is laid out
-row_empty : (places : List ℕ) → row_of [] places ≡ replicate (length places) []
-row_empty places =
-    ext_get_or [] (row_of [] places) (replicate (length places) []) (row_long [] places ∙ sym (length-replicate {A = List ℕ} (length places) []))
-    (λ i lt.
-    let inside : i < length places = (let same = row_long [] places in omega (arith, same, lt)) in
-    row_at [] places i inside ∙ ap (shown_at i) (slice_get_past {X = Laid} [] (get_or places i 0) (omega arith))
-    ∙ sym (get_or-replicate (length places) i [] [] inside))
-
-pub row_none : (laid : List Laid) (places : List ℕ) → laid ≡ [] → All (λ ns. ns ≡ []) (row_of laid places)
-row_none laid places none = subst (λ l. All (λ ns. ns ≡ []) (row_of l places)) (sym none) (subst (All (λ ns. ns ≡ [])) (sym (row_empty places)) (All-replicate (λ ns. ns ≡ []) (length places) [] refl))
-
--- ---- one plane of the row becomes another
-
-row_set : (laid new : List Laid) (places new_places : List ℕ) (i : ℕ) (list : List ℕ) → i < length places → length new_places ≡ length places
-    → shown_at i (slice_get new (get_or new_places i 0)) ≡ list
-    → ((j : ℕ) → j < length places → (j ≡ i → ⊥) → shown_at j (slice_get new (get_or new_places j 0)) ≡ shown_at j (slice_get laid (get_or places j 0)))
-    → row_of new new_places ≡ set (row_of laid places) i list
-row_set laid new places new_places i list lt long own others =
-    ext_get_or [] (row_of new new_places) (set (row_of laid places) i list) (row_long new new_places ∙ long ∙ sym (length-set (row_of laid places) i list ∙ row_long laid places)) each
+row_same : (old new : Planes) → length new.set_numbers ≡ length old.set_numbers → ((j : ℕ) → j < length old.set_numbers → shown_at new j ≡ shown_at old j) → row_of new ≡ row_of old
+row_same old new long each = ext_get_or [] (row_of new) (row_of old) (row_long new ∙ long ∙ sym (row_long old)) at
   where
-    each : (j : ℕ) → j < length (row_of new new_places) → get_or (row_of new new_places) j [] ≡ get_or (set (row_of laid places) i list) j []
-    each j below =
-        let same = row_long new new_places in
-        let inside : j < length new_places = omega (arith, same, below) in
-        let before : j < length places = omega (arith, long, inside) in
-        let at = row_at new new_places j inside in
-        elim (cases_eq j i) as (λ _. get_or (row_of new new_places) j [] ≡ get_or (set (row_of laid places) i list) j []) [
-          | inl is ↦
-              (at ∙ subst (λ n. shown_at n (slice_get new (get_or new_places n 0)) ≡ list) (sym is) own
-              ∙ sym (ap (λ n. get_or (set (row_of laid places) i list) n []) is ∙ get_or-set_same (row_of laid places) i list [] (let whole = row_long laid places in omega (arith, whole, lt))))
-          | inr apart ↦ (at ∙ others j before apart ∙ sym (row_at laid places j before) ∙ sym (get_or-set_other (row_of laid places) i j list [] apart))
-        ]
+    at : (j : ℕ) → j < length (row_of new) → get_or (row_of new) j [] ≡ get_or (row_of old) j []
+    at j lt =
+        let whole = row_long new in
+        let inside : j < length new.set_numbers = omega (arith, whole, lt) in
+        let before : j < length old.set_numbers = omega (arith, long, inside) in
+        row_at new j inside ∙ each j before ∙ sym (row_at old j before)
 
-is_set : (row new : List (List ℕ)) (i n : ℕ) (added : Bool) (before after : List ℕ) → i < length row → before ≡ get_or row i [] → IsMore before n added after → new ≡ set row i after → IsSetAt row i n added new
-is_set row new i n added before after lt was more is = record {
-  within = lt;
-  list = after;
-  is = is;
-  numbers = subst (λ o. AreNumbers (λ m. (m ≡ n) ⊎ Contains o m) after) was more.numbers;
-  fresh = subst (λ o. IsTrue added ↔ (Contains o n → ⊥)) was more.fresh;
-  counted = subst (λ o. MatchBool added (length after ≡ length o + 1) (after ≡ o)) was more.counted;
-}
+-- the number of a set is that of one that stands, or stood there
+in_list : (p : Planes) → IsSound p → (i : ℕ) → i < length p.set_numbers → get_or p.set_numbers i 0 + p.sets.width ≤ p.sets.first + length p.sets.words.items
+in_list p sound i lt = All-get_or (λ n. n + p.sets.width ≤ p.sets.first + length p.sets.words.items) p.set_numbers i 0 lt sound.within
 
--- a number more in a plane that is laid out
-pub row_more : (laid new : List Laid) (places : List ℕ) (i k n : ℕ) (added : Bool) → i < length places → IsLaidAt laid places i k → IsMoreAt laid k n added new
-    → IsSetAt (row_of laid places) i n added (row_of new places)
-row_more laid new places i k n added lt h m =
-    is_set (row_of laid places) (row_of new places) i n added m.before.1 m.after.1 inside was m.more
-    (row_set laid new places places i m.after.1 lt refl own others)
-  where
-    inside : i < length (row_of laid places)
-    inside = (let long = row_long laid places in omega (arith, long, lt))
+pub number_inside : (p : Planes) (i n : ℕ) → IsSound p → i < length p.set_numbers → n ≡ get_or p.set_numbers i 0 → n + p.sets.width ≤ p.sets.first + length p.sets.words.items
+number_inside p i n sound lt is =
+    subst (λ m. m + p.sets.width ≤ p.sets.first + length p.sets.words.items) (sym is) (in_list p sound i lt)
 
-    same : h.own ≡ m.before
-    same = same_Some h.own m.before (sym h.there ∙ m.there)
+-- ---- what is read
 
-    still : m.after.0 ≡ i
-    still = m.owner ∙ ap (λ (l : Laid). l.0) (sym same) ∙ h.owner
+pub open_words : (p : Planes) (i : ℕ) → IsSound p → i < length p.set_numbers → i ≡ p.own → AreWordsAt p i p.laid.items
+open_words p i sound lt own = record { long = sound.laid_so; is = sym (row_at p i lt ∙ shown_own p i own) }
 
-    was : m.before.1 ≡ get_or (row_of laid places) i []
-    was = ap (λ (l : Laid). l.1) (sym same) ∙ own_read laid places i k lt h
+pub kept_words : (p : Planes) (i n : ℕ) (words : List ℕ) → IsSound p → i < length p.set_numbers → (i ≡ p.own → ⊥) → n ≡ get_or p.set_numbers i 0 → IsWordsOf p.sets.words.items p.sets.first p.sets.width n words → AreWordsAt p i words
+kept_words p i n words sound lt apart is h =
+    let from = h.from in
+    let inside = number_inside p i n sound lt is in
+    let read : get_or p.set_numbers i 0 ≡ n = sym is in
+    record {
+      long = ap length h.is ∙ words_long p.sets.words.items p.sets.width (n - p.sets.first) (omega (arith, from, inside));
+      is =
+          ap numbers h.is
+          ∙ sym (row_at p i lt ∙ shown_kept p i apart ∙ ap (set_in p.sets.words.items p.sets.first p.sets.width) read ∙ set_there p.sets.words.items p.sets.first p.sets.width n from);
+    }
 
-    now_there : slice_get new k ≡ Some m.after
-    now_there = ap (λ l. slice_get l k) m.is ∙ get_set_same laid k m.after (slice_get_within laid k h.own h.there)
+pub no_words : (p : Planes) (i n : ℕ) → i < length p.set_numbers → (i ≡ p.own → ⊥) → n ≡ get_or p.set_numbers i 0 → n < p.sets.first → [] ≡ get_or (row_of p) i []
+no_words p i n lt apart is below =
+    let read : get_or p.set_numbers i 0 ≡ n = sym is in
+    sym (row_at p i lt ∙ shown_kept p i apart ∙ ap (set_in p.sets.words.items p.sets.first p.sets.width) read ∙ set_below p.sets.words.items p.sets.first p.sets.width n below)
 
-    own : shown_at i (slice_get new (get_or places i 0)) ≡ m.after.1
-    own = own_shown i (slice_get new (get_or places i 0)) m.after (ap (slice_get new) (sym h.place) ∙ now_there) still
+pub words_blank : (p : Planes) (i : ℕ) (words : List ℕ) (b : Bool) → AreWordsAt p i words → (IsTrue b ↔ (numbers words ≡ [])) → IsTrue b ↔ (get_or (row_of p) i [] ≡ [])
+words_blank p i words b h are = subst (λ l. IsTrue b ↔ (l ≡ [])) h.is are
 
-    others : (j : ℕ) → j < length places → (j ≡ i → ⊥) → shown_at j (slice_get new (get_or places j 0)) ≡ shown_at j (slice_get laid (get_or places j 0))
-    others j below apart = elim (cases_eq (get_or places j 0) k) as (λ _. shown_at j (slice_get new (get_or places j 0)) ≡ shown_at j (slice_get laid (get_or places j 0))) [
-      | inl at ↦
-          (other_shown j (slice_get new (get_or places j 0))
-          (λ l there own. apart (sym own ∙ ap (λ (a : Laid). a.0) (same_Some l m.after (sym there ∙ ap (slice_get new) at ∙ now_there)) ∙ still))
-          ∙ sym (other_shown j (slice_get laid (get_or places j 0))
-          (λ l there own. apart (sym own ∙ ap (λ (a : Laid). a.0) (same_Some l h.own (sym there ∙ ap (slice_get laid) at ∙ h.there)) ∙ h.owner))))
-      | inr off ↦ ap (shown_at j) (ap (λ l. slice_get l (get_or places j 0)) m.is ∙ get_set_other laid k (get_or places j 0) m.after off)
-    ]
+pub none_blank : (p : Planes) (i : ℕ) → [] ≡ get_or (row_of p) i [] → IsTrue true ↔ (get_or (row_of p) i [] ≡ [])
+none_blank p i none = (λ t. sym none, λ e. refl)
 
--- a plane is laid out with one number
-pub row_laid : (laid new : List Laid) (places new_places : List ℕ) (i n : ℕ) (added : Bool) → i < length places → IsNotLaid laid places i
-    → IsLaidOut laid places i n added new new_places → IsSetAt (row_of laid places) i n added (row_of new new_places)
-row_laid laid new places new_places i n added lt h m =
-    is_set (row_of laid places) (row_of new new_places) i n added [] m.own.1 inside (none_read laid places i lt h) m.more
-    (row_set laid new places new_places i m.own.1 lt (ap length m.places_so ∙ length-set places i (length laid)) own others)
-  where
-    inside : i < length (row_of laid places)
-    inside = (let long = row_long laid places in omega (arith, long, lt))
+pub words_fit : (p : Planes) (i : ℕ) (words : List ℕ) → IsSound p → AreWordsAt p i words → 64 * length words ≤ 2 ^ 32
+words_fit p i words sound h = subst (λ n. 64 * n ≤ 2 ^ 32) (sym h.long) sound.fits
 
-    own : shown_at i (slice_get new (get_or new_places i 0)) ≡ m.own.1
-    own = own_shown i (slice_get new (get_or new_places i 0)) m.own
-        (ap (slice_get new) (ap (λ ps. get_or ps i 0) m.places_so ∙ get_or-set_same places i (length laid) 0 lt)
-        ∙ ap (λ l. slice_get l (length laid)) m.laid_so ∙ slice_get-append_seam laid m.own []) m.owner
+-- ---- the same row, kept otherwise
 
-    at_other : (j k : ℕ) → (j ≡ i → ⊥) → shown_at j (slice_get (laid ++ m.own ∷ []) k) ≡ shown_at j (slice_get laid k)
-    at_other j k apart = elim (cases_lt k (length laid)) as (λ _. shown_at j (slice_get (laid ++ m.own ∷ []) k) ≡ shown_at j (slice_get laid k)) [
-      | inl before ↦ ap (shown_at j) (slice_get-append_left laid (m.own ∷ []) k before)
-      | inr past ↦
-          (other_shown j (slice_get (laid ++ m.own ∷ []) k)
-          (λ l there own. apart (sym own ∙ ap (λ (a : Laid). a.0) (sym (only_one m.own l (k - length laid) (sym (slice_get-append_right laid (m.own ∷ []) k past) ∙ there))) ∙ m.owner))
-          ∙ sym (ap (shown_at j) (slice_get_past laid k past)))
-    ]
+pub alike_itself : (p : Planes) → IsSound p → IsAlike p p
+alike_itself p sound = record { sound = sound; same = refl; long = refl; width = refl }
 
-    others : (j : ℕ) → j < length places → (j ≡ i → ⊥) → shown_at j (slice_get new (get_or new_places j 0)) ≡ shown_at j (slice_get laid (get_or places j 0))
-    others j below apart =
-        ap (λ k. shown_at j (slice_get new k)) (ap (λ ps. get_or ps j 0) m.places_so ∙ get_or-set_other places i j (length laid) 0 apart)
-        ∙ ap (λ l. shown_at j (slice_get l (get_or places j 0))) m.laid_so
-        ∙ at_other j (get_or places j 0) apart
+pub alike_then : (a b c : Planes) → IsAlike a b → IsAlike b c → IsAlike a c
+alike_then a b c h k = record { sound = k.sound; same = k.same ∙ h.same; long = k.long ∙ h.long; width = k.width ∙ h.width }
 
--- what becomes of a plane that is laid out
-pub more_at : (laid : List Laid) (k n : ℕ) (added : Bool) (l : Laid) (plane : List ℕ) → k < length laid → l ≡ get_or laid k l
-    → AreNumbers (λ m. (m ≡ n) ⊎ Contains l.1 m) plane → (IsTrue added ↔ (Contains l.1 n → ⊥)) → MatchBool added (length plane ≡ length l.1 + 1) (plane ≡ l.1)
-    → IsMoreAt laid k n added (set laid k (l.0, plane))
-more_at laid k n added l plane lt is numbers fresh counted = record {
-  before = l;
-  there = slice_get-get_or laid k l lt ∙ ap Some (sym is);
-  after = (l.0, plane);
-  owner = refl;
-  more = record { numbers = numbers; fresh = fresh; counted = counted };
-  is = refl;
-}
+module _ (old new : Planes) (sound : IsSound old) (longer : IsLonger old.sets new.sets) where
+  abbrev InOld : ℕ → Type 0
+  InOld n = n + old.sets.width ≤ old.sets.first + length old.sets.words.items
 
--- what a plane is laid out with
-pub laid_out : (laid new : List Laid) (places new_places : List ℕ) (i n place : ℕ) (added : Bool) (first plane : List ℕ) → first ≡ []
-    → AreNumbers (λ m. (m ≡ n) ⊎ Contains first m) plane → (IsTrue added ↔ (Contains first n → ⊥)) → MatchBool added (length plane ≡ length first + 1) (plane ≡ first)
-    → new ≡ laid ++ (i, plane) ∷ [] → new_places ≡ set places i place → place ≡ length laid → IsLaidOut laid places i n added new new_places
-laid_out laid new places new_places i n place added first plane none numbers fresh counted laid_so places_so last = record {
-  own = (i, plane);
-  owner = refl;
-  more = subst (λ o. IsMore o n added plane) none (record { numbers = numbers; fresh = fresh; counted = counted });
-  laid_so = laid_so;
-  places_so = places_so ∙ ap (set places i) last;
-}
+  abbrev InNew : ℕ → Type 0
+  InNew n = n + new.sets.width ≤ new.sets.first + length new.sets.words.items
 
--- what a call that adds a number leaves
-pub more_ok : (laid new : List Laid) (places new_places : List ℕ) (i n : ℕ) (r : Result Bool Memory) → i < length places → IsNotLaid laid places i
-    → IfOk r (λ added. IsLaidOut laid places i n added new new_places) → IfOk r (λ added. IsSetAt (row_of laid places) i n added (row_of new new_places))
-more_ok laid new places new_places i n (Ok added) lt h m = row_laid laid new places new_places i n added lt h m
-more_ok laid new places new_places i n (Err e) lt h u = u
+  still_inside : (n : ℕ) → InOld n → InNew n
+  still_inside n h = omega (arith, h, longer.same_first, longer.same_width, ap length longer.all, length-append old.sets.words.items longer.rest)
 
-pub more_long : (laid new : List Laid) (places new_places : List ℕ) (i n : ℕ) (r : Result Bool Memory)
-    → IfOk r (λ added. IsLaidOut laid places i n added new new_places) → OnErr r (new_places ≡ places) → length new_places ≡ length places
-more_long laid new places new_places i n (Ok added) m u = ap length m.places_so ∙ length-set places i (length laid)
-more_long laid new places new_places i n (Err e) u same = ap length same
+  all_inside : All InNew old.set_numbers
+  all_inside = All-weaker InOld InNew still_inside old.set_numbers sound.within
+
+  still_set : (n : ℕ) → InOld n → set_in new.sets.words.items new.sets.first new.sets.width n ≡ set_in old.sets.words.items old.sets.first old.sets.width n
+  still_set n h =
+      (λ i. set_in (longer.all i) (longer.same_first i) (longer.same_width i) n)
+      ∙ set_before old.sets.words.items longer.rest old.sets.first old.sets.width n h
+
+  -- other sets are kept beside those
+  pub longer_alike : new.set_numbers ≡ old.set_numbers → new.own ≡ old.own → new.laid.items ≡ old.laid.items → IsAlike old new
+  longer_alike numbers_so own_so open_so = record {
+    sound = record {
+      wide = omega (arith, longer.same_width, sound.wide);
+      fits = subst (λ n. 64 * n ≤ 2 ^ 32) (sym longer.same_width) sound.fits;
+      laid_so = ap length open_so ∙ sound.laid_so ∙ sym longer.same_width;
+      within = subst (All InNew) (sym numbers_so) all_inside;
+    };
+    same = row_same old new (ap length numbers_so) each;
+    long = ap length numbers_so;
+    width = longer.same_width;
+  }
+    where
+      each : (j : ℕ) → j < length old.set_numbers → shown_at new j ≡ shown_at old j
+      each j lt = elim (cases_eq j old.own) as (λ _. shown_at new j ≡ shown_at old j) [
+        | inl own ↦ shown_own new j (own ∙ sym own_so) ∙ ap numbers open_so ∙ sym (shown_own old j own)
+        | inr apart ↦
+            (shown_kept new j (λ e. apart (e ∙ own_so))
+            ∙ ap (λ l. set_in new.sets.words.items new.sets.first new.sets.width (get_or l j 0)) numbers_so
+            ∙ still_set (get_or old.set_numbers j 0) (in_list old sound j lt) ∙ sym (shown_kept old j apart))
+      ]
+
+  -- the set that was laid out is kept
+  pub away_alike : (n : ℕ) → old.own < length old.set_numbers → HasSet new.sets n old.laid.items → new.set_numbers ≡ set old.set_numbers old.own n
+      → length old.set_numbers ≤ new.own → new.laid.items ≡ old.laid.items → IsAlike old new
+  away_alike n inside has numbers_so past open_so = record {
+    sound = record {
+      wide = omega (arith, longer.same_width, sound.wide);
+      fits = subst (λ m. 64 * m ≤ 2 ^ 32) (sym longer.same_width) sound.fits;
+      laid_so = ap length open_so ∙ sound.laid_so ∙ sym longer.same_width;
+      within = subst (All InNew) (sym numbers_so) (All-set InNew old.set_numbers old.own n has.within all_inside);
+    };
+    same = row_same old new long_so each;
+    long = long_so;
+    width = longer.same_width;
+  }
+    where
+      long_so : length new.set_numbers ≡ length old.set_numbers
+      long_so = ap length numbers_so ∙ length-set old.set_numbers old.own n
+
+      each : (j : ℕ) → j < length old.set_numbers → shown_at new j ≡ shown_at old j
+      each j lt =
+          let out = shown_kept new j (λ e. omega (arith, e, lt, past)) in
+          elim (cases_eq j old.own) as (λ _. shown_at new j ≡ shown_at old j) [
+            | inl own ↦
+                (let read : get_or new.set_numbers j 0 ≡ n = (λ i. get_or (numbers_so i) (own i) 0) ∙ get_or-set_same old.set_numbers old.own n 0 inside in
+                out ∙ ap (set_in new.sets.words.items new.sets.first new.sets.width) read
+                ∙ set_there new.sets.words.items new.sets.first new.sets.width n has.from
+                ∙ ap numbers (sym has.is) ∙ sym (shown_own old j own))
+            | inr apart ↦
+                (let read : get_or new.set_numbers j 0 ≡ get_or old.set_numbers j 0 = ap (λ l. get_or l j 0) numbers_so ∙ get_or-set_other old.set_numbers old.own j n 0 apart in
+                out ∙ ap (set_in new.sets.words.items new.sets.first new.sets.width) read
+                ∙ still_set (get_or old.set_numbers j 0) (in_list old sound j lt) ∙ sym (shown_kept old j apart))
+          ]
+
+-- a set is laid out where none was
+module _ (old new : Planes) (i n : ℕ) (sound : IsSound old) (past : length old.set_numbers ≤ old.own) (lt : i < length old.set_numbers) (is : n ≡ get_or old.set_numbers i 0)
+    (sets_so : new.sets ≡ old.sets) (numbers_so : new.set_numbers ≡ old.set_numbers) (own_so : new.own ≡ i) where
+  out_alike : length new.laid.items ≡ new.sets.width → numbers new.laid.items ≡ set_in old.sets.words.items old.sets.first old.sets.width n → IsAlike old new
+  out_alike wide_so open_so = record {
+    sound = record {
+      wide = subst (λ (s : Sets). 0 < s.width) (sym sets_so) sound.wide;
+      fits = subst (λ (s : Sets). 64 * s.width ≤ 2 ^ 32) (sym sets_so) sound.fits;
+      laid_so = wide_so;
+      within = subst (λ l. All (λ m. m + new.sets.width ≤ new.sets.first + length new.sets.words.items) l) (sym numbers_so) (subst (λ (s : Sets). All (λ m. m + s.width ≤ s.first + length s.words.items) old.set_numbers) (sym sets_so) sound.within);
+    };
+    same = row_same old new (ap length numbers_so) each;
+    long = ap length numbers_so;
+    width = ap (λ (s : Sets). s.width) sets_so;
+  }
+    where
+      read : n ≡ get_or old.set_numbers i 0
+      read = is
+
+      each : (j : ℕ) → j < length old.set_numbers → shown_at new j ≡ shown_at old j
+      each j inside =
+          let in_old = sym (shown_kept old j (λ e. omega (arith, e, inside, past))) in
+          elim (cases_eq j new.own) as (λ _. shown_at new j ≡ shown_at old j) [
+            | inl own ↦
+                (shown_own new j own ∙ open_so
+                ∙ ap (set_in old.sets.words.items old.sets.first old.sets.width) (read ∙ ap (λ k. get_or old.set_numbers k 0) (sym (own ∙ own_so)))
+                ∙ in_old)
+            | inr apart ↦ shown_kept new j apart ∙ (λ k. set_in (sets_so k).words.items (sets_so k).first (sets_so k).width (get_or (numbers_so k) j 0)) ∙ in_old
+          ]
+
+  pub some_out : (words : List ℕ) → IsWordsOf old.sets.words.items old.sets.first old.sets.width n words → new.laid.items ≡ words → IsAlike old new
+  some_out words h same =
+      let from = h.from in
+      let inside = number_inside old i n sound lt is in
+      out_alike
+      (ap length (same ∙ h.is) ∙ words_long old.sets.words.items old.sets.width (n - old.sets.first) (omega (arith, from, inside)) ∙ sym (ap (λ (s : Sets). s.width) sets_so))
+      (ap numbers (same ∙ h.is) ∙ sym (set_there old.sets.words.items old.sets.first old.sets.width n from))
+
+  pub none_out : n < old.sets.first → (count : ℕ) → count ≡ old.sets.width → new.laid.items ≡ replicate count 0 → IsAlike old new
+  none_out below count wide same =
+      out_alike
+      (ap length same ∙ length-replicate {A = ℕ} count 0 ∙ wide ∙ sym (ap (λ (s : Sets). s.width) sets_so))
+      (ap numbers same ∙ numbers_zero count ∙ sym (set_below old.sets.words.items old.sets.first old.sets.width n below))
+
+-- ---- a number more in the set that is laid out
+
+module _ (old mid new : Planes) (i n : ℕ) (added : Bool) (alike : IsAlike old mid) (own : mid.own ≡ i) (lt : i < length old.set_numbers)
+    (sets_so : new.sets ≡ mid.sets) (numbers_so : new.set_numbers ≡ mid.set_numbers) (own_so : new.own ≡ mid.own) (long_so : length new.laid.items ≡ length mid.laid.items) where
+  inside : i < length mid.set_numbers
+  inside = omega (arith, lt, alike.long)
+
+  pub more_set : (seen words : List ℕ) → seen ≡ mid.laid.items → new.laid.items ≡ words → AreNumbers (λ m. (m ≡ n) ⊎ Contains (numbers seen) m) (numbers words) → (IsTrue added ↔ (Contains (numbers seen) n → ⊥))
+      → MatchBool added (length (numbers words) ≡ length (numbers seen) + 1) (numbers words ≡ numbers seen)
+      → IsSetAt (row_of old) i n added (row_of new)
+  more_set seen words seen_so words_so are fresh counted = subst (λ r. IsSetAt r i n added (row_of new)) alike.same (record {
+    within = (let whole = row_long mid in omega (arith, whole, inside));
+    list = numbers words;
+    is = ext_get_or [] (row_of new) (set (row_of mid) i (numbers words)) (row_long new ∙ ap length numbers_so ∙ sym (length-set (row_of mid) i (numbers words) ∙ row_long mid)) each;
+    numbers = subst (λ l. AreNumbers (λ m. (m ≡ n) ⊎ Contains l m) (numbers words)) was are;
+    fresh = subst (λ l. IsTrue added ↔ (Contains l n → ⊥)) was fresh;
+    counted = subst (λ l. MatchBool added (length (numbers words) ≡ length l + 1) (numbers words ≡ l)) was counted;
+  })
+    where
+      was : numbers seen ≡ get_or (row_of mid) i []
+      was = ap numbers seen_so ∙ sym (row_at mid i inside ∙ shown_own mid i (sym own))
+
+      each : (j : ℕ) → j < length (row_of new) → get_or (row_of new) j [] ≡ get_or (set (row_of mid) i (numbers words)) j []
+      each j below =
+          let whole = row_long new in
+          let in_new : j < length new.set_numbers = omega (arith, whole, below) in
+          let in_mid : j < length mid.set_numbers = omega (arith, in_new, ap length numbers_so) in
+          let in_row : i < length (row_of mid) = (let w = row_long mid in omega (arith, w, inside)) in
+          elim (cases_eq j i) as (λ _. get_or (row_of new) j [] ≡ get_or (set (row_of mid) i (numbers words)) j []) [
+            | inl here ↦
+                (row_at new j in_new ∙ shown_own new j (here ∙ sym own ∙ sym own_so) ∙ ap numbers words_so
+                ∙ sym (ap (λ k. get_or (set (row_of mid) i (numbers words)) k []) here ∙ get_or-set_same (row_of mid) i (numbers words) [] in_row))
+            | inr apart ↦
+                (row_at new j in_new ∙ shown_kept new j (λ e. apart (e ∙ own_so ∙ own))
+                ∙ (λ k. set_in (sets_so k).words.items (sets_so k).first (sets_so k).width (get_or (numbers_so k) j 0))
+                ∙ sym (shown_kept mid j (λ e. apart (e ∙ own))) ∙ sym (row_at mid j in_mid)
+                ∙ sym (get_or-set_other (row_of mid) i j (numbers words) [] apart))
+          ]
+
+  pub more_sound : IsSound new
+  more_sound = record {
+    wide = subst (λ (s : Sets). 0 < s.width) (sym sets_so) alike.sound.wide;
+    fits = subst (λ (s : Sets). 64 * s.width ≤ 2 ^ 32) (sym sets_so) alike.sound.fits;
+    laid_so = long_so ∙ alike.sound.laid_so ∙ sym (ap (λ (s : Sets). s.width) sets_so);
+    within = subst (λ l. All (λ m. m + new.sets.width ≤ new.sets.first + length new.sets.words.items) l) (sym numbers_so) (subst (λ (s : Sets). All (λ m. m + s.width ≤ s.first + length s.words.items) mid.set_numbers) (sym sets_so) alike.sound.within);
+  }
+
+pub open_wide : (old mid : Planes) (n : ℕ) → IsAlike old mid → n < 64 * old.sets.width → n < 64 * length mid.laid.items
+open_wide old mid n alike lt = subst (λ w. n < 64 * w) (sym (alike.sound.laid_so ∙ alike.width)) lt
+
+-- ---- no set has a number
+
+blank_row : (p : Planes) → length p.set_numbers ≤ p.own → All (λ n. n < p.sets.first) p.set_numbers → All (λ ns. ns ≡ []) (row_of p)
+blank_row p past all = λ k d lt.
+    let whole = row_long p in
+    let inside : k < length p.set_numbers = omega (arith, whole, lt) in
+    get_or_default (row_of p) k d [] lt ∙ row_at p k inside ∙ shown_kept p k (λ e. omega (arith, e, inside, past))
+    ∙ set_below p.sets.words.items p.sets.first p.sets.width (get_or p.set_numbers k 0) (All-get_or (λ n. n < p.sets.first) p.set_numbers k 0 inside all)
+
+-- all sets of a row that is made, or begun anew, have the number 0
+module _ (p : Planes) (count : ℕ) (wide : 0 < p.sets.width) (first_so : p.sets.first ≡ p.sets.width) (numbers_so : p.set_numbers ≡ replicate count 0) where
+  pub zeros_sound : 64 * p.sets.width ≤ 2 ^ 32 → length p.laid.items ≡ p.sets.width → IsSound p
+  zeros_sound fits open_so = record {
+    wide = wide;
+    fits = fits;
+    laid_so = open_so;
+    within = subst (All (λ n. n + p.sets.width ≤ p.sets.first + length p.sets.words.items)) (sym numbers_so) (All-replicate (λ n. n + p.sets.width ≤ p.sets.first + length p.sets.words.items) count 0 (omega (arith, first_so)));
+  }
+
+  pub zeros_blank : length p.set_numbers ≤ p.own → All (λ ns. ns ≡ []) (row_of p)
+  zeros_blank past = blank_row p past (subst (All (λ n. n < p.sets.first)) (sym numbers_so) (All-replicate (λ n. n < p.sets.first) count 0 (omega (arith, first_so, wide))))
+
+-- a row begins anew
+module _ (old new : Planes) (mid : Sets) (done : Bool) (count : ℕ) (sound : IsSound old) (passed : IsPassed old.sets mid done) (width_so : new.sets.width ≡ mid.width) (first_so : new.sets.first ≡ mid.width) (numbers_so : new.set_numbers ≡ replicate count 0) where
+  pub anew_sound : new.laid.items ≡ old.laid.items → IsSound new
+  anew_sound open_so =
+      zeros_sound new count (omega (arith, width_so, passed.width, sound.wide)) (first_so ∙ sym width_so) numbers_so
+      (subst (λ n. 64 * n ≤ 2 ^ 32) (sym (width_so ∙ passed.width)) sound.fits) (ap length open_so ∙ sound.laid_so ∙ sym (width_so ∙ passed.width))
+
+  pub anew_blank : length new.set_numbers ≤ new.own → All (λ ns. ns ≡ []) (row_of new)
+  anew_blank past = zeros_blank new count (omega (arith, width_so, passed.width, sound.wide)) (first_so ∙ sym width_so) numbers_so past
+
+-- a row is cleared by counting on
+module _ (old new : Planes) (done : Bool) (sound : IsSound old) (passed : IsPassed old.sets new.sets done) (so : done ≡ true) (numbers_so : new.set_numbers ≡ old.set_numbers) where
+  pub passed_sound : new.laid.items ≡ old.laid.items → IsSound new
+  passed_sound open_so = record {
+    wide = omega (arith, passed.width, sound.wide);
+    fits = subst (λ n. 64 * n ≤ 2 ^ 32) (sym passed.width) sound.fits;
+    laid_so = ap length open_so ∙ sound.laid_so ∙ sym passed.width;
+    within = subst (All (λ n. n + new.sets.width ≤ new.sets.first + length new.sets.words.items)) (sym numbers_so)
+        (All-weaker (λ n. n + old.sets.width ≤ old.sets.first + length old.sets.words.items) (λ n. n + new.sets.width ≤ new.sets.first + length new.sets.words.items)
+        (λ n h. omega (arith, h, passed.width, passed.first so)) old.set_numbers sound.within);
+  }
+
+  pub passed_blank : length old.set_numbers ≤ new.own → All (λ ns. ns ≡ []) (row_of new)
+  passed_blank past =
+      blank_row new (omega (arith, past, ap length numbers_so)) (subst (All (λ n. n < new.sets.first)) (sym numbers_so)
+      (All-weaker (λ n. n + old.sets.width ≤ old.sets.first + length old.sets.words.items) (λ n. n < new.sets.first)
+      (λ n h. omega (arith, h, sound.wide, passed.first so)) old.set_numbers sound.within))
+
+pub passed_on : (old new : Sets) → new.width ≡ old.width → new.words.items ≡ [] → new.first ≡ old.first + length old.words.items → IsPassed old new true
+passed_on old new width words first = record { width = width; words = λ t. words; first = λ t. first }
+
+pub not_passed : (old : Sets) → IsPassed old old false
+not_passed old = record { width = refl; words = λ t. absurd (false≢true t); first = λ t. absurd (false≢true t) }

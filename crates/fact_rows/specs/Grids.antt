@@ -6,7 +6,10 @@ use Rattle.fact_rows.specs.declared.place.Counts.{Counts}
 use Rattle.fact_rows.specs.declared.place.Spot.{Spot}
 use Rattle.fact_rows.specs.declared.place.Spot.TheVariants.{Plane, Awaited}
 use Rattle.fact_rows.specs.Numbers.{AreNumbers}
+use Rattle.fact_rows.specs.declared.planes.Planes.{Planes}
+use Rattle.fact_rows.specs.declared.value.TheConstants.{PLANE_WORDS, AWAITED_WORDS}
 use Rattle.fact_rows.specs.Places.{Marks, start_of}
+use Rattle.fact_rows.specs.Spread.{IsSound}
 
 -- the row of planes has its place for each slot before each point
 pub record IsLaid (slots : List Counts) (starts : List ℕ) (planes awaits : ℕ) : Type 0 where
@@ -14,6 +17,14 @@ pub record IsLaid (slots : List Counts) (starts : List ℕ) (planes awaits : ℕ
   pub starts_so : (p : ℕ) → p < length slots → slice_index_or starts p 0 ≡ start_of slots p
   pub each_plane : planes ≡ start_of slots (length slots)
   pub each_await : awaits ≡ length slots
+
+-- so it is, and the sets of both rows have their words
+pub record IsGrid (slots : List Counts) (starts : List ℕ) (planes awaits : Planes) : Type 0 where
+  pub laid : IsLaid slots starts (length planes.set_numbers) (length awaits.set_numbers)
+  pub planes_sound : IsSound planes
+  pub planes_wide : planes.sets.width ≡ PLANE_WORDS
+  pub awaits_sound : IsSound awaits
+  pub awaits_wide : awaits.sets.width ≡ AWAITED_WORDS
 
 -- planes for these slots that have no numbers
 pub record IsBlank (slots : List Counts) (m : Marks) : Type 0 where

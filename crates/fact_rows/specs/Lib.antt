@@ -1,3 +1,4 @@
+pub mod Narrow
 pub mod Numbers
 pub mod Places
 pub mod Values

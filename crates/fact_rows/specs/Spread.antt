@@ -1,53 +1,75 @@
--- A row of planes of which only those with numbers are laid out, in any order, each with its number in the row. For each plane of
--- the row there is a place among those that are laid out; the one there may be that of another plane.
-use Rattle.std.specs.Prelude.{◌≡◌, ◌⊎◌, ◌↔◌, ℕ, ◌+◌, ◌∷◌, ◌++◌, nat_eq, Bool, List, [], length, map, Option, Some, None, IsTrue, slice_get, slice_index_or, slice_set, if◌then◌else◌}
-use Rattle.std.specs.Bool.{MatchBool}
-use Rattle.std.specs.List.{Contains, range_with_len}
-use Rattle.fact_rows.specs.Numbers.{AreNumbers}
+-- A row of sets of numbers that share their bits. Each set that was met stands once in a list of words, as many words for each,
+-- and has as its number the place of its first word, counted from a first number. For each set of the row there is such a
+-- number, and one that is below the first is of no set: so all sets are left without numbers by counting on. One set
+-- of the row may be laid out beside the list, in words of its own, whatever its number is.
+use Rattle.std.specs.Prelude.{◌≡◌, ℕ, ◌+◌, ◌*◌, ◌-◌, ◌<◌, ◌≤◌, ◌^◌, ◌++◌, nat_eq, nat_lt, Bool, true, List, [], length, map, take, drop, slice_index_or, if◌then◌else◌}
+use Rattle.std.specs.List.{All, range_with_len}
+use Rattle.fact_rows.specs.declared.sets.Sets.{Sets}
+use Rattle.fact_rows.specs.declared.planes.Planes.{Planes}
+use Rattle.fact_rows.specs.Numbers.{numbers}
 
--- a plane that is laid out: its number in the row, and its numbers
-abbrev pub Laid : Type 0
-Laid = ℕ × List ℕ
+-- the words that begin at a place
+abbrev pub words_at : List ℕ → ℕ → ℕ → List ℕ
+words_at words width place = take width (drop place words)
 
--- the numbers of the i-th plane, where this is laid out at its place
-abbrev pub shown_at : ℕ → Option Laid → List ℕ
-shown_at i None = []
-shown_at i (Some l) = (if nat_eq l.0 i then l.1 else [])
+-- these are the words of the set of a number
+pub record IsWordsOf (words : List ℕ) (first width n : ℕ) (set : List ℕ) : Type 0 where
+  pub from : first ≤ n
+  pub is : set ≡ words_at words width (n - first)
 
--- the numbers of all planes of the row
-unfoldable pub row_of : List Laid → List ℕ → List (List ℕ)
-row_of laid places = map (λ i. shown_at i (slice_get laid (slice_index_or places i 0))) (range_with_len 0 (length places))
+-- a number is that of a set with these words
+pub record IsNumberOf (words : List ℕ) (first width n : ℕ) (set : List ℕ) : Type 0 where
+  pub from : first ≤ n
+  pub within : n + width ≤ first + length words
+  pub is : set ≡ words_at words width (n - first)
 
--- the i-th plane is laid out here
-pub record IsLaidAt (laid : List Laid) (places : List ℕ) (i k : ℕ) : Type 0 where
-  pub place : k ≡ slice_index_or places i 0
-  pub own : Laid
-  pub there : slice_get laid k ≡ Some own
-  pub owner : own.0 ≡ i
+abbrev pub HasSet : Sets → ℕ → List ℕ → Type 0
+HasSet s n set = IsNumberOf s.words.items s.first s.width n set
 
--- the i-th plane is not laid out
-pub record IsNotLaid (laid : List Laid) (places : List ℕ) (i : ℕ) : Type 0 where
-  pub other : (l : Laid) → slice_get laid (slice_index_or places i 0) ≡ Some l → l.0 ≡ i → ⊥
+-- all sets stand where they stood, and others may stand behind them
+pub record IsGrown (words : List ℕ) (first width : ℕ) (new_words : List ℕ) (new_first new_width : ℕ) : Type 0 where
+  pub same_first : new_first ≡ first
+  pub same_width : new_width ≡ width
+  pub rest : List ℕ
+  pub all : new_words ≡ words ++ rest
 
--- a number more in a plane, if it was not there
-pub record IsMore (old : List ℕ) (n : ℕ) (added : Bool) (new : List ℕ) : Type 0 where
-  pub numbers : AreNumbers (λ m. (m ≡ n) ⊎ Contains old m) new
-  pub fresh : IsTrue added ↔ (Contains old n → ⊥)
-  pub counted : MatchBool added (length new ≡ length old + 1) (new ≡ old)
+abbrev pub IsLonger : Sets → Sets → Type 0
+IsLonger old new = IsGrown old.words.items old.first old.width new.words.items new.first new.width
 
--- a number more in a plane that is laid out
-pub record IsMoreAt (laid : List Laid) (k n : ℕ) (added : Bool) (new : List Laid) : Type 0 where
-  pub before : Laid
-  pub there : slice_get laid k ≡ Some before
-  pub after : Laid
-  pub owner : after.0 ≡ before.0
-  pub more : IsMore before.1 n added after.1
-  pub is : new ≡ slice_set laid k after
+-- the sets are forgotten, if so, and numbers go on behind theirs
+pub record IsPassed (old new : Sets) (done : Bool) : Type 0 where
+  pub width : new.width ≡ old.width
+  pub words : done ≡ true → new.words.items ≡ []
+  pub first : done ≡ true → new.first ≡ old.first + length old.words.items
 
--- the i-th plane is laid out behind the others, with one number
-pub record IsLaidOut (laid : List Laid) (places : List ℕ) (i n : ℕ) (added : Bool) (new_laid : List Laid) (new_places : List ℕ) : Type 0 where
-  pub own : Laid
-  pub owner : own.0 ≡ i
-  pub more : IsMore [] n added own.1
-  pub laid_so : new_laid ≡ laid ++ own ∷ []
-  pub places_so : new_places ≡ slice_set places i (length laid)
+-- the numbers in the set of a number
+abbrev pub set_in : List ℕ → ℕ → ℕ → ℕ → List ℕ
+set_in words first width n = (if nat_lt n first then [] else numbers (words_at words width (n - first)))
+
+-- the numbers in the i-th set of the row
+abbrev pub shown_at : Planes → ℕ → List ℕ
+shown_at p i = (if nat_eq i p.own then numbers p.laid.items else set_in p.sets.words.items p.sets.first p.sets.width (slice_index_or p.set_numbers i 0))
+
+-- the numbers in all sets of the row
+unfoldable pub row_of : Planes → List (List ℕ)
+row_of p = map (shown_at p) (range_with_len 0 (length p.set_numbers))
+
+-- each set has some words, few enough for its numbers, and each number of a set is that of one that stands in the list, or stood
+-- there
+pub record IsSound (p : Planes) : Type 0 where
+  pub wide : 0 < p.sets.width
+  pub fits : 64 * p.sets.width ≤ 2 ^ 32
+  pub laid_so : length p.laid.items ≡ p.sets.width
+  pub within : All (λ n. n + p.sets.width ≤ p.sets.first + length p.sets.words.items) p.set_numbers
+
+-- the same row, however it is kept
+pub record IsAlike (old new : Planes) : Type 0 where
+  pub sound : IsSound new
+  pub same : row_of new ≡ row_of old
+  pub long : length new.set_numbers ≡ length old.set_numbers
+  pub width : new.sets.width ≡ old.sets.width
+
+-- the words of the i-th set of the row
+pub record AreWordsAt (p : Planes) (i : ℕ) (words : List ℕ) : Type 0 where
+  pub long : length words ≡ p.sets.width
+  pub is : numbers words ≡ slice_index_or (row_of p) i []

@@ -1,20 +1,11 @@
 // Numbers as bits of words, 64 to a word.
-ghost use Rattle.std.specs.Prelude.{◌≡◌, ◌⊎◌, ◌↔◌, ℕ, ◌+◌, ◌*◌, ◌<◌, ◌≤◌, ◌^◌, ◌++◌, ◌==◌, [], length, IfOk, OnOk, IsTrue};
+ghost use Rattle.std.specs.Prelude.{◌≡◌, ◌⊎◌, ◌↔◌, ◌+◌, ◌*◌, ◌<◌, ◌≤◌, ◌^◌, ◌++◌, ◌==◌, [], length, take, drop, IfOk, OnOk, IsTrue};
 ghost use Rattle.std.specs.Bool.{MatchBool};
 ghost use Rattle.std.specs.List.{Contains, list_all};
 ghost use Rattle.fact_rows.specs.Numbers.{AreNumbers, bit_number, bits_of, numbers};
 
 use plex_num::{Memory, Seq};
 use std::alloc::Global;
-
-/// Whether the bit of a number is set.
-pub(crate) fn has_bit(words: &[u64], i: u32) -> bool
-    requires { i < 64 * length words.now }
-    ensures { IsTrue result ↔ Contains (numbers words.now) i }
-{
-    let word = words[i as usize / 64];
-    (word >> (i % 64)) & 1 == 1
-}
 
 /// Sets the bit of a number; true exactly where it was not set.
 pub(crate) fn set_bit(words: &mut [u64], i: u32) -> bool
@@ -25,6 +16,7 @@ pub(crate) fn set_bit(words: &mut [u64], i: u32) -> bool
     ensures counted { MatchBool result
         (length (numbers words.new) ≡ length (numbers words.old) + 1)
         (numbers words.new ≡ numbers words.old) }
+    ensures long { length words.new ≡ length words.old }
 {
     let place = i as usize / 64;
     let bit = 1u64 << (i % 64);
@@ -33,32 +25,28 @@ pub(crate) fn set_bit(words: &mut [u64], i: u32) -> bool
     word & bit == 0
 }
 
-/// Sets the bits that are set in as many other words; true exactly where one of them was not set.
-pub(crate) fn join_words(words: &mut [u64], others: &[u64]) -> bool
-    requires { length others.now ≡ length words.old }
-    ensures numbers { AreNumbers
-        (λ n. Contains (numbers words.old) n ⊎ Contains (numbers others.now) n)
-        (numbers words.new) }
-    ensures added { IsTrue result ↔ ((n : ℕ)
-        × Contains (numbers others.now) n × (Contains (numbers words.old) n → ⊥)) }
+/// The words from a place on.
+pub(crate) fn from(words: &[u64], n: usize) -> &[u64]
+    requires { n ≤ length words.now }
+    ensures { result.now ≡ drop n words.now }
 {
-    let mut added = false;
-    for place in 0..words.len() {
-        let word = words[place];
-        let joined = word | others[place];
-        words[place] = joined;
-        added = grown(added, word, joined);
-    }
-    added
+    &words[n..]
 }
 
-fn grown(before: bool, word: u64, joined: u64) -> bool
-    ensures { IsTrue result ↔ (IsTrue before ⊎ (joined ≡ word → ⊥)) }
+/// The words before a place.
+pub(crate) fn until(words: &[u64], n: usize) -> &[u64]
+    requires { n ≤ length words.now }
+    ensures { result.now ≡ take n words.now }
 {
-    if before {
-        return true;
-    }
-    joined != word
+    &words[..n]
+}
+
+/// Whether these words are the same.
+#[tactic(auto, using(crate::proofs::Numbering::same_words))]
+pub(crate) fn are_same(words: &[u64], others: &[u64]) -> bool
+    ensures { IsTrue result → words.now ≡ others.now }
+{
+    words == others
 }
 
 /// Whether no bit is set.

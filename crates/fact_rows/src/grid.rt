@@ -1,52 +1,53 @@
-// A plane for each slot before each point.
+// A set of numbers for each slot before each point.
 ghost use Rattle.std.specs.Prelude.{◌≡◌, ◌↔◌, ◌+◌, ◌<◌, [], map, IfOk, OnErr, IsTrue};
 ghost use Rattle.std.specs.Option.{IsSome};
 ghost use Rattle.fact_rows.specs.Places.{counts_of as counts_of_row, numbers_at, spot_of as spot_of_slots};
 ghost use Rattle.fact_rows.specs.Values.{numbers_of};
 ghost use Rattle.fact_rows.specs.Grids.{IsBlank, SetsAt};
+ghost use Rattle.fact_rows.specs.Touched.{keys_before};
 
+use crate::keys::{Key, keys_at};
 use crate::place::{Counts, Spot, spot_in};
-use crate::planes::{Planes, is_blank, row_numbers, set_number};
+use crate::planes::Planes;
+use crate::value::{AWAITED_WORDS, PLANE_WORDS};
 use flow_points::Slot;
 use flow_table::Row;
 use plex_num::{Memory, Seq};
 use std::alloc::Global;
 use std::marker::Model;
 
-/// A plane of numbers for each slot before each point of a table.
+/// A set of numbers for each slot before each point of a table.
 #[derive(Drop)]
 pub(crate) struct Grid {
     slots: Seq<Counts>,
     starts: Vec<usize>,
-    planes: Planes<5>,
-    awaits: Planes<16>,
+    planes: Planes,
+    awaits: Planes,
 }
 
 impl Model for Grid {
-    ghost use Rattle.std.specs.Prelude.{length};
     ghost use Rattle.fact_rows.specs.Places.{Marks};
-    ghost use Rattle.fact_rows.specs.Grids.{IsLaid};
+    ghost use Rattle.fact_rows.specs.Grids.{IsGrid};
     ghost use Rattle.fact_rows.specs.Spread.{row_of};
 
     ghost Value = { Marks };
 
     ghost view = { λ g. record {
       slots = g.slots;
-      planes = row_of g.planes.laid.items g.planes.places.items;
-      awaits = row_of g.awaits.laid.items g.awaits.places.items;
+      planes = row_of g.planes;
+      awaits = row_of g.awaits;
     } };
 
-    ghost invariant = { λ g. IsLaid g.slots g.starts.items
-        (length g.planes.places.items) (length g.awaits.places.items) };
+    ghost invariant = { λ g. IsGrid g.slots g.starts.items g.planes g.awaits };
 }
 
 impl Grid {
-    /// Planes with no numbers for the points of these rows.
+    /// Sets with no numbers for the points of these rows.
     pub(crate) fn new(alloc: Global, rows: &[Row]) -> Result<Grid, Memory>
         ensures { IfOk result (IsBlank (map counts_of_row rows.now)) }
     {
-        let mut slots = Seq::new(alloc);
-        let mut starts = Seq::new(alloc);
+        let mut slots = with_room(alloc, rows.len())?;
+        let mut starts = with_room(alloc, rows.len())?;
         let mut size = 0;
         for row in rows {
             let counts = counts_of(row);
@@ -54,8 +55,8 @@ impl Grid {
             size = sum(size, counts.size())?;
             slots.push(counts)?;
         }
-        let planes = Planes::new(alloc, size)?;
-        let awaits = Planes::new(alloc, rows.len())?;
+        let planes = Planes::new(alloc, size, PLANE_WORDS)?;
+        let awaits = Planes::new(alloc, rows.len(), AWAITED_WORDS)?;
         Ok(Grid {
             slots,
             starts: starts.into_vec(),
@@ -69,7 +70,7 @@ impl Grid {
         ensures { result ≡ spot_of_slots self.now.slots point slot }
     {
         let point = point as usize;
-        let _ = self.planes.places.len();
+        let _ = self.planes.set_numbers.len();
         match self.slots.get(point) {
             Some(counts) => spot_in(self.starts[point], point, *counts, slot),
             None => None,
@@ -81,8 +82,8 @@ impl Grid {
         ensures { IsTrue result ↔ (numbers_at self.now point slot ≡ []) }
     {
         match self.spot_of(point, slot) {
-            Some(Spot::Plane(i)) => is_blank(&self.planes.places, &self.planes.laid, i),
-            Some(Spot::Awaited(i)) => is_blank(&self.awaits.places, &self.awaits.laid, i),
+            Some(Spot::Plane(i)) => self.planes.is_blank(i),
+            Some(Spot::Awaited(i)) => self.awaits.is_blank(i),
             None => true,
         }
     }
@@ -92,8 +93,18 @@ impl Grid {
         ensures { IfOk result (λ list. list ≡ numbers_at self.now point slot) }
     {
         match self.spot_of(point, slot) {
-            Some(Spot::Plane(i)) => row_numbers(alloc, &self.planes.places, &self.planes.laid, i),
-            Some(Spot::Awaited(i)) => row_numbers(alloc, &self.awaits.places, &self.awaits.laid, i),
+            Some(Spot::Plane(i)) => self.planes.numbers(alloc, i),
+            Some(Spot::Awaited(i)) => self.awaits.numbers(alloc, i),
+            None => Ok(Seq::new(alloc)),
+        }
+    }
+
+    /// All slots before a point, in order; none where the point is not there.
+    pub(crate) fn keys(&self, alloc: Global, point: u32) -> Result<Seq<Key>, Memory>
+        ensures { IfOk result (λ keys. keys ≡ keys_before self.now.slots point) }
+    {
+        match self.slots.get(point as usize) {
+            Some(counts) => keys_at(alloc, point, *counts),
             None => Ok(Seq::new(alloc)),
         }
     }
@@ -108,22 +119,28 @@ impl Grid {
         ensures err { OnErr result (self.new ≡ self.old) }
     {
         match self.spot_of(point, slot) {
-            Some(Spot::Plane(i)) => {
-                set_number(&mut self.planes.places, &mut self.planes.laid, i, number)
-            }
-            Some(Spot::Awaited(i)) => {
-                set_number(&mut self.awaits.places, &mut self.awaits.laid, i, number)
-            }
+            Some(Spot::Plane(i)) => self.planes.set(i, number),
+            Some(Spot::Awaited(i)) => self.awaits.set(i, number),
             None => Ok(false),
         }
     }
 
-    /// Leaves all slots without numbers, in the time of those that had some.
+    /// Leaves all slots without numbers, in the time of the sets that were met.
     pub(crate) fn clear(&mut self)
         ensures { IsBlank self.old.slots self.new }
     {
-        self.planes.laid.clear();
-        self.awaits.laid.clear();
+        self.planes.clear();
+        self.awaits.clear();
+    }
+}
+
+/// The empty list, with room for so many items: appending these takes no more memory.
+fn with_room<T>(alloc: Global, items: usize) -> Result<Seq<T>, Memory>
+    ensures { IfOk result (λ list. list ≡ []) }
+{
+    match Vec::with_capacity(alloc, items) {
+        Ok(list) => Ok(Seq::from_vec(list)),
+        Err(_) => Err(Memory),
     }
 }
 

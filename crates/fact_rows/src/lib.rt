@@ -1,23 +1,24 @@
-// The facts of one entry, kept as rows of bits.
+// The facts of one entry, kept as rows of sets.
 //
 // What goes in: the flow table of an exchange, and facts of an entry, one at a time. What comes out: whether a fact is known, the
-// values that a slot may have before a point, and all known facts in order. For each point there is a plane of bits for each
-// slot before it, in which a number stands for a value. It knows no flow rule: what follows from what is for the layer above.
+// values that a slot may have before a point, and all known facts in order. Each slot before each
+// point has a set of numbers, which stand for values; slots with the same set share its bits. It knows no flow rule: what follows from what is for the layer above.
 #![tactic(auto)]
 
 mod bits;
 mod grid;
+mod hints;
+mod keys;
 mod laws;
+mod narrow;
 mod place;
-mod plane;
 mod planes;
 mod rows;
-#[cfg(test)]
-mod tests;
+mod sets;
 mod value;
 
+pub use keys::Key;
 pub use laws::slots_have_places;
 pub use place::{Counts, Spot};
-pub use plane::Plane;
-pub use rows::{FactRows, Key};
+pub use rows::FactRows;
 pub use value::{ANY_NUMBER, AWAITED_NUMBERS};

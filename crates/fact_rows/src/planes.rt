@@ -1,136 +1,194 @@
-// A row of planes, of which only those with numbers take the memory of a plane.
-ghost use Rattle.std.specs.Prelude.{◌≡◌, ◌↔◌, ◌*◌, ◌<◌, ◌≤◌, ◌^◌, [], length, slice_index_or, IfOk, OnErr, IsTrue, MatchOption};
+// A row of sets of numbers, of which each set that was met is kept once.
+ghost use Rattle.std.specs.Prelude.{◌≡◌, ◌↔◌, ◌*◌, ◌<◌, ◌≤◌, ◌^◌, [], length, replicate, slice_index_or, IfOk, OnErr, OnOk, IsTrue, MatchOption};
+ghost use Rattle.std.specs.List.{All};
 ghost use Rattle.fact_rows.specs.Grids.{IsSetAt};
-ghost use Rattle.fact_rows.specs.Spread.{IsLaidAt, IsLaidOut, IsMoreAt, IsNotLaid, row_of};
+ghost use Rattle.fact_rows.specs.Spread.{AreWordsAt, IsAlike, IsSound, row_of};
 
-use crate::plane::Plane;
+use crate::bits::{are_zero, numbers_in, set_bit};
+use crate::narrow::NumberRow;
+use crate::sets::Sets;
 use plex_num::{Memory, Seq};
 use std::alloc::Global;
 
-/// A row of planes. Each takes four bytes; one that was given a number takes its words too, until the row is cleared by taking away
-/// all that is laid out.
+/// A row of sets of numbers. Each takes two bytes, or four where very many sets are met: the number of its set among those that
+/// the row has met, each of which is kept once. One set of the row is laid out beside these, so that numbers can be added to it;
+/// what it has become is kept when another one is laid out.
 #[derive(Drop)]
-pub(crate) struct Planes<const N: usize> {
-    /// Where each plane of the row is laid out, if the one there is its own; if not, it has no numbers.
-    pub places: Vec<u32>,
-    /// The planes with numbers, each behind its own number in the row, in the order in which they came to have some.
-    pub laid: Vec<(usize, Plane<N>)>,
+pub(crate) struct Planes {
+    /// The number of each set.
+    pub set_numbers: NumberRow,
+    /// The sets that were met since the row was cleared.
+    pub sets: Sets,
+    /// Which set is laid out: the first, counted from 0, or none where there are not so many.
+    pub own: usize,
+    /// The words of that one.
+    pub laid: Vec<u64>,
 }
 
-impl<const N: usize> Planes<N> {
-    /// A row of so many planes with no numbers.
-    pub(crate) fn new(alloc: Global, count: usize) -> Result<Planes<N>, Memory>
-        ensures long { IfOk result (λ row. length row.places.items ≡ count) }
-        ensures none { IfOk result (λ row. row.laid.items ≡ []) }
+impl Planes {
+    /// A row of so many sets with no numbers, for numbers below 64 times a width.
+    #[tactic(auto, using(crate::proofs::Spreading::zeros_sound, crate::proofs::Spreading::zeros_blank))]
+    pub(crate) fn new(alloc: Global, count: usize, width: u32) -> Result<Planes, Memory>
+        requires wide { 0 < width }
+        requires fits { 64 * width ≤ 2 ^ 32 }
+        ensures sound { IfOk result IsSound }
+        ensures width { IfOk result (λ row. row.sets.width ≡ width) }
+        ensures long { IfOk result (λ row. length row.set_numbers ≡ count) }
+        ensures none { IfOk result (λ row. All (λ ns. ns ≡ []) (row_of row)) }
     {
-        match Vec::from_elem(alloc, 0, count) {
-            Ok(places) => Ok(Planes {
-                places,
-                laid: Vec::new(alloc),
-            }),
-            Err(_) => Err(Memory),
+        let set_numbers = NumberRow::zeros(alloc, count)?;
+        let laid = no_words(alloc, width as usize)?;
+        Ok(Planes {
+            set_numbers,
+            sets: Sets::new(alloc, width),
+            own: count,
+            laid,
+        })
+    }
+
+    /// The words of a set of the row, counted from 0, unless it has no numbers.
+    #[tactic(auto, using(crate::proofs::Spreading::open_words, crate::proofs::Spreading::kept_words, crate::proofs::Spreading::no_words, crate::proofs::Spreading::number_inside))]
+    fn words(&self, i: usize) -> Option<&[u64]>
+        requires sound { IsSound self.now }
+        requires place { i < length self.now.set_numbers }
+        ensures { MatchOption result
+            ([] ≡ slice_index_or (row_of self.now) i [])
+            (λ words. AreWordsAt self.now i words.now) }
+    {
+        if i == self.own {
+            return Some(&self.laid);
+        }
+        match self.sets.set(self.set_numbers.number(i)) {
+            Some(words) => Some(words),
+            None => None,
         }
     }
-}
 
-/// Whether a plane of a row, counted from 0, has no number.
-pub(crate) fn is_blank<const N: usize>(places: &[u32], laid: &[(usize, Plane<N>)], i: usize) -> bool
-    requires { i < length places.now }
-    ensures { IsTrue result ↔ (slice_index_or (row_of laid.now places.now) i [] ≡ []) }
-{
-    match place_of(places, laid, i) {
-        Some(place) => laid[place].1.is_empty(),
-        None => true,
-    }
-}
-
-/// The numbers of a plane of a row, rising.
-pub(crate) fn row_numbers<const N: usize>(
-    alloc: Global,
-    places: &[u32],
-    laid: &[(usize, Plane<N>)],
-    i: usize,
-) -> Result<Seq<u32>, Memory>
-    requires place { i < length places.now }
-    requires fits { 64 * N ≤ 2 ^ 32 }
-    ensures { IfOk result (λ list. list ≡ slice_index_or (row_of laid.now places.now) i []) }
-{
-    match place_of(places, laid, i) {
-        Some(place) => laid[place].1.numbers(alloc),
-        None => Ok(Seq::new(alloc)),
-    }
-}
-
-/// Adds a number, which must be below 64 `N`, to a plane of a row; true exactly where it was not there. Where memory is refused, the
-/// row stays as it was.
-pub(crate) fn set_number<const N: usize>(
-    places: &mut Vec<u32>,
-    laid: &mut Vec<(usize, Plane<N>)>,
-    i: usize,
-    number: u32,
-) -> Result<bool, Memory>
-    requires place { i < length places.old.items }
-    requires number { number < 64 * N }
-    ensures ok { IfOk result (λ added. IsSetAt (row_of laid.old.items places.old.items)
-        i number added (row_of laid.new.items places.new.items)) }
-    ensures long { length places.new.items ≡ length places.old.items }
-    ensures places { OnErr result (places.new.items ≡ places.old.items) }
-    ensures laid { OnErr result (laid.new.items ≡ laid.old.items) }
-{
-    match place_of(places, laid, i) {
-        Some(place) => Ok(set_at(laid, place, number)),
-        None => lay(places, laid, i, number),
-    }
-}
-
-/// Where a plane of a row is laid out, if it is.
-fn place_of<const N: usize>(places: &[u32], laid: &[(usize, Plane<N>)], i: usize) -> Option<usize>
-    requires { i < length places.now }
-    ensures { MatchOption result
-        (IsNotLaid laid.now places.now i)
-        (λ k. IsLaidAt laid.now places.now i k) }
-{
-    let place = places[i] as usize;
-    let Some(found) = laid.get(place) else {
-        return None;
-    };
-    if found.0 == i { Some(place) } else { None }
-}
-
-/// Adds a number to a plane that is laid out; true exactly where it was not there.
-fn set_at<const N: usize>(laid: &mut Vec<(usize, Plane<N>)>, place: usize, number: u32) -> bool
-    requires place { place < length laid.old.items }
-    requires number { number < 64 * N }
-    ensures { IsMoreAt laid.old.items place number result laid.new.items }
-{
-    laid[place].1.set(number)
-}
-
-/// Lays out a plane of a row with one number, which is new there.
-fn lay<const N: usize>(
-    places: &mut Vec<u32>,
-    laid: &mut Vec<(usize, Plane<N>)>,
-    i: usize,
-    number: u32,
-) -> Result<bool, Memory>
-    requires place { i < length places.old.items }
-    requires number { number < 64 * N }
-    ensures ok { IfOk result (λ added. IsLaidOut laid.old.items places.old.items
-        i number added laid.new.items places.new.items) }
-    ensures places { OnErr result (places.new.items ≡ places.old.items) }
-    ensures laid { OnErr result (laid.new.items ≡ laid.old.items) }
-{
-    let place = laid.len();
-    if place > u32::MAX as usize {
-        return Err(Memory);
-    }
-    let mut plane = Plane::new();
-    let added = plane.set(number);
-    match laid.push((i, plane)) {
-        Ok(()) => {
-            places[i] = place as u32;
-            Ok(added)
+    /// Whether a set of the row, counted from 0, has no number.
+    #[tactic(auto, using(crate::proofs::Spreading::words_blank, crate::proofs::Spreading::none_blank))]
+    pub(crate) fn is_blank(&self, i: usize) -> bool
+        requires sound { IsSound self.now }
+        requires place { i < length self.now.set_numbers }
+        ensures { IsTrue result ↔ (slice_index_or (row_of self.now) i [] ≡ []) }
+    {
+        match self.words(i) {
+            Some(words) => are_zero(words),
+            None => true,
         }
+    }
+
+    /// The numbers of a set of the row, rising.
+    #[tactic(auto, using(crate::proofs::Spreading::words_fit))]
+    pub(crate) fn numbers(&self, alloc: Global, i: usize) -> Result<Seq<u32>, Memory>
+        requires sound { IsSound self.now }
+        requires place { i < length self.now.set_numbers }
+        ensures { IfOk result (λ list. list ≡ slice_index_or (row_of self.now) i []) }
+    {
+        match self.words(i) {
+            Some(words) => numbers_in(alloc, words),
+            None => Ok(Seq::new(alloc)),
+        }
+    }
+
+    /// Adds a number to a set of the row; true exactly where it was not there. Where memory is refused, all sets stay as they were.
+    #[tactic(auto, using(crate::proofs::Spreading::more_set, crate::proofs::Spreading::more_sound, crate::proofs::Spreading::open_wide))]
+    pub(crate) fn set(&mut self, i: usize, number: u32) -> Result<bool, Memory>
+        requires sound { IsSound self.old }
+        requires place { i < length self.old.set_numbers }
+        requires number { number < 64 * self.old.sets.width }
+        ensures ok { IfOk result (λ added.
+            IsSetAt (row_of self.old) i number added (row_of self.new)) }
+        ensures err { OnErr result (row_of self.new ≡ row_of self.old) }
+        ensures sound { IsSound self.new }
+        ensures long { length self.new.set_numbers ≡ length self.old.set_numbers }
+        ensures width { self.new.sets.width ≡ self.old.sets.width }
+    {
+        self.lay_out(i)?;
+        Ok(set_bit(&mut self.laid, number))
+    }
+
+    /// Lays out a set of the row.
+    #[tactic(auto, using(crate::proofs::Spreading::alike_itself, crate::proofs::Spreading::alike_then))]
+    fn lay_out(&mut self, i: usize) -> Result<(), Memory>
+        requires sound { IsSound self.old }
+        requires place { i < length self.old.set_numbers }
+        ensures alike { IsAlike self.old self.new }
+        ensures own { OnOk result (self.new.own ≡ i) }
+    {
+        if self.own == i {
+            return Ok(());
+        }
+        self.put_away()?;
+        self.take_out(i);
+        Ok(())
+    }
+
+    /// Keeps the set that is laid out, if there is one.
+    #[tactic(auto, using(crate::proofs::Spreading::alike_itself, crate::proofs::Spreading::away_alike, crate::proofs::Spreading::longer_alike))]
+    fn put_away(&mut self) -> Result<(), Memory>
+        requires { IsSound self.old }
+        ensures alike { IsAlike self.old self.new }
+        ensures none { OnOk result (length self.new.set_numbers ≤ self.new.own) }
+    {
+        let count = self.set_numbers.len();
+        let own = self.own;
+        if own >= count {
+            return Ok(());
+        }
+        let likely = self.set_numbers.number(own);
+        let number = self.sets.number_of(&self.laid, likely)?;
+        self.set_numbers.put(own, number)?;
+        self.own = count;
+        Ok(())
+    }
+
+    /// Lays out a set of the row where none is.
+    #[tactic(auto, using(crate::proofs::Spreading::some_out, crate::proofs::Spreading::none_out, crate::proofs::Spreading::number_inside))]
+    fn take_out(&mut self, i: usize)
+        requires sound { IsSound self.old }
+        requires none { length self.old.set_numbers ≤ self.old.own }
+        requires place { i < length self.old.set_numbers }
+        ensures alike { IsAlike self.old self.new }
+        ensures own { self.new.own ≡ i }
+    {
+        self.own = i;
+        match self.sets.set(self.set_numbers.number(i)) {
+            Some(set) => self.laid.copy_from_slice(set),
+            None => clear_words(&mut self.laid),
+        }
+    }
+
+    /// Leaves all sets without numbers, in the time of the sets that were met, but for once in a very long while.
+    #[tactic(auto, using(crate::proofs::Spreading::anew_sound, crate::proofs::Spreading::anew_blank, crate::proofs::Spreading::passed_sound, crate::proofs::Spreading::passed_blank))]
+    pub(crate) fn clear(&mut self)
+        requires { IsSound self.old }
+        ensures sound { IsSound self.new }
+        ensures long { length self.new.set_numbers ≡ length self.old.set_numbers }
+        ensures width { self.new.sets.width ≡ self.old.sets.width }
+        ensures none { All (λ ns. ns ≡ []) (row_of self.new) }
+    {
+        self.own = self.set_numbers.len();
+        if self.sets.pass() {
+            return;
+        }
+        self.set_numbers.clear();
+        self.sets.restart();
+    }
+}
+
+/// So many words with no bit.
+fn no_words(alloc: Global, count: usize) -> Result<Vec<u64>, Memory>
+    ensures { IfOk result (λ list. list.items ≡ replicate count 0) }
+{
+    match Vec::from_elem(alloc, 0, count) {
+        Ok(list) => Ok(list),
         Err(_) => Err(Memory),
     }
+}
+
+/// Leaves these words without bits.
+fn clear_words(words: &mut [u64])
+    ensures { words.new ≡ replicate (length words.old) 0 }
+{
+    words.fill(0);
 }

@@ -1,4 +1,4 @@
-// The facts of one entry, in planes of bits.
+// The facts of one entry, in sets of numbers.
 ghost use Rattle.std.specs.Prelude.{◌≡◌, ◌↔◌, ◌+◌, ◌++◌, ◌∷◌, [], map, true, IfOk, OnErr, OnOk, IsTrue};
 ghost use Rattle.std.specs.Bool.{MatchBool};
 ghost use Rattle.std.specs.List.{Contains};
@@ -8,9 +8,11 @@ ghost use Rattle.flow_points.specs.Facts.{Reached, fact};
 ghost use Rattle.flow_table.specs.Giving.{AreValues};
 ghost use Rattle.fact_rows.specs.Places.{numbers_at};
 ghost use Rattle.fact_rows.specs.Known.{Adds, AreFacts, Fits, KnowNothing, Knows, missing, slots_of};
-ghost use Rattle.fact_rows.specs.Touched.{AreKeys, IsTouched, facts_at, facts_of};
+ghost use Rattle.fact_rows.specs.Numbers.{AreNumbers};
+ghost use Rattle.fact_rows.specs.Touched.{IsTouched, facts_at, facts_of, keys_of};
 
 use crate::grid::Grid;
+use crate::keys::Key;
 use crate::value::{number_in, value_in, values_in};
 use flow_points::{Fact, Slot, Value};
 use flow_table::{FlowTable, KnownFacts};
@@ -18,21 +20,14 @@ use plex_num::{Memory, Seq};
 use std::alloc::Global;
 use std::marker::Model;
 
-/// A slot before a point. In the order of points, then of slots.
-#[derive(Clone, Copy, PartialEq, Eq, PartialOrd, Ord)]
-pub struct Key {
-    pub point: u32,
-    pub slot: Slot,
-}
-
-/// The facts of one entry, as rows of bits: for each point of a table a plane for each slot before it. They are made once
-/// for a table, and begun anew for each entry, in the time of what was added. A slot takes four bytes, and a plane too where the
-/// entry has a fact of it.
+/// The facts of one entry, as rows of sets: for each point of a table a set of numbers for each slot before it. They are made once
+/// for a table, and begun anew for each entry, in the time of what was added. A slot takes four bytes, and beside them each set
+/// that the entry has met stands once.
 #[derive(Drop)]
 pub struct FactRows {
     entry: u32,
     grid: Grid,
-    touched: Vec<Key>,
+    touched: Vec<u32>,
 }
 
 impl Model for FactRows {
@@ -82,7 +77,7 @@ impl FactRows {
     {
         let Fact { point, slot, .. } = fact;
         let fresh = self.grid.is_empty(point, slot);
-        touch(&mut self.touched, fresh, Key { point, slot })?;
+        touch(&mut self.touched, fresh, point)?;
         let added = self.grid.set(point, slot, number_in(slot, fact.value))?;
         Ok(added)
     }
@@ -91,8 +86,8 @@ impl FactRows {
     pub fn facts(&self, alloc: Global) -> Result<Seq<Fact>, Memory>
         ensures { IfOk result (AreFacts (Knows self.now)) }
     {
-        let keys = in_order(alloc, &self.touched)?;
-        listed(alloc, self.entry, &self.grid, &keys)
+        let points = in_order(alloc, &self.touched)?;
+        listed(alloc, self.entry, &self.grid, &points)
     }
 }
 
@@ -121,25 +116,40 @@ impl KnownFacts for FactRows {
     }
 }
 
-/// Notes a slot that had no number.
-fn touch(touched: &mut Vec<Key>, fresh: bool, key: Key) -> Result<(), Memory>
-    ensures ok { OnOk result (IsTouched touched.old.items fresh key touched.new.items) }
+/// Notes the point of a slot that had no number.
+#[tactic(auto, using(crate::proofs::Holding::not_fresh, crate::proofs::Holding::noted_last, crate::proofs::Holding::noted_more))]
+fn touch(touched: &mut Vec<u32>, fresh: bool, point: u32) -> Result<(), Memory>
+    ensures ok { OnOk result (IsTouched touched.old.items fresh point touched.new.items) }
     ensures err { OnErr result (touched.new.items ≡ touched.old.items) }
 {
-    if fresh {
-        return match touched.push(key) {
-            Ok(()) => Ok(()),
-            Err(_) => Err(Memory),
-        };
+    if !fresh {
+        return Ok(());
     }
-    Ok(())
+    if is_last(touched, point) {
+        return Ok(());
+    }
+    match touched.push(point) {
+        Ok(()) => Ok(()),
+        Err(_) => Err(Memory),
+    }
 }
 
-/// The same slots in order, each once.
-fn in_order(alloc: Global, keys: &[Key]) -> Result<Vec<Key>, Memory>
-    ensures { IfOk result (λ sorted. AreKeys keys.now sorted.items) }
+/// Whether a point is the last of these.
+#[tactic(auto, using(crate::proofs::Holding::last_there))]
+fn is_last(points: &[u32], point: u32) -> bool
+    ensures { IsTrue result → Contains points.now point }
 {
-    let mut sorted = match Vec::from_slice(alloc, keys) {
+    match points.last() {
+        Some(last) => *last == point,
+        None => false,
+    }
+}
+
+/// The same points in order, each once.
+fn in_order(alloc: Global, points: &[u32]) -> Result<Vec<u32>, Memory>
+    ensures { IfOk result (λ sorted. AreNumbers (Contains points.now) sorted.items) }
+{
+    let mut sorted = match Vec::from_slice(alloc, points) {
         Ok(sorted) => sorted,
         Err(_) => return Err(Memory),
     };
@@ -148,16 +158,34 @@ fn in_order(alloc: Global, keys: &[Key]) -> Result<Vec<Key>, Memory>
     Ok(sorted)
 }
 
-/// The facts of these slots, one slot after the other.
-fn listed(alloc: Global, entry: u32, grid: &Grid, keys: &[Key]) -> Result<Seq<Fact>, Memory>
-    ensures { IfOk result (λ facts. facts ≡ facts_of entry grid.now keys.now) }
+/// The facts of the slots before these points, one point after the other.
+fn listed(alloc: Global, entry: u32, grid: &Grid, points: &[u32]) -> Result<Seq<Fact>, Memory>
+    ensures { IfOk result (λ facts.
+        facts ≡ facts_of entry grid.now (keys_of grid.now.slots points.now)) }
 {
     let mut facts = Seq::new(alloc);
-    for key in keys {
-        let numbers = grid.numbers(alloc, key.point, key.slot)?;
-        push_facts(entry, *key, numbers.as_slice(), &mut facts)?;
+    for point in points {
+        let keys = grid.keys(alloc, *point)?;
+        push_listed(alloc, entry, grid, keys.as_slice(), &mut facts)?;
     }
     Ok(facts)
+}
+
+/// Appends the facts of these slots, one slot after the other.
+fn push_listed(
+    alloc: Global,
+    entry: u32,
+    grid: &Grid,
+    keys: &[Key],
+    facts: &mut Seq<Fact>,
+) -> Result<(), Memory>
+    ensures { OnOk result (facts.new ≡ facts.old ++ facts_of entry grid.now keys.now) }
+{
+    for key in keys {
+        let numbers = grid.numbers(alloc, key.point, key.slot)?;
+        push_facts(entry, *key, numbers.as_slice(), facts)?;
+    }
+    Ok(())
 }
 
 /// Appends the facts of these numbers of a slot.

@@ -15,6 +15,11 @@ pub const ANY_NUMBER: u32 = ARGS + SMALL_NUMBERS;
 /// How many numbers a plane of AWAITS has.
 pub const AWAITED_NUMBERS: u32 = 1_024;
 
+/// How many words of 64 bits the numbers of a plane take, and those of one of AWAITS.
+pub const PLANE_WORDS: u32 = 5;
+
+pub const AWAITED_WORDS: u32 = 16;
+
 fn is_awaits(slot: Slot) -> bool
     ensures { result ≡ is_awaits_of slot }
 {

@@ -1,4 +1,5 @@
 pub mod Texts
+pub mod Points
 pub mod Ways
 pub mod Alone
 pub mod Rows

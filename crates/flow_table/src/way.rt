@@ -1,10 +1,10 @@
+use crate::points::Points;
 use flow_points::Passing;
-use plex_num::Seq;
 
 /// Where a way leads to: to these points, or to each RETRIEVE of an answer, which is a signal by its number.
 #[derive(Drop)]
 pub enum Ends {
-    Points(Seq<u32>),
+    Points(Points),
     Retrieves(u32),
 }
 

@@ -16,6 +16,7 @@ ghost use Rattle.flow_table.specs.Alone.{IsExprIn};
 ghost use Rattle.flow_table.specs.Ways.{choice_points, layer_ways, listed, most_of, send_ways as ways_of_send, to_enters, to_next, to_points};
 
 use crate::lookup::{label_point, push_enters, push_point};
+use crate::points::Points;
 use crate::room::with_room;
 use crate::source::source_of;
 use crate::walk::first_of;
@@ -88,26 +89,28 @@ pub fn ways_of(
     }
 }
 
-fn push_way(how: Passing, points: Seq<u32>, ways: &mut Seq<Way>) -> Result<(), Memory>
+fn push_way(
+    alloc: Global,
+    how: Passing,
+    points: Seq<u32>,
+    ways: &mut Seq<Way>,
+) -> Result<(), Memory>
     ensures { OnOk result (ways.new ≡ ways.old ++ to_points how points ∷ []) }
 {
+    let points = Points::from_seq(alloc, points)?;
     ways.push(Way {
         how,
         ends: Ends::Points(points),
     })
 }
 
-fn push_next(
-    alloc: Global,
-    how: Passing,
-    next: Option<u32>,
-    ways: &mut Seq<Way>,
-) -> Result<(), Memory>
+fn push_next(how: Passing, next: Option<u32>, ways: &mut Seq<Way>) -> Result<(), Memory>
     ensures { OnOk result (ways.new ≡ ways.old ++ to_next how next ∷ []) }
 {
-    let mut points = with_room(alloc, 1)?;
-    push_point(next, &mut points)?;
-    push_way(how, points, ways)
+    ways.push(Way {
+        how,
+        ends: Ends::Points(Points::of_option(next)),
+    })
 }
 
 /// One way, to a point if there is one.
@@ -115,7 +118,7 @@ fn one_way(alloc: Global, how: Passing, next: Option<u32>) -> Result<Seq<Way>, M
     ensures { IfOk result (λ ways. ways ≡ to_next how next ∷ []) }
 {
     let mut ways = with_room(alloc, 1)?;
-    push_next(alloc, how, next, &mut ways)?;
+    push_next(how, next, &mut ways)?;
     Ok(ways)
 }
 
@@ -154,7 +157,7 @@ fn either(alloc: Global, first: Option<u32>, other: Option<u32>) -> Result<Seq<W
     push_point(first, &mut points)?;
     push_point(other, &mut points)?;
     let mut ways = with_room(alloc, 1)?;
-    push_way(Passing::Kept, points, &mut ways)?;
+    push_way(alloc, Passing::Kept, points, &mut ways)?;
     Ok(ways)
 }
 
@@ -172,7 +175,7 @@ fn choices(
     push_choices(whens, next, &mut points)?;
     push_point(other, &mut points)?;
     let mut ways = with_room(alloc, 1)?;
-    push_way(Passing::Kept, points, &mut ways)?;
+    push_way(alloc, Passing::Kept, points, &mut ways)?;
     Ok(ways)
 }
 
@@ -198,8 +201,8 @@ fn sets_or_goes(
 {
     let source = Source::Is(Value::Any);
     let mut ways = with_room(alloc, 2)?;
-    push_next(alloc, Passing::Sets { temp, source }, sets, &mut ways)?;
-    push_next(alloc, Passing::Kept, goes, &mut ways)?;
+    push_next(Passing::Sets { temp, source }, sets, &mut ways)?;
+    push_next(Passing::Kept, goes, &mut ways)?;
     Ok(ways)
 }
 
@@ -216,7 +219,7 @@ fn push_way_in(
 {
     let mut points = with_room(alloc, 1)?;
     push_enters(exchange, signal, to, &mut points)?;
-    push_way(how, points, ways)
+    push_way(alloc, how, points, ways)
 }
 
 /// Where the values of these expressions come from.
@@ -311,7 +314,7 @@ fn calls(
     let how = Passing::Calls { values, answer };
     let mut ways = with_room(alloc, 2)?;
     push_way_in(alloc, exchange, signal, to, how, &mut ways)?;
-    push_next(alloc, Passing::Kept, next, &mut ways)?;
+    push_next(Passing::Kept, next, &mut ways)?;
     Ok(ways)
 }
 

@@ -6,10 +6,8 @@ ghost use Rattle.source_meaning.specs.Valid.{IsValid};
 ghost use Rattle.retire_order.specs.Accounts.{with_words};
 ghost use Rattle.register_machine.specs.Faithful.{Faithful};
 ghost use Rattle.checked.specs.Kept.{IsChecked};
-ghost use Rattle.interleave_core.specs.Cores.{opened_core};
 ghost use Rattle.interleave_core.specs.Follows.{Interleaves};
-ghost use Rattle.interleave_core.specs.Runs.{IsFault, LeadsTo, setting};
-ghost use Rattle.interleave_core.specs.Safe.{StaysSafe};
+ghost use Rattle.interleave_core.specs.Runs.{IsFault, setting};
 
 use crate::event::{CoreEvent, CoreFault};
 use crate::making::happen;
@@ -50,31 +48,6 @@ pub fn run_events(
         (IsFault (setting exchange.now code.now checked.now workers) books words events.now) }
 {
     exchange.kept();
-    make_all(
-        alloc, exchange, layout, code, checked, books, words, workers, events,
-    )
-}
-
-/// Makes these events one after the other. Each event that is allowed must be one that can be made, wherever the events lead.
-fn make_all(
-    alloc: Global,
-    exchange: &Exchange,
-    layout: &Layout,
-    code: &Code,
-    checked: &Checked,
-    books: Books,
-    words: Seq<u32>,
-    workers: u32,
-    events: &[CoreEvent],
-) -> Result<CoreState, CoreFault>
-    requires nobody { books.running ≡ 0 }
-    requires layout { IsLayout exchange.now.blocks layout.now }
-    requires safe { StaysSafe (setting exchange.now code.now checked.now workers)
-        (opened_core books words) }
-    ensures { MatchResult result
-        (LeadsTo (setting exchange.now code.now checked.now workers) books words events.now)
-        (IsFault (setting exchange.now code.now checked.now workers) books words events.now) }
-{
     let mut core = RunningCore::new(alloc, books, words);
     for (at, event) in events.iter().enumerate() {
         if !happen(&mut core, exchange, layout, code, checked, workers, *event)? {

@@ -3,6 +3,7 @@ use Rattle.std.proofs.Common.{◌≡◌, ℕ, zero, suc, ◌+◌, ◌-◌, ◌<�
 use Rattle.std.specs.List.{AllByRecursion, IsDistinct, cons_option, position_or_len}
 use Rattle.std.specs.Str.{bytes_eq}
 use Rattle.std.proofs.lemmas.Bool.{cases_Bool, cases_lt, cond_below, eq-eqb, ne_eqb}
+use Rattle.std.proofs.lemmas.Cmp.{nat_list_eq_equiv}
 use Rattle.std.proofs.lemmas.Map.Keys.{IsDistinct-head, IsDistinct-tail}
 use Rattle.std.proofs.lemmas.Option.{none-some, same_Some}
 use Rattle.std.proofs.lemmas.Slice.Eq.{bytes_eq-Decides}
@@ -51,22 +52,12 @@ position_is p xs i x is there =
 
 -- ---- a name stands once
 
-other_way : (x y : List ℕ) → bytes_eq x y ≡ false → bytes_eq y x ≡ false
-other_way x y apart = by_test (bytes_eq y x) refl
-  where
-    by_test : (b : Bool) → bytes_eq y x ≡ b → b ≡ false
-    by_test false e = refl
-    by_test true e =
-        let same : y ≡ x = (bytes_eq-Decides y x).0 e in
-        let back : bytes_eq x y ≡ true = (bytes_eq-Decides x y).1 (sym same) in
-        cc
-
 name_once : (names : List (List ℕ)) (i : ℕ) (name : List ℕ) → IsDistinct bytes_eq names → slice_get names i ≡ Some name → position_or_len (bytes_eq name) names ≡ i
 name_once [] i name once is = absurd (none-some name is)
 name_once (n ∷ names) zero name once is = passes_here (bytes_eq name) n names ((bytes_eq-Decides name n).1 (sym (same_Some n name is)))
 name_once (n ∷ names) (suc i) name once is =
     let apart : bytes_eq n name ≡ false = all_at (λ y. bytes_eq n y ≡ false) names i name (IsDistinct-head bytes_eq n names once) is in
-    passes_later (bytes_eq name) n names i (other_way n name apart) (name_once names i name (IsDistinct-tail bytes_eq n names once) is) ∙ omega arith
+    passes_later (bytes_eq name) n names i (nat_list_eq_equiv.symm name n ∙ apart) (name_once names i name (IsDistinct-tail bytes_eq n names once) is) ∙ omega arith
 
 pub name_found : (names : List (List ℕ)) (i : ℕ) (name : List ℕ) → IsDistinct bytes_eq names → slice_get names i ≡ Some name → position (bytes_eq name) names ≡ Some i
 name_found names i name once is = position_is (bytes_eq name) names i name (name_once names i name once is) is

@@ -2,7 +2,7 @@
 use Rattle.std.proofs.Common.{◌≡◌, ◌≢◌, ℕ, ◌+◌, ◌<◌, ◌≤◌, nat_eq, true, false, List, length, Some, None, Result, Ok, Err, sym, ap, ◌∙◌, arith}
 use Rattle.std.specs.Prelude.{nat_le}
 use Rattle.std.proofs.lemmas.List.{take_all}
-use Rattle.std.proofs.lemmas.Bool.Decides.{nat_tests}
+use Rattle.std.proofs.lemmas.Bool.{eq-eqb, le-leb, lt-leb, ne_eqb}
 use Rattle.plex_limits.specs.declared.limits.TheConstants.{MOST_VALUES}
 use Rattle.exchange_model.specs.declared.exchange.Exchange.{Exchange}
 use Rattle.signal_file.specs.declared.directory.Directory.{Directory}
@@ -51,26 +51,14 @@ with_block : (x : Exchange) (b : Before) (said : Said) (s : Saying) (signal : Si
 with_block x b said s signal entry r some there =
     with_signal x b said s signal r some ∙ ap (λ o. need (UnknownBlock (b.lines + 1)) o (after_block b s signal)) (ap (entry_of x signal.number) (sym r.block) ∙ sym there)
 
-no_equal : (a b : ℕ) → a ≢ b → nat_eq a b ≡ false
-no_equal a b other = grind (arith, nat_tests)
-
-equal : (a b : ℕ) → a ≡ b → nat_eq a b ≡ true
-equal a b same = grind (arith, nat_tests)
-
-below : (a b : ℕ) → b < a → nat_le a b ≡ false
-below a b less = grind (arith, nat_tests)
-
-up_to : (a b : ℕ) → a ≤ b → nat_le a b ≡ true
-up_to a b less = grind (arith, nat_tests)
-
 -- it has another number of values
 pub wrong_data : (x : Exchange) (b : Before) (said : Said) (s : Saying) (signal : Signal) (entry : ℕ) → IsRead s said → Some signal ≡ signal_of x said.signal.now → Some entry ≡ entry_of x signal.number said.block.now → said.count ≢ signal.count → Err (WrongData (b.lines + 1)) ≡ meaning x b s
 wrong_data x b said s signal entry r some there other =
-    sym (with_block x b said s signal entry r some there ∙ ap (λ t. need_that (WrongData (b.lines + 1)) t (after_data b s entry)) (no_equal (length s.values) signal.count (λ e. other (r.values.counted ∙ e))))
+    sym (with_block x b said s signal entry r some there ∙ ap (λ t. need_that (WrongData (b.lines + 1)) t (after_data b s entry)) (ne_eqb (length s.values) signal.count (λ e. other (r.values.counted ∙ e))))
 
 with_data : (x : Exchange) (b : Before) (said : Said) (s : Saying) (signal : Signal) (entry : ℕ) → IsRead s said → Some signal ≡ signal_of x said.signal.now → Some entry ≡ entry_of x signal.number said.block.now → said.count ≡ signal.count → meaning x b s ≡ after_data b s entry
 with_data x b said s signal entry r some there same =
-    with_block x b said s signal entry r some there ∙ ap (λ t. need_that (WrongData (b.lines + 1)) t (after_data b s entry)) (equal (length s.values) signal.count (sym r.values.counted ∙ same))
+    with_block x b said s signal entry r some there ∙ ap (λ t. need_that (WrongData (b.lines + 1)) t (after_data b s entry)) (eq-eqb (length s.values) signal.count (sym r.values.counted ∙ same))
 
 same_range : (s : Saying) (said : Said) → IsRead s said → is_in_range said.every said.from said.times ≡ is_in_range s.every s.from s.times
 same_range s said r = λ i. is_in_range (r.every i) (r.from i) (r.times i)
@@ -91,7 +79,7 @@ pub too_many : (x : Exchange) (b : Before) (said : Said) (s : Saying) (signal : 
     → true ≡ is_in_range said.every said.from said.times → MOST_LINES < b.signals + said.times → Err (TooMany (b.lines + 1)) ≡ meaning x b s
 too_many x b said s signal entry r some there same in_range more =
     let t = r.times in
-    sym (with_range x b said s signal entry r some there same in_range ∙ ap (λ t. need_that (TooMany (b.lines + 1)) t (after_many b s entry)) (below (b.signals + s.times) MOST_LINES (omega (arith, t, more))))
+    sym (with_range x b said s signal entry r some there same in_range ∙ ap (λ t. need_that (TooMany (b.lines + 1)) t (after_many b s entry)) (lt-leb (b.signals + s.times) MOST_LINES (omega (arith, t, more))))
 
 -- it keeps all rules
 pub right : (x : Exchange) (d : Directory) (b : Before) (said : Said) (s : Saying) (signal : Signal) (entry : ℕ) (values : List ℕ) → IsDirectory x d → IsRead s said → Some signal ≡ signal_of x said.signal.now → Some entry ≡ entry_of x signal.number said.block.now → said.count ≡ signal.count
@@ -103,7 +91,7 @@ right x d b said s signal entry values dir r some there same in_range few copied
     let t = r.times in
     let all : values ≡ s.values = copied ∙ r.values.first ∙ take_all MOST_VALUES s.values (omega (arith, n, counted, same)) in
     (λ i. Ok (record { number = b.lines + 1; every = r.every i; from = r.from i; times = r.times i; entry = entry; values = all i; fresh = r.fresh i }))
-    ∙ sym (with_range x b said s signal entry r some there same in_range ∙ ap (λ t. need_that (TooMany (b.lines + 1)) t (after_many b s entry)) (up_to (b.signals + s.times) MOST_LINES (omega (arith, t, few))))
+    ∙ sym (with_range x b said s signal entry r some there same in_range ∙ ap (λ t. need_that (TooMany (b.lines + 1)) t (after_many b s entry)) (le-leb (b.signals + s.times) MOST_LINES (omega (arith, t, few))))
 
 -- for `search`
 pub ruleset line_meant = (no_signal, no_block, wrong_data, bad_range, too_many, right)

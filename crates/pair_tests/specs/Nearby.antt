@@ -12,24 +12,24 @@ use Rattle.entry_summary.specs.Orders.{access_order}
 use Rattle.pair_tests.specs.declared.near.Bound.{Bound}
 use Rattle.pair_tests.specs.declared.near.Bound.TheVariants.{Below, UpTo}
 
--- the first and the last access of the number that may be
 abbrev pub file_access : ℕ → Bool → Access
 file_access f false = Seizes f
 file_access f true = Frees f
 
+-- the access of the number that writes or does not, and of a field with this selector
+abbrev pub near_access : Access → Bool → Value → Access
+near_access (Variable w n) v z = Variable v n
+near_access (Field w n u) v z = Field v n z
+near_access (Own w n) v z = Own v n
+near_access (Seizes f) v z = file_access f v
+near_access (Frees f) v z = file_access f v
+
+-- the first and the last access of the number that may be: no selector is before the first value, and none behind any
 abbrev pub lowest : Access → Bool → Access
-lowest (Variable w n) v = Variable v n
-lowest (Field w n u) v = Field v n (Arg 0)
-lowest (Own w n) v = Own v n
-lowest (Seizes f) v = file_access f v
-lowest (Frees f) v = file_access f v
+lowest one v = near_access one v (Arg 0)
 
 abbrev pub highest : Access → Bool → Access
-highest (Variable w n) v = Variable v n
-highest (Field w n u) v = Field v n Any
-highest (Own w n) v = Own v n
-highest (Seizes f) v = file_access f v
-highest (Frees f) v = file_access f v
+highest one v = near_access one v Any
 
 -- an access of the number, that writes or does not
 abbrev pub IsNear : Access → Bool → Access → Type 0

@@ -4,7 +4,7 @@ ghost use Rattle.std.specs.Bool.{MatchBool};
 ghost use Rattle.std.specs.List.Sorted.{IsStrictlySortedBy};
 ghost use Rattle.entry_summary.specs.declared.summary.Access.{Access};
 ghost use Rattle.entry_summary.specs.Orders.{access_order};
-ghost use Rattle.pair_tests.specs.Nearby.{file_access as file_access_of, highest as highest_of, lowest as lowest_of, passes_reads as passes_reads_of, within, AreCounted, AreNear, ArePast, AreWithin};
+ghost use Rattle.pair_tests.specs.Nearby.{file_access as file_access_of, highest as highest_of, lowest as lowest_of, near_access as near_access_of, passes_reads as passes_reads_of, within, AreCounted, AreNear, ArePast, AreWithin};
 
 use entry_summary::Access;
 use flow_points::Value;
@@ -20,9 +20,9 @@ fn file_access(file: u32, frees: bool) -> Access
     }
 }
 
-/// The first access that there may be of the number of this one.
-fn lowest(one: Access, write: bool) -> Access
-    ensures { result ≡ lowest_of one write }
+/// The access of the number of this one that writes, or that does not; of a field with this selector.
+fn near_access(one: Access, write: bool, selector: Value) -> Access
+    ensures { result ≡ near_access_of one write selector }
 {
     match one {
         Access::Variable { write: _, number } => Access::Variable { write, number },
@@ -33,7 +33,7 @@ fn lowest(one: Access, write: bool) -> Access
         } => Access::Field {
             write,
             number,
-            selector: Value::Arg(0),
+            selector,
         },
         Access::Own { write: _, number } => Access::Own { write, number },
         Access::Seizes { file } => file_access(file, write),
@@ -41,25 +41,18 @@ fn lowest(one: Access, write: bool) -> Access
     }
 }
 
+/// The first access that there may be of the number of this one.
+fn lowest(one: Access, write: bool) -> Access
+    ensures { result ≡ lowest_of one write }
+{
+    near_access(one, write, Value::Arg(0))
+}
+
 /// The last one.
 fn highest(one: Access, write: bool) -> Access
     ensures { result ≡ highest_of one write }
 {
-    match one {
-        Access::Variable { write: _, number } => Access::Variable { write, number },
-        Access::Field {
-            write: _,
-            number,
-            selector: _,
-        } => Access::Field {
-            write,
-            number,
-            selector: Value::Any,
-        },
-        Access::Own { write: _, number } => Access::Own { write, number },
-        Access::Seizes { file } => file_access(file, write),
-        Access::Frees { file } => file_access(file, write),
-    }
+    near_access(one, write, Value::Any)
 }
 
 /// A bound in the order of accesses.

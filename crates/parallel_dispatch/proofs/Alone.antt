@@ -36,10 +36,12 @@ use Rattle.exchange_run.proofs.Turning.{goes_on, may_be, may_retire, may_run, tu
 use Rattle.shared_store.specs.declared.view.Lent.{Lent}
 use Rattle.shared_store.specs.declared.view.Top.{Top}
 use Rattle.shared_store.specs.Loans.{Has, lent_out, seen_by, unlent}
+use Rattle.shared_store.specs.Seats.{StoreId}
 use Rattle.job_runner.specs.Seen.{free_to_read, free_to_write}
+use Rattle.parallel_dispatch.specs.declared.moves.Retired.{Retired}
 use Rattle.parallel_dispatch.specs.Flying.{Fly, arrived}
 use Rattle.parallel_dispatch.specs.Made.{HasRunAlone, JobMakes, RunMakes}
-use Rattle.parallel_dispatch.specs.Moves.{AreCounted, MayRunAlone, to_do}
+use Rattle.parallel_dispatch.specs.Moves.{AreCounted, HasTurned, MayRunAlone, to_do}
 use Rattle.parallel_dispatch.specs.Windows.{View}
 use Rattle.parallel_dispatch.proofs.Lending.{and_not, free_stores}
 
@@ -159,7 +161,7 @@ module _ (x : Exchange) (k : Kept) (books : Account) (top : Top) (start : JobSta
   entry_alone code faithful = entry_within x code start top.values faithful may_run_here
 
   -- how many instructions its run makes
-  pub makes_alone : (y : Exchange) (loans : List Lent) (code : Code) (s : State) (made steps : ℕ) → x ≡ y → loans ≡ [] → Fly y k s books top loans → RunMakes code start top.values made → steps ≡ made → JobMakes code s steps
+  makes_alone : (y : Exchange) (loans : List Lent) (code : Code) (s : State) (made steps : ℕ) → x ≡ y → loans ≡ [] → Fly y k s books top loans → RunMakes code start top.values made → steps ≡ made → JobMakes code s steps
   makes_alone y loans code s made steps same none fly makes is =
       let here : Fly x k s books top [] = subst (λ (z : Exchange × List Lent). Fly z.0 k s books top z.1) (λ i. (sym same i, none i)) fly in
       record {
@@ -208,20 +210,20 @@ module _ (x : Exchange) (k : Kept) (books : Account) (top : Top) (start : JobSta
         last_none : last.running ≡ 0
         last_none = ap (λ (b : Account). b.running) last_is ∙ next_none
 
-        pub limit_alone : last.limit ≡ books.limit
+        limit_alone : last.limit ≡ books.limit
         limit_alone = ap (λ (b : Account). b.limit) last_is ∙ retired.limit ∙ ap (λ (b : Account). b.limit) begins
 
         one_ended : last.state.ended ≡ books.state.ended + 1
         one_ended = ap (λ (t : State). t.ended) turned ∙ turn_ended x (with_words books.state top.values) books.limit n.goes
 
-        pub gone_alone : (y : Exchange) (loans left : List Lent) (s : State) (now : Top) → x ≡ y → loans ≡ [] → left ≡ loans → Fly y k s books top loans → now.values ≡ words → now.loans ≡ mid.loans → Fly y k (turn y s) last now left
+        gone_alone : (y : Exchange) (loans left : List Lent) (s : State) (now : Top) → x ≡ y → loans ≡ [] → left ≡ loans → Fly y k s books top loans → now.values ≡ words → now.loans ≡ mid.loans → Fly y k (turn y s) last now left
         gone_alone y loans left s now same alone left_is fly values kept_loans =
             let here : Fly x k s books top [] = subst (λ (z : Exchange × List Lent). Fly z.0 k s books top z.1) (λ i. (sym same i, alone i)) fly in
             let is : with_words last.state now.values ≡ turn x s = ap (with_words last.state) values ∙ turned ∙ ap (turn x) (state_is x k s books top here) in
             let there : Fly x k (turn x s) last now [] = fly_none x k (turn x s) last now (turn_valid x n.kept s here.valid) is last_none (kept_loans ∙ none) in
             subst (λ (z : Exchange × List Lent). Fly z.0 k (turn z.0 s) last now z.1) (λ i. (same i, sym (left_is ∙ alone) i)) there
 
-        pub counted_alone : (w v : View) → v ≡ w → AreCounted books w → AreCounted last v
+        counted_alone : (w v : View) → v ≡ w → AreCounted books w → AreCounted last v
         counted_alone w v same c =
             let were = c.flown in
             let most = c.limited in
@@ -230,7 +232,7 @@ module _ (x : Exchange) (k : Kept) (books : Account) (top : Top) (start : JobSta
             let flown : v.flown ≡ w.flown = ap (λ (u : View). u.flown) same in
             record { flown = omega (arith, were, ended, before, flown); limited = subst (λ m. m ≤ MOST_JOBS) (sym limit_alone) most }
 
-        pub fewer_alone : to_do last < to_do books
+        fewer_alone : to_do last < to_do books
         fewer_alone =
             let few = (goes_on books.limit books.state n.goes).few in
             let ended = one_ended in
@@ -238,3 +240,14 @@ module _ (x : Exchange) (k : Kept) (books : Account) (top : Top) (start : JobSta
             let before = nobody in
             let limit = limit_alone in
             omega (arith, few, ended, runs, before, limit)
+
+        pub turned_alone : (y : Exchange) (code : Code) (store : StoreId) (w v : View) (left : Retired) (made : ℕ) → x ≡ y → w.loans ≡ [] → v ≡ w → left.root.1.values ≡ words → left.root.1.loans ≡ mid.loans → RunMakes code start top.values made → left.steps ≡ made → left.root.0 ≡ store → AreCounted books w → HasTurned y k code store books top w last left v
+        turned_alone y code store w v left made same alone kept_window values kept_loans makes is home counted = record {
+          fly = λ s fly. gone_alone y w.loans v.loans s left.root.1 same alone (ap (λ (u : View). u.loans) kept_window) fly values kept_loans;
+          steps = λ s fly. makes_alone y w.loans code s made left.steps same alone fly makes is;
+          home = home;
+          limit = limit_alone;
+          room = ap (λ (u : View). u.room) kept_window;
+          counted = counted_alone w v kept_window counted;
+          fewer = fewer_alone;
+        }

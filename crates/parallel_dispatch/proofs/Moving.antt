@@ -30,9 +30,10 @@ use Rattle.shared_store.specs.Loans.{FitsBeside, borrower, lender, lent, taken_b
 use Rattle.shared_store.specs.Seats.{JobView, RootView, StoreId}
 use Rattle.job_runner.specs.Runs.{HasRun, IsReady}
 use Rattle.job_runner.specs.Seen.{free_to_write}
+use Rattle.parallel_dispatch.specs.declared.moves.Retired.{Retired}
 use Rattle.parallel_dispatch.specs.Flying.{Fly, arrived}
 use Rattle.parallel_dispatch.specs.Made.{JobMakes}
-use Rattle.parallel_dispatch.specs.Moves.{AreCounted, Flying, HasSummary, MayFly, to_do}
+use Rattle.parallel_dispatch.specs.Moves.{AreCounted, Flying, HasSummary, HasTurned, MayFly, to_do}
 use Rattle.parallel_dispatch.specs.Told.{AreTrue, IsSummaryOf}
 use Rattle.parallel_dispatch.specs.Windows.{View}
 use Rattle.parallel_dispatch.proofs.Issuing.{fits_beside, fly_more, for_job, is_job, upcoming_parts}
@@ -81,19 +82,19 @@ module _ (x : Exchange) (k : Kept) (kept : IsExchange x) (checked : IsChecked x 
 
 -- ## The oldest retires
 
-module _ (x : Exchange) (k : Kept) (kept : IsExchange x) (checked : IsChecked x k) (true_of : AreTrue x k) (books : Account) (top : Top) (loans : List Lent) (l : Lent) (rest : List Lent) (loans_are : loans ≡ l ∷ rest) (code : Code) (store : StoreId) (seat : JobView) (run : Private) (has : HasRun x code store l seat run) (start : JobStart) (start_is : start ≡ l.start) (done : JobDone) (leaves : Leaves run done) (y : Exchange) (same : y ≡ x) (mid : Top) (mid_is : mid ≡ taken_back top seat.1) where
-  fly_here : (s : State) → Fly x k s books top loans → Fly x k s books top (l ∷ rest)
+module _ (x : Exchange) (k : Kept) (kept : IsExchange x) (checked : IsChecked x k) (true_of : AreTrue x k) (books : Account) (top : Top) (w : View) (l : Lent) (rest : List Lent) (loans_are : w.loans ≡ l ∷ rest) (code : Code) (store : StoreId) (seat : JobView) (run : Private) (has : HasRun x code store l seat run) (start : JobStart) (start_is : start ≡ l.start) (done : JobDone) (leaves : Leaves run done) (y : Exchange) (same : y ≡ x) (mid : Top) (mid_is : mid ≡ taken_back top seat.1) where
+  fly_here : (s : State) → Fly x k s books top w.loans → Fly x k s books top (l ∷ rest)
   fly_here s = subst (Fly x k s books top) loans_are
 
   -- the root has the loan back
-  module _ (s : State) (fly : Fly x k s books top loans) where
+  module _ (s : State) (fly : Fly x k s books top w.loans) where
     mid_back : mid ≡ back x k kept checked true_of s books top l rest (fly_here s fly)
     mid_back = mid_is ∙ ap (λ (v : JobView). taken_back top v.1) has.seat_is
 
     done_here : done ≡ done_by (job x l.start s.store)
     done_here = done_is x k kept checked true_of s books top l rest (fly_here s fly) code store seat run done has leaves
 
-    pub makes_here : (steps : ℕ) → steps ≡ run.made → JobMakes code s steps
+    makes_here : (steps : ℕ) → steps ≡ run.made → JobMakes code s steps
     makes_here steps is = subst (JobMakes code s) (sym is) (makes x k kept checked true_of s books top l rest (fly_here s fly) code store seat run has)
 
     pub stores_here : MayStore (free_to_write mid) (retired_world y start done books.state mid.values).trace
@@ -103,19 +104,19 @@ module _ (x : Exchange) (k : Kept) (kept : IsExchange x) (checked : IsChecked x 
         (may_write_there x k kept checked true_of s books top l rest (fly_here s fly))
 
   module _ (next last : Account) (words : List ℕ) (told now_told : Option (List Touch)) (retired : HasRetired y start done books next mid.values words told now_told) (last_is : last ≡ record next { state = arrived y next.running next.state }) where
-    module _ (s : State) (fly : Fly x k s books top loans) where
+    module _ (s : State) (fly : Fly x k s books top w.loans) where
       retired_here : with_words next.state words ≡ retires x l.start (done_by (job x l.start s.store)) (with_words books.state (back x k kept checked true_of s books top l rest (fly_here s fly)).values)
       retired_here = retired.state ∙ λ i. retires (same i) (start_is i) (done_here s fly i) (with_words books.state (mid_back s fly i).values)
 
-      pub gone : (now : Top) (left : List Lent) → now.values ≡ words → now.loans ≡ mid.loans → left ≡ rest → Fly x k (turn x s) last now left
+      gone : (now : Top) (left : List Lent) → now.values ≡ words → now.loans ≡ mid.loans → left ≡ rest → Fly x k (turn x s) last now left
       gone now left values loans_same left_is =
           subst (λ (z : Account × List Lent). Fly x k (turn x s) z.0 now z.1) (λ i. (sym (last_is ∙ ap (λ e. record next { state = arrived e next.running next.state }) same) i, sym left_is i))
           (fly_fewer x k kept checked true_of s books top l rest (fly_here s fly) next words retired_here retired.running retired.limit now values (loans_same ∙ ap (λ (t : Top). t.loans) (mid_back s fly)))
 
-    module _ (flying : (s : State) × Fly x k s books top loans) (now : Top) (left : List Lent) (values : now.values ≡ words) (loans_same : now.loans ≡ mid.loans) (left_is : left ≡ rest) where
+    module _ (flying : (s : State) × Fly x k s books top w.loans) (left : Retired) (v : View) (values : left.root.1.values ≡ words) (loans_same : left.root.1.loans ≡ mid.loans) (left_is : v.loans ≡ rest) where
       one_ended : last.state.ended ≡ books.state.ended + 1
       one_ended =
-          let later = gone flying.0 flying.1 now left values loans_same left_is in
+          let later = gone flying.0 flying.1 left.root.1 v.loans values loans_same left_is in
           let before : books.state.ended ≡ flying.0.ended = ap (λ (t : State). t.ended) flying.1.ahead.same in
           ap (λ (t : State). t.ended) later.ahead.same
           ∙ turn_ended x k kept checked true_of flying.0 books top l rest (fly_here flying.0 flying.1)
@@ -127,8 +128,8 @@ module _ (x : Exchange) (k : Kept) (kept : IsExchange x) (checked : IsChecked x 
       same_limit : last.limit ≡ books.limit
       same_limit = ap (λ (b : Account). b.limit) last_is ∙ retired.limit
 
-      pub counted_then : (w v : View) → v.flown ≡ w.flown → AreCounted books w → AreCounted last v
-      counted_then w v flown c =
+      counted_then : v.flown ≡ w.flown → AreCounted books w → AreCounted last v
+      counted_then flown c =
           let before = c.flown in
           let most = c.limited in
           let ended = one_ended in
@@ -136,9 +137,20 @@ module _ (x : Exchange) (k : Kept) (kept : IsExchange x) (checked : IsChecked x 
           let limit = same_limit in
           record { flown = omega (arith, before, ended, runs, flown); limited = subst (λ n. n ≤ MOST_JOBS) (sym limit) most }
 
-      pub fewer_then : to_do last < to_do books
+      fewer_then : to_do last < to_do books
       fewer_then =
           let ended = one_ended in
           let runs = one_fewer in
           let limit = same_limit in
           omega (arith, ended, runs, limit)
+
+      pub turned_then : left.steps ≡ run.made → left.root.0 ≡ store → v.room ≡ w.room → v.flown ≡ w.flown → AreCounted books w → HasTurned x k code store books top w last left v
+      turned_then made home room flown counted = record {
+        fly = λ s fly. gone s fly left.root.1 v.loans values loans_same left_is;
+        steps = λ s fly. makes_here s fly left.steps made;
+        home = home;
+        limit = same_limit;
+        room = room;
+        counted = counted_then flown counted;
+        fewer = fewer_then;
+      }

@@ -8,6 +8,7 @@ use Rattle.exchange_model.specs.declared.exchange.Exchange.{Exchange}
 use Rattle.exchange_model.specs.Kept.{IsExchange}
 use Rattle.store_layout.specs.declared.layout.Layout.{Layout}
 use Rattle.store_layout.specs.Laid.{IsLayout}
+use Rattle.source_meaning.specs.SingleRun.{turn}
 use Rattle.source_meaning.specs.State.{State}
 use Rattle.source_meaning.specs.Valid.{IsValid}
 use Rattle.start_permit.specs.declared.table.CellTable.{CellTable}
@@ -16,11 +17,17 @@ use Rattle.checked.specs.Kept.{IsChecked, Kept}
 use Rattle.order_laws.specs.Keeps.{NoLineBefore}
 use Rattle.register_machine.specs.Faithful.{Faithful}
 use Rattle.retire_order.specs.Accounts.{Account, upcoming, with_words}
+use Rattle.shared_store.specs.declared.view.Top.{Top}
 use Rattle.shared_store.specs.Loans.{unlent}
 use Rattle.shared_store.specs.Seats.{RootView, StoreId}
+use Rattle.ticket_book.specs.Pages.{BookId}
 use Rattle.parallel_dispatch.specs.declared.moves.Move.{Move}
 use Rattle.parallel_dispatch.specs.declared.moves.Move.TheVariants.{Issue, Retire, RunAlone}
+use Rattle.parallel_dispatch.specs.declared.moves.Retired.{Retired}
+use Rattle.parallel_dispatch.specs.declared.setting.Setting.{Setting}
+use Rattle.parallel_dispatch.specs.declared.threads.Beginning.{Beginning}
 use Rattle.parallel_dispatch.specs.Flying.{Fly, starts_of}
+use Rattle.parallel_dispatch.specs.Made.{JobMakes}
 use Rattle.parallel_dispatch.specs.Told.{AreTrue, PassBy}
 use Rattle.parallel_dispatch.specs.Windows.{View}
 
@@ -32,6 +39,14 @@ pub record AreOf (x : Exchange) (layout : Layout) (table : CellTable) (code : Co
   pub faithful : Faithful x code
   pub checked : IsChecked x k
   pub true_of : AreTrue x k
+
+-- the exchange, the code, the store and the book of the setting are these
+abbrev pub HasNames : Exchange → Code → StoreId → BookId → Setting → Type 0
+HasNames x code store book s = (s.exchange.now ≡ x) × (s.code.now ≡ code) × (s.store.now ≡ store) × (s.book.now ≡ book)
+
+-- the layout, the cells and the summaries of the setting are of this exchange, and so is this code
+abbrev pub IsSet : Exchange → Code → Setting → Type 0
+IsSet x code s = AreOf x s.layout.now s.table.now code s.checked.now
 
 -- a summary is kept of the entry of the start
 abbrev pub HasSummary : Kept → JobStart → Type 0
@@ -68,9 +83,22 @@ pub record AreCounted (books : Account) (w : View) : Type 0 where
   pub flown : w.flown ≤ books.state.ended + books.running
   pub limited : books.limit ≤ MOST_JOBS
 
--- no job runs in the books, the root has lent nothing, and they stand for a valid state
-pub record CanRun (x : Exchange) (store : StoreId) (books : Account) (root : RootView) : Type 0 where
-  pub nobody : books.running ≡ 0
-  pub limit : books.limit ≤ MOST_JOBS
-  pub root_is : root ≡ (store, unlent root.1.values)
-  pub valid : IsValid x (with_words books.state root.1.values)
+-- the next job has had its turn: beside whatever state books, root and window stood, what it left stands beside the one after it; it is
+-- the job whose run made so many instructions
+pub record HasTurned (x : Exchange) (k : Kept) (code : Code) (store : StoreId) (books : Account) (top : Top) (w : View) (next : Account) (left : Retired) (v : View) : Type 0 where
+  pub fly : (s : State) → Fly x k s books top w.loans → Fly x k (turn x s) next left.root.1 v.loans
+  pub steps : (s : State) → Fly x k s books top w.loans → JobMakes code s left.steps
+  pub home : left.root.0 ≡ store
+  pub limit : next.limit ≡ books.limit
+  pub room : v.room ≡ w.room
+  pub counted : AreCounted next v
+  pub fewer : to_do next < to_do books
+
+-- there is room for a job, no ticket was written, no job runs in the books, the root has lent nothing, and they stand for a valid state
+pub record MayBegin (x : Exchange) (store : StoreId) (book : BookId) (b : Beginning) : Type 0 where
+  pub some : 0 < b.workers
+  pub pen_is : b.pen ≡ (book, 0)
+  pub nobody : b.books.running ≡ 0
+  pub limit : b.books.limit ≤ MOST_JOBS
+  pub root_is : b.root ≡ (store, unlent b.root.1.values)
+  pub valid : IsValid x (with_words b.books.state b.root.1.values)

@@ -12,7 +12,7 @@ ghost use Rattle.parallel_dispatch.specs.Ends.{EndsAs};
 
 use crate::driving::Over;
 use crate::setting::Setting;
-use crate::threads::run_named;
+use crate::threads::{Beginning, run_named};
 use checked::Checked;
 use exchange_model::Exchange;
 use machine_code::Code;
@@ -81,7 +81,13 @@ pub fn dispatch<R: Threads + Wait + Sync, G: Gate + Sync>(
         store: &store,
         book: &book,
     };
-    let (books, over) = run_named::<Brand, R, G>(rt, &setting, gate, books, root, pen, workers)?;
+    let beginning = Beginning {
+        books,
+        root,
+        pen,
+        workers,
+    };
+    let (books, over) = run_named::<Brand, R, G>(rt, &setting, gate, beginning)?;
     let Over {
         root,
         ending,

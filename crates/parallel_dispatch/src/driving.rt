@@ -7,7 +7,7 @@ ghost use Rattle.source_meaning.specs.Valid.{IsValid};
 ghost use Rattle.retire_order.specs.Accounts.{with_words};
 ghost use Rattle.retire_order.specs.Events.{ending_of};
 ghost use Rattle.parallel_dispatch.specs.Ends.{IsOver};
-ghost use Rattle.parallel_dispatch.specs.Moves.{AreOf};
+ghost use Rattle.parallel_dispatch.specs.Moves.{HasNames, IsSet};
 
 use crate::moves::{Move, issue, next_move, retire, run_alone};
 use crate::pace::Pace;
@@ -49,11 +49,8 @@ pub(crate) fn run_jobs<
     root: RootSeat,
     window: &mut Window<B>,
 ) -> Result<Over, Memory>
-    requires named { (setting.now.exchange.now ≡ B.exchange)
-        × (setting.now.code.now ≡ B.code) × (setting.now.store.now ≡ B.store)
-        × (setting.now.book.now ≡ B.book) }
-    requires set { AreOf B.exchange setting.now.layout.now setting.now.table.now B.code
-        setting.now.checked.now }
+    requires named { HasNames B.exchange B.code B.store B.book setting.now }
+    requires set { IsSet B.exchange B.code setting.now }
     requires pairs { pairs.now ≡ setting.now.checked.now }
     requires nobody { books.old.running ≡ 0 }
     requires limit { books.old.limit ≤ MOST_JOBS }
@@ -123,9 +120,7 @@ fn hire<'s, 'e: 's, B: Naming + Send + Sync, R: Threads + Wait + Sync, G: Gate +
     gate: &'e G,
     flying: usize,
 )
-    requires named { (setting.now.exchange.now ≡ B.exchange)
-        × (setting.now.code.now ≡ B.code) × (setting.now.store.now ≡ B.store)
-        × (setting.now.book.now ≡ B.book) }
+    requires named { HasNames B.exchange B.code B.store B.book setting.now }
 {
     if flying == 0 || flying == usize::MAX {
         return;

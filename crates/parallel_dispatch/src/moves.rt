@@ -6,11 +6,11 @@ ghost use Rattle.exchange_run.specs.Runs.{MayRun};
 ghost use Rattle.order_laws.specs.Keeps.{NoLineBefore};
 ghost use Rattle.register_machine.specs.Faithful.{Faithful, started};
 ghost use Rattle.retire_order.specs.Accounts.{next_count, upcoming};
-ghost use Rattle.source_meaning.specs.SingleRun.{ending_at, turn};
+ghost use Rattle.source_meaning.specs.SingleRun.{ending_at};
 ghost use Rattle.source_meaning.specs.State.{State, Coming};
 ghost use Rattle.parallel_dispatch.specs.Flying.{Fly, arrived, starts_of};
-ghost use Rattle.parallel_dispatch.specs.Made.{HasRunAlone, JobMakes};
-ghost use Rattle.parallel_dispatch.specs.Moves.{AreCounted, AreOf, Flying, HasSummary, MayFly, MayMove, MayRunAlone, to_do};
+ghost use Rattle.parallel_dispatch.specs.Made.{HasRunAlone};
+ghost use Rattle.parallel_dispatch.specs.Moves.{AreCounted, Flying, HasNames, HasSummary, HasTurned, IsSet, MayFly, MayMove, MayRunAlone, to_do};
 
 use crate::pace::Pace;
 use crate::setting::Setting;
@@ -119,11 +119,8 @@ pub(crate) fn issue<B: Naming, R: Wait>(
     window: &mut Window<B>,
     start: JobStart,
 ) -> Result<(), Memory>
-    requires named { (setting.now.exchange.now ≡ B.exchange)
-        × (setting.now.code.now ≡ B.code) × (setting.now.store.now ≡ B.store)
-        × (setting.now.book.now ≡ B.book) }
-    requires set { AreOf B.exchange setting.now.layout.now setting.now.table.now B.code
-        setting.now.checked.now }
+    requires named { HasNames B.exchange B.code B.store B.book setting.now }
+    requires set { IsSet B.exchange B.code setting.now }
     requires root { root.old.0 ≡ B.store }
     requires counted { AreCounted books.old window.old }
     requires next { MayFly setting.now.checked.now books.old window.old start }
@@ -168,27 +165,15 @@ pub(crate) fn run_alone<B: Naming, G: Gate>(
     window: &mut Window<B>,
     start: JobStart,
 ) -> Result<Retired, Memory>
-    requires named { (setting.now.exchange.now ≡ B.exchange)
-        × (setting.now.code.now ≡ B.code) × (setting.now.store.now ≡ B.store)
-        × (setting.now.book.now ≡ B.book) }
-    requires set { AreOf B.exchange setting.now.layout.now setting.now.table.now B.code
-        setting.now.checked.now }
+    requires named { HasNames B.exchange B.code B.store B.book setting.now }
+    requires set { IsSet B.exchange B.code setting.now }
     requires root { root.0 ≡ B.store }
     requires counted { AreCounted books.old window.old }
     requires next { MayRunAlone books.old window.old start }
     requires goes_on { ending_at books.old.limit books.old.state ≡ None }
     requires flying { Flying B.exchange setting.now.checked.now books.old root window.old }
-    ensures fly { IfOk result (λ back. (s : State)
-        → Fly B.exchange setting.now.checked.now s books.old root.1 window.old.loans
-        → Fly B.exchange setting.now.checked.now (turn B.exchange s) books.new back.root.1 window.new.loans) }
-    ensures steps { IfOk result (λ back. (s : State)
-        → Fly B.exchange setting.now.checked.now s books.old root.1 window.old.loans
-        → JobMakes B.code s back.steps) }
-    ensures root { IfOk result (λ back. back.root.0 ≡ B.store) }
-    ensures limit { OnOk result (books.new.limit ≡ books.old.limit) }
-    ensures window { window.new ≡ window.old }
-    ensures counted { OnOk result (AreCounted books.new window.new) }
-    ensures fewer { OnOk result (to_do books.new < to_do books.old) }
+    ensures { IfOk result (λ left. HasTurned B.exchange setting.now.checked.now B.code B.store
+        books.old root.1 window.old books.new left window.new) }
 {
     let job = number_of_next(books);
     let mut run = window.idle_run(setting.alloc)?;
@@ -252,26 +237,14 @@ pub(crate) fn retire<B: Naming, R: Wait, G: Gate>(
     root: RootSeat,
     window: &mut Window<B>,
 ) -> Result<Retired, Memory>
-    requires named { (setting.now.exchange.now ≡ B.exchange)
-        × (setting.now.code.now ≡ B.code) × (setting.now.store.now ≡ B.store)
-        × (setting.now.book.now ≡ B.book) }
-    requires set { AreOf B.exchange setting.now.layout.now setting.now.table.now B.code
-        setting.now.checked.now }
+    requires named { HasNames B.exchange B.code B.store B.book setting.now }
+    requires set { IsSet B.exchange B.code setting.now }
     requires root { root.0 ≡ B.store }
     requires counted { AreCounted books.old window.old }
     requires some { 0 < length window.old.loans }
     requires flying { Flying B.exchange setting.now.checked.now books.old root window.old }
-    ensures fly { IfOk result (λ back. (s : State)
-        → Fly B.exchange setting.now.checked.now s books.old root.1 window.old.loans
-        → Fly B.exchange setting.now.checked.now (turn B.exchange s) books.new back.root.1 window.new.loans) }
-    ensures steps { IfOk result (λ back. (s : State)
-        → Fly B.exchange setting.now.checked.now s books.old root.1 window.old.loans
-        → JobMakes B.code s back.steps) }
-    ensures root { IfOk result (λ back. back.root.0 ≡ B.store) }
-    ensures limit { OnOk result (books.new.limit ≡ books.old.limit) }
-    ensures room { window.new.room ≡ window.old.room }
-    ensures counted { OnOk result (AreCounted books.new window.new) }
-    ensures fewer { OnOk result (to_do books.new < to_do books.old) }
+    ensures { IfOk result (λ left. HasTurned B.exchange setting.now.checked.now B.code B.store
+        books.old root.1 window.old books.new left window.new) }
 {
     let Some(oldest) = window.pop() else {
         unreachable!()
@@ -319,9 +292,7 @@ pub(crate) fn drain<B: Naming, R: Wait, G: Gate>(
     gate: &G,
     window: &mut Window<B>,
 )
-    requires named { (setting.now.exchange.now ≡ B.exchange)
-        × (setting.now.code.now ≡ B.code) × (setting.now.store.now ≡ B.store)
-        × (setting.now.book.now ≡ B.book) }
+    requires named { HasNames B.exchange B.code B.store B.book setting.now }
 {
     for _ in 0..window.len() {
         let Some(oldest) = window.pop() else {

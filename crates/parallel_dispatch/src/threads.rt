@@ -1,9 +1,7 @@
 // The run of all jobs in a scope of threads.
-ghost use Rattle.std.specs.Prelude.{◌≡◌, ◌<◌, IfOk};
-ghost use Rattle.retire_order.specs.Accounts.{with_words};
-ghost use Rattle.retire_order.specs.Events.{ending_of};
-ghost use Rattle.parallel_dispatch.specs.Ends.{IsOver};
-ghost use Rattle.parallel_dispatch.specs.Moves.{AreOf, CanRun};
+ghost use Rattle.std.specs.Prelude.{◌≡◌, IfOk};
+ghost use Rattle.parallel_dispatch.specs.Ends.{IsOverFrom};
+ghost use Rattle.parallel_dispatch.specs.Moves.{AreOf, HasNames, IsSet, MayBegin};
 
 use crate::driving::{Over, run_jobs};
 use crate::moves::drain;
@@ -26,29 +24,28 @@ use store_layout::Layout;
 use ticket_book::{Pen, TicketBook};
 use worker_pool::{Naming, Shop};
 
+/// What a run begins with: its books, the root of the store, the pen of the tickets, and how many jobs may run at once.
+#[derive(Drop)]
+pub(crate) struct Beginning {
+    pub books: Books,
+    pub root: RootSeat,
+    pub pen: Pen,
+    pub workers: u32,
+}
+
 /// Runs the jobs to the end of the run, with so many at once at most: the books then, and the end.
 pub(crate) fn run_named<B: Naming + Send + Sync, R: Threads + Wait + Sync, G: Gate + Sync>(
     rt: &R,
     setting: &Setting<'_>,
     gate: &G,
-    books: Books,
-    root: RootSeat,
-    pen: Pen,
-    workers: u32,
+    beginning: Beginning,
 ) -> Result<(Books, Over), Memory>
-    requires workers { 0 < workers }
-    requires pen { pen ≡ (B.book, 0) }
-    requires named { (setting.now.exchange.now ≡ B.exchange)
-        × (setting.now.code.now ≡ B.code) × (setting.now.store.now ≡ B.store)
-        × (setting.now.book.now ≡ B.book) }
-    requires set { AreOf B.exchange setting.now.layout.now setting.now.table.now B.code
-        setting.now.checked.now }
-    requires can { CanRun B.exchange B.store books root }
-    ensures { IfOk result (λ end. IsOver B.exchange B.code B.store
-        (with_words books.state root.1.values) books.limit
-        end.0 end.1.root (ending_of end.1.ending) end.1.steps) }
+    requires named { HasNames B.exchange B.code B.store B.book setting.now }
+    requires set { IsSet B.exchange B.code setting.now }
+    requires begin { MayBegin B.exchange B.store B.book beginning }
+    ensures { IfOk result (λ end. IsOverFrom B.exchange B.code B.store beginning end.0 end.1) }
 {
-    let shop = Shop::<B>::new(setting.alloc, workers)?;
+    let shop = Shop::<B>::new(setting.alloc, beginning.workers)?;
     run_shop(
         rt,
         setting.alloc,
@@ -61,10 +58,7 @@ pub(crate) fn run_named<B: Naming + Send + Sync, R: Threads + Wait + Sync, G: Ga
         setting.book,
         &shop,
         gate,
-        books,
-        root,
-        pen,
-        workers,
+        beginning,
     )
 }
 
@@ -81,37 +75,28 @@ fn run_shop<'x, B: Naming + Send + Sync, R: Threads + Wait + Sync, G: Gate + Syn
     book: &'x TicketBook,
     shop: &'x Shop<B>,
     gate: &'x G,
-    books: Books,
-    root: RootSeat,
-    pen: Pen,
-    workers: u32,
+    beginning: Beginning,
 ) -> Result<(Books, Over), Memory>
-    requires workers { 0 < workers }
-    requires pen { pen ≡ (B.book, 0) }
     requires named { (exchange.now ≡ B.exchange) × (code.now ≡ B.code)
         × (store.now ≡ B.store) × (book.now ≡ B.book) }
     requires set { AreOf B.exchange layout.now table.now B.code checked.now }
-    requires can { CanRun B.exchange B.store books root }
-    ensures { IfOk result (λ end. IsOver B.exchange B.code B.store
-        (with_words books.state root.1.values) books.limit
-        end.0 end.1.root (ending_of end.1.ending) end.1.steps) }
+    requires begin { MayBegin B.exchange B.store B.book beginning }
+    ensures { IfOk result (λ end. IsOverFrom B.exchange B.code B.store beginning end.0 end.1) }
 {
     thread::scope(
         thread::scope_env(),
         rt,
         |scope| -> Result<(Books, Over), Memory>
-            requires { (0 < workers) × (pen ≡ (B.book, 0))
-                × ((exchange.now ≡ B.exchange) × (code.now ≡ B.code)
+            requires { ((exchange.now ≡ B.exchange) × (code.now ≡ B.code)
                 × (store.now ≡ B.store) × (book.now ≡ B.book))
                 × AreOf B.exchange layout.now table.now B.code checked.now
-                × CanRun B.exchange B.store books root }
-            ensures { IfOk result (λ end. IsOver B.exchange B.code B.store
-                (with_words books.state root.1.values) books.limit
-                end.0 end.1.root (ending_of end.1.ending) end.1.steps) }
+                × MayBegin B.exchange B.store B.book beginning }
+            ensures { IfOk result
+                (λ end. IsOverFrom B.exchange B.code B.store beginning end.0 end.1) }
         {
             drive(
                 rt, scope, alloc, exchange, layout, table, code, checked, store, book, shop, gate,
-                books, root, pen, workers,
+                beginning,
             )
         },
     )
@@ -131,20 +116,13 @@ fn drive<'s, 'e: 's, B: Naming + Send + Sync, R: Threads + Wait + Sync, G: Gate 
     book: &'e TicketBook,
     shop: &'e Shop<B>,
     gate: &'e G,
-    books: Books,
-    root: RootSeat,
-    pen: Pen,
-    workers: u32,
+    beginning: Beginning,
 ) -> Result<(Books, Over), Memory>
-    requires workers { 0 < workers }
-    requires pen { pen ≡ (B.book, 0) }
     requires named { (exchange.now ≡ B.exchange) × (code.now ≡ B.code)
         × (store.now ≡ B.store) × (book.now ≡ B.book) }
     requires set { AreOf B.exchange layout.now table.now B.code checked.now }
-    requires can { CanRun B.exchange B.store books root }
-    ensures { IfOk result (λ end. IsOver B.exchange B.code B.store
-        (with_words books.state root.1.values) books.limit
-        end.0 end.1.root (ending_of end.1.ending) end.1.steps) }
+    requires begin { MayBegin B.exchange B.store B.book beginning }
+    ensures { IfOk result (λ end. IsOverFrom B.exchange B.code B.store beginning end.0 end.1) }
 {
     let setting = Setting {
         alloc,
@@ -156,6 +134,12 @@ fn drive<'s, 'e: 's, B: Naming + Send + Sync, R: Threads + Wait + Sync, G: Gate 
         store,
         book,
     };
+    let Beginning {
+        books,
+        root,
+        pen,
+        workers,
+    } = beginning;
     let mut books = books;
     let pairs = PairTable::new(alloc, checked)?;
     let mut window = Window::<B>::new(alloc, pen, workers)?;

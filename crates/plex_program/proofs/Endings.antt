@@ -1,10 +1,10 @@
 -- From what a command comes to, to the answer.
 use Rattle.std.proofs.Common.{◌≡◌, ℕ, List, Option, Some, None, Result, Ok, Err, IfSome, IsSomeAnd, ◌⊎◌, ap, refl, sym, subst, ◌∙◌, inl, inr}
 use Rattle.plex_io.specs.Files.{Files}
-use Rattle.plex_program.specs.Words.{Word, shape}
+use Rattle.command_words.specs.Words.{Word, shape}
 use Rattle.plex_program.specs.Answer.{IsAnswer, IsAnswerBy, Out, Performs, answer_of, performed, refused_answer, refused_status, usage_answer}
 use Rattle.plex_program.specs.Program.{Answers, Ends, EndsAs, IsComplete, IsEnding, IsMade, IsPlain, Makes, QuitsBy, WriteCause, not_held}
-use Rattle.plex_program.specs.declared.command.Command.{Command}
+use Rattle.command_words.specs.declared.command.Command.{Command}
 use Rattle.plex_program.specs.declared.perform.Refused.{Refused}
 use Rattle.plex_program.specs.declared.perform.Refused.TheVariants.{Certificate, Filter, NewSource, Signals, Source, Table}
 use Rattle.plex_program.specs.declared.perform.Answer.{Answer}

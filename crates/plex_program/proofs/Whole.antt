@@ -7,7 +7,7 @@ use Rattle.plex_io.specs.Causes.{Rose}
 use Rattle.plex_io.specs.Files.{Files}
 use Rattle.plex_io.specs.Steady.{SteadyState}
 use Rattle.plex_io.specs.Written.{WroteLess}
-use Rattle.plex_program.specs.Words.{Word}
+use Rattle.command_words.specs.Words.{Word}
 use Rattle.plex_program.specs.Answer.{IsAnswer}
 use Rattle.plex_program.specs.Program.{EndsAs, IsWritten, ReadCause, WriteCause, not_held}
 use Rattle.plex_program.specs.Whole.{HasRoom, IsWhole}

@@ -21,8 +21,8 @@ use Rattle.job_table.proofs.Numbering.{length-numbered}
 use Rattle.job_table.proofs.Sorting.{length-by_count}
 use Rattle.job_table.proofs.Turns.{length-all_lines}
 use Rattle.plex_program.specs.Answer.{exchange_at, goes_on, lines_at, lines_of_file, merged_at, merged_of_file, or_unread, or_untabled, run_answer, run_of, text_at, text_held, timed_of}
-use Rattle.plex_program.specs.Words.{Word}
-use Rattle.plex_program.specs.declared.command.TimedWords.{TimedWords}
+use Rattle.command_words.specs.Words.{Word}
+use Rattle.command_words.specs.declared.command.TimedWords.{TimedWords}
 use Rattle.plex_program.proofs.Accepted.{IsAccepted, accepted, gone_on, text_small}
 use Rattle.plex_program.proofs.Stages.{is_fitting}
 use Rattle.plex_program.proofs.Tables.{table_fits}
@@ -85,9 +85,9 @@ pub timed_is_run : (w : TimedWords) (files others : Files) (name : Word) (x : Ex
 timed_is_run w files others name x lines all is reads merges_to again held short =
     let are = read_again x lines all (accepted w.run.exchange files x is) (has_lines x w.run.signals files lines reads) (has_table x lines w.table files all merges_to) in
     let there : lines_at x name others ≡ Ok all = lines_again x name others all held short are in
-    ap (λ o. goes_on o (λ y. goes_on (lines_at y name others) (λ ls. Ok (run_answer y ls w.run.jobs)))) again
-    ∙ ap (λ o. goes_on o (λ ls. Ok (run_answer x ls w.run.jobs))) there
+    ap (λ o. goes_on o (λ y. goes_on (lines_at y name others) (λ ls. Ok (run_answer y ls w.run.bounds.jobs)))) again
+    ∙ ap (λ o. goes_on o (λ ls. Ok (run_answer x ls w.run.bounds.jobs))) there
     ∙ sym (
-    ap (λ o. goes_on o (λ y. goes_on (lines_at y w.run.signals files) (λ ls. goes_on (merged_at y ls w.table files) (λ all. Ok (run_answer y all w.run.jobs))))) is
-    ∙ ap (λ o. goes_on o (λ ls. goes_on (merged_at x ls w.table files) (λ all. Ok (run_answer x all w.run.jobs)))) reads
-    ∙ ap (λ o. goes_on o (λ all. Ok (run_answer x all w.run.jobs))) merges_to)
+    ap (λ o. goes_on o (λ y. goes_on (lines_at y w.run.signals files) (λ ls. goes_on (merged_at y ls w.table files) (λ all. Ok (run_answer y all w.run.bounds.jobs))))) is
+    ∙ ap (λ o. goes_on o (λ ls. goes_on (merged_at x ls w.table files) (λ all. Ok (run_answer x all w.run.bounds.jobs)))) reads
+    ∙ ap (λ o. goes_on o (λ all. Ok (run_answer x all w.run.bounds.jobs))) merges_to)

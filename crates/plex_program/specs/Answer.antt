@@ -42,16 +42,16 @@ use Rattle.certificate.specs.Certified.{IsCertificate}
 use Rattle.plex_program.specs.Reading.{filter_fault, large_filter, large_signals, large_table, resolve_fault, signals_fault, table_fault, tree_of_file}
 use Rattle.plex_program.specs.Certificates.{IsJudged}
 use Rattle.plex_program.specs.Text.{change_text, misfit_text, refusal_text, usage_text}
-use Rattle.plex_program.specs.Words.{Word, shape}
+use Rattle.command_words.specs.Words.{Word, shape}
 use Rattle.plex_program.specs.declared.fault.CertificateFault.{CertificateFault}
 use Rattle.plex_program.specs.declared.fault.SourceFault.{SourceFault}
-use Rattle.plex_program.specs.declared.command.TheConstants.{USUAL_JOBS}
-use Rattle.plex_program.specs.declared.command.Command.{Command}
-use Rattle.plex_program.specs.declared.command.Command.TheVariants.{Run, Single, Analyse, Certify, List as Listing, Load, Timed, Change, Trace}
-use Rattle.plex_program.specs.declared.command.ChangeWords.{ChangeWords}
-use Rattle.plex_program.specs.declared.command.RunWords.{RunWords}
-use Rattle.plex_program.specs.declared.command.TimedWords.{TimedWords}
-use Rattle.plex_program.specs.declared.command.TraceWords.{TraceWords}
+use Rattle.command_words.specs.declared.command.TheConstants.{USUAL_JOBS}
+use Rattle.command_words.specs.declared.command.Command.{Command}
+use Rattle.command_words.specs.declared.command.Command.TheVariants.{Run, Single, Analyse, Certify, List as Listing, Load, Timed, Change, Trace}
+use Rattle.command_words.specs.declared.command.ChangeWords.{ChangeWords}
+use Rattle.command_words.specs.declared.command.RunWords.{RunWords}
+use Rattle.command_words.specs.declared.command.TimedWords.{TimedWords}
+use Rattle.command_words.specs.declared.command.TraceWords.{TraceWords}
 use Rattle.plex_program.specs.declared.perform.Answer.{Answer}
 use Rattle.plex_program.specs.declared.perform.Refused.{Refused}
 use Rattle.plex_program.specs.declared.perform.Refused.TheVariants.{Certificate as Uncertified, Filter, NewSource, Signals, Source, Table}
@@ -146,7 +146,7 @@ abbrev pub run_of : RunWords → Files → Out Answer
 run_of w files =
     goes_on (exchange_at w.exchange files) (λ x.
     goes_on (lines_at x w.signals files) (λ lines.
-    Ok (run_answer x lines w.jobs)))
+    Ok (run_answer x lines w.bounds.jobs)))
 
 -- the lines and the signals of a table, as one list, or the fault of the table
 abbrev pub or_untabled : List Line → Result (List Period) ReadFault → Out (List Line)
@@ -167,7 +167,7 @@ timed_of w files =
     goes_on (exchange_at w.run.exchange files) (λ x.
     goes_on (lines_at x w.run.signals files) (λ lines.
     goes_on (merged_at x lines w.table files) (λ all.
-    Ok (run_answer x all w.run.jobs))))
+    Ok (run_answer x all w.run.bounds.jobs))))
 
 -- the lines of a filter, or its fault
 abbrev pub or_unshown : Result (List Show) ShowFault → Out (List Show)
@@ -196,7 +196,7 @@ trace_of w files =
     goes_on (exchange_at w.run.exchange files) (λ x.
     goes_on (lines_at x w.run.signals files) (λ lines.
     goes_on (shows_at x w.filter files) (λ shows.
-    Ok (trace_answer x lines shows w.run.jobs))))
+    Ok (trace_answer x lines shows w.run.bounds.jobs))))
 
 -- what comes of the value, or the refusal
 abbrev pub GoesOn : {A : Type 0} → Out A → (A → Out Answer → Type 0) → Out Answer → Type 0
@@ -220,7 +220,7 @@ RunsWith w name files =
     GoesOn (exchange_at w.exchange files) (λ x.
     GoesOn (lines_at x w.signals files) (λ lines.
     GoesOn (text_at name files) (λ text.
-    IsCertifiedRun x text (run_answer x lines w.jobs))))
+    IsCertifiedRun x text (run_answer x lines w.bounds.jobs))))
 
 -- a run with this certificate, or without one
 abbrev pub RunComes : RunWords → Option Word → Files → Out Answer → Type 0
@@ -286,6 +286,10 @@ abbrev pub AnswersChange : (old new : Exchange) → List Line → (jobs at : ℕ
 AnswersChange old new lines jobs at None a = ChangesOrNot old new lines jobs at (is_changed old lines jobs at) a
 AnswersChange old new lines jobs at (Some m) a = a ≡ misfit_answer old m
 
+-- what a change from one exchange to another is answered by
+abbrev pub ChangeAnswers : (old new : Exchange) → List Line → (jobs at : ℕ) → Answer → Type 0
+ChangeAnswers old new lines jobs at = AnswersChange old new lines jobs at (misfit old new)
+
 -- an answer comes, which is such a one
 abbrev pub IsAnAnswer : (Answer → Type 0) → Out Answer → Type 0
 IsAnAnswer Is (Ok a) = Is a
@@ -296,7 +300,7 @@ ChangeComes w files =
     GoesOn (exchange_at w.run.exchange files) (λ old.
     GoesOn (lines_at old w.run.signals files) (λ lines.
     GoesOn (new_exchange_at w.new files) (λ new.
-    IsAnAnswer (AnswersChange old new lines w.run.jobs w.at (misfit old new)))))
+    IsAnAnswer (ChangeAnswers old new lines w.run.bounds.jobs w.at))))
 
 -- the compiled code of an exchange, which leaves what the source means
 abbrev pub code_of : Exchange → Code

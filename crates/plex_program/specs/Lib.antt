@@ -3,6 +3,5 @@ pub mod Certificates
 pub mod Program
 pub mod Reading
 pub mod Text
-pub mod Words
 pub mod Runs
 pub mod Whole

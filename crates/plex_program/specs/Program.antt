@@ -3,7 +3,7 @@ use Rattle.std.specs.Prelude.{◌≡◌, ℕ, List, [], Option, None, Result, Ok
 use Rattle.plex_io.specs.Causes.{Rose}
 use Rattle.plex_io.specs.Files.{Files}
 use Rattle.plex_io.specs.Written.{appended, WroteLess, IsFull}
-use Rattle.plex_program.specs.Words.{Word, shape}
+use Rattle.command_words.specs.Words.{Word, shape}
 use Rattle.plex_program.specs.Answer.{IsAnswer, usage_answer}
 use Rattle.plex_program.specs.declared.perform.Answer.{Answer}
 use Rattle.plex_program.specs.declared.program.Quit.{Quit}

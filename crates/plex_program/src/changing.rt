@@ -1,6 +1,5 @@
 // A run that goes on with another exchange after some jobs.
 ghost use Rattle.std.specs.Prelude.{◌≡◌, ◌≤◌, ◌++◌, IfOk, None, OnOk};
-ghost use Rattle.plex_limits.specs.declared.limits.TheConstants.{MOST_JOBS};
 ghost use Rattle.block_change.specs.Carried.{IsCarried};
 ghost use Rattle.block_change.specs.Misfits.{misfit};
 ghost use Rattle.exchange_run.specs.Runs.{RunsTo};
@@ -10,17 +9,18 @@ ghost use Rattle.retire_order.specs.Parts.{AreParts, account_of};
 ghost use Rattle.report_text.specs.Report.{event_lines, text_of};
 ghost use Rattle.signal_trace.specs.Text.{entry_words};
 ghost use Rattle.source_meaning.specs.Valid.{IsValid};
-ghost use Rattle.plex_program.specs.Answer.{AnswersChange, ChangeComes, ChangesOrNot, Comes, IsAnAnswer, IsChanged, Performs, Tells, ends_before, is_changed, misfit_answer, new_exchange_at, new_refusal, new_stop};
+ghost use Rattle.plex_program.specs.Answer.{ChangeAnswers, ChangeComes, ChangesOrNot, Comes, IsAnAnswer, IsChanged, Performs, Tells, ends_before, is_changed, misfit_answer, new_exchange_at, new_refusal, new_stop};
 ghost use Rattle.plex_program.specs.Program.{IsEnding};
-ghost use Rattle.plex_program.specs.Runs.{AreRead, AreWorkers, HasBounds};
+ghost use Rattle.plex_program.specs.Runs.{AreRead};
+ghost use Rattle.command_words.specs.Bounded.{AreWithin, HasBounds};
 ghost use Rattle.plex_program.specs.Text.{change_text, file_words, misfit_text};
 
-use crate::command::ChangeWords;
-use crate::going::{go_on, run_first};
+use crate::going::{go_on, kept_for, run_first};
 use crate::perform::{Answer, Refused, Stop, exchange_in, lines_in};
 use crate::program::Status;
 use crate::running::{answer_at, code_answer};
 use block_change::{Misfit, carry, misfit_of};
+use command_words::{Bounds, ChangeWords};
 use exchange_model::Exchange;
 use exchange_run::Ended;
 use plex_io::{Gate, Shelf, Word};
@@ -32,6 +32,14 @@ use std::alloc::Global;
 use std::sync::Wait;
 use std::thread::Threads;
 use store_layout::layout_of;
+
+/// A change from one exchange to another after so many jobs.
+#[derive(Clone, Copy)]
+struct Change<'a> {
+    old: &'a Exchange,
+    new: &'a Exchange,
+    at: u32,
+}
 
 /// `change`.
 #[tactic(auto, using(crate::proofs::Stages::performs_go, crate::proofs::Stages::performs_halt, crate::proofs::Stages::performs_told))]
@@ -50,17 +58,12 @@ pub fn perform_change<R: Threads + Wait + Sync, S: Shelf, G: Gate + Sync>(
     let old = exchange_in(alloc, shelf, &words.run.exchange)?;
     let lines = lines_in(alloc, shelf, &old, &words.run.signals)?;
     let new = new_exchange_in(alloc, shelf, &words.new)?;
-    answer_change(
-        rt,
-        alloc,
-        &old,
-        &new,
-        lines,
-        words.run.workers,
-        words.run.jobs,
-        words.at,
-        gate,
-    )
+    let change = Change {
+        old: &old,
+        new: &new,
+        at: words.at,
+    };
+    answer_change(rt, alloc, &change, lines, words.run.bounds, gate)
 }
 
 /// The exchange of a file that is to take the place of another one.
@@ -105,22 +108,19 @@ fn new_refusal(refused: Refused) -> Refused
 fn answer_change<R: Threads + Wait + Sync, G: Gate + Sync>(
     rt: &R,
     alloc: Global,
-    old: &Exchange,
-    new: &Exchange,
+    change: &Change<'_>,
     lines: Seq<Line>,
-    workers: u32,
-    jobs: u32,
-    at: u32,
+    bounds: Bounds,
     gate: &G,
 ) -> Result<Answer, Stop>
-    requires lines { AreRead old.now lines }
-    requires workers { AreWorkers workers }
-    requires jobs { jobs ≤ MOST_JOBS }
+    requires lines { AreRead change.now.old.now lines }
+    requires bounds { AreWithin bounds }
     ensures told { Tells (IsAnAnswer
-        (AnswersChange old.now new.now lines jobs at (misfit old.now new.now))) result }
+        (ChangeAnswers change.now.old.now change.now.new.now lines bounds.jobs change.now.at))
+        result }
     ensures ending { IfOk result (λ a. IsEnding a.status) }
 {
-    match change_answer(rt, alloc, old, new, lines, workers, jobs, at, gate) {
+    match change_answer(rt, alloc, change, lines, bounds, gate) {
         Ok(answer) => Ok(answer),
         Err(Memory) => Err(Stop::Memory),
     }
@@ -131,25 +131,21 @@ fn answer_change<R: Threads + Wait + Sync, G: Gate + Sync>(
 fn change_answer<R: Threads + Wait + Sync, G: Gate + Sync>(
     rt: &R,
     alloc: Global,
-    old: &Exchange,
-    new: &Exchange,
+    change: &Change<'_>,
     lines: Seq<Line>,
-    workers: u32,
-    jobs: u32,
-    at: u32,
+    bounds: Bounds,
     gate: &G,
 ) -> Result<Answer, Memory>
-    requires lines { AreRead old.now lines }
-    requires workers { AreWorkers workers }
-    requires jobs { jobs ≤ MOST_JOBS }
+    requires lines { AreRead change.now.old.now lines }
+    requires bounds { AreWithin bounds }
     ensures answer { IfOk result
-        (AnswersChange old.now new.now lines jobs at (misfit old.now new.now)) }
+        (ChangeAnswers change.now.old.now change.now.new.now lines bounds.jobs change.now.at) }
     ensures ending { IfOk result (λ a. IsEnding a.status) }
 {
-    let found = misfit_of(alloc, old, new)?;
+    let found = misfit_of(alloc, change.old, change.new)?;
     match found {
-        Some(misfit) => misfit_answer(alloc, old, misfit),
-        None => fitting_answer(rt, alloc, old, new, lines, workers, jobs, at, gate),
+        Some(misfit) => misfit_answer(alloc, change.old, misfit),
+        None => fitting_answer(rt, alloc, change, lines, bounds, gate),
     }
 }
 
@@ -223,34 +219,34 @@ fn add_file(text: &mut Seq<u8>, exchange: &Exchange, file: u32) -> Result<(), Me
 fn fitting_answer<R: Threads + Wait + Sync, G: Gate + Sync>(
     rt: &R,
     alloc: Global,
-    old: &Exchange,
-    new: &Exchange,
+    change: &Change<'_>,
     lines: Seq<Line>,
-    workers: u32,
-    jobs: u32,
-    at: u32,
+    bounds: Bounds,
     gate: &G,
 ) -> Result<Answer, Memory>
-    requires fits { misfit old.now new.now ≡ None }
-    requires lines { AreRead old.now lines }
-    requires workers { AreWorkers workers }
-    requires jobs { jobs ≤ MOST_JOBS }
-    ensures answer { IfOk result (ChangesOrNot old.now new.now lines jobs at
-        (is_changed old.now lines jobs at)) }
+    requires fits { misfit change.now.old.now change.now.new.now ≡ None }
+    requires lines { AreRead change.now.old.now lines }
+    requires bounds { AreWithin bounds }
+    ensures answer { IfOk result
+        (ChangesOrNot change.now.old.now change.now.new.now lines bounds.jobs change.now.at
+        (is_changed change.now.old.now lines bounds.jobs change.now.at)) }
     ensures ending { IfOk result (λ a. IsEnding a.status) }
 {
+    let old = change.old;
+    let at = change.at;
+    let Bounds { workers, jobs } = bounds;
     old.kept();
     if at > jobs {
-        return code_answer(rt, alloc, old, lines, workers, jobs, gate);
+        return code_answer(rt, alloc, old, lines, bounds, gate);
     }
-    let end = run_first(rt, alloc, old, lines, workers, at, gate)?;
+    let until = Bounds { workers, jobs: at };
+    let checked = kept_for(alloc, old, workers)?;
+    let end = run_first(rt, alloc, old, checked, lines, until, gate)?;
     if ends_before(end.ending, end.books.ended(), at) {
         return answer_at(alloc, old, &end.books, &end.words, end.ending);
     }
     let parts = end.books.into_parts();
-    changed_answer(
-        rt, alloc, old, new, parts, &end.words, workers, jobs, at, gate,
-    )
+    changed_answer(rt, alloc, change, parts, &end.words, bounds, gate)
 }
 
 /// Whether a run that ended so, after so many jobs, has not so many jobs as this, or stopped with the last of them.
@@ -265,33 +261,29 @@ fn ends_before(ending: Ending, ended: u64, at: u32) -> bool
 }
 
 /// The events up to the change, the change, and the report of what follows on the new exchange.
-#[tactic(auto, using(crate::proofs::Changed::carried_few, crate::proofs::Changed::changes))]
+#[tactic(auto, using(crate::proofs::Changed::changes))]
 fn changed_answer<R: Threads + Wait + Sync, G: Gate + Sync>(
     rt: &R,
     alloc: Global,
-    old: &Exchange,
-    new: &Exchange,
+    change: &Change<'_>,
     parts: BookParts,
     words: &Seq<u32>,
-    workers: u32,
-    jobs: u32,
-    at: u32,
+    bounds: Bounds,
     gate: &G,
 ) -> Result<Answer, Memory>
-    requires fits { misfit old.now new.now ≡ None }
+    requires fits { misfit change.now.old.now change.now.new.now ≡ None }
     requires parts { AreParts parts }
-    requires few { parts.ended ≤ jobs }
-    requires valid { IsValid old.now (with_words (account_of parts).state words.now) }
-    requires workers { AreWorkers workers }
-    requires jobs { jobs ≤ MOST_JOBS }
-    ensures answer { IfOk result (IsChanged old.now new.now
-        (with_words (account_of parts).state words.now) jobs at) }
+    requires few { parts.ended ≤ bounds.jobs }
+    requires valid { IsValid change.now.old.now (with_words (account_of parts).state words.now) }
+    requires bounds { AreWithin bounds }
+    ensures answer { IfOk result (IsChanged change.now.old.now change.now.new.now
+        (with_words (account_of parts).state words.now) bounds.jobs change.now.at) }
     ensures ending { IfOk result (λ a. IsEnding a.status) }
 {
-    let mut text = text_before(alloc, old, &parts, at)?;
-    let (moved, carried) = carried_over(alloc, old, new, parts, words)?;
-    let end = run_further(rt, alloc, new, moved, carried, workers, jobs, gate)?;
-    let report = answer_at(alloc, new, &end.books, &end.words, end.ending)?;
+    let mut text = text_before(alloc, change.old, &parts, change.at)?;
+    let (moved, carried) = carried_over(alloc, change, parts, words)?;
+    let end = run_further(rt, alloc, change.new, moved, carried, bounds, gate)?;
+    let report = answer_at(alloc, change.new, &end.books, &end.words, end.ending)?;
     text.append(report.text.as_slice())?;
     Ok(Answer {
         status: report.status,
@@ -323,22 +315,30 @@ fn change_text(alloc: Global, at: u32) -> Result<Seq<u8>, Memory>
 /// The books and the words of the old exchange, as the new one has them.
 fn carried_over(
     alloc: Global,
-    old: &Exchange,
-    new: &Exchange,
+    change: &Change<'_>,
     parts: BookParts,
     words: &Seq<u32>,
 ) -> Result<(BookParts, Seq<u32>), Memory>
-    requires fits { misfit old.now new.now ≡ None }
+    requires fits { misfit change.now.old.now change.now.new.now ≡ None }
     requires parts { AreParts parts }
-    requires valid { IsValid old.now (with_words (account_of parts).state words.now) }
+    requires valid { IsValid change.now.old.now (with_words (account_of parts).state words.now) }
     ensures parts { IfOk result (λ r. AreParts r.0) }
-    ensures carried { IfOk result (λ r. IsCarried old.now new.now
+    ensures carried { IfOk result (λ r. IsCarried change.now.old.now change.now.new.now
         (with_words (account_of parts).state words.now) (with_words (account_of r.0).state r.1)) }
-    ensures valid { IfOk result (λ r. IsValid new.now (with_words (account_of r.0).state r.1)) }
+    ensures valid { IfOk result (λ r. IsValid change.now.new.now
+        (with_words (account_of r.0).state r.1)) }
 {
-    let old_layout = layout_of(alloc, old)?;
-    let new_layout = layout_of(alloc, new)?;
-    carry(alloc, old, new, &old_layout, &new_layout, parts, words)
+    let old_layout = layout_of(alloc, change.old)?;
+    let new_layout = layout_of(alloc, change.new)?;
+    carry(
+        alloc,
+        change.old,
+        change.new,
+        &old_layout,
+        &new_layout,
+        parts,
+        words,
+    )
 }
 
 /// What the single run comes to that goes on from these parts and words, which ends after so many jobs at the latest.
@@ -349,19 +349,18 @@ fn run_further<R: Threads + Wait + Sync, G: Gate + Sync>(
     exchange: &Exchange,
     parts: BookParts,
     words: Seq<u32>,
-    workers: u32,
-    jobs: u32,
+    bounds: Bounds,
     gate: &G,
 ) -> Result<Ended, Memory>
     requires parts { AreParts parts }
-    requires few { parts.ended ≤ jobs }
+    requires few { parts.ended ≤ bounds.jobs }
     requires valid { IsValid exchange.now (with_words (account_of parts).state words) }
-    requires workers { AreWorkers workers }
-    requires jobs { jobs ≤ MOST_JOBS }
+    requires bounds { AreWithin bounds }
     ensures { IfOk result (λ end. RunsTo exchange.now
-        (with_words (account_of parts).state words) jobs
+        (with_words (account_of parts).state words) bounds.jobs
         end.books.state end.words (ending_of end.ending)) }
 {
+    let Bounds { workers, jobs } = bounds;
     let mut parts = parts;
     parts.limit = u64::from(jobs);
     let books = Books::from_parts(parts);

@@ -9,10 +9,12 @@ ghost use Rattle.retire_order.specs.Events.{ending_of};
 ghost use Rattle.retire_order.specs.Lines.{coming_of};
 ghost use Rattle.exchange_run.specs.Runs.{ComesTo, RunsTo};
 ghost use Rattle.source_meaning.specs.Valid.{IsValid};
-ghost use Rattle.plex_program.specs.Runs.{AreRead, AreWorkers};
+ghost use Rattle.plex_program.specs.Runs.{AreRead};
+ghost use Rattle.command_words.specs.Bounded.{AreWithin, AreWorkers};
 
 use checked::{Checked, keep_own_if_few};
 use code_gen::compile;
+use command_words::Bounds;
 use exchange_model::Exchange;
 use exchange_run::{ByCode, Ended, make_turn};
 use parallel_dispatch::{Ended as EndedAtOnce, dispatch};
@@ -26,30 +28,33 @@ use std::sync::Wait;
 use std::thread::Threads;
 use store_layout::{Layout, layout_of, opening};
 
-/// What the single run of these lines comes to, which ends after so many jobs at the latest, and that nobody runs any more. At most so
-/// many jobs run at once.
+/// What the single run of these lines comes to within these bounds, and that nobody runs any more: as far as what is kept of a certificate
+/// lets jobs run at once, or one job after the other where nothing is kept.
 #[tactic(auto, using(crate::proofs::Opened::opened_rules))]
 pub fn run_first<R: Threads + Wait + Sync, G: Gate + Sync>(
     rt: &R,
     alloc: Global,
     exchange: &Exchange,
+    checked: Option<Checked>,
     lines: Seq<Line>,
-    workers: u32,
-    jobs: u32,
+    bounds: Bounds,
     gate: &G,
 ) -> Result<Ended, Memory>
+    requires checked { IfSome checked (IsChecked exchange.now) }
     requires lines { AreRead exchange.now lines }
-    requires workers { AreWorkers workers }
-    requires jobs { jobs ≤ MOST_JOBS }
-    ensures end { IfOk result (λ end. ComesTo exchange.now (map coming_of lines) jobs
+    requires bounds { AreWithin bounds }
+    ensures end { IfOk result (λ end. ComesTo exchange.now (map coming_of lines) bounds.jobs
         end.books.state end.words (ending_of end.ending)) }
     ensures nobody { IfOk result (λ end. end.books.running ≡ 0) }
 {
     exchange.kept();
     let layout = layout_of(alloc, exchange)?;
     let words = opening(alloc, exchange, &layout)?;
+    let Bounds { workers, jobs } = bounds;
     let books = Books::new(alloc, lines, u64::from(jobs));
-    go_on(rt, alloc, exchange, &layout, books, words, workers, gate)
+    go_on_by(
+        rt, alloc, exchange, &layout, checked, books, words, workers, gate,
+    )
 }
 
 /// What the single run comes to that goes on with these books and words, which stand for a valid state, and that nobody runs any more. At
@@ -102,15 +107,22 @@ fn go_on_by<R: Threads + Wait + Sync, G: Gate + Sync>(
     ensures nobody { IfOk result (λ end. end.books.running ≡ 0) }
 {
     match kept {
-        Some(checked) => go_on_at_once(
-            rt, alloc, exchange, layout, &checked, books, &words, workers, gate,
-        ),
+        Some(checked) => {
+            let end = dispatch_from(
+                rt, alloc, exchange, layout, &checked, books, &words, workers, gate,
+            )?;
+            Ok(Ended {
+                books: end.books,
+                words: end.words,
+                ending: end.ending,
+            })
+        }
         None => go_on_in_turn(alloc, exchange, layout, books, words, gate),
     }
 }
 
 /// What is kept of the exchange's own certificate for so many workers; nothing for one alone, or where it would have too many facts.
-fn kept_for(alloc: Global, exchange: &Exchange, workers: u32) -> Result<Option<Checked>, Memory>
+pub fn kept_for(alloc: Global, exchange: &Exchange, workers: u32) -> Result<Option<Checked>, Memory>
     ensures { IfOk result (λ kept. IfSome kept (IsChecked exchange.now)) }
 {
     if workers == 1 {
@@ -120,39 +132,8 @@ fn kept_for(alloc: Global, exchange: &Exchange, workers: u32) -> Result<Option<C
     Ok(kept)
 }
 
-/// The same, as far as what is kept of a certificate lets jobs run at once.
-pub fn go_on_at_once<R: Threads + Wait + Sync, G: Gate + Sync>(
-    rt: &R,
-    alloc: Global,
-    exchange: &Exchange,
-    layout: &Layout,
-    checked: &Checked,
-    books: Books,
-    words: &Seq<u32>,
-    workers: u32,
-    gate: &G,
-) -> Result<Ended, Memory>
-    requires layout { IsLayout exchange.now.blocks layout.now }
-    requires checked { IsChecked exchange.now checked.now }
-    requires nobody { books.running ≡ 0 }
-    requires limit { books.limit ≤ MOST_JOBS }
-    requires workers { AreWorkers workers }
-    requires valid { IsValid exchange.now (with_words books.state words.now) }
-    ensures end { IfOk result (λ end. RunsTo exchange.now (with_words books.state words.now)
-        books.limit end.books.state end.words (ending_of end.ending)) }
-    ensures nobody { IfOk result (λ end. end.books.running ≡ 0) }
-{
-    let end = dispatch_from(
-        rt, alloc, exchange, layout, checked, books, words, workers, gate,
-    )?;
-    Ok(Ended {
-        books: end.books,
-        words: end.words,
-        ending: end.ending,
-    })
-}
-
-/// The same, with the number of instructions that the runs of the jobs made.
+/// The same, as far as what is kept of a certificate lets jobs run at once, with the number of instructions that the runs of the jobs
+/// made.
 #[tactic(auto, using(crate::proofs::Opened::root_rules))]
 pub fn dispatch_from<R: Threads + Wait + Sync, G: Gate + Sync>(
     rt: &R,

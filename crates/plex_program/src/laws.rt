@@ -6,8 +6,8 @@ ghost use Rattle.exchange_model.specs.declared.exchange.Exchange.{Exchange};
 ghost use Rattle.signal_file.specs.declared.line.Line.{Line};
 ghost use Rattle.job_table.specs.Writing.{written_out};
 ghost use Rattle.plex_program.specs.Answer.{exchange_at, lines_at, merged_at, run_of, timed_of};
-ghost use Rattle.plex_program.specs.Words.{Word};
-ghost use Rattle.plex_program.specs.declared.command.TimedWords.{TimedWords};
+ghost use Rattle.command_words.specs.Words.{Word};
+ghost use Rattle.command_words.specs.declared.command.TimedWords.{TimedWords};
 
 /// Where `timed` makes a run, `run` makes the same one of the signal file to which the merged lines are written out, if that is not
 /// too large for a file.

@@ -9,7 +9,6 @@
 mod analysing;
 mod certifying;
 mod changing;
-mod command;
 mod fault;
 mod going;
 mod laws;
@@ -18,14 +17,11 @@ mod program;
 mod reading;
 mod running;
 mod steady;
-#[cfg(test)]
-mod tests;
 mod text;
 mod timing;
 mod tracing;
 
 pub use certifying::Unkept;
-pub use command::{Bounds, ChangeWords, Command, RunWords, TimedWords, TraceWords};
 pub use fault::{
     CertificateFault, FilterFault, FilterRule, Rule, SignalsFault, SignalsRule, SourceFault,
     TableFault, TableRule,

@@ -9,21 +9,22 @@ ghost use Rattle.load_maker.specs.Exchange.{exchange_text};
 ghost use Rattle.load_maker.specs.Signals.{signals_text};
 ghost use Rattle.plex_program.specs.Answer.{AnswersAnalysis, AnswersCertificate, Comes, FromExchange, IsCertifiedRun, Performs, Reads, RunComes, RunsWith, Tells, exchange_at, exchange_of_file, exchange_of_tree, fitting, lines_at, lines_of_file, list_of, listing_answer, load_answer, load_of, or_broken, or_unread, performed, run_answer, run_of, text_at};
 ghost use Rattle.checked.specs.Kept.{IsChecked};
-ghost use Rattle.plex_program.specs.Runs.{AreOfText, AreRead, AreWorkers, HasBounds, IsBounded};
+ghost use Rattle.plex_program.specs.Runs.{AreOfText, AreRead};
+ghost use Rattle.command_words.specs.Bounded.{AreWithin, HasBounds, IsBounded};
 
 use crate::analysing::{analysis_answer, certificate_answer};
 use crate::certifying::{Unkept, kept_of_text};
 use crate::changing::perform_change;
-use crate::command::{Command, RunWords};
 use crate::fault::{
     CertificateFault, FilterFault, SignalsFault, SignalsRule, SourceFault, TableFault,
 };
 use crate::program::Status;
 use crate::reading::{refused, rule_of, tree_of_file};
-use crate::running::{code_answer, kept_answer, listing_answer, load_answer, source_answer};
+use crate::running::{answer_by, code_answer, listing_answer, load_answer, source_answer};
 use crate::timing::perform_timed;
 use crate::tracing::perform_trace;
 use checked::Checked;
+use command_words::{Bounds, Command, RunWords};
 use exchange_model::Exchange;
 use front_end::{TextFault, resolve};
 use load_maker::{load_exchange, load_signals};
@@ -200,14 +201,14 @@ fn unread(line: u32, rule: SignalsRule) -> Stop
 /// `single`.
 #[tactic(auto, using(crate::proofs::Stages::comes_stop, crate::proofs::Stages::comes_go, crate::proofs::Stages::comes_reads))]
 fn perform_single<S: Shelf>(alloc: Global, shelf: &mut S, words: &RunWords) -> Result<Answer, Stop>
-    requires { words.now.jobs ≤ MOST_JOBS }
+    requires { words.now.bounds.jobs ≤ MOST_JOBS }
     ensures comes { Comes (S.held shelf.old) (run_of words.now) (S.faults shelf.old)
         (S.faults shelf.new) result }
     ensures ending { IfOk result (λ a. IsEnding a.status) }
 {
     let exchange = exchange_in(alloc, shelf, &words.exchange)?;
     let lines = lines_in(alloc, shelf, &exchange, &words.signals)?;
-    answer_single(alloc, &exchange, lines, words.jobs)
+    answer_single(alloc, &exchange, lines, words.bounds.jobs)
 }
 
 /// The answer of a run by the source, as a stage.
@@ -244,7 +245,7 @@ fn perform_plain<R: Threads + Wait + Sync, S: Shelf, G: Gate + Sync>(
 {
     let exchange = exchange_in(alloc, shelf, &words.exchange)?;
     let lines = lines_in(alloc, shelf, &exchange, &words.signals)?;
-    answer_plain(rt, alloc, &exchange, lines, words.workers, words.jobs, gate)
+    answer_plain(rt, alloc, &exchange, lines, words.bounds, gate)
 }
 
 /// The answer of a run without a certificate, as a stage.
@@ -253,17 +254,15 @@ pub(crate) fn answer_plain<R: Threads + Wait + Sync, G: Gate + Sync>(
     alloc: Global,
     exchange: &Exchange,
     lines: Seq<Line>,
-    workers: u32,
-    jobs: u32,
+    bounds: Bounds,
     gate: &G,
 ) -> Result<Answer, Stop>
     requires lines { AreRead exchange.now lines }
-    requires workers { AreWorkers workers }
-    requires jobs { jobs ≤ MOST_JOBS }
-    ensures reads { Reads (Ok (run_answer exchange.now lines jobs)) result }
+    requires bounds { AreWithin bounds }
+    ensures reads { Reads (Ok (run_answer exchange.now lines bounds.jobs)) result }
     ensures ending { IfOk result (λ a. IsEnding a.status) }
 {
-    match code_answer(rt, alloc, exchange, lines, workers, jobs, gate) {
+    match code_answer(rt, alloc, exchange, lines, bounds, gate) {
         Ok(answer) => Ok(answer),
         Err(Memory) => Err(Stop::Memory),
     }
@@ -287,16 +286,7 @@ fn perform_certified<R: Threads + Wait + Sync, S: Shelf, G: Gate + Sync>(
     let exchange = exchange_in(alloc, shelf, &words.exchange)?;
     let lines = lines_in(alloc, shelf, &exchange, &words.signals)?;
     let text = text_in(alloc, shelf, name)?;
-    answer_certified(
-        rt,
-        alloc,
-        &exchange,
-        &text,
-        lines,
-        words.workers,
-        words.jobs,
-        gate,
-    )
+    answer_certified(rt, alloc, &exchange, &text, lines, words.bounds, gate)
 }
 
 /// The answer of a run whose certificate has this text, which may be too large.
@@ -307,20 +297,18 @@ fn answer_certified<R: Threads + Wait + Sync, G: Gate + Sync>(
     exchange: &Exchange,
     text: &Option<Seq<u8>>,
     lines: Seq<Line>,
-    workers: u32,
-    jobs: u32,
+    bounds: Bounds,
     gate: &G,
 ) -> Result<Answer, Stop>
     requires text { IfSome text.now (λ t. length t ≤ MOST_BYTES) }
     requires lines { AreRead exchange.now lines }
-    requires workers { AreWorkers workers }
-    requires jobs { jobs ≤ MOST_JOBS }
+    requires bounds { AreWithin bounds }
     ensures told { Tells
-        (IsCertifiedRun exchange.now text.now (run_answer exchange.now lines jobs)) result }
+        (IsCertifiedRun exchange.now text.now (run_answer exchange.now lines bounds.jobs)) result }
     ensures ending { IfOk result (λ a. IsEnding a.status) }
 {
     match kept_of_text(alloc, exchange, text) {
-        Ok(checked) => answer_kept(rt, alloc, exchange, &checked, lines, workers, jobs, gate),
+        Ok(checked) => answer_kept(rt, alloc, exchange, checked, lines, bounds, gate),
         Err(Unkept::Faulty(fault)) => Err(Stop::Refused(Refused::Certificate(fault))),
         Err(Unkept::Memory) => Err(Stop::Memory),
     }
@@ -331,20 +319,18 @@ fn answer_kept<R: Threads + Wait + Sync, G: Gate + Sync>(
     rt: &R,
     alloc: Global,
     exchange: &Exchange,
-    checked: &Checked,
+    checked: Checked,
     lines: Seq<Line>,
-    workers: u32,
-    jobs: u32,
+    bounds: Bounds,
     gate: &G,
 ) -> Result<Answer, Stop>
-    requires checked { IsChecked exchange.now checked.now }
+    requires checked { IsChecked exchange.now checked }
     requires lines { AreRead exchange.now lines }
-    requires workers { AreWorkers workers }
-    requires jobs { jobs ≤ MOST_JOBS }
-    ensures reads { Reads (Ok (run_answer exchange.now lines jobs)) result }
+    requires bounds { AreWithin bounds }
+    ensures reads { Reads (Ok (run_answer exchange.now lines bounds.jobs)) result }
     ensures ending { IfOk result (λ a. IsEnding a.status) }
 {
-    match kept_answer(rt, alloc, exchange, checked, lines, workers, jobs, gate) {
+    match answer_by(rt, alloc, exchange, Some(checked), lines, bounds, gate) {
         Ok(answer) => Ok(answer),
         Err(Memory) => Err(Stop::Memory),
     }

@@ -2,11 +2,11 @@
 ghost use Rattle.std.specs.Prelude.{◌≡◌, IfSome, None, ◌⊎◌};
 ghost use Rattle.plex_program.specs.Answer.{IsAnswer, refused_answer, refused_status, usage_answer};
 ghost use Rattle.plex_program.specs.Program.{Answers, Ends, EndsAs, IsComplete, IsPlain, Makes, ReadCause, WriteCause, exit_number};
-ghost use Rattle.plex_program.specs.Words.{shape};
+ghost use Rattle.command_words.specs.Words.{shape};
 
-use crate::command::read_command;
 use crate::perform::{Answer, Refused, Stop, perform};
 use crate::text::{refusal_line, usage_line};
+use command_words::read_command;
 use plex_io::{Gate, Shelf, Sink, Word, write_all};
 use plex_num::Seq;
 use std::alloc::Global;

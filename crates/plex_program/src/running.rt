@@ -9,16 +9,17 @@ ghost use Rattle.retire_order.specs.Lines.{coming_of};
 ghost use Rattle.exchange_run.specs.Runs.{ComesTo};
 ghost use Rattle.plex_program.specs.Answer.{ended_answer, ended_status, listing_answer, load_answer, run_answer};
 ghost use Rattle.plex_program.specs.Program.{IsEnding};
-ghost use Rattle.plex_program.specs.Runs.{AreRead, AreWorkers};
+ghost use Rattle.plex_program.specs.Runs.{AreRead};
+ghost use Rattle.command_words.specs.Bounded.{AreWithin};
 
-use crate::command::{USUAL_JOBS, USUAL_WORKERS};
-use crate::going::go_on_at_once;
+use crate::going::{kept_for, run_first};
 use crate::perform::Answer;
 use crate::program::Status;
-use checked::{Checked, keep_own, keep_own_if_few};
+use checked::{Checked, keep_own};
 use code_gen::compile;
+use command_words::{Bounds, USUAL_JOBS, USUAL_WORKERS};
 use exchange_model::Exchange;
-use exchange_run::{ByCode, BySource, Ended, run_lines};
+use exchange_run::{BySource, Ended, run_lines};
 use listing::print_code;
 use plex_io::Gate;
 use plex_num::{Memory, Seq};
@@ -28,7 +29,7 @@ use signal_file::Line;
 use std::alloc::Global;
 use std::sync::Wait;
 use std::thread::Threads;
-use store_layout::{layout_of, opening};
+use store_layout::layout_of;
 
 /// The answer of the single run of these lines by the source itself, which ends after so many jobs at the latest.
 #[tactic(auto, using(crate::proofs::Answering::answer_is))]
@@ -56,86 +57,36 @@ pub fn code_answer<R: Threads + Wait + Sync, G: Gate + Sync>(
     alloc: Global,
     exchange: &Exchange,
     lines: Seq<Line>,
-    workers: u32,
-    jobs: u32,
+    bounds: Bounds,
     gate: &G,
 ) -> Result<Answer, Memory>
     requires lines { AreRead exchange.now lines }
-    requires workers { AreWorkers workers }
-    requires jobs { jobs ≤ MOST_JOBS }
-    ensures answer { IfOk result (λ a. a ≡ run_answer exchange.now lines jobs) }
+    requires bounds { AreWithin bounds }
+    ensures answer { IfOk result (λ a. a ≡ run_answer exchange.now lines bounds.jobs) }
     ensures ending { IfOk result (λ a. IsEnding a.status) }
 {
-    if workers == 1 {
-        return answer_in_turn(alloc, exchange, lines, jobs, gate);
-    }
-    let kept = keep_own_if_few(alloc, exchange)?;
-    answer_by(rt, alloc, exchange, kept, lines, workers, jobs, gate)
+    let kept = kept_for(alloc, exchange, bounds.workers)?;
+    answer_by(rt, alloc, exchange, kept, lines, bounds, gate)
 }
 
 /// The same answer, as far as what is kept of a certificate lets jobs run at once; one job after the other where nothing is kept.
-fn answer_by<R: Threads + Wait + Sync, G: Gate + Sync>(
+#[tactic(auto, using(crate::proofs::Answering::answer_is))]
+pub fn answer_by<R: Threads + Wait + Sync, G: Gate + Sync>(
     rt: &R,
     alloc: Global,
     exchange: &Exchange,
     kept: Option<Checked>,
     lines: Seq<Line>,
-    workers: u32,
-    jobs: u32,
+    bounds: Bounds,
     gate: &G,
 ) -> Result<Answer, Memory>
     requires kept { IfSome kept (IsChecked exchange.now) }
     requires lines { AreRead exchange.now lines }
-    requires workers { AreWorkers workers }
-    requires jobs { jobs ≤ MOST_JOBS }
-    ensures answer { IfOk result (λ a. a ≡ run_answer exchange.now lines jobs) }
+    requires bounds { AreWithin bounds }
+    ensures answer { IfOk result (λ a. a ≡ run_answer exchange.now lines bounds.jobs) }
     ensures ending { IfOk result (λ a. IsEnding a.status) }
 {
-    match kept {
-        Some(checked) => kept_answer(rt, alloc, exchange, &checked, lines, workers, jobs, gate),
-        None => answer_in_turn(alloc, exchange, lines, jobs, gate),
-    }
-}
-
-/// The same answer, by compiled code, one job after the other.
-#[tactic(auto, using(crate::proofs::Answering::answer_is))]
-fn answer_in_turn<G: Gate>(
-    alloc: Global,
-    exchange: &Exchange,
-    lines: Seq<Line>,
-    jobs: u32,
-    gate: &G,
-) -> Result<Answer, Memory>
-    requires lines { AreRead exchange.now lines }
-    requires jobs { jobs ≤ MOST_JOBS }
-    ensures answer { IfOk result (λ a. a ≡ run_answer exchange.now lines jobs) }
-    ensures ending { IfOk result (λ a. IsEnding a.status) }
-{
-    let end = run_in_turn(alloc, exchange, lines, jobs, gate)?;
-    let answer = answer_at(alloc, exchange, &end.books, &end.words, end.ending)?;
-    Ok(answer)
-}
-
-/// The same answer, as far as what is kept of a certificate lets jobs run at once.
-#[tactic(auto, using(crate::proofs::Answering::answer_is))]
-pub fn kept_answer<R: Threads + Wait + Sync, G: Gate + Sync>(
-    rt: &R,
-    alloc: Global,
-    exchange: &Exchange,
-    checked: &Checked,
-    lines: Seq<Line>,
-    workers: u32,
-    jobs: u32,
-    gate: &G,
-) -> Result<Answer, Memory>
-    requires checked { IsChecked exchange.now checked.now }
-    requires lines { AreRead exchange.now lines }
-    requires workers { AreWorkers workers }
-    requires jobs { jobs ≤ MOST_JOBS }
-    ensures answer { IfOk result (λ a. a ≡ run_answer exchange.now lines jobs) }
-    ensures ending { IfOk result (λ a. IsEnding a.status) }
-{
-    let end = run_at_once(rt, alloc, exchange, checked, lines, workers, jobs, gate)?;
+    let end = run_first(rt, alloc, exchange, kept, lines, bounds, gate)?;
     let answer = answer_at(alloc, exchange, &end.books, &end.words, end.ending)?;
     Ok(answer)
 }
@@ -175,16 +126,11 @@ pub fn load_answer<R: Threads + Wait + Sync, G: Gate + Sync>(
     ensures ending { IfOk result (λ a. IsEnding a.status) }
 {
     let checked = keep_own(alloc, exchange)?;
-    let end = run_at_once(
-        rt,
-        alloc,
-        exchange,
-        &checked,
-        lines,
-        USUAL_WORKERS,
-        USUAL_JOBS,
-        gate,
-    )?;
+    let bounds = Bounds {
+        workers: USUAL_WORKERS,
+        jobs: USUAL_JOBS,
+    };
+    let end = run_first(rt, alloc, exchange, Some(checked), lines, bounds, gate)?;
     let text = load_summary(alloc, calls, &end.books, end.ending)?;
     Ok(Answer {
         status: status_of(end.ending),
@@ -213,60 +159,6 @@ fn run_by_source(
         lines,
         u64::from(jobs),
         &mut runner,
-    )
-}
-
-/// The same by compiled code, one job after the other, which calls the gate before and after each.
-fn run_in_turn<G: Gate>(
-    alloc: Global,
-    exchange: &Exchange,
-    lines: Seq<Line>,
-    jobs: u32,
-    gate: &G,
-) -> Result<Ended, Memory>
-    requires lines { AreRead exchange.now lines }
-    requires jobs { jobs ≤ MOST_JOBS }
-    ensures { IfOk result (λ end. ComesTo exchange.now (map coming_of lines) jobs
-        end.books.state end.words (ending_of end.ending)) }
-{
-    let layout = layout_of(alloc, exchange)?;
-    let code = compile(alloc, exchange, &layout)?;
-    let mut runner = ByCode::new(&code, gate);
-    run_lines(
-        alloc,
-        exchange,
-        &layout,
-        lines,
-        u64::from(jobs),
-        &mut runner,
-    )
-}
-
-/// What the single run comes to, where so many jobs run at once at most, as far as what is kept of a certificate lets them.
-#[tactic(auto, using(crate::proofs::Opened::opened_rules))]
-fn run_at_once<R: Threads + Wait + Sync, G: Gate + Sync>(
-    rt: &R,
-    alloc: Global,
-    exchange: &Exchange,
-    checked: &Checked,
-    lines: Seq<Line>,
-    workers: u32,
-    jobs: u32,
-    gate: &G,
-) -> Result<Ended, Memory>
-    requires checked { IsChecked exchange.now checked.now }
-    requires lines { AreRead exchange.now lines }
-    requires workers { AreWorkers workers }
-    requires jobs { jobs ≤ MOST_JOBS }
-    ensures { IfOk result (λ end. ComesTo exchange.now (map coming_of lines) jobs
-        end.books.state end.words (ending_of end.ending)) }
-{
-    exchange.kept();
-    let layout = layout_of(alloc, exchange)?;
-    let words = opening(alloc, exchange, &layout)?;
-    let books = Books::new(alloc, lines, u64::from(jobs));
-    go_on_at_once(
-        rt, alloc, exchange, &layout, checked, books, &words, workers, gate,
     )
 }
 

@@ -6,11 +6,12 @@ ghost use Rattle.job_table.specs.Merged.{IsInRange, line_count, merged};
 ghost use Rattle.job_table.specs.Table.{table_periods};
 ghost use Rattle.plex_program.specs.Answer.{Comes, Reads, merged_at, merged_of_file, or_untabled, timed_of};
 ghost use Rattle.plex_program.specs.Program.{IsEnding};
-ghost use Rattle.plex_program.specs.Runs.{AreOfText, AreRead, HasBounds};
+ghost use Rattle.plex_program.specs.Runs.{AreOfText, AreRead};
+ghost use Rattle.command_words.specs.Bounded.{HasBounds};
 
-use crate::command::TimedWords;
 use crate::fault::{TableFault, TableRule};
 use crate::perform::{Answer, Refused, Stop, answer_plain, exchange_in, lines_in, text_in};
+use command_words::TimedWords;
 use exchange_model::Exchange;
 use job_table::{Period, TableFault as ReadFault, merge, read_table};
 use plex_io::{Gate, Shelf, Word};
@@ -37,15 +38,7 @@ pub fn perform_timed<R: Threads + Wait + Sync, S: Shelf, G: Gate + Sync>(
     let exchange = exchange_in(alloc, shelf, &words.run.exchange)?;
     let lines = lines_in(alloc, shelf, &exchange, &words.run.signals)?;
     let all = merged_in(alloc, shelf, &exchange, &lines, &words.table)?;
-    answer_plain(
-        rt,
-        alloc,
-        &exchange,
-        all,
-        words.run.workers,
-        words.run.jobs,
-        gate,
-    )
+    answer_plain(rt, alloc, &exchange, all, words.run.bounds, gate)
 }
 
 /// The lines of a signal file and the signals of a table's file, as one list.

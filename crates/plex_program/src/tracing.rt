@@ -11,11 +11,11 @@ ghost use Rattle.plex_program.specs.Answer.{Comes, Reads, or_unshown, shows_at, 
 ghost use Rattle.plex_program.specs.Program.{IsEnding};
 ghost use Rattle.plex_program.specs.Runs.{AreRead};
 
-use crate::command::TraceWords;
 use crate::fault::{FilterFault, FilterRule};
 use crate::perform::{Answer, Refused, Stop, exchange_in, lines_in, text_in};
 use crate::running::answer_at;
 use code_gen::compile;
+use command_words::TraceWords;
 use exchange_model::Exchange;
 use plex_io::{Shelf, Word};
 use plex_num::{Memory, Seq};
@@ -32,7 +32,7 @@ pub fn perform_trace<S: Shelf>(
     shelf: &mut S,
     words: &TraceWords,
 ) -> Result<Answer, Stop>
-    requires { words.now.run.jobs ≤ MOST_JOBS }
+    requires { words.now.run.bounds.jobs ≤ MOST_JOBS }
     ensures comes { Comes (S.held shelf.old) (trace_of words.now) (S.faults shelf.old)
         (S.faults shelf.new) result }
     ensures ending { IfOk result (λ a. IsEnding a.status) }
@@ -40,7 +40,7 @@ pub fn perform_trace<S: Shelf>(
     let exchange = exchange_in(alloc, shelf, &words.run.exchange)?;
     let lines = lines_in(alloc, shelf, &exchange, &words.run.signals)?;
     let shows = shows_in(alloc, shelf, &exchange, &words.filter)?;
-    answer_trace(alloc, &exchange, lines, &shows, words.run.jobs)
+    answer_trace(alloc, &exchange, lines, &shows, words.run.bounds.jobs)
 }
 
 /// The lines of the filter of a file.

@@ -1,3 +1,4 @@
+pub mod Ahead
 pub mod Acting
 pub mod Counting
 pub mod Going

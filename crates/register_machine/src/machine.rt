@@ -4,8 +4,8 @@ ghost use Rattle.machine_code.specs.Operands.{OpFits};
 ghost use Rattle.machine_code.specs.Told.{told_all};
 ghost use Rattle.register_machine.specs.Machine.{op_at, stepped, reach, HasRoom, MayTouch};
 
+use crate::left::spot_at;
 use crate::run::JobRun;
-use crate::run::stand::Stand;
 use machine_code::{Code, Op, Words};
 
 /// Makes one instruction. The job must not have ended, the address of its next instruction must be in the code, the operands of
@@ -23,16 +23,16 @@ pub fn step<W: Words>(run: &mut JobRun, code: &Code, words: &mut W)
     ensures allowed { (W.may_read words.new ≡ W.may_read words.old) × (W.may_write words.new ≡ W.may_write words.old) }
     ensures like { W.like words.old words.new }
 {
-    let from = Stand {
-        at: run.address(),
-        made: run.steps(),
-    };
-    let next = run.act(instruction(code.ops.as_slice(), from.at), from, words);
-    run.put(from.after(next));
+    let ops = code.ops.as_slice();
+    let at = run.address();
+    let from = spot_at(ops, at, run.steps());
+    let way = run.act(instruction(ops, at), from, words);
+    let next = from.stand().after(way, run.address());
+    run.put(next);
 }
 
 /// The instruction at an address, which must be in the code.
-pub(crate) fn instruction(ops: &[Op], at: usize) -> &Op
+fn instruction(ops: &[Op], at: usize) -> &Op
     requires { at < length ops.now }
     ensures op { result.now ≡ op_at ops.now at }
     ensures address { at < 2 ^ 63 }

@@ -13,8 +13,12 @@ use self::stand::Stand;
 use crate::frames::Frames;
 use job_types::{Chain, JobDone, JobStart, Outbox, Outcome};
 use machine_code::Code;
+use plex_limits::MOST_COUNTED;
 use plex_num::Values;
 use std::marker::Model;
+
+/// How many statements a job may begin, the one that faults among them.
+const FIRST_REMAINING: u32 = MOST_COUNTED as u32 + 1;
 
 /// The run of a job: what it has of its own while the machine makes its instructions. Contracts see it as a record of lists
 /// and numbers. A run that has ended can begin anew in its place, which costs no more than what it held.
@@ -29,7 +33,8 @@ pub struct JobRun {
     given: [u32; 8],
     answers: [u32; 8],
     forlopp: u64,
-    count: u32,
+    /// How many statements may still be begun, the one that faults among them.
+    remaining: u32,
     point: u32,
     /// The sends and the chain so far, and once the job is over how it ended.
     done: JobDone,
@@ -37,7 +42,7 @@ pub struct JobRun {
 }
 
 impl Model for JobRun {
-    ghost use Rattle.register_machine.specs.Private.{Private, WithinBudget, if_over};
+    ghost use Rattle.register_machine.specs.Private.{Private, WithinBudget, counted_of, if_over};
 
     ghost Value = { Private };
 
@@ -54,17 +59,18 @@ impl Model for JobRun {
         sends = r.done.sends;
         chain = r.done.chain;
         forlopp = r.forlopp;
-        count = r.count;
+        count = counted_of r.remaining;
         point = r.point;
       };
       over = if_over r.over r.done.outcome;
     } };
 
-    ghost invariant = { λ r. WithinBudget (if_over r.over r.done.outcome) r.count };
+    ghost invariant = { λ r. WithinBudget (if_over r.over r.done.outcome) r.remaining };
 }
 
 impl JobRun {
     /// The run of no job, in which jobs may begin one after the other.
+    #[tactic(auto, unfolding(job_types::specs::Own::budget))]
     pub fn idle() -> JobRun
         ensures { result ≡ idle }
     {
@@ -78,7 +84,7 @@ impl JobRun {
             given: [0; 8],
             answers: [0; 8],
             forlopp: 0,
-            count: 0,
+            remaining: FIRST_REMAINING,
             point: 0,
             done: JobDone {
                 sends: Outbox::new(),
@@ -100,6 +106,7 @@ impl JobRun {
     }
 
     /// Begins anew in its place with another start, as `new` does.
+    #[tactic(auto, unfolding(job_types::specs::Own::budget))]
     pub fn begin(&mut self, code: &Code, start: &JobStart)
         requires { start.now.job.entry < length code.now.entries }
         ensures { self.new ≡ fresh (slice_index code.now.entries start.now.job.entry) start.now }
@@ -114,7 +121,7 @@ impl JobRun {
         self.given = eight_of(start.job.values.as_slice());
         self.answers = [0; 8];
         self.forlopp = start.job.forlopp;
-        self.count = 0;
+        self.remaining = FIRST_REMAINING;
         self.point = 0;
         self.done.sends.clear();
         self.done.chain.copy_from(&start.chain);

@@ -27,7 +27,8 @@ pub(crate) fn table_row(alloc: Global, words: &[u32], free: usize) -> Result<Vec
     ensures fit { IfOk result (λ row. (k : ℕ) → slice_index words.now k < 2 ^ 32) }
 {
     let zeros = Vec::from_elem(alloc, 0, free)?;
-    let mut row = Vec::with_capacity(alloc, words.len() + 1)?;
+    let room = (words.len() + 1).saturating_mul(free.saturating_add(1));
+    let mut row = Vec::with_capacity(alloc, room)?;
     push_word(&mut row, 0, zeros.as_slice())?;
     for word in words {
         push_word(&mut row, *word as u64, zeros.as_slice())?;

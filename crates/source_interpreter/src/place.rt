@@ -7,7 +7,6 @@ ghost use Rattle.source_meaning.specs.Config.{files_of};
 ghost use Rattle.source_meaning.specs.Changes.{field_width, least_record};
 ghost use Rattle.source_interpreter.specs.Opened.{opened};
 
-use crate::value::stands;
 use crate::words::{put_cell, value_at};
 use exchange_model::{Exchange, File, FilePlace, Rel};
 use job_types::{Fault, Held};
@@ -82,7 +81,7 @@ impl<'a> Place<'a> {
         ensures within { IfSome result (λ n. n < self.now.file.size) }
     {
         for number in 0..self.file.size {
-            if stands(rel, value_at(store, self.field_cell(number, field)), value) {
+            if rel.holds(value_at(store, self.field_cell(number, field)), value) {
                 return Some(number);
             }
         }

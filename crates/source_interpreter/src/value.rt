@@ -1,12 +1,12 @@
 // The value of an expression, and whether a condition holds.
 ghost use Rattle.std.specs.Prelude.{◌≡◌, ◌+◌, ◌<◌, slice_index};
-ghost use Rattle.source_meaning.specs.Value.{expr_value, term_value, factor_value, summed, joined, answer_of, cond_value, all_value, relation_value, bit_of, stands as stand};
+ghost use Rattle.source_meaning.specs.Value.{expr_value, term_value, factor_value, summed, joined, answer_of, cond_value, all_value, relation_value, bit_of};
 ghost use Rattle.plex_limits.specs.declared.limits.TheConstants.{MOST_BLOCKS};
 ghost use Rattle.exchange_model.specs.PartFits.{TermFits};
 ghost use Rattle.source_interpreter.specs.Kept.{IsOf, IsExprOfText, IsFactorOfText, IsRelationOfText, AreRelationsOfText, IsCondOfText};
 
 use crate::view::View;
-use exchange_model::{Cond, Expr, Factor, FactorOp, Rel, Relation, Term};
+use exchange_model::{Cond, Expr, Factor, FactorOp, Relation, Term};
 use job_types::Fault;
 
 /// The value, or the fault that comes in its place.
@@ -123,19 +123,5 @@ fn relation_holds(relation: &Relation, view: &View) -> Result<bool, Fault>
 {
     let left = value_of(&relation.left, view)?;
     let right = value_of(&relation.right, view)?;
-    Ok(stands(relation.rel, left, right))
-}
-
-/// Whether a number stands so to another.
-pub fn stands(rel: Rel, a: u32, b: u32) -> bool
-    ensures { result ≡ stand rel a b }
-{
-    match rel {
-        Rel::Equal => a == b,
-        Rel::Unequal => a != b,
-        Rel::Below => a < b,
-        Rel::AtMost => a <= b,
-        Rel::Above => a > b,
-        Rel::AtLeast => a >= b,
-    }
+    Ok(relation.rel.holds(left, right))
 }

@@ -3,7 +3,7 @@
 -- Numbers are modulo 2^32. A sum begins with 0 and a product with 1, so that the first term and the first factor are no
 -- cases of their own. In a condition every relation is evaluated, and AND and OR join the results afterwards. Past the
 -- last temporary, cell or file each look-up gives 0, so that no definition needs a premise.
-use Rattle.std.specs.Prelude.{ℕ, zero, suc, ◌+◌, ◌-◌, ◌*◌, ◌/◌, ◌%◌, ◌^◌, Bool, nat_lt, nat_le, nat_eq, not, ◌&&◌, ◌||◌, List, [], ◌∷◌, ◌++◌, map, slice_get, slice_index, Option, Some, None, Result, Ok, Err, if◌then◌else◌}
+use Rattle.std.specs.Prelude.{ℕ, zero, suc, ◌+◌, ◌-◌, ◌*◌, ◌/◌, ◌%◌, ◌^◌, Bool, nat_lt, not, ◌&&◌, ◌||◌, List, [], ◌∷◌, ◌++◌, map, slice_get, slice_index, Option, Some, None, Result, Ok, Err, if◌then◌else◌}
 use Rattle.job_types.specs.declared.chain.Held.{Held}
 use Rattle.job_types.specs.declared.fault.Fault.{Fault}
 use Rattle.job_types.specs.declared.fault.Fault.TheVariants as fault
@@ -18,11 +18,10 @@ use Rattle.exchange_model.specs.declared.expr.FactorOp.{FactorOp}
 use Rattle.exchange_model.specs.declared.expr.FactorOp.TheVariants.{Times, Divide, Modulo}
 use Rattle.exchange_model.specs.declared.expr.Cond.{Cond}
 use Rattle.exchange_model.specs.declared.expr.Relation.{Relation}
-use Rattle.exchange_model.specs.declared.expr.Rel.{Rel}
-use Rattle.exchange_model.specs.declared.expr.Rel.TheVariants.{Equal, Unequal, Below, AtMost, Above, AtLeast}
 use Rattle.exchange_model.specs.declared.stmt.Holder.{Holder}
 use Rattle.exchange_model.specs.declared.stmt.Holder.TheVariants as holder
 use Rattle.exchange_model.specs.Cells.{Placed, field_cell}
+pub use Rattle.exchange_model.specs.Relations.{stands}
 use Rattle.job_types.specs.Chain.{holds}
 use Rattle.job_types.specs.Truth.{is_set, one_if}
 
@@ -174,15 +173,6 @@ and_then (Err f) go = Err f
 abbrev pub values_of : List Expr → List ℕ → Sight → Result (List ℕ) Fault
 values_of [] vs s = Ok vs
 values_of (e ∷ es) vs s = and_then (answer_of (expr_value e s)) (λ v. values_of es (vs ++ v ∷ []) s)
-
--- whether a number stands so to another
-abbrev pub stands : Rel → ℕ → ℕ → Bool
-stands Equal a b = nat_eq a b
-stands Unequal a b = not (nat_eq a b)
-stands Below a b = nat_lt a b
-stands AtMost a b = nat_le a b
-stands Above a b = nat_lt b a
-stands AtLeast a b = nat_le b a
 
 -- a test as a number, or the fault
 abbrev pub bit_of : Result Bool Fault → Result ℕ Fault

@@ -15,6 +15,8 @@ use Rattle.entry_summary.specs.declared.summary.Access.{Access}
 use Rattle.entry_summary.specs.declared.summary.Access.TheVariants.{Variable, Field, Own, Seizes, Frees}
 use Rattle.entry_summary.specs.declared.summary.Summary.{Summary}
 use Rattle.entry_summary.specs.Numbers.{variable_number, field_number}
+use Rattle.store_layout.specs.Laid.{IsLayout}
+use Rattle.start_permit.specs.declared.granting.Grounds.{Grounds}
 use Rattle.start_permit.specs.declared.table.CellTable.{CellTable}
 use Rattle.start_permit.specs.declared.table.FieldPlace.{FieldPlace}
 
@@ -120,3 +122,8 @@ MayRead x s start chains word = OneOf (Lets x s.accesses start chains false) s.a
 pub record IsTable (x : Exchange) (t : CellTable) : Type 0 where
   pub variables : (number word : ℕ) → (slice_get t.variables number ≡ Some word) ↔ IsVariable x number word
   pub fields : (number : ℕ) (f : FieldPlace) → (slice_get t.fields number ≡ Some f) ↔ IsField x number f.file f.field
+
+-- the layout and the table are those of the exchange
+pub record AreGrounds (g : Grounds) : Type 0 where
+  pub layout : IsLayout g.exchange.now.blocks g.layout.now
+  pub table : IsTable g.exchange.now g.table.now

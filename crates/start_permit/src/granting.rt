@@ -4,7 +4,7 @@ ghost use Rattle.exchange_model.specs.declared.exchange.Exchange as declared;
 ghost use Rattle.job_types.specs.Forlopps.{ChainMap, all_records};
 ghost use Rattle.source_meaning.specs.Config.{files_of};
 ghost use Rattle.store_layout.specs.Laid.{IsLayout};
-ghost use Rattle.start_permit.specs.Granted.{Does, HasWord, IsOfField, IsOfMark, IsTable, IsVariable, Lets, Marks, MayHold, OneOf, Selects};
+ghost use Rattle.start_permit.specs.Granted.{AreGrounds, Does, HasWord, IsOfField, IsOfMark, IsTable, IsVariable, Lets, Marks, MayHold, OneOf, Selects};
 ghost use Rattle.start_permit.specs.Recorded.{AreBelow, Gains, InRow, IsBelow, IsRowOf, RowFits, spanned};
 
 use crate::runs::{Run, all_below, free_runs, own_runs, selected};
@@ -17,6 +17,19 @@ use machine_code::Span;
 use plex_num::{Memory, Seq};
 use std::alloc::Global;
 use store_layout::{FileRow, Layout, file_of};
+
+/// What the words of a start are told from.
+#[derive(Clone, Copy)]
+pub struct Grounds<'a> {
+    pub exchange: &'a Exchange,
+    pub layout: &'a Layout,
+    pub table: &'a CellTable,
+    /// What the jobs of its entry may do.
+    pub all: &'a [Access],
+    /// The records that stand in the chains of all forlopps.
+    pub held: &'a [Held],
+    pub start: &'a JobStart,
+}
 
 /// The words at a place of the records of a run.
 fn span_of(row: FileRow, place: u32, run: Run) -> Span
@@ -251,22 +264,22 @@ fn does(write: bool, access: Access) -> bool
 /// Appends the words that an access, one of all these, writes, or reads.
 fn push_words(
     alloc: Global,
-    exchange: &Exchange,
-    layout: &Layout,
-    table: &CellTable,
-    all: &[Access],
-    held: &[Held],
-    start: &JobStart,
+    by: &Grounds<'_>,
     write: bool,
     access: Access,
     spans: &mut Seq<Span>,
 ) -> Result<(), Memory>
-    requires layout { IsLayout exchange.now.blocks layout.now }
-    requires table { IsTable exchange.now table.now }
-    ensures { OnOk result ((chains : ChainMap) → held.now ≡ all_records chains → Gains
-        (HasWord exchange.now all.now start.now chains write access) spans.old spans.new) }
+    requires { AreGrounds by.now }
+    ensures { OnOk result ((chains : ChainMap) → by.now.held.now ≡ all_records chains
+        → Gains (HasWord by.now.exchange.now by.now.all.now by.now.start.now chains write access)
+        spans.old spans.new) }
 {
-    let chain = start.chain.as_slice();
+    let exchange = by.exchange;
+    let layout = by.layout;
+    let table = by.table;
+    let all = by.all;
+    let held = by.held;
+    let chain = by.start.chain.as_slice();
     match access {
         Access::Variable { number, .. } => push_variable(exchange, table, number, spans)?,
         Access::Field {
@@ -274,7 +287,7 @@ fn push_words(
             selector,
             ..
         } => {
-            let values = start.job.values.as_slice();
+            let values = by.start.job.values.as_slice();
             push_selected(exchange, layout, table, values, number, selector, spans)?
         }
         Access::Own { number, .. } => {
@@ -295,52 +308,35 @@ fn push_words(
 /// Appends the words that an access lets a job write, or read.
 fn push_access(
     alloc: Global,
-    exchange: &Exchange,
-    layout: &Layout,
-    table: &CellTable,
-    all: &[Access],
-    held: &[Held],
-    start: &JobStart,
+    by: &Grounds<'_>,
     write: bool,
     access: Access,
     spans: &mut Seq<Span>,
 ) -> Result<(), Memory>
-    requires layout { IsLayout exchange.now.blocks layout.now }
-    requires table { IsTable exchange.now table.now }
-    ensures { OnOk result ((chains : ChainMap) → held.now ≡ all_records chains → Gains
-        (Lets exchange.now all.now start.now chains write access) spans.old spans.new) }
+    requires { AreGrounds by.now }
+    ensures { OnOk result ((chains : ChainMap) → by.now.held.now ≡ all_records chains → Gains (Lets
+        by.now.exchange.now by.now.all.now by.now.start.now chains write access)
+        spans.old spans.new) }
 {
     if !does(write, access) {
         return Ok(());
     }
-    push_words(
-        alloc, exchange, layout, table, all, held, start, write, access, spans,
-    )?;
+    push_words(alloc, by, write, access, spans)?;
     Ok(())
 }
 
 /// The words that the accesses let a job write, or read.
-pub fn words_of(
-    alloc: Global,
-    exchange: &Exchange,
-    layout: &Layout,
-    table: &CellTable,
-    all: &[Access],
-    held: &[Held],
-    start: &JobStart,
-    write: bool,
-) -> Result<Seq<Span>, Memory>
-    requires layout { IsLayout exchange.now.blocks layout.now }
-    requires table { IsTable exchange.now table.now }
-    ensures { IfOk result (λ spans. (chains : ChainMap) → held.now ≡ all_records chains →
+pub fn words_of(alloc: Global, by: &Grounds<'_>, write: bool) -> Result<Seq<Span>, Memory>
+    requires { AreGrounds by.now }
+    ensures { IfOk result (λ spans. (chains : ChainMap) → by.now.held.now ≡ all_records chains →
         (word : ℕ) → IsTrue (spanned spans word)
-        ↔ OneOf (Lets exchange.now all.now start.now chains write) all.now word) }
+        ↔ OneOf (Lets by.now.exchange.now by.now.all.now by.now.start.now chains write)
+        by.now.all.now word) }
 {
+    let all = by.all;
     let mut spans = Seq::new(alloc);
     for access in all {
-        push_access(
-            alloc, exchange, layout, table, all, held, start, write, *access, &mut spans,
-        )?;
+        push_access(alloc, by, write, *access, &mut spans)?;
     }
     Ok(spans)
 }

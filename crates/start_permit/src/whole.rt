@@ -4,7 +4,7 @@ ghost use Rattle.machine_code.specs.Permits.{may_read, may_write};
 ghost use Rattle.store_layout.specs.Laid.{IsLayout};
 ghost use Rattle.start_permit.specs.Granted.{IsTable, MayRead, MayWrite};
 
-use crate::granting::words_of;
+use crate::granting::{Grounds, words_of};
 use crate::table::CellTable;
 use entry_summary::Summary;
 use exchange_model::Exchange;
@@ -36,7 +36,15 @@ pub fn permit(
     let records = chains.records()?;
     let held = records.as_slice();
     let all = summary.accesses.as_slice();
-    let reads = words_of(alloc, exchange, layout, table, all, held, start, false)?;
-    let writes = words_of(alloc, exchange, layout, table, all, held, start, true)?;
+    let grounds = Grounds {
+        exchange,
+        layout,
+        table,
+        all,
+        held,
+        start,
+    };
+    let reads = words_of(alloc, &grounds, false)?;
+    let writes = words_of(alloc, &grounds, true)?;
     Ok(Permit { reads, writes })
 }

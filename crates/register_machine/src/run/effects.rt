@@ -1,21 +1,23 @@
 // What an instruction may do to the job's own state.
-ghost use Rattle.std.specs.Prelude.{◌≡◌, ◌+◌, ◌<◌, ◌^◌, ◌↔◌, ◌++◌, ◌∷◌, [], ◌&&◌, true, not, nat_eq, length, take, replicate, slice_index, slice_set, nat_lt, is_some, Some, None, unwrap_or, position, IsNone, IsTrue};
+ghost use Rattle.std.specs.Prelude.{◌≡◌, ℕ, ◌+◌, ◌-◌, ◌≤◌, ◌<◌, ◌^◌, ◌↔◌, ◌++◌, ◌∷◌, [], ◌&&◌, true, not, nat_eq, length, take, replicate, slice_index, slice_set, nat_lt, is_some, Some, None, unwrap_or, position, IsNone, IsTrue};
 ghost use Rattle.job_types.specs.Own.{budget, eight};
 ghost use Rattle.job_types.specs.Chain.{holds, without};
 ghost use Rattle.job_types.specs.Truth.{at_zero};
 ghost use Rattle.register_machine.specs.Machine.{reg, goes, next, fails, checks, counts, divides, joins, sends, calls, returns, ends};
-ghost use Rattle.register_machine.specs.Standing.{standing, stood};
+ghost use Rattle.register_machine.specs.Standing.{beyond, leads, standing, stood};
+ghost use Rattle.register_machine.specs.declared.run.stand.Way.TheVariants.{On, To, Over};
 ghost use Rattle.job_types.specs.declared.chain.Held.{Held};
+ghost use Rattle.register_machine.specs.Private.{counted_of};
 
-use super::stand::Stand;
+use super::stand::{Spot, Way};
 use super::{JobRun, eight_of};
 use crate::frames::Frame;
 use job_types::{Chain, Fault, Held, Outcome, SendTo, Sent};
-use plex_limits::{MOST_CALLERS, MOST_COUNTED, MOST_HELD, MOST_SENT, MOST_VALUES};
+use plex_limits::{MOST_CALLERS, MOST_HELD, MOST_SENT, MOST_VALUES};
 use plex_num::Values;
 use std::mem;
 
-// Each of these tells the address of the next instruction, and none where the job has ended.
+// Each of these tells where the run goes on, or that the job has ended.
 impl JobRun {
     /// The value of a register, numbered from 0 to 15.
     pub(crate) fn register(&self, r: u8) -> u32
@@ -26,31 +28,29 @@ impl JobRun {
     }
 
     /// A register gets a value.
-    pub(super) fn set(&mut self, r: u8, value: u32, from: Stand) -> Option<usize>
+    pub(super) fn set(&mut self, r: u8, value: u32) -> Way
         requires register { r < 16 }
-        requires address { from.at < 2 ^ 63 }
-        ensures next { result ≡ Some (from.at + 1) }
+        ensures next { result ≡ On }
         ensures run { self.new ≡ record self.old { regs = slice_set self.old.regs r value } }
     {
         self.registers[r as usize] = value;
-        from.next()
+        Way::On
     }
 
     /// A local gets the value of a register.
-    pub(super) fn set_local(&mut self, i: u8, r: u8, from: Stand) -> Option<usize>
+    pub(super) fn set_local(&mut self, i: u8, r: u8) -> Way
         requires local { i < 50 }
         requires register { r < 16 }
-        requires address { from.at < 2 ^ 63 }
-        ensures next { result ≡ Some (from.at + 1) }
+        ensures next { result ≡ On }
         ensures run { self.new ≡ record self.old { locals = slice_set self.old.locals i (reg self.old r) } }
     {
         self.locals[i as usize] = self.registers[r as usize];
-        from.next()
+        Way::On
     }
 
     /// The job ends by a fault.
-    pub(super) fn fail(&mut self, fault: Fault) -> Option<usize>
-        ensures next { result ≡ None }
+    pub(super) fn fail(&mut self, fault: Fault) -> Way
+        ensures next { result ≡ Over }
         ensures run { self.new ≡ fails fault self.old }
     {
         self.done.outcome = Outcome::Faulted {
@@ -58,39 +58,37 @@ impl JobRun {
             point: self.point,
         };
         self.over = true;
-        None
+        Way::Over
     }
 
     /// Goes on where the test holds, and else ends by the fault.
-    pub(super) fn check(&mut self, holds: bool, fault: Fault, from: Stand) -> Option<usize>
+    pub(super) fn check(&mut self, holds: bool, fault: Fault, from: Spot) -> Way
         requires runs { self.old.over ≡ None }
-        requires address { from.at < 2 ^ 63 }
-        ensures run { stood from result self.new ≡ checks holds fault (standing from self.old) }
-        ensures over { is_some result ≡ not (is_some self.new.over) }
+        ensures run { stood (beyond from) (leads (beyond from).at self.new.pc result) self.new ≡ checks holds fault (standing (beyond from) self.old) }
+        ensures over { (at address : ℕ) → is_some (leads at address result) ≡ not (is_some self.new.over) }
     {
-        if holds { from.next() } else { self.fail(fault) }
+        if holds { Way::On } else { self.fail(fault) }
     }
 
     /// A statement is counted.
-    #[tactic(auto, using(crate::proofs::Counting::one_more))]
-    pub(super) fn count(&mut self, point: u32, from: Stand) -> Option<usize>
+    #[tactic(auto, using(crate::proofs::Counting::some_left, crate::proofs::Counting::all_left))]
+    pub(super) fn count(&mut self, point: u32, from: Spot) -> Way
         requires runs { self.old.over ≡ None }
-        requires address { from.at < 2 ^ 63 }
-        ensures run { stood from result self.new ≡ counts point (standing from self.old) }
-        ensures over { is_some result ≡ not (is_some self.new.over) }
+        ensures run { stood (beyond from) (leads (beyond from).at self.new.pc result) self.new ≡ counts point (standing (beyond from) self.old) }
+        ensures over { (at address : ℕ) → is_some (leads at address result) ≡ not (is_some self.new.over) }
     {
-        let within = may_count(self.count);
-        self.count += 1;
+        let remaining = one_fewer(self.remaining);
+        self.remaining = remaining;
         self.point = point;
-        if within {
-            from.next()
+        if remaining != 0 {
+            Way::On
         } else {
             self.done.outcome = Outcome::Faulted {
                 fault: Fault::Budget,
                 point,
             };
             self.over = true;
-            None
+            Way::Over
         }
     }
 
@@ -119,39 +117,41 @@ impl JobRun {
     }
 
     /// A register gets a value, unless the divisor is 0.
-    pub(super) fn divide(
-        &mut self,
-        r: u8,
-        divisor: u32,
-        quotient: Option<u32>,
-        from: Stand,
-    ) -> Option<usize>
+    pub(super) fn divide(&mut self, r: u8, divisor: u32, quotient: Option<u32>, from: Spot) -> Way
         requires runs { self.old.over ≡ None }
         requires register { r < 16 }
-        requires address { from.at < 2 ^ 63 }
         requires divisor { IsNone quotient ↔ (divisor ≡ 0) }
-        ensures run { stood from result self.new
-            ≡ divides r divisor (unwrap_or quotient 0) (standing from self.old) }
-        ensures over { is_some result ≡ not (is_some self.new.over) }
+        ensures run { stood (beyond from) (leads (beyond from).at self.new.pc result) self.new
+            ≡ divides r divisor (unwrap_or quotient 0) (standing (beyond from) self.old) }
+        ensures over { (at address : ℕ) → is_some (leads at address result) ≡ not (is_some self.new.over) }
     {
         match quotient {
-            Some(value) => self.set(r, value, from),
+            Some(value) => self.set(r, value),
             None => self.fail(Fault::Divide),
         }
     }
 
+    /// Goes to an address.
+    pub(super) fn jump(&mut self, a: u32) -> Way
+        ensures next { result ≡ To }
+        ensures run { self.new ≡ record self.old { pc = a } }
+    {
+        self.address = a as usize;
+        Way::To
+    }
+
     /// Goes to an address where a register is 0, and else on.
-    pub(super) fn go_if_zero(&self, r: u8, a: u32, from: Stand) -> Option<usize>
+    pub(super) fn go_if_zero(&mut self, r: u8, a: u32, from: Spot) -> Way
         requires register { r < 16 }
-        requires address { from.at < 2 ^ 63 }
-        ensures run { stood from result self.now ≡ at_zero (reg self.now r)
-            (goes a (standing from self.now)) (next (standing from self.now)) }
-        ensures next { is_some result ≡ true }
+        ensures run { stood (beyond from) (leads (beyond from).at self.new.pc result) self.new ≡ at_zero (reg self.old r)
+            (goes a (standing (beyond from) self.old)) (next (standing (beyond from) self.old)) }
+        ensures over { self.new.over ≡ self.old.over }
+        ensures next { (at address : ℕ) → is_some (leads at address result) ≡ true }
     {
         if self.register(r) == 0 {
-            Some(a as usize)
+            self.jump(a)
         } else {
-            from.next()
+            Way::On
         }
     }
 
@@ -170,24 +170,22 @@ impl JobRun {
     }
 
     /// A record joins the chain.
-    pub(super) fn join(&mut self, file: u32, number: u32, from: Stand) -> Option<usize>
+    pub(super) fn join(&mut self, file: u32, number: u32, from: Spot) -> Way
         requires runs { self.old.over ≡ None }
-        requires address { from.at < 2 ^ 63 }
-        ensures run { stood from result self.new ≡ joins file number (standing from self.old) }
-        ensures over { is_some result ≡ not (is_some self.new.over) }
+        ensures run { stood (beyond from) (leads (beyond from).at self.new.pc result) self.new ≡ joins file number (standing (beyond from) self.old) }
+        ensures over { (at address : ℕ) → is_some (leads at address result) ≡ not (is_some self.new.over) }
     {
         if self.done.chain.as_slice().len() < MOST_HELD {
             self.done.chain.push(Held { file, number });
-            from.next()
+            Way::On
         } else {
             self.fail(Fault::Chain)
         }
     }
 
     /// A record leaves the chain.
-    pub(super) fn leave(&mut self, file: u32, number: u32, from: Stand) -> Option<usize>
-        requires { from.at < 2 ^ 63 }
-        ensures next { result ≡ Some (from.at + 1) }
+    pub(super) fn leave(&mut self, file: u32, number: u32) -> Way
+        ensures next { result ≡ On }
         ensures run { self.new ≡ record self.old {
           own = record self.old.own {
             chain = without self.old.own.chain file number;
@@ -195,41 +193,40 @@ impl JobRun {
         } }
     {
         remove_record(&mut self.done.chain, file, number);
-        from.next()
+        Way::On
     }
 
     /// A register joins the outgoing values; there must be room for it.
-    pub(super) fn join_outgoing(&mut self, r: u8, from: Stand) -> Option<usize>
+    pub(super) fn join_outgoing(&mut self, r: u8) -> Way
         requires register { r < 16 }
-        requires address { from.at < 2 ^ 63 }
         requires room { length self.old.out < MOST_VALUES }
-        ensures next { result ≡ Some (from.at + 1) }
+        ensures next { result ≡ On }
         ensures run { self.new ≡ record self.old { out = self.old.out ++ reg self.old r ∷ [] } }
     {
         self.outgoing.push(self.registers[r as usize]);
-        from.next()
+        Way::On
     }
 
     /// Sends the outgoing values.
-    pub(super) fn send(&mut self, to: SendTo, from: Stand) -> Option<usize>
+    pub(super) fn send(&mut self, to: SendTo, from: Spot) -> Way
         requires runs { self.old.over ≡ None }
-        requires address { from.at < 2 ^ 63 }
-        ensures run { stood from result self.new ≡ sends to (standing from self.old) }
-        ensures over { is_some result ≡ not (is_some self.new.over) }
+        ensures run { stood (beyond from) (leads (beyond from).at self.new.pc result) self.new ≡ sends to (standing (beyond from) self.old) }
+        ensures over { (at address : ℕ) → is_some (leads at address result) ≡ not (is_some self.new.over) }
     {
         if self.done.sends.as_slice().len() < MOST_SENT {
             let values = mem::replace(&mut self.outgoing, Values::new());
             self.done.sends.push(Sent { to, values });
-            from.next()
+            Way::On
         } else {
             self.fail(Fault::Sends)
         }
     }
 
     /// A new activation at an address, with these entry values.
-    fn activate(&mut self, a: u32, values: [u32; 8]) -> Option<usize>
-        ensures next { result ≡ Some a }
+    fn activate(&mut self, a: u32, values: [u32; 8]) -> Way
+        ensures next { result ≡ To }
         ensures run { self.new ≡ record self.old {
+          pc = a;
           regs = replicate 16 0;
           locals = replicate 50 0;
           own = record self.old.own { given = values };
@@ -238,7 +235,7 @@ impl JobRun {
         self.registers = [0; 16];
         self.locals = [0; 50];
         self.given = values;
-        Some(a as usize)
+        self.jump(a)
     }
 
     /// The outgoing values, and 0 beyond them, and then none are outgoing.
@@ -252,9 +249,10 @@ impl JobRun {
     }
 
     /// A new activation, whose entry values are the outgoing ones.
-    pub(super) fn enter(&mut self, a: u32) -> Option<usize>
-        ensures next { result ≡ Some a }
+    pub(super) fn enter(&mut self, a: u32) -> Way
+        ensures next { result ≡ To }
         ensures run { self.new ≡ record self.old {
+          pc = a;
           regs = replicate 16 0;
           locals = replicate 50 0;
           out = [];
@@ -266,15 +264,15 @@ impl JobRun {
     }
 
     /// The same, and the activation that is left waits for an answer.
-    pub(super) fn call(&mut self, a: u32, answer: u32, from: Stand) -> Option<usize>
+    pub(super) fn call(&mut self, a: u32, answer: u32, from: Spot) -> Way
         requires runs { self.old.over ≡ None }
-        requires address { from.at < 2 ^ 63 }
-        ensures run { stood from result self.new ≡ calls a answer (standing from self.old) }
-        ensures over { is_some result ≡ not (is_some self.new.over) }
+        requires spot { (from.left ≤ from.all) × (from.all < 2 ^ 63) }
+        ensures run { stood (beyond from) (leads (beyond from).at self.new.pc result) self.new ≡ calls a answer (standing (beyond from) self.old) }
+        ensures over { (at address : ℕ) → is_some (leads at address result) ≡ not (is_some self.new.over) }
     {
         if self.frames.len() < MOST_CALLERS {
             self.frames.push(Frame {
-                back: from.at + 1,
+                back: from.at() + 1,
                 locals: self.locals,
                 given: self.given,
                 awaits: answer,
@@ -286,9 +284,10 @@ impl JobRun {
     }
 
     /// A caller goes on, and the outgoing values are the answer.
-    fn resume(&mut self, frame: &Frame) -> Option<usize>
-        ensures next { result ≡ Some frame.now.back }
+    fn resume(&mut self, frame: &Frame) -> Way
+        ensures next { result ≡ To }
         ensures run { self.new ≡ record self.old {
+          pc = frame.now.back;
           regs = replicate 16 0;
           locals = frame.now.locals;
           out = [];
@@ -300,15 +299,16 @@ impl JobRun {
         self.registers = [0; 16];
         self.locals = frame.locals;
         self.given = frame.given;
-        Some(frame.back)
+        self.address = frame.back;
+        Way::To
     }
 
     /// Answers the caller that waits.
     #[tactic(auto, using(crate::proofs::Returning::returns_to, crate::proofs::Returning::returns_none))]
-    pub(super) fn give_back(&mut self, answer: u32, from: Stand) -> Option<usize>
+    pub(super) fn give_back(&mut self, answer: u32, from: Spot) -> Way
         requires runs { self.old.over ≡ None }
-        ensures run { stood from result self.new ≡ returns self.old.frames answer (standing from self.old) }
-        ensures over { is_some result ≡ not (is_some self.new.over) }
+        ensures run { stood (beyond from) (leads (beyond from).at self.new.pc result) self.new ≡ returns self.old.frames answer (standing (beyond from) self.old) }
+        ensures over { (at address : ℕ) → is_some (leads at address result) ≡ not (is_some self.new.over) }
     {
         match self.frames.take(answer) {
             Some(frame) => self.resume(&frame),
@@ -317,9 +317,10 @@ impl JobRun {
     }
 
     /// A new activation, whose entry values are the first n of those of this one.
-    pub(super) fn transfer(&mut self, a: u32, n: u32) -> Option<usize>
-        ensures next { result ≡ Some a }
+    pub(super) fn transfer(&mut self, a: u32, n: u32) -> Way
+        ensures next { result ≡ To }
         ensures run { self.new ≡ record self.old {
+          pc = a;
           regs = replicate 16 0;
           locals = replicate 50 0;
           own = record self.old.own { given = eight (take n self.old.own.given) };
@@ -331,16 +332,15 @@ impl JobRun {
     }
 
     /// The job ends, unless a caller waits.
-    pub(super) fn end(&mut self, from: Stand) -> Option<usize>
+    pub(super) fn end(&mut self, from: Spot) -> Way
         requires runs { self.old.over ≡ None }
-        ensures run { stood from result self.new ≡ ends self.old.frames (standing from self.old) }
-        ensures over { is_some result ≡ not (is_some self.new.over) }
+        ensures run { stood (beyond from) (leads (beyond from).at self.new.pc result) self.new ≡ ends self.old.frames (standing (beyond from) self.old) }
+        ensures over { (at address : ℕ) → is_some (leads at address result) ≡ not (is_some self.new.over) }
     {
-        let _ = from;
         if self.frames.len() == 0 {
             self.done.outcome = Outcome::Ended;
             self.over = true;
-            None
+            Way::Over
         } else {
             self.fail(Fault::BadEnd)
         }
@@ -378,11 +378,13 @@ fn remove_record(chain: &mut Chain, file: u32, number: u32)
     chain.remove(i);
 }
 
-/// Whether one statement more may be counted.
-#[tactic(auto, unfolding(job_types::specs::Own::budget))]
-fn may_count(count: u32) -> bool
-    ensures word { result ≡ nat_lt count budget }
-    ensures number { IsTrue result ↔ (count < budget) }
+/// One statement fewer may be begun; the last one faults.
+#[tactic(auto, using(crate::proofs::Counting::one_more, crate::proofs::Counting::may_count))]
+fn one_fewer(remaining: u32) -> u32
+    requires some { 0 < remaining }
+    requires all { remaining ≤ budget + 1 }
+    ensures count { counted_of result ≡ counted_of remaining + 1 }
+    ensures within { nat_lt (counted_of remaining) budget ≡ not (nat_eq result 0) }
 {
-    (count as usize) < MOST_COUNTED
+    remaining - 1
 }

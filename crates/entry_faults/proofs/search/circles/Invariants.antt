@@ -1,5 +1,5 @@
 use Rattle.entry_faults.proofs.Searching.{CirclesGo}
 use Rattle.entry_faults.proofs.search.circles.Given as goal
 
-abbrev pub invariant-loop-start : goal.invariant-loop-start
-invariant-loop-start l = CirclesGo l.table l.reached l.start l.marks
+abbrev pub invariant-loop-passed : goal.invariant-loop-passed
+invariant-loop-passed l = CirclesGo l.table l.reached l.passed l.marks

@@ -1,12 +1,13 @@
-use Rattle.std.proofs.Common.{◌∙◌}
-use Rattle.fact_rows.proofs.Listing.{facts_begin, facts_more, facts_end}
+use Rattle.std.proofs.Common.{◌++◌, ◌∙◌, ap}
+use Rattle.fact_rows.specs.Touched.{facts_of, keys_of}
+use Rattle.fact_rows.proofs.Keying.{points_more, points_end}
 use Rattle.fact_rows.proofs.rows.listed.Goals as goal
 
-pub loop-key-init : goal.loop-key-init
-loop-key-init c = facts_begin c.args.entry c.args.grid.now c.args.keys.now c.new-facts.result c.new-facts.ensures
+pub loop-point-init : goal.loop-point-init
+loop-point-init c = ap (λ l. l ++ facts_of c.args.entry c.args.grid.now (keys_of c.args.grid.now.slots c.args.points.now)) c.new-facts.ensures
 
-pub loop-key-preserved : goal.loop-key-preserved
-loop-key-preserved c = facts_more c.args.entry c.args.grid.now c.args.keys.now c.loop-key.key-index _ c.as_slice.result.now c.loop-key.facts c.push_facts.new.facts _ c.loop-key-test.true (c.as_slice.ensures ∙ c.in_ok-numbers.ensures) c.in_ok-push_facts.ensures c.loop-key.invariant
+pub loop-point-preserved : goal.loop-point-preserved
+loop-point-preserved c = points_more c.args.entry c.args.grid.now c.args.points.now c.loop-point.point-index _ c.as_slice.result.now c.loop-point.facts c.push_listed.new.facts _ c.loop-point-test.true (c.as_slice.ensures ∙ c.in_ok-keys.ensures) c.in_ok-push_listed.ensures c.loop-point.invariant
 
 pub returns : goal.returns
-returns c = facts_end c.args.entry c.args.grid.now c.args.keys.now c.loop-key.key-index c.loop-key.facts _ c.loop-key-test.false c.loop-key.invariant
+returns c = points_end c.args.entry c.args.grid.now c.args.points.now c.loop-point.point-index c.loop-point.facts _ c.loop-point-test.false c.loop-point.invariant

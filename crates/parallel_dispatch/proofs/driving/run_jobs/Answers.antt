@@ -10,7 +10,6 @@ use Rattle.shared_store.specs.declared.view.Lent.{Lent}
 use Rattle.shared_store.specs.Seats.{RootView}
 use Rattle.parallel_dispatch.specs.Flying.{Stand, starts_of}
 use Rattle.parallel_dispatch.specs.Moves.{HasSummary, MayFly}
-use Rattle.parallel_dispatch.specs.Windows.{View}
 use Rattle.parallel_dispatch.proofs.Standing.{all_summaries, next_summary, none_lent, stand_alone, stand_begin, stand_ended, stand_line, stand_retired, stand_some}
 use Rattle.parallel_dispatch.proofs.driving.run_jobs.Goals as goal
 
@@ -83,7 +82,7 @@ jobs-preserved g c =
     record {
       stand = stand_retired g.B.Naming.exchange c.args.setting.now.checked.now g.B.Naming.code set.exchange set.checked set.true_of old.limit first c.jobs.books c.jobs.root.1 c.jobs.window.loans c.retire.new.window.loans c.retire.new.books c.in_ok-oldest-in-Retire.oldest.root.1
           c.jobs.steps c.in_ok-oldest-in-Retire.oldest.steps _ some kept.limit kept.fly kept.steps refl c.jobs.invariant.stand;
-      home = kept.root;
+      home = kept.home;
       room = omega (arith, room, before);
       counted = kept.counted;
     }
@@ -99,7 +98,7 @@ jobs-preserved-in-RunAlone g c =
     record {
       stand = stand_alone g.B.Naming.exchange c.args.setting.now.checked.now g.B.Naming.code set.exchange set.checked set.true_of old.limit first c.jobs.books c.jobs.root.1 c.jobs.window.loans c.run_alone.new.window.loans c.run_alone.new.books c.in_ok-alone-in-RunAlone.alone.root.1
           c.jobs.steps c.in_ok-alone-in-RunAlone.alone.steps _ alone (goes alone) kept.limit kept.fly kept.steps refl c.jobs.invariant.stand;
-      home = kept.root;
-      room = subst (λ (w : View). 0 < w.room) (sym kept.window) c.jobs.invariant.room;
+      home = kept.home;
+      room = subst (λ n. 0 < n) (sym kept.room) c.jobs.invariant.room;
       counted = kept.counted;
     }

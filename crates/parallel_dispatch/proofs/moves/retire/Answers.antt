@@ -2,7 +2,7 @@ use Rattle.std.proofs.Common.{◌∙◌, sym, ap}
 use Rattle.register_machine.specs.Private.{Private}
 use Rattle.shared_store.specs.Seats.{RootView}
 use Rattle.parallel_dispatch.specs.Windows.{View}
-use Rattle.parallel_dispatch.proofs.Moving.{counted_then, fewer_then, gone, makes_here, stores_here}
+use Rattle.parallel_dispatch.proofs.Moving.{stores_here, turned_then}
 use Rattle.parallel_dispatch.proofs.Retiring.{Leaves}
 use Rattle.parallel_dispatch.proofs.moves.retire.Goals as goal
 
@@ -14,71 +14,29 @@ retire-retired-requires-clause-words g c =
       chain = c.done-done.ensures.chain ∙ ap (λ (r : Private). r.own.chain) c.deref-2.ensures;
       outcome = c.done-done.ensures.outcome ∙ ap (λ (r : Private). r.over) c.deref-2.ensures;
     } in
-    stores_here g.B.Naming.exchange c.args.setting.now.checked.now set.exchange set.checked set.true_of c.args.books.now c.args.root.1 c.args.window.now.loans
+    stores_here g.B.Naming.exchange c.args.setting.now.checked.now set.exchange set.checked set.true_of c.args.books.now c.args.root.1 c.args.window.now
     c.in-Some.oldest.flight c.pop.new.self.loans (ap (λ (v : View). v.loans) c.in-Some.ensures.0) g.B.Naming.code g.B.Naming.store c.finish-seat.result.0 c.finish-seat.result.1.value c.finish-seat.ensures
     c.in-Some.oldest.start c.in-Some.ensures.1 c.done-done.result.now leaves c.args.setting.now.exchange.now c.requires.named.0
     c.new-words.result.root.1 (ap (λ (r : RootView). r.1) (c.new-words.ensures.root ∙ c.take_back.ensures))
     c.requires.flying.0 c.requires.flying.1
 
-pub returns-clause-fly : goal.returns-clause-fly
-returns-clause-fly g c = λ s fly.
+pub returns : goal.returns
+returns g c =
     let set = c.requires.set in
     let leaves : Leaves c.finish-seat.result.1.value c.done-done.result.now = record {
       sends = c.done-done.ensures.sends ∙ ap (λ (r : Private). r.own.sends) c.deref-2.ensures;
       chain = c.done-done.ensures.chain ∙ ap (λ (r : Private). r.own.chain) c.deref-2.ensures;
       outcome = c.done-done.ensures.outcome ∙ ap (λ (r : Private). r.over) c.deref-2.ensures;
     } in
-    gone g.B.Naming.exchange c.args.setting.now.checked.now set.exchange set.checked set.true_of c.args.books.now c.args.root.1 c.args.window.now.loans
+    let root = c.new-words.ensures.root ∙ c.take_back.ensures in
+    turned_then g.B.Naming.exchange c.args.setting.now.checked.now set.exchange set.checked set.true_of c.args.books.now c.args.root.1 c.args.window.now
     c.in-Some.oldest.flight c.pop.new.self.loans (ap (λ (v : View). v.loans) c.in-Some.ensures.0) g.B.Naming.code g.B.Naming.store c.finish-seat.result.0 c.finish-seat.result.1.value c.finish-seat.ensures
     c.in-Some.oldest.start c.in-Some.ensures.1 c.done-done.result.now leaves c.args.setting.now.exchange.now c.requires.named.0
-    c.new-words.result.root.1 (ap (λ (r : RootView). r.1) (c.new-words.ensures.root ∙ c.take_back.ensures))
+    c.new-words.result.root.1 (ap (λ (r : RootView). r.1) root)
     c.retire-retired.new.self c.arrive.new.books c.retire-retired.new.words.root.1.values _ _ c.in_ok-retired.ensures.retired c.in_ok-arrive.ensures
-    s fly
-    c.into_root-root.result.1 c.keep_run.new.self.loans (ap (λ (r : RootView). r.1.values) c.into_root-root.ensures) (ap (λ (r : RootView). r.1.loans) c.into_root-root.ensures ∙ sym c.in_ok-retired.ensures.like.1) (ap (λ (v : View). v.loans) c.keep_run.ensures)
-
-pub returns-clause-counted : goal.returns-clause-counted
-returns-clause-counted g c =
-    let set = c.requires.set in
-    let leaves : Leaves c.finish-seat.result.1.value c.done-done.result.now = record {
-      sends = c.done-done.ensures.sends ∙ ap (λ (r : Private). r.own.sends) c.deref-2.ensures;
-      chain = c.done-done.ensures.chain ∙ ap (λ (r : Private). r.own.chain) c.deref-2.ensures;
-      outcome = c.done-done.ensures.outcome ∙ ap (λ (r : Private). r.over) c.deref-2.ensures;
-    } in
-    counted_then g.B.Naming.exchange c.args.setting.now.checked.now set.exchange set.checked set.true_of c.args.books.now c.args.root.1 c.args.window.now.loans
-    c.in-Some.oldest.flight c.pop.new.self.loans (ap (λ (v : View). v.loans) c.in-Some.ensures.0) g.B.Naming.code g.B.Naming.store c.finish-seat.result.0 c.finish-seat.result.1.value c.finish-seat.ensures
-    c.in-Some.oldest.start c.in-Some.ensures.1 c.done-done.result.now leaves c.args.setting.now.exchange.now c.requires.named.0
-    c.new-words.result.root.1 (ap (λ (r : RootView). r.1) (c.new-words.ensures.root ∙ c.take_back.ensures))
-    c.retire-retired.new.self c.arrive.new.books c.retire-retired.new.words.root.1.values _ _ c.in_ok-retired.ensures.retired c.in_ok-arrive.ensures
-    c.requires.flying
-    c.into_root-root.result.1 c.keep_run.new.self.loans (ap (λ (r : RootView). r.1.values) c.into_root-root.ensures) (ap (λ (r : RootView). r.1.loans) c.into_root-root.ensures ∙ sym c.in_ok-retired.ensures.like.1) (ap (λ (v : View). v.loans) c.keep_run.ensures)
-    c.args.window.now c.keep_run.new.self (ap (λ (v : View). v.flown) c.keep_run.ensures ∙ sym (ap (λ (v : View). v.flown) c.in-Some.ensures.0)) c.requires.counted
-
-pub returns-clause-fewer : goal.returns-clause-fewer
-returns-clause-fewer g c =
-    let set = c.requires.set in
-    let leaves : Leaves c.finish-seat.result.1.value c.done-done.result.now = record {
-      sends = c.done-done.ensures.sends ∙ ap (λ (r : Private). r.own.sends) c.deref-2.ensures;
-      chain = c.done-done.ensures.chain ∙ ap (λ (r : Private). r.own.chain) c.deref-2.ensures;
-      outcome = c.done-done.ensures.outcome ∙ ap (λ (r : Private). r.over) c.deref-2.ensures;
-    } in
-    fewer_then g.B.Naming.exchange c.args.setting.now.checked.now set.exchange set.checked set.true_of c.args.books.now c.args.root.1 c.args.window.now.loans
-    c.in-Some.oldest.flight c.pop.new.self.loans (ap (λ (v : View). v.loans) c.in-Some.ensures.0) g.B.Naming.code g.B.Naming.store c.finish-seat.result.0 c.finish-seat.result.1.value c.finish-seat.ensures
-    c.in-Some.oldest.start c.in-Some.ensures.1 c.done-done.result.now leaves c.args.setting.now.exchange.now c.requires.named.0
-    c.new-words.result.root.1 (ap (λ (r : RootView). r.1) (c.new-words.ensures.root ∙ c.take_back.ensures))
-    c.retire-retired.new.self c.arrive.new.books c.retire-retired.new.words.root.1.values _ _ c.in_ok-retired.ensures.retired c.in_ok-arrive.ensures
-    c.requires.flying
-    c.into_root-root.result.1 c.keep_run.new.self.loans (ap (λ (r : RootView). r.1.values) c.into_root-root.ensures) (ap (λ (r : RootView). r.1.loans) c.into_root-root.ensures ∙ sym c.in_ok-retired.ensures.like.1) (ap (λ (v : View). v.loans) c.keep_run.ensures)
-
-pub returns-clause-steps : goal.returns-clause-steps
-returns-clause-steps g c = λ s fly.
-    let set = c.requires.set in
-    let leaves : Leaves c.finish-seat.result.1.value c.done-done.result.now = record {
-      sends = c.done-done.ensures.sends ∙ ap (λ (r : Private). r.own.sends) c.deref-2.ensures;
-      chain = c.done-done.ensures.chain ∙ ap (λ (r : Private). r.own.chain) c.deref-2.ensures;
-      outcome = c.done-done.ensures.outcome ∙ ap (λ (r : Private). r.over) c.deref-2.ensures;
-    } in
-    makes_here g.B.Naming.exchange c.args.setting.now.checked.now set.exchange set.checked set.true_of c.args.books.now c.args.root.1 c.args.window.now.loans
-    c.in-Some.oldest.flight c.pop.new.self.loans (ap (λ (v : View). v.loans) c.in-Some.ensures.0) g.B.Naming.code g.B.Naming.store c.finish-seat.result.0 c.finish-seat.result.1.value c.finish-seat.ensures
-    c.in-Some.oldest.start c.in-Some.ensures.1 c.done-done.result.now leaves c.args.setting.now.exchange.now c.requires.named.0
-    c.new-words.result.root.1 (ap (λ (r : RootView). r.1) (c.new-words.ensures.root ∙ c.take_back.ensures))
-    s fly c.steps-steps.result (c.steps-steps.ensures ∙ ap (λ (r : Private). r.made) c.deref.ensures)
+    c.requires.flying (record { root = c.into_root-root.result; steps = c.steps-steps.result }) c.keep_run.new.self
+    (ap (λ (r : RootView). r.1.values) c.into_root-root.ensures) (ap (λ (r : RootView). r.1.loans) c.into_root-root.ensures ∙ sym c.in_ok-retired.ensures.like.1) (ap (λ (v : View). v.loans) c.keep_run.ensures)
+    (c.steps-steps.ensures ∙ ap (λ (r : Private). r.made) c.deref.ensures)
+    (ap (λ (r : RootView). r.0) c.into_root-root.ensures ∙ sym c.in_ok-retired.ensures.like.0 ∙ ap (λ (r : RootView). r.0) root ∙ c.requires.root)
+    (ap (λ (v : View). v.room) c.keep_run.ensures ∙ sym (ap (λ (v : View). v.room) c.in-Some.ensures.0)) (ap (λ (v : View). v.flown) c.keep_run.ensures ∙ sym (ap (λ (v : View). v.flown) c.in-Some.ensures.0))
+    c.requires.counted

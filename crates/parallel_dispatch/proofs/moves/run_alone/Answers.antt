@@ -5,8 +5,7 @@ use Rattle.exchange_run.specs.Runs.{left_by}
 use Rattle.register_machine.specs.Private.{Private}
 use Rattle.shared_store.specs.Seats.{RootView}
 use Rattle.parallel_dispatch.specs.Made.{RunMakes}
-use Rattle.parallel_dispatch.specs.Windows.{View}
-use Rattle.parallel_dispatch.proofs.Alone.{counted_alone, done_alone, entry_alone, faithful_here, fewer_alone, gone_alone, is_next, lent_nothing, limit_alone, makes_alone, may_be_here, may_run_here, number_fits, one_runs, stores_alone}
+use Rattle.parallel_dispatch.proofs.Alone.{done_alone, entry_alone, faithful_here, is_next, lent_nothing, may_be_here, may_run_here, number_fits, one_runs, stores_alone, turned_alone}
 use Rattle.parallel_dispatch.proofs.moves.run_alone.Goals as goal
 
 pub number_of_next-job-requires : goal.number_of_next-job-requires
@@ -84,76 +83,25 @@ retire-retired-requires-clause-words g c =
     let top = c.args.root.1 in
     let n = is_next g.B.Naming.exchange x k old top c.args.window.now c.args.start c.requires.named.0 c.requires.set.exchange c.requires.next c.requires.goes_on c.requires.flying in
     let ran = c.run_on_root-root.ensures.ran in
-    let done = done_alone c.run_on_root-root.new.run c.done-done.result.now (left_by x c.args.start top.values) ran.leaves (c.done-done.ensures.sends ∙ ap (λ (r : Private). r.own.sends) c.deref-2.ensures) (c.done-done.ensures.chain ∙ ap (λ (r : Private). r.own.chain) c.deref-2.ensures) (c.done-done.ensures.outcome ∙ ap (λ (r : Private). r.over) c.deref-2.ensures) in
-    let mid = ap (λ (r : RootView). r.1) c.new-words.ensures.root ∙ ran.root_is in
     stores_alone x k old top c.args.start n c.next_job-begun.result c.next_job-begun.new.self c.next_job-begun.ensures.start c.next_job-begun.ensures.left
-    c.done-done.result.now done c.new-words.result.root.1 mid
+    c.done-done.result.now (done_alone c.run_on_root-root.new.run c.done-done.result.now (left_by x c.args.start top.values) ran.leaves (c.done-done.ensures.sends ∙ ap (λ (r : Private). r.own.sends) c.deref-2.ensures) (c.done-done.ensures.chain ∙ ap (λ (r : Private). r.own.chain) c.deref-2.ensures) (c.done-done.ensures.outcome ∙ ap (λ (r : Private). r.over) c.deref-2.ensures))
+    c.new-words.result.root.1 (ap (λ (r : RootView). r.1) c.new-words.ensures.root ∙ ran.root_is)
 
-pub returns-clause-fly : goal.returns-clause-fly
-returns-clause-fly g c = λ s fly.
+pub returns : goal.returns
+returns g c =
     let x = c.args.setting.now.exchange.now in
     let k = c.args.setting.now.checked.now in
     let old = c.args.books.now in
     let top = c.args.root.1 in
     let n = is_next g.B.Naming.exchange x k old top c.args.window.now c.args.start c.requires.named.0 c.requires.set.exchange c.requires.next c.requires.goes_on c.requires.flying in
     let ran = c.run_on_root-root.ensures.ran in
-    let done = done_alone c.run_on_root-root.new.run c.done-done.result.now (left_by x c.args.start top.values) ran.leaves (c.done-done.ensures.sends ∙ ap (λ (r : Private). r.own.sends) c.deref-2.ensures) (c.done-done.ensures.chain ∙ ap (λ (r : Private). r.own.chain) c.deref-2.ensures) (c.done-done.ensures.outcome ∙ ap (λ (r : Private). r.over) c.deref-2.ensures) in
-    let mid = ap (λ (r : RootView). r.1) c.new-words.ensures.root ∙ ran.root_is in
-    gone_alone x k old top c.args.start n c.next_job-begun.result c.next_job-begun.new.self c.next_job-begun.ensures.start c.next_job-begun.ensures.left
-    c.done-done.result.now done c.new-words.result.root.1 mid
+    turned_alone x k old top c.args.start n c.next_job-begun.result c.next_job-begun.new.self c.next_job-begun.ensures.start c.next_job-begun.ensures.left
+    c.done-done.result.now (done_alone c.run_on_root-root.new.run c.done-done.result.now (left_by x c.args.start top.values) ran.leaves (c.done-done.ensures.sends ∙ ap (λ (r : Private). r.own.sends) c.deref-2.ensures) (c.done-done.ensures.chain ∙ ap (λ (r : Private). r.own.chain) c.deref-2.ensures) (c.done-done.ensures.outcome ∙ ap (λ (r : Private). r.over) c.deref-2.ensures))
+    c.new-words.result.root.1 (ap (λ (r : RootView). r.1) c.new-words.ensures.root ∙ ran.root_is)
     c.retire-retired.new.self c.arrive.new.books c.retire-retired.new.words.root.1.values _ _ c.in_ok-retired.ensures.retired c.in_ok-arrive.ensures
-    g.B.Naming.exchange c.args.window.now.loans c.keep_run.new.self.loans s c.into_root-root.result.1 c.requires.named.0 c.requires.next.alone (ap (λ (v : View). v.loans) (c.keep_run.ensures ∙ c.idle_run.ensures)) fly
+    g.B.Naming.exchange g.B.Naming.code g.B.Naming.store c.args.window.now c.keep_run.new.self (record { root = c.into_root-root.result; steps = c.steps-steps.result }) c.run_on_root-root.new.run.made
+    c.requires.named.0 c.requires.next.alone (c.keep_run.ensures ∙ c.idle_run.ensures)
     (ap (λ (r : RootView). r.1.values) c.into_root-root.ensures) (ap (λ (r : RootView). r.1.loans) c.into_root-root.ensures ∙ sym c.in_ok-retired.ensures.like.1)
-
-pub returns-clause-steps : goal.returns-clause-steps
-returns-clause-steps g c = λ s fly.
-    let x = c.args.setting.now.exchange.now in
-    let k = c.args.setting.now.checked.now in
-    let old = c.args.books.now in
-    let top = c.args.root.1 in
-    let n = is_next g.B.Naming.exchange x k old top c.args.window.now c.args.start c.requires.named.0 c.requires.set.exchange c.requires.next c.requires.goes_on c.requires.flying in
-    makes_alone x k old top c.args.start n g.B.Naming.exchange c.args.window.now.loans g.B.Naming.code s c.run_on_root-root.new.run.made c.steps-steps.result c.requires.named.0 c.requires.next.alone fly
-    (subst (λ (z : Code). RunMakes z c.args.start top.values c.run_on_root-root.new.run.made) c.requires.named.1 c.run_on_root-root.ensures.ran.makes) (c.steps-steps.ensures ∙ ap (λ (r : Private). r.made) c.deref.ensures)
-
-pub returns-clause-limit : goal.returns-clause-limit
-returns-clause-limit g c =
-    let x = c.args.setting.now.exchange.now in
-    let k = c.args.setting.now.checked.now in
-    let old = c.args.books.now in
-    let top = c.args.root.1 in
-    let n = is_next g.B.Naming.exchange x k old top c.args.window.now c.args.start c.requires.named.0 c.requires.set.exchange c.requires.next c.requires.goes_on c.requires.flying in
-    let ran = c.run_on_root-root.ensures.ran in
-    let done = done_alone c.run_on_root-root.new.run c.done-done.result.now (left_by x c.args.start top.values) ran.leaves (c.done-done.ensures.sends ∙ ap (λ (r : Private). r.own.sends) c.deref-2.ensures) (c.done-done.ensures.chain ∙ ap (λ (r : Private). r.own.chain) c.deref-2.ensures) (c.done-done.ensures.outcome ∙ ap (λ (r : Private). r.over) c.deref-2.ensures) in
-    let mid = ap (λ (r : RootView). r.1) c.new-words.ensures.root ∙ ran.root_is in
-    limit_alone x k old top c.args.start n c.next_job-begun.result c.next_job-begun.new.self c.next_job-begun.ensures.start c.next_job-begun.ensures.left
-    c.done-done.result.now done c.new-words.result.root.1 mid
-    c.retire-retired.new.self c.arrive.new.books c.retire-retired.new.words.root.1.values _ _ c.in_ok-retired.ensures.retired c.in_ok-arrive.ensures
-
-pub returns-clause-counted : goal.returns-clause-counted
-returns-clause-counted g c =
-    let x = c.args.setting.now.exchange.now in
-    let k = c.args.setting.now.checked.now in
-    let old = c.args.books.now in
-    let top = c.args.root.1 in
-    let n = is_next g.B.Naming.exchange x k old top c.args.window.now c.args.start c.requires.named.0 c.requires.set.exchange c.requires.next c.requires.goes_on c.requires.flying in
-    let ran = c.run_on_root-root.ensures.ran in
-    let done = done_alone c.run_on_root-root.new.run c.done-done.result.now (left_by x c.args.start top.values) ran.leaves (c.done-done.ensures.sends ∙ ap (λ (r : Private). r.own.sends) c.deref-2.ensures) (c.done-done.ensures.chain ∙ ap (λ (r : Private). r.own.chain) c.deref-2.ensures) (c.done-done.ensures.outcome ∙ ap (λ (r : Private). r.over) c.deref-2.ensures) in
-    let mid = ap (λ (r : RootView). r.1) c.new-words.ensures.root ∙ ran.root_is in
-    counted_alone x k old top c.args.start n c.next_job-begun.result c.next_job-begun.new.self c.next_job-begun.ensures.start c.next_job-begun.ensures.left
-    c.done-done.result.now done c.new-words.result.root.1 mid
-    c.retire-retired.new.self c.arrive.new.books c.retire-retired.new.words.root.1.values _ _ c.in_ok-retired.ensures.retired c.in_ok-arrive.ensures
-    c.args.window.now c.keep_run.new.self (c.keep_run.ensures ∙ c.idle_run.ensures) c.requires.counted
-
-pub returns-clause-fewer : goal.returns-clause-fewer
-returns-clause-fewer g c =
-    let x = c.args.setting.now.exchange.now in
-    let k = c.args.setting.now.checked.now in
-    let old = c.args.books.now in
-    let top = c.args.root.1 in
-    let n = is_next g.B.Naming.exchange x k old top c.args.window.now c.args.start c.requires.named.0 c.requires.set.exchange c.requires.next c.requires.goes_on c.requires.flying in
-    let ran = c.run_on_root-root.ensures.ran in
-    let done = done_alone c.run_on_root-root.new.run c.done-done.result.now (left_by x c.args.start top.values) ran.leaves (c.done-done.ensures.sends ∙ ap (λ (r : Private). r.own.sends) c.deref-2.ensures) (c.done-done.ensures.chain ∙ ap (λ (r : Private). r.own.chain) c.deref-2.ensures) (c.done-done.ensures.outcome ∙ ap (λ (r : Private). r.over) c.deref-2.ensures) in
-    let mid = ap (λ (r : RootView). r.1) c.new-words.ensures.root ∙ ran.root_is in
-    fewer_alone x k old top c.args.start n c.next_job-begun.result c.next_job-begun.new.self c.next_job-begun.ensures.start c.next_job-begun.ensures.left
-    c.done-done.result.now done c.new-words.result.root.1 mid
-    c.retire-retired.new.self c.arrive.new.books c.retire-retired.new.words.root.1.values _ _ c.in_ok-retired.ensures.retired c.in_ok-arrive.ensures
+    (subst (λ (z : Code). RunMakes z c.args.start top.values c.run_on_root-root.new.run.made) c.requires.named.1 ran.makes) (c.steps-steps.ensures ∙ ap (λ (r : Private). r.made) c.deref.ensures)
+    (ap (λ (r : RootView). r.0) c.into_root-root.ensures ∙ sym c.in_ok-retired.ensures.like.0 ∙ ap (λ (r : RootView). r.0) c.new-words.ensures.root ∙ c.run_on_root-root.ensures.root ∙ c.requires.root)
+    c.requires.counted
