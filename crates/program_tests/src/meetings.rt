@@ -9,18 +9,14 @@ use std::sync::atomic::{AtomicU64, Ordering};
 use std::test::Fail;
 use std::thread::Threads;
 
-/// Two jobs of this exchange that ask may run at once, and two that show what was asked.
+/// Jobs of this exchange may run at once: each shows what it was asked, in nine instructions.
 const QUESTIONS: &str = "SIGNAL ASK SINGLE BUFFERED B DATA 1;
-SIGNAL PART SINGLE BUFFERED B DATA 1;
 SIGNAL SHOW OUTSIDE DATA 1;
 BLOCK Q;
 DECLARE; TEMPORARY T;
-SURVEY; RECEIVE ASK; RECEIVE PART; SEND PART; SEND SHOW;
+SURVEY; RECEIVE ASK; SEND SHOW;
 PROGRAM;
 ENTER ASK WITH T;
-SEND PART WITH T NEW FORLOPP;
-EXIT;
-ENTER PART WITH T;
 SEND SHOW WITH T;
 EXIT;
 END BLOCK;
@@ -36,7 +32,7 @@ AFTER 0 ASK Q 9 NONE
 ";
 
 /// The report of two asks.
-const TWO_SHOWN: &str = "OUT 3 SHOW 7 F1\nOUT 4 SHOW 8 F2\nJOBS 4\nEND DONE\n";
+const TWO_SHOWN: &str = "OUT 1 SHOW 7 F0\nOUT 2 SHOW 8 F0\nJOBS 2\nEND DONE\n";
 
 /// How long a job is held at a gate, in looks.
 const TURNS: u64 = 20_000_000;
@@ -105,15 +101,15 @@ fn meetings<R: Threads + Wait + Sync>(
 
 #[test]
 fn two_jobs_meet(rt: HostRuntime) -> Result<(), Fail> {
-    assert_eq!(rt; meetings(&rt, rt.alloc(), "2")?, (4, 36));
-    assert_eq!(rt; meetings(&rt, rt.alloc(), "1")?, (3, 36));
+    assert_eq!(rt; meetings(&rt, rt.alloc(), "2")?, (2, 18));
+    assert_eq!(rt; meetings(&rt, rt.alloc(), "1")?, (1, 18));
     Ok(())
 }
 
 /// Whether the third of three asks begins while the second one waits for it: 1 if so.
 fn slides<R: Threads + Wait + Sync>(rt: &R, alloc: Global, workers: &str) -> Result<u64, NotMade> {
     let gate = SlideGate::new(TURNS);
-    let report = "OUT 4 SHOW 7 F1\nOUT 5 SHOW 8 F2\nOUT 6 SHOW 9 F3\nJOBS 6\nEND DONE\n";
+    let report = "OUT 1 SHOW 7 F0\nOUT 2 SHOW 8 F0\nOUT 3 SHOW 9 F0\nJOBS 3\nEND DONE\n";
     writes(rt, alloc, (QUESTIONS, THREE_ASKS), workers, &gate, report)?;
     Ok(gate.seen())
 }
