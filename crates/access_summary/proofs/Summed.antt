@@ -1,5 +1,5 @@
 -- What is made for one entry after the other.
-use Rattle.std.proofs.Common.{◌≡◌, ◌⊎◌, ◌↔◌, inl, inr, ⊎_elim, ℕ, zero, suc, Bool, true, false, nat_lt, ◌+◌, ◌<◌, ◌≤◌, List, [], ◌∷◌, ◌++◌, length, Option, Some, None, slice_get, Contains, refl, sym, ap, ◌∙◌, subst, arith, length-append}
+use Rattle.std.proofs.Common.{◌≡◌, ◌⊎◌, ◌↔◌, inl, inr, ⊎_elim, ℕ, Bool, true, false, nat_lt, ◌+◌, ◌<◌, ◌≤◌, List, [], ◌∷◌, ◌++◌, length, Option, Some, None, slice_get, Contains, refl, sym, ap, ◌∙◌, subst, arith, length-append}
 use Rattle.std.proofs.lemmas.List.Elements.{Contains-append_left, Contains-append_right, Contains-append_cases}
 use Rattle.std.proofs.lemmas.Option.{none-some, same_Some, slice_get_within}
 use Rattle.std.specs.Prelude.{IfSome}
@@ -7,11 +7,12 @@ use Rattle.std.specs.List.Sorted.{IsStrictlySortedBy}
 use Rattle.std.specs.declared.cmp.Ordering.TheVariants.{Less}
 use Rattle.std.specs.Ordering.{nat_cmp, ordering_then}
 use Rattle.std.proofs.lemmas.Bool.{ltb-true, ltb-false}
+use Rattle.plex_num.proofs.Lists.{get_push}
 use Rattle.flow_points.specs.contracts.fact.SlotOrd.TheImpl as slots
 use Rattle.flow_points.specs.contracts.fact.ValueOrd.TheImpl as values
 use Rattle.exchange_model.specs.declared.exchange.Exchange.{Exchange}
 use Rattle.flow_points.specs.declared.fact.Fact.{Fact}
-use Rattle.flow_points.specs.Facts.{Gives, IsLeast}
+use Rattle.flow_points.specs.Facts.{IsLeast}
 use Rattle.flow_points.proofs.Least.{least_in}
 use Rattle.fact_rows.specs.Known.{Rows, Knows}
 use Rattle.fact_rows.specs.Orders.{fact_order}
@@ -20,19 +21,13 @@ use Rattle.least_facts.specs.Least.{KnowLeast}
 use Rattle.entry_summary.specs.declared.summary.Summary.{Summary}
 use Rattle.entry_summary.specs.Summaries.{IsSummary}
 use Rattle.access_summary.specs.Least.{AreSummaries}
-use Rattle.access_summary.proofs.Alike.{OnEntry, summary_alike}
+use Rattle.access_summary.proofs.Alike.{summary_alike}
 
 -- a summary by what rows know of the entry is one by the least facts
 pub summary_of_least : (x : Exchange) (e : ℕ) (k : Rows) (s : Summary) → KnowLeast x e k → IsSummary x (Knows k) e s → IsSummary x (IsLeast x) e s
 summary_of_least x e k s know is = summary_alike x (Knows k) (IsLeast x) e s (record { each = λ f own there. ((know.exact f).0 there).1 }) (record { each = λ f own least. (know.exact f).1 (own, least) }) is
 
 -- summaries
-
-get_push : {A : Type 0} (xs : List A) (x y : A) (m : ℕ) → slice_get (xs ++ x ∷ []) m ≡ Some y → (slice_get xs m ≡ Some y) ⊎ ((m ≡ length xs) × (x ≡ y))
-get_push [] x y zero there = inr (refl, same_Some x y there)
-get_push [] x y (suc m) there = absurd (none-some y there)
-get_push (z ∷ xs) x y zero there = inl there
-get_push (z ∷ xs) x y (suc m) there = ⊎_elim inl (λ h. inr (let e = h.0 in omega arith, h.1)) (get_push xs x y m there)
 
 -- those of so many entries
 pub record SummariesGo (x : Exchange) (n : ℕ) (all : List Summary) : Type 0 where

@@ -133,17 +133,7 @@ pub fn least_facts(alloc: Global, exchange: &Exchange) -> Result<Seq<Fact>, Memo
     let mut facts = Seq::new(alloc);
     for entry in 0..exchange.entries.len() {
         let more = analyser.facts_of(alloc, exchange, &table, entry as u32)?;
-        push_all(&mut facts, more.as_slice())?;
+        facts.push_all(more.as_slice())?;
     }
     Ok(facts)
-}
-
-/// Appends these facts.
-fn push_all(facts: &mut Seq<Fact>, more: &[Fact]) -> Result<(), Memory>
-    ensures { OnOk result (facts.new ≡ facts.old ++ more.now) }
-{
-    for fact in more {
-        facts.push(*fact)?;
-    }
-    Ok(())
 }

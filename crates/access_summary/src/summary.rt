@@ -1,17 +1,17 @@
 // The summary of an entry.
-ghost use Rattle.std.specs.Prelude.{◌≡◌, map, IfOk};
+ghost use Rattle.std.specs.Prelude.{map, IfOk};
 ghost use Rattle.flow_table.specs.Rows.{IsTable};
 ghost use Rattle.flow_table.specs.Texts.{ArePlaces, seen};
-ghost use Rattle.source_meaning.specs.Arrivals.{level_of};
+ghost use Rattle.exchange_model.specs.Names.{level_of};
 ghost use Rattle.entry_accesses.specs.Numbered.{AreNumbers};
 ghost use Rattle.entry_summary.specs.Summaries.{IsSummary};
 
 use entry_accesses::{CellNumbers, accesses_of, levels_of};
 use entry_faults::may_fault;
 use entry_summary::Summary;
-use exchange_model::{Exchange, SignalKind};
+use exchange_model::Exchange;
 use flow_table::{FlowTable, KnownFacts, PlaceAt};
-use plex_num::{Level, Memory};
+use plex_num::Memory;
 use std::alloc::Global;
 
 /// The summary of an entry, by facts that are known. `table`, `places` and `numbers` are those of the exchange, which are made
@@ -34,22 +34,9 @@ pub fn summary_of<K: KnownFacts>(
     let levels = levels_of(alloc, exchange, places, known, entry)?;
     let fault = may_fault(alloc, exchange, table, places, known, entry)?;
     Ok(Summary {
-        level: level_of(exchange, entry),
+        level: exchange.level_of(entry),
         accesses,
         levels,
         fault,
     })
-}
-
-/// The level of the signal of an entry.
-fn level_of(exchange: &Exchange, entry: u32) -> Level
-    ensures { result ≡ level_of exchange.now entry }
-{
-    let Some(start) = exchange.entries.get(entry as usize) else {
-        return Level::B;
-    };
-    match exchange.signals.get(start.signal as usize) {
-        Some(SignalKind::Buffered { level, .. }) => *level,
-        _ => Level::B,
-    }
 }

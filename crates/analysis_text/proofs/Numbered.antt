@@ -1,11 +1,12 @@
 -- Names are found by the numbers that variables, fields and files have through the exchange.
-use Rattle.std.proofs.Common.{◌≡◌, ℕ, zero, suc, ◌+◌, ◌<◌, List, [], ◌∷◌, ◌++◌, length, map, take, Option, None, Some, slice_get, refl, sym, ap, ◌∙◌, subst, arith}
+use Rattle.std.proofs.Common.{◌≡◌, ℕ, zero, suc, ◌+◌, List, [], ◌∷◌, ◌++◌, length, map, take, Some, slice_get, refl, sym, ap, ◌∙◌, subst, arith}
 use Rattle.std.specs.Option.{option_map, option_map_or, unwrap_or}
 use Rattle.std.specs.List.{flat_map, sum_by}
 use Rattle.std.proofs.lemmas.List.{length-map, map-append}
 use Rattle.std.proofs.lemmas.List.Concat.{flat_map-append}
 use Rattle.std.proofs.lemmas.List.Sums.{sum_by-cons}
 use Rattle.std.proofs.lemmas.Option.{none-some, same_Some, slice_get-map}
+use Rattle.plex_num.proofs.Lists.{got_more, get_after}
 use Rattle.exchange_model.specs.declared.block.Block.{Block}
 use Rattle.exchange_model.specs.declared.block.File.{File}
 use Rattle.exchange_model.specs.declared.block.Variable.{Variable}
@@ -14,24 +15,16 @@ use Rattle.exchange_model.specs.Cells.{Placed, placed_files, placed_from, placed
 use Rattle.source_meaning.specs.Config.{files_of}
 use Rattle.entry_summary.specs.Numbers.{field_number, variable_number}
 use Rattle.analysis_text.specs.Names as names
-use Rattle.analysis_text.specs.Names.{block_at, fields_of, fields_of_file, name_at, names_of, own_name, variables_of}
+use Rattle.analysis_text.specs.Names.{fields_of, fields_of_file, name_at, names_of, own_name, variables_of}
+use Rattle.exchange_model.specs.Names.{name_of_block}
 
 -- a list of lists
-
-get_first : {A : Type 0} (xs ys : List A) (i : ℕ) (a : A) → slice_get xs i ≡ Some a → slice_get (xs ++ ys) i ≡ Some a
-get_first [] ys i a there = absurd (none-some a there)
-get_first (x ∷ xs) ys zero a there = there
-get_first (x ∷ xs) ys (suc i) a there = get_first xs ys i a there
-
-get_after : {A : Type 0} (xs ys : List A) (i : ℕ) → slice_get (xs ++ ys) (length xs + i) ≡ slice_get ys i
-get_after [] ys i = ap (slice_get ys) (let z : 0 + i ≡ i = omega arith in z)
-get_after (x ∷ xs) ys i = ap (slice_get (x ∷ xs ++ ys)) (let n : length (x ∷ xs) + i ≡ suc (length xs + i) = omega arith in n) ∙ get_after xs ys i
 
 flat_at : {X Y : Type 0} (f : X → List Y) (xs : List X) (n i : ℕ) (x : X) (y : Y) → slice_get xs n ≡ Some x → slice_get (f x) i ≡ Some y → slice_get (flat_map f xs) (sum_by (λ z. length (f z)) (take n xs) + i) ≡ Some y
 flat_at f [] n i x y there here = absurd (none-some x there)
 flat_at f (z ∷ xs) zero i x y there here =
     ap (slice_get (flat_map f (z ∷ xs))) (let n : sum_by (λ z. length (f z)) [] + i ≡ i = omega arith in n)
-    ∙ get_first (f z) (flat_map f xs) i y (subst (λ w. slice_get (f w) i ≡ Some y) (sym (same_Some z x there)) here)
+    ∙ got_more (f z) (flat_map f xs) i y (subst (λ w. slice_get (f w) i ≡ Some y) (sym (same_Some z x there)) here)
 flat_at f (z ∷ xs) (suc n) i x y there here =
     let rest = sum_by (λ z. length (f z)) (take n xs) in
     let head : sum_by (λ z. length (f z)) (z ∷ take n xs) ≡ length (f z) + rest = sum_by-cons (λ z. length (f z)) z (take n xs) in
@@ -62,9 +55,9 @@ rest_named : (name : ℕ → List ℕ) (n : ℕ) (b : Block) (bs : List Block) �
 unfolding Named
 rest_named name n b bs h = λ i c there. ap name (let z : n + 1 + i ≡ n + suc i = omega arith in z) ∙ h (suc i) c there
 
-blocks_named : (x : Exchange) → Named (block_at x) 0 x.blocks
+blocks_named : (x : Exchange) → Named (name_of_block x.blocks) 0 x.blocks
 unfolding Named
-blocks_named x = λ i b there. ap (block_at x) (let z : 0 + i ≡ i = omega arith in z) ∙ ap (λ o. option_map_or (λ (b : Block). b.name) o []) there
+blocks_named x = λ i b there. ap (name_of_block x.blocks) (let z : 0 + i ≡ i = omega arith in z) ∙ ap (λ o. option_map_or (λ (b : Block). b.name) o []) there
 
 -- files
 
@@ -85,11 +78,11 @@ files_from name n cell (b ∷ bs) h =
     ∙ ap (λ l. map (file_name name) (placed_in n (cell + length b.variables) b.files) ++ l) (files_from name (n + 1) (cell + block_cells b) bs (rest_named name n b bs h))
     ∙ sym (map-append (file_name name) (placed_in n (cell + length b.variables) b.files) (placed_from (n + 1) (cell + block_cells b) bs))
 
-pub file_named : (x : Exchange) (n : ℕ) (p : Placed) → slice_get (files_of x) n ≡ Some p → name_at (names_of x.blocks).files n ≡ own_name (block_at x p.block) p.file.name
+pub file_named : (x : Exchange) (n : ℕ) (p : Placed) → slice_get (files_of x) n ≡ Some p → name_at (names_of x.blocks).files n ≡ own_name (name_of_block x.blocks p.block) p.file.name
 unfolding files_of placed_files
 file_named x n p there =
-    ap (λ l. name_at l n) (files_from (block_at x) 0 0 x.blocks (blocks_named x))
-    ∙ ap (λ o. unwrap_or o []) (slice_get-map (file_name (block_at x)) (placed_from 0 0 x.blocks) n ∙ ap (option_map (file_name (block_at x))) there)
+    ap (λ l. name_at l n) (files_from (name_of_block x.blocks) 0 0 x.blocks (blocks_named x))
+    ∙ ap (λ o. unwrap_or o []) (slice_get-map (file_name (name_of_block x.blocks)) (placed_from 0 0 x.blocks) n ∙ ap (option_map (file_name (name_of_block x.blocks))) there)
 
 -- fields
 
@@ -104,13 +97,13 @@ fields_from name n cell (b ∷ bs) h =
     ∙ ap (λ l. flat_map (field_names name) (placed_in n (cell + length b.variables) b.files) ++ l) (fields_from name (n + 1) (cell + block_cells b) bs (rest_named name n b bs h))
     ∙ sym (flat_map-append (field_names name) (placed_in n (cell + length b.variables) b.files) (placed_from (n + 1) (cell + block_cells b) bs))
 
-pub field_named : (x : Exchange) (n i : ℕ) (p : Placed) (d : Variable) → slice_get (files_of x) n ≡ Some p → slice_get p.file.fields i ≡ Some d → name_at (names_of x.blocks).fields (field_number x n i) ≡ own_name (block_at x p.block) d.name
+pub field_named : (x : Exchange) (n i : ℕ) (p : Placed) (d : Variable) → slice_get (files_of x) n ≡ Some p → slice_get p.file.fields i ≡ Some d → name_at (names_of x.blocks).fields (field_number x n i) ≡ own_name (name_of_block x.blocks p.block) d.name
 unfolding files_of placed_files
 field_named x n i p d there here =
-    let of = field_names (block_at x) in
+    let of = field_names (name_of_block x.blocks) in
     let placed = placed_from 0 0 x.blocks in
-    let named : slice_get (of p) i ≡ Some (own_name (block_at x p.block) d.name) = slice_get-map (λ (v : Variable). own_name (block_at x p.block) v.name) p.file.fields i ∙ ap (option_map (λ (v : Variable). own_name (block_at x p.block) v.name)) here in
-    let long : sum_by (λ (p : Placed). length (of p)) (take n placed) ≡ sum_by (λ (p : Placed). length p.file.fields) (take n placed) = (λ j. sum_by (λ (p : Placed). length-map p.file.fields (λ (v : Variable). own_name (block_at x p.block) v.name) j) (take n placed)) in
-    ap (λ l. name_at l (field_number x n i)) (fields_from (block_at x) 0 0 x.blocks (blocks_named x))
+    let named : slice_get (of p) i ≡ Some (own_name (name_of_block x.blocks p.block) d.name) = slice_get-map (λ (v : Variable). own_name (name_of_block x.blocks p.block) v.name) p.file.fields i ∙ ap (option_map (λ (v : Variable). own_name (name_of_block x.blocks p.block) v.name)) here in
+    let long : sum_by (λ (p : Placed). length (of p)) (take n placed) ≡ sum_by (λ (p : Placed). length p.file.fields) (take n placed) = (λ j. sum_by (λ (p : Placed). length-map p.file.fields (λ (v : Variable). own_name (name_of_block x.blocks p.block) v.name) j) (take n placed)) in
+    ap (λ l. name_at l (field_number x n i)) (fields_from (name_of_block x.blocks) 0 0 x.blocks (blocks_named x))
     ∙ ap (λ m. name_at (flat_map of placed) (m + i)) (sym long)
-    ∙ ap (λ o. unwrap_or o []) (flat_at of placed n i p (own_name (block_at x p.block) d.name) there named)
+    ∙ ap (λ o. unwrap_or o []) (flat_at of placed n i p (own_name (name_of_block x.blocks p.block) d.name) there named)

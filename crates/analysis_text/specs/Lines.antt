@@ -12,7 +12,8 @@ use Rattle.pair_tests.specs.declared.pair.Conflict.TheVariants as conflict
 use Rattle.pair_tests.specs.declared.pair.Test.{Test}
 use Rattle.pair_tests.specs.declared.pair.Test.TheVariants as test
 use Rattle.analysis_text.specs.declared.names.Names.{Names}
-use Rattle.analysis_text.specs.Names.{entry_at, level_word, name_at, value_words}
+use Rattle.analysis_text.specs.Names.{level_word, name_at, value_words}
+use Rattle.exchange_model.specs.Names.{name_of_entry}
 
 -- a line as it is written, with its end
 abbrev pub written : List ℕ → List ℕ
@@ -44,7 +45,7 @@ fault_text true = written (codes "FAULT")
 
 -- `ENTRY i SIG BLOCK LEVEL l`
 abbrev pub entry_line : Exchange → ℕ → Level → List ℕ
-entry_line x i level = codes "ENTRY " ++ decimal i ++ codes " " ++ entry_at x i ++ codes " LEVEL " ++ level_word level
+entry_line x i level = codes "ENTRY " ++ decimal i ++ codes " " ++ name_of_entry x i ++ codes " LEVEL " ++ level_word level
 
 -- what the jobs of an entry may do
 abbrev pub summary_text : Exchange → Names → ℕ → Summary → List ℕ

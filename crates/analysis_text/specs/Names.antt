@@ -1,16 +1,13 @@
 -- How an analysis names what has a number. Variables, fields and files are numbered through the exchange, and a number that it
 -- does not have is named by no bytes.
 use Rattle.std.specs.Prelude.{ℕ, List, [], ◌++◌, codes, flat_map, map, slice_get}
-use Rattle.std.specs.Option.{option_map_or, unwrap_or}
+use Rattle.std.specs.Option.{unwrap_or}
 use Rattle.std.specs.Fmt.{decimal}
 use Rattle.plex_num.specs.declared.level.Level.{Level}
 use Rattle.plex_num.specs.declared.level.Level.TheVariants.{A, B, C, D}
 use Rattle.exchange_model.specs.declared.block.Block.{Block}
 use Rattle.exchange_model.specs.declared.block.File.{File}
 use Rattle.exchange_model.specs.declared.block.Variable.{Variable}
-use Rattle.exchange_model.specs.declared.entry.Entry.{Entry}
-use Rattle.exchange_model.specs.declared.exchange.Exchange.{Exchange}
-use Rattle.exchange_model.specs.Kept.{signal_name}
 use Rattle.flow_points.specs.declared.fact.Value.{Value}
 use Rattle.flow_points.specs.declared.fact.Value.TheVariants.{Arg, Const, Any}
 use Rattle.analysis_text.specs.declared.names.Names.{Names}
@@ -38,19 +35,6 @@ names_of blocks = record { variables = flat_map variables_of blocks; fields = fl
 
 abbrev pub name_at : List (List ℕ) → ℕ → List ℕ
 name_at names n = unwrap_or (slice_get names n) []
-
--- `SIG BLOCK` of an entry
-abbrev pub signal_at : Exchange → ℕ → List ℕ
-signal_at x n = option_map_or signal_name (slice_get x.signals n) []
-
-abbrev pub block_at : Exchange → ℕ → List ℕ
-block_at x n = option_map_or (λ (b : Block). b.name) (slice_get x.blocks n) []
-
-abbrev pub entry_words : Exchange → Entry → List ℕ
-entry_words x e = signal_at x e.signal ++ codes " " ++ block_at x e.block
-
-abbrev pub entry_at : Exchange → ℕ → List ℕ
-entry_at x n = option_map_or (entry_words x) (slice_get x.entries n) []
 
 abbrev pub level_word : Level → List ℕ
 level_word A = codes "A"

@@ -2,10 +2,10 @@
 ghost use Rattle.std.specs.Prelude.{◌≡◌, ◌++◌, OnOk, map};
 ghost use Rattle.analysis_text.specs.Lines.{access_line, entries_text, entry_line, fault_text, send_line, summary_text, text_of, use_word, written};
 
-use crate::names::{Names, add_entry, add_number, add_value, level_word, name_at};
+use crate::names::{Names, add_value, level_word, name_at};
 use entry_summary::{Access, Summary};
 use exchange_model::Exchange;
-use plex_num::{Level, Memory, Seq};
+use plex_num::{Level, Memory, Seq, add_number};
 
 /// What the jobs of each entry may do.
 pub fn add_entries(
@@ -52,7 +52,7 @@ fn add_head(
 {
     add_number(text, b"ENTRY ", number as u64)?;
     text.append(b" ")?;
-    add_entry(text, exchange, number)?;
+    exchange.add_entry(text, number)?;
     text.append(b" LEVEL ")?;
     text.append(level_word(level))?;
     text.append(b"\n")

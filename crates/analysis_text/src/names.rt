@@ -1,19 +1,27 @@
 // What has a number is told by its name.
 ghost use Rattle.std.specs.Prelude.{◌≡◌, ◌++◌, OnOk, IfOk, flat_map};
-ghost use Rattle.std.specs.Fmt.{decimal};
-ghost use Rattle.analysis_text.specs.Names.{block_at, entry_at, fields_of as fields_of_block, fields_of_file, files_of as files_of_block, level_word, name_at, names_of, own_name, signal_at, value_words, variables_of as variables_of_block};
+ghost use Rattle.analysis_text.specs.Names.{fields_of as fields_of_block, fields_of_file, files_of as files_of_block, level_word, name_at, names_of, own_name, value_words, variables_of as variables_of_block};
 
 use exchange_model::{Block, Exchange, File};
 use flow_points::Value;
-use plex_num::{Level, Memory, Seq, print_number};
+use plex_num::{Level, Memory, Seq, add_number};
 use std::alloc::Global;
 
 /// `BLOCK.NAME` of all variables, fields and files of an exchange, each by its number.
-#[derive(Drop)]
 pub struct Names {
     pub variables: Seq<Seq<u8>>,
     pub fields: Seq<Seq<u8>>,
     pub files: Seq<Seq<u8>>,
+}
+
+impl Drop for Names {
+    fn drop(self) {
+        let Names {
+            variables: _,
+            fields: _,
+            files: _,
+        } = self;
+    }
 }
 
 /// The names of an exchange.
@@ -125,46 +133,6 @@ pub fn name_at(names: &Seq<Seq<u8>>, number: u32) -> &[u8]
         Some(name) => name.as_slice(),
         None => &[],
     }
-}
-
-/// The name of a signal; no bytes where there is none of this number.
-fn signal_at(exchange: &Exchange, number: u32) -> &[u8]
-    ensures { result.now ≡ signal_at exchange.now number }
-{
-    match exchange.signals.get(number as usize) {
-        Some(signal) => signal.name().as_slice(),
-        None => &[],
-    }
-}
-
-/// The name of a block; no bytes where there is none of this number.
-fn block_at(exchange: &Exchange, number: u32) -> &[u8]
-    ensures { result.now ≡ block_at exchange.now number }
-{
-    match exchange.blocks.get(number as usize) {
-        Some(block) => block.name.as_slice(),
-        None => &[],
-    }
-}
-
-/// `SIG BLOCK` of an entry; no bytes where there is none of this number.
-pub fn add_entry(text: &mut Seq<u8>, exchange: &Exchange, number: usize) -> Result<(), Memory>
-    ensures { OnOk result (text.new ≡ text.old ++ entry_at exchange.now number) }
-{
-    let Some(entry) = exchange.entries.get(number) else {
-        return Ok(());
-    };
-    text.append(signal_at(exchange, entry.signal))?;
-    text.append(b" ")?;
-    text.append(block_at(exchange, entry.block))
-}
-
-/// Appends these bytes and this number.
-pub fn add_number(text: &mut Seq<u8>, before: &[u8], value: u64) -> Result<(), Memory>
-    ensures { OnOk result (text.new ≡ text.old ++ before.now ++ decimal value) }
-{
-    text.append(before)?;
-    print_number(value, text)
 }
 
 /// The letter of a level.

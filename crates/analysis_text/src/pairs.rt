@@ -1,15 +1,15 @@
 // The lines of the pairs.
-ghost use Rattle.std.specs.Prelude.{◌≡◌, ◌++◌, OnOk, Some, map, slice_get, length};
+ghost use Rattle.std.specs.Prelude.{◌≡◌, ◌++◌, OnOk, map, length};
 ghost use Rattle.std.specs.List.Sorted.{IsStrictlySortedBy};
 ghost use Rattle.entry_summary.specs.Orders.{access_order};
 ghost use Rattle.analysis_text.specs.Analysis.{AreInOrder};
 ghost use Rattle.analysis_text.specs.Lines.{conflict_words, if_line, never_line, pair_words, test_words, text_of, written};
 ghost use Rattle.analysis_text.specs.Pairs.{ArePairs, Grows, InTurn, IsPairText, IsTextWith};
 
-use crate::names::{Names, add_number, add_value, level_word, name_at};
+use crate::names::{Names, add_value, level_word, name_at};
 use entry_summary::Summary;
 use pair_tests::{Conflict, Test, Verdict, tests_of, verdict_of};
-use plex_num::{Memory, Seq};
+use plex_num::{Memory, Seq, add_number};
 use std::alloc::Global;
 
 /// What is told of each pair.

@@ -4,14 +4,14 @@ use Rattle.std.specs.Prelude.{nat_le}
 use Rattle.std.specs.List.{IsDistinct, find, position_or_len}
 use Rattle.std.specs.Option.{option_and_then, option_map_or, option_or}
 use Rattle.std.specs.Str.{bytes_eq}
-use Rattle.std.proofs.lemmas.Bool.{eqb-true, lt-ltb}
+use Rattle.std.proofs.lemmas.Bool.{eqb-true, lt-ltb, not-false}
 use Rattle.std.proofs.lemmas.Bool.Decides.{nat_tests}
 use Rattle.std.proofs.lemmas.List.Quantifiers.{position-Some}
 use Rattle.std.proofs.lemmas.Option.{get_or_from_slice_get, none-some, same_Some}
 use Rattle.std.proofs.lemmas.Slice.Eq.{bytes_eq-Decides}
 use Rattle.plex_num.specs.declared.level.Level.{Level}
 use Rattle.plex_num.specs.declared.level.Level.TheVariants.{A, B, C, D}
-use Rattle.plex_num.proofs.Lists.{all_at, some_at}
+use Rattle.plex_num.proofs.Lists.{all_at, some_at, got_map}
 use Rattle.exchange_model.specs.declared.block.Block.{Block}
 use Rattle.exchange_model.specs.declared.block.File.{File}
 use Rattle.exchange_model.specs.declared.entry.Entry.{Entry}
@@ -22,23 +22,20 @@ use Rattle.exchange_model.specs.Kept.{IsExchange, signal_count}
 use Rattle.exchange_model.proofs.Facts.{file_number}
 use Rattle.exchange_model.proofs.Places.{Stands, stands}
 use Rattle.job_types.specs.declared.chain.Held.{Held}
-use Rattle.source_meaning.specs.Arrivals.{level_of, signal_level}
+use Rattle.exchange_model.specs.Names.{level_of, signal_level}
 use Rattle.source_meaning.specs.Config.{files_of}
 use Rattle.source_meaning.specs.Valid.{IsRecord, entry_count}
 use Rattle.source_meaning.proofs.Booleans.{and_true, true_not_false}
 use Rattle.block_change.specs.Carried.{carried_held, new_entries, new_entry, new_file, number_for}
 use Rattle.block_change.specs.Misfits.{agree, entry_signal, first_lacking, first_misfit, has_entry, lacking, lacks, misfit, rank, takes}
-use Rattle.block_change.specs.Names.{block_names, file_names, place_of}
+use Rattle.block_change.specs.Names.{file_names, place_of}
+use Rattle.exchange_model.specs.Names.{names_of_blocks}
 use Rattle.block_change.specs.Same.{file_at, file_named, same_block, same_entry, same_file, same_signal}
 use Rattle.block_change.proofs.Distinct.{named_apart}
-use Rattle.block_change.proofs.Lists.{and_then, mapped_at, named_item}
+use Rattle.block_change.proofs.Lists.{and_then, named_item}
 use Rattle.block_change.proofs.Placed.{placed_file}
 
 -- ## Nothing is missing
-
-not_false : (b : Bool) → not b ≡ false → b ≡ true
-not_false true is = refl
-not_false false is = cc
 
 none_there : {X : Type 0} (p : X → Bool) (xs : List X) → position_or_len p xs < length xs → position p xs ≡ None → ⊥
 none_there p xs lt none =
@@ -88,7 +85,7 @@ none_first (Some e) f none = absurd (cc)
 pub entries_there : (x y : Exchange) → misfit x y ≡ None → (e : ℕ) (r : Entry) → slice_get x.entries e ≡ Some r → has_entry x y r ≡ true
 entries_there x y fits e r at =
     let none = (none_first (position (λ s. not (has_entry x y s)) x.entries) (first_lacking y x.blocks) fits).0 in
-    not_false (has_entry x y r) (position_none (λ s. not (has_entry x y s)) x.entries none e r at)
+    not-false (has_entry x y r) (position_none (λ s. not (has_entry x y s)) x.entries none e r at)
 
 pub files_there : (x y : Exchange) → misfit x y ≡ None → (b j : ℕ) (k : Block) (f : File) → slice_get x.blocks b ≡ Some k → slice_get k.files j ≡ Some f → lacks y k.name f ≡ false
 files_there x y fits b j k f block own =
@@ -138,7 +135,7 @@ entry_by x y e r at None same there = absurd (cc)
 entry_by x y e r at (Some n) same there =
     let parts = and_true (nat_eq (rank (signal_level (slice_get x.signals r.signal))) (rank (signal_level (entry_signal y n)))) (nat_eq (option_map_or signal_count (slice_get x.signals r.signal) 0) (option_map_or signal_count (entry_signal y n) 0)) there in
     let number : new_entry x y e ≡ n =
-    get_or_from_slice_get (new_entries x y) e (number_for x y r) 0 (mapped_at (number_for x y) x.entries e r at) ∙ ap (λ o. unwrap_or o 0) same in
+    get_or_from_slice_get (new_entries x y) e (number_for x y r) 0 (got_map (number_for x y) x.entries e r at) ∙ ap (λ o. unwrap_or o 0) same in
     let old_level : level_of x e ≡ signal_level (slice_get x.signals r.signal) = ap (λ o. option_map_or (λ (d : Entry). signal_level (slice_get x.signals d.signal)) o B) at in
     let old_count : entry_count x e ≡ option_map_or signal_count (slice_get x.signals r.signal) 0 = ap (λ o. option_map_or (λ (d : Entry). option_map_or signal_count (slice_get x.signals d.signal) 0) o 0) at in
     let b = and_then (λ b. option_and_then (λ s. position (is_entry b s) y.entries) (same_signal x.signals y.signals r.signal)) (same_block x.blocks y.blocks r.block) n same in
@@ -184,7 +181,7 @@ taken g f is =
     (parts.0, grind (arith, nat_tests, small))
 
 lacks_not : (y : Exchange) (block : List ℕ) (f : File) → f.forlopp ≡ true → lacks y block f ≡ false → takes (file_named y.blocks block f.name) f ≡ true
-lacks_not y block f kind none = not_false (takes (file_named y.blocks block f.name) f) (sym (ap (λ b. b && not (takes (file_named y.blocks block f.name) f)) kind) ∙ none)
+lacks_not y block f kind none = not-false (takes (file_named y.blocks block f.name) f) (sym (ap (λ b. b && not (takes (file_named y.blocks block f.name) f)) kind) ∙ none)
 
 pub new_file_is : (x y : Exchange) → IsExchange y → misfit x y ≡ None → (f : ℕ) (p : Placed) → slice_get (placed_files x.blocks) f ≡ Some p → p.file.forlopp ≡ true → IsNewFile x y f p
 new_file_is x y kept fits f p at kind = by (file_named y.blocks s.owner.name p.file.name) refl (lacks_not y s.owner.name p.file kind (files_there x y fits p.block s.place s.owner p.file s.there s.own))
@@ -194,12 +191,12 @@ new_file_is x y kept fits f p at kind = by (file_named y.blocks s.owner.name p.f
 
     same : same_file x.blocks y.blocks f ≡ file_named y.blocks s.owner.name p.file.name
     same = ap (option_and_then (λ (q : Placed). option_and_then (file_at y.blocks q.file.name) (same_block x.blocks y.blocks q.block))) at
-        ∙ ap (λ o. option_and_then (file_at y.blocks p.file.name) (option_and_then (λ (k : Block). place_of k.name (block_names y.blocks)) o)) s.there
+        ∙ ap (λ o. option_and_then (file_at y.blocks p.file.name) (option_and_then (λ (k : Block). place_of k.name (names_of_blocks y.blocks)) o)) s.there
 
     by : (o : Option File) → file_named y.blocks s.owner.name p.file.name ≡ o → takes o p.file ≡ true → IsNewFile x y f p
     by None is there = absurd (cc)
     by (Some g) is there =
-        let b = and_then (file_at y.blocks p.file.name) (place_of s.owner.name (block_names y.blocks)) g is in
+        let b = and_then (file_at y.blocks p.file.name) (place_of s.owner.name (names_of_blocks y.blocks)) g is in
         let l = named_item (λ (k : Block). k.name) y.blocks s.owner.name b.0 b.1 in
         let k = and_then (λ (k : Block). option_and_then (slice_get k.files) (place_of p.file.name (file_names k.files))) (slice_get y.blocks b.0) g b.2 in
         let j = and_then (slice_get k.0.files) (place_of p.file.name (file_names k.0.files)) g k.2 in
@@ -253,7 +250,7 @@ once_there (m ∷ ns) (suc i) (suc j) n apart at at2 = ap suc (once_there ns i j
 
 pub named_once : {X : Type 0} (name_of : X → List ℕ) (xs : List X) (i j : ℕ) (a b : X) → IsDistinct bytes_eq (map name_of xs) → slice_get xs i ≡ Some a → slice_get xs j ≡ Some b → name_of a ≡ name_of b → i ≡ j
 named_once name_of xs i j a b apart at at2 same =
-    once_there (map name_of xs) i j (name_of a) apart (mapped_at name_of xs i a at) (mapped_at name_of xs j b at2 ∙ ap Some (sym same))
+    once_there (map name_of xs) i j (name_of a) apart (got_map name_of xs i a at) (got_map name_of xs j b at2 ∙ ap Some (sym same))
 
 -- two FORLOPP FILES that go to one file are one
 pub one_file : (x y : Exchange) → IsExchange x → IsExchange y → misfit x y ≡ None → (f g : ℕ) (p q : Placed) → slice_get (placed_files x.blocks) f ≡ Some p → slice_get (placed_files x.blocks) g ≡ Some q → p.file.forlopp ≡ true → q.file.forlopp ≡ true → new_file x y f ≡ new_file x y g → f ≡ g

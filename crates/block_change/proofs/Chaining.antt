@@ -1,7 +1,7 @@
 -- The chains are carried over, number by number.
 use Rattle.std.proofs.Common.{◌≡◌, ◌≢◌, ℕ, zero, suc, ◌+◌, ◌<◌, ◌≤◌, Bool, true, false, ◌||◌, nat_eq, cond, List, [], ◌∷◌, ◌++◌, length, take, map, get_or, Option, Some, None, unwrap_or, refl, sym, ap, ◌∙◌, subst, arith}
 use lib.Dec.{T}
-use Rattle.std.specs.Prelude.{◌&&◌, is_some}
+use Rattle.std.specs.Prelude.{is_some}
 use Rattle.std.specs.Cmp.{nat_cmp_total, unsigned_tied}
 use Rattle.std.specs.Ordering.{nat_cmp, eq_by_cmp, is_eq, is_lt}
 use Rattle.std.specs.declared.cmp.Ordering.{Ordering}
@@ -14,6 +14,7 @@ use Rattle.std.specs.Option.{option_map}
 use Rattle.std.proofs.lemmas.Bool.{eq-eqb, eqb-true, ne_eqb}
 use Rattle.std.proofs.lemmas.List.{take_all, take_more}
 use Rattle.std.proofs.lemmas.List.Folds.{list_any-append}
+use Rattle.plex_num.proofs.Options.{split}
 use Rattle.exchange_model.specs.declared.exchange.Exchange.{Exchange}
 use Rattle.job_types.specs.declared.chain.Held.{Held}
 use Rattle.job_types.specs.Forlopps.{ChainMap, chain_at, is_dead, with_chain}
@@ -23,10 +24,6 @@ use Rattle.source_meaning.proofs.Booleans.{or_false, true_not_false}
 use Rattle.block_change.specs.Carried.{carried_chain, carried_chains}
 
 -- ## Keys
-
-split : (a b : Bool) → T (a && b) → T a × T b
-split true b p = (tt, p)
-split false b p = absurd p
 
 less : (r : Ordering) → T (is_lt r) → is_eq r ≡ false
 less Less p = refl

@@ -8,7 +8,8 @@ use Rattle.exchange_model.specs.declared.block.Label.{Label}
 use Rattle.exchange_model.specs.declared.exchange.Exchange.{Exchange}
 use Rattle.exchange_model.specs.Inside.{joined}
 use Rattle.exchange_model.specs.Kept.{BlockKept, IsExchange, variable_names}
-use Rattle.block_change.specs.Names.{AreNamedApart, block_names, file_names, signal_names}
+use Rattle.block_change.specs.Names.{AreNamedApart, file_names}
+use Rattle.exchange_model.specs.Names.{names_of_blocks, names_of_signals}
 use Rattle.plex_num.proofs.Lists.{all_from, all_left, all_right}
 
 pub distinct_left : {K : Type 0} (e : K → K → Bool) (xs ys : List K) → IsDistinct e (xs ++ ys) → IsDistinct e xs
@@ -60,8 +61,8 @@ named_apart x b k kept =
 pub all_apart : (x : Exchange) → IsExchange x → AllByRecursion AreNamedApart x.blocks
 all_apart x kept = all_from AreNamedApart x.blocks (λ b k there. named_apart x b k (kept.blocks.each b k there))
 
-pub signals_apart : (x : Exchange) → IsExchange x → IsDistinct bytes_eq (signal_names x.signals)
+pub signals_apart : (x : Exchange) → IsExchange x → IsDistinct bytes_eq (names_of_signals x.signals)
 signals_apart x kept = kept.signals.names
 
-pub blocks_apart : (x : Exchange) → IsExchange x → IsDistinct bytes_eq (block_names x.blocks)
+pub blocks_apart : (x : Exchange) → IsExchange x → IsDistinct bytes_eq (names_of_blocks x.blocks)
 blocks_apart x kept = kept.blocks.names

@@ -2,10 +2,10 @@
 use Rattle.std.proofs.Common.{◌≡◌, inl, inr, ℕ, zero, suc, ◌+◌, ◌<◌, ◌≤◌, Bool, true, false, ◌&&◌, nat_eq, List, [], ◌∷◌, ◌++◌, length, map, position, Option, Some, None, slice_get, refl, sym, ap, ◌∙◌, subst, arith}
 use Rattle.std.specs.Prelude.{slice_index_or}
 use Rattle.std.specs.List.{AllByRecursion, IsDistinct, cons_option}
-use Rattle.std.proofs.lemmas.Bool.{cases_order, eq-eqb, eqb-true, ne_eqb}
+use Rattle.std.proofs.lemmas.Bool.{cases_order, eq-eqb, eqb-true, ne_eqb, and_left, and_right}
 use Rattle.std.proofs.lemmas.List.Quantifiers.{position-Some}
 use Rattle.std.proofs.lemmas.Option.{none-some, same_Some, slice_get-get_or}
-use Rattle.plex_num.proofs.Lists.{all_append, all_at, all_from as every, some_at}
+use Rattle.plex_num.proofs.Lists.{all_append, all_at, all_from as every, some_at, all_weaker}
 use Rattle.exchange_model.specs.declared.block.Block.{Block}
 use Rattle.exchange_model.specs.declared.block.Enter.{Enter as Row}
 use Rattle.exchange_model.specs.declared.entry.Entry.{Entry}
@@ -18,7 +18,6 @@ use Rattle.exchange_model.specs.Index.{is_entry}
 use Rattle.exchange_model.specs.Kept.{IsExchange, entered, enters_from, entries_from, entries_in, entry_at, entry_of, row_at}
 use Rattle.source_meaning.proofs.Booleans.{and_true, true_not_false}
 use Rattle.block_change.proofs.Alike.{position_none}
-use Rattle.block_change.proofs.Valid.{all_same}
 
 -- two entries are of one block and one signal
 abbrev same_place : Entry → Entry → Bool
@@ -77,13 +76,6 @@ entries_hold signals b place (s ∷ rest) P all = by (entered (out-StmtKind s.ki
 
 -- ## Within a block
 
-and_left : (a b : Bool) → a ≡ false → (a && b) ≡ false
-and_left a b is = ap (λ c. c && b) is
-
-and_right : (a b : Bool) → b ≡ false → (a && b) ≡ false
-and_right true b is = is
-and_right false b is = refl
-
 differ : (e f : Entry) (n : ℕ) → e.signal ≡ n → nat_eq n f.signal ≡ false → same_place e f ≡ false
 differ e f n is other = and_right (nat_eq f.block e.block) (nat_eq f.signal e.signal) (ne_eqb f.signal e.signal (λ same. true_not_false (nat_eq n f.signal) (eq-eqb n f.signal (sym (same ∙ is))) other))
 
@@ -100,7 +92,7 @@ apart_in signals b place (s ∷ rest) apart = by (entered (out-StmtKind s.kind))
         at : (o : Option Entry) → Made signals b n s.point o → IsDistinct same_place (entries_in signals b rest) → IsDistinct same_place (cons_option o (entries_in signals b rest))
         at o (nothing none) later = subst (λ p. IsDistinct same_place (cons_option p (entries_in signals b rest))) (sym none) later
         at o (one e some m) later = subst (λ p. IsDistinct same_place (cons_option p (entries_in signals b rest))) (sym some) (
-          all_same (IsOf signals b (λ q. nat_eq n q ≡ false)) (λ (f : Entry). same_place e f ≡ false) (entries_in signals b rest)
+          all_weaker (IsOf signals b (λ q. nat_eq n q ≡ false)) (λ (f : Entry). same_place e f ≡ false) (entries_in signals b rest)
               (λ f o. differ e f n (ap (λ (d : Entry). d.signal) m.is) o.holds)
               (entries_hold signals b (place + 1) rest (λ q. nat_eq n q ≡ false) apart.0),
           later,
@@ -132,10 +124,10 @@ unfolding entries_from
 all_from signals start [] = tt
 all_from signals start (k ∷ rest) =
     all_append (IsFrom signals start (k ∷ rest)) (entries_in signals start k.body) (entries_from signals (start + 1) rest)
-    (all_same (IsOf signals start AnySignal) (IsFrom signals start (k ∷ rest)) (entries_in signals start k.body)
+    (all_weaker (IsOf signals start AnySignal) (IsFrom signals start (k ∷ rest)) (entries_in signals start k.body)
     (λ e o. let block = o.block in record { late = omega (arith, block); early = omega (arith, block); kind = o.kind; there = o.there })
     (entries_hold signals start 0 k.body AnySignal (any_signals (signals_of (enters_from 0 k.body)))))
-    (all_same (IsFrom signals (start + 1) rest) (IsFrom signals start (k ∷ rest)) (entries_from signals (start + 1) rest)
+    (all_weaker (IsFrom signals (start + 1) rest) (IsFrom signals start (k ∷ rest)) (entries_from signals (start + 1) rest)
     (λ e f. let late = f.late in let early = f.early in record { late = omega (arith, late); early = omega (arith, early); kind = f.kind; there = f.there })
     (all_from signals (start + 1) rest))
 
@@ -151,8 +143,8 @@ apart_from signals start (k ∷ rest) keep =
     distinct_both (entries_in signals start k.body) (entries_from signals (start + 1) rest)
     (apart_in signals start 0 k.body (subst (λ rows. IsDistinct nat_eq (signals_of rows)) keep.0.is keep.0.once))
     (apart_from signals (start + 1) rest keep.1)
-    (all_same (IsOf signals start AnySignal) (λ (e : Entry). AllByRecursion (λ (f : Entry). same_place e f ≡ false) (entries_from signals (start + 1) rest)) (entries_in signals start k.body)
-    (λ e o. all_same (IsFrom signals (start + 1) rest) (λ (f : Entry). same_place e f ≡ false) (entries_from signals (start + 1) rest)
+    (all_weaker (IsOf signals start AnySignal) (λ (e : Entry). AllByRecursion (λ (f : Entry). same_place e f ≡ false) (entries_from signals (start + 1) rest)) (entries_in signals start k.body)
+    (λ e o. all_weaker (IsFrom signals (start + 1) rest) (λ (f : Entry). same_place e f ≡ false) (entries_from signals (start + 1) rest)
     (λ f g. let late = g.late in let block = o.block in
     and_left (nat_eq f.block e.block) (nat_eq f.signal e.signal) (ne_eqb f.block e.block (λ same. absurd (omega (arith, late, block, same)))))
     (all_from signals (start + 1) rest))

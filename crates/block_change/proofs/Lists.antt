@@ -1,32 +1,24 @@
 -- Lists: what holds of all items, and what is made of each; options that follow one another.
-use Rattle.std.proofs.Common.{◌≡◌, ℕ, zero, suc, ◌<◌, List, [], ◌∷◌, length, map, get_or, Option, Some, None, slice_get, true, refl, sym, ap, ◌∙◌, subst, arith}
+use Rattle.std.proofs.Common.{◌≡◌, ℕ, zero, suc, ◌<◌, List, [], ◌∷◌, length, map, get_or, Option, Some, None, slice_get, true, refl, sym, ap, ◌∙◌, arith}
 use Rattle.std.proofs.lemmas.List.{length-map}
 use Rattle.std.proofs.lemmas.List.Quantifiers.{position-Some}
 use Rattle.std.proofs.lemmas.Option.{none-some, same_Some, slice_get-map}
 use Rattle.std.proofs.lemmas.Slice.Eq.{bytes_eq-Decides}
-use Rattle.std.specs.List.{AllByRecursion}
 use Rattle.std.specs.Option.{option_and_then, option_map}
 use Rattle.std.specs.Prelude.{slice_index}
 use Rattle.std.specs.Str.{bytes_eq}
+use Rattle.plex_num.proofs.Lists.{got_map}
 use Rattle.exchange_model.specs.declared.block.Block.{Block}
 use Rattle.exchange_model.specs.declared.block.File.{File}
 use Rattle.exchange_model.specs.Kept.{variable_names}
 use Rattle.block_change.specs.declared.directory.BlockNames.{BlockNames}
 use Rattle.block_change.specs.Names.{field_names, names_of, place_of}
 
-pub all_here : {X : Type 0} (P : X → Type 0) (xs : List X) (i : ℕ) (x : X) → AllByRecursion P xs → i < length xs → x ≡ get_or xs i x → P x
-all_here P [] i x all inside is = absurd (omega arith)
-all_here P (y ∷ ys) zero x all inside is = subst P (sym is) all.0
-all_here P (y ∷ ys) (suc i) x all inside is = all_here P ys i x all.1 (omega (arith, inside)) is
-
-pub mapped_at : {X Y : Type 0} (f : X → Y) (xs : List X) (i : ℕ) (x : X) → slice_get xs i ≡ Some x → slice_get (map f xs) i ≡ Some (f x)
-mapped_at f xs i x there = slice_get-map f xs i ∙ ap (option_map f) there
-
 pub names_there : (blocks : List Block) (names : List BlockNames) (b : ℕ) (k : Block) → names ≡ map names_of blocks → slice_get blocks b ≡ Some k → slice_get names b ≡ Some (names_of k)
-names_there blocks names b k is there = ap (λ ns. slice_get ns b) is ∙ mapped_at names_of blocks b k there
+names_there blocks names b k is there = ap (λ ns. slice_get ns b) is ∙ got_map names_of blocks b k there
 
 pub fields_there : (files : List File) (names : List (List (List ℕ))) (i : ℕ) (f : File) → names ≡ field_names files → slice_get files i ≡ Some f → slice_get names i ≡ Some (variable_names f.fields)
-fields_there files names i f is there = ap (λ ns. slice_get ns i) is ∙ mapped_at (λ (g : File). variable_names g.fields) files i f there
+fields_there files names i f is there = ap (λ ns. slice_get ns i) is ∙ got_map (λ (g : File). variable_names g.fields) files i f there
 
 -- lists that have the same at each place are one
 pub list_same : (xs ys : List ℕ) → length xs ≡ length ys → ((i : ℕ) → i < length xs → slice_index xs i ≡ slice_index ys i) → xs ≡ ys
@@ -72,7 +64,7 @@ named_item {X} name_of xs name i is = by (slice_get xs i) refl
 
     by : (o : Option X) → slice_get xs i ≡ o → (x : X) × (slice_get xs i ≡ Some x) × (name_of x ≡ name)
     by None at = absurd (none-some name (sym (slice_get-map name_of xs i ∙ ap (option_map name_of) at) ∙ there))
-    by (Some x) at = (x, at, same_Some (name_of x) name (sym (mapped_at name_of xs i x at) ∙ there))
+    by (Some x) at = (x, at, same_Some (name_of x) name (sym (got_map name_of xs i x at) ∙ there))
 
 pub place_within : {X : Type 0} (name_of : X → List ℕ) (xs : List X) (name : List ℕ) (i : ℕ) → place_of name (map name_of xs) ≡ Some i → i < length xs
 place_within name_of xs name i is = let within = (stands_at name (map name_of xs) i is).within in omega (arith, within, length-map xs name_of)

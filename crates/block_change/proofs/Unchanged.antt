@@ -11,7 +11,7 @@ use Rattle.std.proofs.lemmas.Bool.{eq-eqb, le-leb, lt-ltb}
 use Rattle.std.proofs.lemmas.List.Quantifiers.{position-Some}
 use Rattle.std.proofs.lemmas.Option.{get_or_from_slice_get, slice_get-get_or}
 use Rattle.std.proofs.lemmas.Slice.Eq.{bytes_eq-Decides}
-use Rattle.plex_num.proofs.Lists.{all_at as every_at, all_left, all_right, some_at}
+use Rattle.plex_num.proofs.Lists.{all_at as every_at, all_left, all_right, some_at, got_map, all_weaker}
 use Rattle.exchange_model.specs.declared.block.Block.{Block}
 use Rattle.exchange_model.specs.declared.block.File.{File}
 use Rattle.exchange_model.specs.declared.block.Variable.{Variable}
@@ -32,7 +32,7 @@ use Rattle.job_types.specs.Chain.{holds, is_record}
 use Rattle.job_types.specs.Forlopps.{all_records, chain_at}
 use Rattle.plex_num.specs.declared.level.Level.{Level}
 use Rattle.plex_num.specs.declared.level.Level.TheVariants.{A, B, C, D}
-use Rattle.source_meaning.specs.Arrivals.{signal_level}
+use Rattle.exchange_model.specs.Names.{signal_level}
 use Rattle.source_meaning.specs.Config.{files_of}
 use Rattle.source_meaning.specs.State.{Arrived, Coming, State}
 use Rattle.source_meaning.specs.Valid.{HoldsRecord, IsRecord, IsValid, LinesFit, WaitsAt}
@@ -41,15 +41,15 @@ use Rattle.source_meaning.proofs.Chains.{record_is, record_itself}
 use Rattle.source_meaning.proofs.Maps.{all_records_fit, held_among_all}
 use Rattle.block_change.specs.Carried.{AreCarriedWords, IsCarried, carried_arrived, carried_chain, carried_chains, carried_held, carried_line, carried_value, carried_waiting, kept_value, mark_value, new_entries, new_entry, new_file, number_for, old_value}
 use Rattle.block_change.specs.Misfits.{agree, entry_signal, first_lacking, first_misfit, has_entry, lacking, lacks, misfit, rank, takes}
-use Rattle.block_change.specs.Names.{block_names, file_names, place_of, signal_names}
+use Rattle.block_change.specs.Names.{file_names, place_of}
+use Rattle.exchange_model.specs.Names.{names_of_blocks, names_of_signals}
 use Rattle.block_change.specs.Renamed.{job_with}
 use Rattle.block_change.specs.Same.{cell_variable, field_cell_in, file_at, file_named, same_block, same_cell, same_entry, same_file, same_signal, variable_cell_at}
 use Rattle.block_change.proofs.Alike.{once_there, position_none}
 use Rattle.block_change.proofs.Chaining.{get-carried}
 use Rattle.block_change.proofs.Distinct.{named_apart}
 use Rattle.block_change.proofs.Entered.{entry_known, entry_once}
-use Rattle.block_change.proofs.Lists.{list_same, mapped_at, stands_at, then_is}
-use Rattle.block_change.proofs.Valid.{all_same}
+use Rattle.block_change.proofs.Lists.{list_same, stands_at, then_is}
 
 -- ## Lists and names
 
@@ -61,7 +61,7 @@ place_self ns i n apart at = by (place_of n ns) refl
     by (Some j) is = ap Some (once_there ns j i n apart (stands_at n ns j is).there at)
 
 named_self : {X : Type 0} (name_of : X → List ℕ) (xs : List X) (i : ℕ) (a : X) → IsDistinct bytes_eq (map name_of xs) → slice_get xs i ≡ Some a → place_of (name_of a) (map name_of xs) ≡ Some i
-named_self name_of xs i a apart at = place_self (map name_of xs) i (name_of a) apart (mapped_at name_of xs i a at)
+named_self name_of xs i a apart at = place_self (map name_of xs) i (name_of a) apart (got_map name_of xs i a at)
 
 map_same : {X : Type 0} (P : X → Type 0) (f : X → X) (xs : List X) → ((a : X) → P a → f a ≡ a) → AllByRecursion P xs → map f xs ≡ xs
 map_same P f [] each all = refl
@@ -69,10 +69,10 @@ map_same P f (a ∷ xs) each all = λ i. each a all.0 i ∷ map_same P f xs each
 
 module _ (x : Exchange) (kept : IsExchange x) where
   block_self : (b : ℕ) (k : Block) → slice_get x.blocks b ≡ Some k → same_block x.blocks x.blocks b ≡ Some b
-  block_self b k at = then_is (λ (l : Block). place_of l.name (block_names x.blocks)) (slice_get x.blocks b) k (Some b) at (named_self (λ (l : Block). l.name) x.blocks b k kept.blocks.names at)
+  block_self b k at = then_is (λ (l : Block). place_of l.name (names_of_blocks x.blocks)) (slice_get x.blocks b) k (Some b) at (named_self (λ (l : Block). l.name) x.blocks b k kept.blocks.names at)
 
   signal_self : (n : ℕ) (k : SignalKind) → slice_get x.signals n ≡ Some k → same_signal x.signals x.signals n ≡ Some n
-  signal_self n k at = then_is (λ (l : SignalKind). place_of (signal_name l) (signal_names x.signals)) (slice_get x.signals n) k (Some n) at (named_self signal_name x.signals n k kept.signals.names at)
+  signal_self n k at = then_is (λ (l : SignalKind). place_of (signal_name l) (names_of_signals x.signals)) (slice_get x.signals n) k (Some n) at (named_self signal_name x.signals n k kept.signals.names at)
 
   pub entry_self : (e : ℕ) (r : Entry) → slice_get x.entries e ≡ Some r → same_entry x x r ≡ Some e
   entry_self e r at =
@@ -83,7 +83,7 @@ module _ (x : Exchange) (kept : IsExchange x) where
   entry_is : (e : ℕ) → e < length x.entries → new_entry x x e ≡ e
   entry_is e inside =
       let r = some_at x.entries e inside in
-      get_or_from_slice_get (new_entries x x) e (number_for x x r.0) 0 (mapped_at (number_for x x) x.entries e r.0 r.1) ∙ ap (λ o. unwrap_or o 0) (entry_self e r.0 r.1)
+      get_or_from_slice_get (new_entries x x) e (number_for x x r.0) 0 (got_map (number_for x x) x.entries e r.0 r.1) ∙ ap (λ o. unwrap_or o 0) (entry_self e r.0 r.1)
 
   pub file_self : (f : ℕ) (p : Placed) → slice_get (placed_files x.blocks) f ≡ Some p → same_file x.blocks x.blocks f ≡ Some p.file
   file_self f p at =
@@ -133,10 +133,10 @@ module _ (x : Exchange) (kept : IsExchange x) where
 
     members : (chain : List Held) → AllByRecursion (λ (h : Held). holds chain h.file h.number ≡ true) chain
     members [] = tt
-    members (h ∷ rest) = (ap (λ b. b || holds rest h.file h.number) (record_itself h.file h.number), all_same (λ (g : Held). holds rest g.file g.number ≡ true) (λ (g : Held). holds (h ∷ rest) g.file g.number ≡ true) rest (λ g is. or_right (is_record g.file g.number h) (holds rest g.file g.number) is) (members rest))
+    members (h ∷ rest) = (ap (λ b. b || holds rest h.file h.number) (record_itself h.file h.number), all_weaker (λ (g : Held). holds rest g.file g.number ≡ true) (λ (g : Held). holds (h ∷ rest) g.file g.number ≡ true) rest (λ g is. or_right (is_record g.file g.number h) (holds rest g.file g.number) is) (members rest))
 
     all_held : (f n : ℕ) → AllByRecursion (IsHeld f n) (all_records s.chains)
-    all_held f n = all_records_fit (IsHeld f n) s.chains (λ m. all_same (λ (h : Held). HoldsRecord s m h) (IsHeld f n) (chain_at s.chains m) (λ h is. record { forlopp = m; held = is }) (members (chain_at s.chains m)))
+    all_held f n = all_records_fit (IsHeld f n) s.chains (λ m. all_weaker (λ (h : Held). HoldsRecord s m h) (IsHeld f n) (chain_at s.chains m) (λ h is. record { forlopp = m; held = is }) (members (chain_at s.chains m)))
 
     one_held : (f n : ℕ) (rs : List Held) → AllByRecursion (IsHeld f n) rs → holds rs f n ≡ true → (m : ℕ) × HoldsRecord s m (record { file = f; number = n })
     one_held f n [] all is = absurd (cc)
@@ -293,7 +293,7 @@ module _ (x : Exchange) (kept : IsExchange x) where
 
       named : file_named x.blocks k.name f.name ≡ Some f
       named =
-          then_is (file_at x.blocks f.name) (place_of k.name (block_names x.blocks)) b (Some f) (named_self (λ (l : Block). l.name) x.blocks b k kept.blocks.names at)
+          then_is (file_at x.blocks f.name) (place_of k.name (names_of_blocks x.blocks)) b (Some f) (named_self (λ (l : Block). l.name) x.blocks b k kept.blocks.names at)
           (then_is (λ (l : Block). option_and_then (slice_get l.files) (place_of f.name (file_names l.files))) (slice_get x.blocks b) k (Some f) at
           (then_is (slice_get k.files) (place_of f.name (file_names k.files)) j (Some f) (named_self (λ (g : File). g.name) k.files j f apart own) own))
 

@@ -8,6 +8,7 @@ use Rattle.std.proofs.lemmas.List.{length-map, map-append}
 use Rattle.std.proofs.lemmas.Option.{same_Some, slice_get_within}
 use Rattle.plex_num.specs.declared.level.Level.{Level}
 use Rattle.plex_num.specs.declared.level.Level.TheVariants.{A, B, C, D}
+use Rattle.plex_num.proofs.Lists.{got_map, all_weaker}
 use Rattle.exchange_model.specs.declared.block.Block.{Block}
 use Rattle.exchange_model.specs.declared.block.Variable.{Variable}
 use Rattle.exchange_model.specs.declared.entry.Cell.TheVariants.{Variable as VariableCell, Field, Mark}
@@ -32,7 +33,6 @@ use Rattle.block_change.specs.Renamed.{AreAtLevels, job_with}
 use Rattle.block_change.specs.Same.{cell_variable}
 use Rattle.block_change.proofs.Alike.{new_entry_is, one_file, record_fits}
 use Rattle.block_change.proofs.Chaining.{chain_at-carried}
-use Rattle.block_change.proofs.Lists.{mapped_at}
 
 -- ## Lists
 
@@ -40,17 +40,13 @@ all_mapped : {X Y : Type 0} (P : X → Type 0) (Q : Y → Type 0) (f : X → Y) 
 all_mapped P Q f [] each all = tt
 all_mapped P Q f (x ∷ xs) each all = (each x all.0, all_mapped P Q f xs each all.1)
 
-pub all_same : {X : Type 0} (P Q : X → Type 0) (xs : List X) → ((x : X) → P x → Q x) → AllByRecursion P xs → AllByRecursion Q xs
-all_same P Q [] each all = tt
-all_same P Q (x ∷ xs) each all = (each x all.0, all_same P Q xs each all.1)
-
 -- each job stands in the list of its level
 pub levels_of : (x : Exchange) (s : State) → WaitingFits x s → AreAtLevels s.waiting
 levels_of x s fits = record {
-  a = all_same (WaitsAt x s A) (λ (j : Job). j.level ≡ A) s.waiting.a (λ j w. w.here) fits.a;
-  b = all_same (WaitsAt x s B) (λ (j : Job). j.level ≡ B) s.waiting.b (λ j w. w.here) fits.b;
-  c = all_same (WaitsAt x s C) (λ (j : Job). j.level ≡ C) s.waiting.c (λ j w. w.here) fits.c;
-  d = all_same (WaitsAt x s D) (λ (j : Job). j.level ≡ D) s.waiting.d (λ j w. w.here) fits.d;
+  a = all_weaker (WaitsAt x s A) (λ (j : Job). j.level ≡ A) s.waiting.a (λ j w. w.here) fits.a;
+  b = all_weaker (WaitsAt x s B) (λ (j : Job). j.level ≡ B) s.waiting.b (λ j w. w.here) fits.b;
+  c = all_weaker (WaitsAt x s C) (λ (j : Job). j.level ≡ C) s.waiting.c (λ j w. w.here) fits.c;
+  d = all_weaker (WaitsAt x s D) (λ (j : Job). j.level ≡ D) s.waiting.d (λ j w. w.here) fits.d;
 }
 
 -- ## Chains
@@ -217,7 +213,7 @@ module _ (x y : Exchange) (kept_x : IsExchange x) (kept_y : IsExchange y) (fits 
       origin_fits : (before : List Coming) (o : Origin) → NamesEarlier before o → NamesEarlier (map (carried_line x y) before) o
       origin_fits before Fresh is = tt
       origin_fits before Bare is = tt
-      origin_fits before (Same line) is = (carried_line x y is.0, (is.1.0, mapped_at (carried_line x y) before is.1.0 is.0 is.1.1), is.2, is.3)
+      origin_fits before (Same line) is = (carried_line x y is.0, (is.1.0, got_map (carried_line x y) before is.1.0 is.0 is.1.1), is.2, is.3)
 
       line_fits : (before : List Coming) (l : Coming) → LineFits x before l → LineFits y (map (carried_line x y) before) (carried_line x y l)
       line_fits before l is =

@@ -108,12 +108,6 @@ same_is_cell x y kept (Mark f n) d is = absurd (cc)
 pub has_cell : (x y : Exchange) (l : Rows) (c d : Cell) → IsExchange x → IsLayout x.blocks l → Some d ≡ same_cell y.blocks x.blocks c → HasCell l d
 has_cell x y l c d kept laid is = record { blocks = x.blocks; layout = laid; cell = same_is_cell x y kept c d (sym is) }
 
-pub word_inside : (x y : Exchange) (c d : Cell) (word many : ℕ) → IsExchange x → Some d ≡ same_cell y.blocks x.blocks c → word ≡ cell_number x.blocks d → many ≡ x.cells → word < many
-word_inside x y c d word many kept is number whole =
-    let below = cell_number-below x.blocks d (same_is_cell x y kept c d (sym is)) in
-    let cells = kept.numbered.cells in
-    omega (arith, below, number, whole, cells)
-
 -- ## One cell after the other
 
 pub record CarriedUpTo (x y : Exchange) (store words : List ℕ) (i : ℕ) : Type 0 where

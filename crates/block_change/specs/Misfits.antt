@@ -11,7 +11,7 @@ use Rattle.exchange_model.specs.declared.entry.Entry.{Entry}
 use Rattle.exchange_model.specs.declared.exchange.Exchange.{Exchange}
 use Rattle.exchange_model.specs.declared.signal.SignalKind.{SignalKind}
 use Rattle.exchange_model.specs.Kept.{signal_count}
-use Rattle.source_meaning.specs.Arrivals.{signal_level}
+use Rattle.exchange_model.specs.Names.{signal_level}
 use Rattle.block_change.specs.declared.misfit.Misfit.{Misfit}
 use Rattle.block_change.specs.declared.misfit.Misfit.TheVariants.{Entry as EntryMisfit, File as FileMisfit}
 use Rattle.block_change.specs.Same.{file_named, same_entry}

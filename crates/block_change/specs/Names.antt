@@ -5,20 +5,14 @@ use Rattle.std.specs.Str.{bytes_eq}
 use Rattle.exchange_model.specs.declared.block.Block.{Block}
 use Rattle.exchange_model.specs.declared.block.File.{File}
 use Rattle.exchange_model.specs.declared.exchange.Exchange.{Exchange}
-use Rattle.exchange_model.specs.declared.signal.SignalKind.{SignalKind}
-use Rattle.exchange_model.specs.Kept.{signal_name, variable_names}
+use Rattle.exchange_model.specs.Kept.{variable_names}
+use Rattle.exchange_model.specs.Names.{names_of_blocks, names_of_signals}
 use Rattle.block_change.specs.declared.directory.BlockNames.{BlockNames}
 use Rattle.block_change.specs.declared.directory.Directory.{Directory}
 
 -- where a name stands in a list of names
 abbrev pub place_of : List ℕ → List (List ℕ) → Option ℕ
 place_of name names = position (bytes_eq name) names
-
-abbrev pub signal_names : List SignalKind → List (List ℕ)
-signal_names signals = map signal_name signals
-
-abbrev pub block_names : List Block → List (List ℕ)
-block_names blocks = map (λ (k : Block). k.name) blocks
 
 abbrev pub file_names : List File → List (List ℕ)
 file_names files = map (λ (f : File). f.name) files
@@ -39,6 +33,6 @@ pub record AreNamedApart (k : Block) : Type 0 where
 
 -- these are the names of the exchange
 pub record IsDirectory (x : Exchange) (d : Directory) : Type 0 where
-  pub signals : d.signals ≡ signal_names x.signals
-  pub blocks : d.blocks ≡ block_names x.blocks
+  pub signals : d.signals ≡ names_of_signals x.signals
+  pub blocks : d.blocks ≡ names_of_blocks x.blocks
   pub inside : d.inside ≡ map names_of x.blocks

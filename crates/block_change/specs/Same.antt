@@ -13,15 +13,16 @@ use Rattle.exchange_model.specs.declared.signal.SignalKind.{SignalKind}
 use Rattle.exchange_model.specs.Cells.{Placed, placed_files}
 use Rattle.exchange_model.specs.Index.{is_entry}
 use Rattle.exchange_model.specs.Kept.{signal_name, variable_names}
-use Rattle.block_change.specs.Names.{block_names, file_names, place_of, signal_names}
+use Rattle.block_change.specs.Names.{file_names, place_of}
+use Rattle.exchange_model.specs.Names.{names_of_blocks, names_of_signals}
 
 -- the block of these that has the name of block b of those
 abbrev pub same_block : (those these : List Block) → ℕ → Option ℕ
-same_block those these b = option_and_then (λ (k : Block). place_of k.name (block_names these)) (slice_get those b)
+same_block those these b = option_and_then (λ (k : Block). place_of k.name (names_of_blocks these)) (slice_get those b)
 
 -- the same of a signal
 abbrev pub same_signal : (those these : List SignalKind) → ℕ → Option ℕ
-same_signal those these s = option_and_then (λ (k : SignalKind). place_of (signal_name k) (signal_names these)) (slice_get those s)
+same_signal those these s = option_and_then (λ (k : SignalKind). place_of (signal_name k) (names_of_signals these)) (slice_get those s)
 
 -- the entry of y at the block and for the signal of the same names
 abbrev pub same_entry : (x y : Exchange) → Entry → Option ℕ
@@ -33,7 +34,7 @@ file_at blocks name b = option_and_then (λ (k : Block). option_and_then (slice_
 
 -- the file of these names
 abbrev pub file_named : List Block → (block name : List ℕ) → Option File
-file_named blocks block name = option_and_then (file_at blocks name) (place_of block (block_names blocks))
+file_named blocks block name = option_and_then (file_at blocks name) (place_of block (names_of_blocks blocks))
 
 -- the file of these blocks that has the names of file f of those
 abbrev pub same_file : (those these : List Block) → ℕ → Option File

@@ -4,7 +4,8 @@ ghost use Rattle.std.specs.Str.{bytes_eq};
 ghost use Rattle.std.specs.List.{AllByRecursion, IsDistinct};
 ghost use Rattle.exchange_model.specs.Kept.{variable_names};
 ghost use Rattle.exchange_model.specs.declared.block.File.{File as FileType};
-ghost use Rattle.block_change.specs.Names.{AreNamedApart, IsDirectory, block_names, field_names, file_names, names_of, signal_names};
+ghost use Rattle.block_change.specs.Names.{AreNamedApart, IsDirectory, field_names, file_names, names_of};
+ghost use Rattle.exchange_model.specs.Names.{names_of_blocks, names_of_signals};
 
 use crate::names::Names;
 use exchange_model::{Block, Exchange, File, SignalKind, Variable};
@@ -20,11 +21,20 @@ pub(crate) struct BlockNames {
 }
 
 /// The names of an exchange's signals and blocks, in the order of their numbers, and what stands in each block.
-#[derive(Drop)]
 pub(crate) struct Directory {
     pub(crate) signals: Names,
     pub(crate) blocks: Names,
     pub(crate) inside: Seq<BlockNames>,
+}
+
+impl Drop for Directory {
+    fn drop(self) {
+        let Directory {
+            signals: _,
+            blocks: _,
+            inside: _,
+        } = self;
+    }
 }
 
 /// The directory of an exchange.
@@ -43,10 +53,10 @@ pub(crate) fn directory_of(alloc: Global, exchange: &Exchange) -> Result<Directo
     })
 }
 
-#[tactic(auto, using(crate::proofs::Fresh::new_name))]
+#[tactic(auto, using(plex_num::proofs::Names::new_name))]
 fn signal_names(alloc: Global, signals: &[SignalKind]) -> Result<Names, Memory>
-    requires { IsDistinct bytes_eq (signal_names signals.now) }
-    ensures { IfOk result (λ names. names ≡ signal_names signals.now) }
+    requires { IsDistinct bytes_eq (names_of_signals signals.now) }
+    ensures { IfOk result (λ names. names ≡ names_of_signals signals.now) }
 {
     let mut names = Names::new(alloc);
     for signal in signals {
@@ -55,10 +65,10 @@ fn signal_names(alloc: Global, signals: &[SignalKind]) -> Result<Names, Memory>
     Ok(names)
 }
 
-#[tactic(auto, using(crate::proofs::Fresh::new_name))]
+#[tactic(auto, using(plex_num::proofs::Names::new_name))]
 fn block_names(alloc: Global, blocks: &[Block]) -> Result<Names, Memory>
-    requires { IsDistinct bytes_eq (block_names blocks.now) }
-    ensures { IfOk result (λ names. names ≡ block_names blocks.now) }
+    requires { IsDistinct bytes_eq (names_of_blocks blocks.now) }
+    ensures { IfOk result (λ names. names ≡ names_of_blocks blocks.now) }
 {
     let mut names = Names::new(alloc);
     for block in blocks {
@@ -67,7 +77,7 @@ fn block_names(alloc: Global, blocks: &[Block]) -> Result<Names, Memory>
     Ok(names)
 }
 
-#[tactic(auto, using(crate::proofs::Fresh::new_name))]
+#[tactic(auto, using(plex_num::proofs::Names::new_name))]
 fn variable_names(alloc: Global, variables: &[Variable]) -> Result<Names, Memory>
     requires { IsDistinct bytes_eq (variable_names variables.now) }
     ensures { IfOk result (λ names. names ≡ variable_names variables.now) }
@@ -79,7 +89,7 @@ fn variable_names(alloc: Global, variables: &[Variable]) -> Result<Names, Memory
     Ok(names)
 }
 
-#[tactic(auto, using(crate::proofs::Fresh::new_name))]
+#[tactic(auto, using(plex_num::proofs::Names::new_name))]
 fn file_names(alloc: Global, files: &[File]) -> Result<Names, Memory>
     requires { IsDistinct bytes_eq (file_names files.now) }
     ensures { IfOk result (λ names. names ≡ file_names files.now) }
@@ -92,7 +102,7 @@ fn file_names(alloc: Global, files: &[File]) -> Result<Names, Memory>
 }
 
 /// The names of the fields of each file.
-#[tactic(auto, using(crate::proofs::Lists::all_here))]
+#[tactic(auto, using(plex_num::proofs::Lists::all_here))]
 fn field_names(alloc: Global, files: &[File]) -> Result<Seq<Names>, Memory>
     requires { AllByRecursion (λ (f : FileType).
         IsDistinct bytes_eq (variable_names f.fields)) files.now }
@@ -121,7 +131,7 @@ fn names_of(alloc: Global, block: &Block) -> Result<BlockNames, Memory>
 }
 
 /// The names of each block.
-#[tactic(auto, using(crate::proofs::Lists::all_here))]
+#[tactic(auto, using(plex_num::proofs::Lists::all_here))]
 fn all_names(alloc: Global, blocks: &[Block]) -> Result<Seq<BlockNames>, Memory>
     requires { AllByRecursion AreNamedApart blocks.now }
     ensures { IfOk result (λ names. names ≡ map names_of blocks.now) }

@@ -1,7 +1,7 @@
 // Whether another exchange fits.
 ghost use Rattle.std.specs.Prelude.{◌≡◌, ◌<◌, IfOk, IfSome, Some, length, not, position};
 ghost use Rattle.std.specs.Option.{option_copied};
-ghost use Rattle.source_meaning.specs.Arrivals.{signal_level};
+ghost use Rattle.exchange_model.specs.Names.{signal_level};
 ghost use Rattle.exchange_model.specs.Kept.{signal_count};
 ghost use Rattle.std.specs.Option.{option_map_or};
 ghost use Rattle.block_change.specs.Misfits.{agree, entry_signal, first_lacking, has_entry, lacking, lacks, misfit, rank, takes};

@@ -1,5 +1,5 @@
 // The stored words are carried over.
-ghost use Rattle.std.specs.Prelude.{◌≡◌, ◌<◌, [], List, ℕ, IfOk, length, slice_index};
+ghost use Rattle.std.specs.Prelude.{◌≡◌, ◌<◌, [], List, ℕ, IfOk, length};
 ghost use Rattle.std.specs.List.{AllByRecursion};
 ghost use Rattle.exchange_model.specs.declared.exchange.Exchange.{Exchange as ExchangeType};
 ghost use Rattle.job_types.specs.Forlopps.{all_records};
@@ -12,7 +12,7 @@ use crate::same::{Known, cell_variable, same_cell};
 use exchange_model::{Cell, Exchange, Variable};
 use forlopp_chain::Chains;
 use job_types::Held;
-use plex_num::{Memory, Seq, fits};
+use plex_num::{Memory, Seq, fits, value_at};
 use std::alloc::Global;
 use store_layout::{Layout, cell_of, word_of};
 
@@ -59,22 +59,12 @@ fn carried_words(
 {
     new.kept();
     let count = new_layout.words();
-    let mut carried = with_room(alloc, count)?;
+    let mut carried = Seq::with_capacity(alloc, count as usize)?;
     for word in 0..count {
         let cell = cell_of(new_layout, word);
         carried.push(carried_value(old, new, old_layout, words, cell))?;
     }
     Ok(carried)
-}
-
-/// An empty list with room for so many words.
-fn with_room(alloc: Global, words: u32) -> Result<Seq<u32>, Memory>
-    ensures { IfOk result (λ store. store ≡ []) }
-{
-    match Vec::with_capacity(alloc, words as usize) {
-        Ok(store) => Ok(Seq::from_vec(store)),
-        Err(_) => Err(Memory),
-    }
 }
 
 /// The value of a cell of the new exchange in which no record is held.
@@ -109,15 +99,7 @@ fn old_value(
     let Some(found) = same_cell(new, old, cell) else {
         return None;
     };
-    Some(value_at(words, word_of(layout, found)))
-}
-
-/// The value of a word.
-fn value_at(words: &[u32], word: u32) -> u32
-    requires { word < length words.now }
-    ensures { result ≡ slice_index words.now word }
-{
-    words[word as usize]
+    Some(value_at(words, word_of(layout, found) as usize))
 }
 
 /// The old value, if there is one that fits, and else the INIT value.

@@ -1,10 +1,9 @@
 -- Each least fact can be told in a certificate.
-use Rattle.std.proofs.Common.{◌≡◌, ◌↔◌, inl, inr, ℕ, zero, suc, ◌<◌, ◌≤◌, max, List, [], ◌∷◌, length, map, Option, None, Some, slice_get, get_or, Contains, All, refl, sym, subst, arith}
-use Rattle.std.specs.List.{AllByRecursion}
+use Rattle.std.proofs.Common.{◌≡◌, ◌↔◌, inl, inr, ℕ, ◌<◌, ◌≤◌, max, List, [], ◌∷◌, length, map, Option, None, Some, slice_get, get_or, Contains, All, refl, sym, subst, arith}
 use Rattle.std.specs.Option.{option_map_or}
 use Rattle.std.proofs.lemmas.List.Elements.{Contains-get_or}
-use Rattle.std.proofs.lemmas.Option.{none-some, same_Some}
 use Rattle.plex_limits.specs.declared.limits.TheConstants.{MOST_VALUES, MOST_TEMPORARIES}
+use Rattle.plex_num.proofs.Lists.{all_at}
 use Rattle.exchange_model.specs.declared.exchange.Exchange.{Exchange}
 use Rattle.exchange_model.specs.declared.block.Block.{Block}
 use Rattle.exchange_model.specs.declared.block.Enter.{Enter as Row}
@@ -61,11 +60,6 @@ value_few s (Const c) h = tt
 value_few s Any h = tt
 
 -- slots
-
-all_at : {A : Type 0} (P : A → Type 0) (xs : List A) (i : ℕ) (a : A) → AllByRecursion P xs → slice_get xs i ≡ Some a → P a
-all_at P [] i a all there = absurd (none-some a there)
-all_at P (y ∷ xs) zero a all there = subst P (same_Some y a there) all.0
-all_at P (y ∷ xs) (suc i) a all there = all_at P xs i a all.1 there
 
 below : (a b n : ℕ) → n ≤ b → a < n → a < b
 below a b n le lt = omega arith

@@ -4,10 +4,10 @@ use Rattle.std.specs.Prelude.{slice_get}
 use Rattle.std.specs.List.{AllByRecursion}
 use Rattle.std.specs.List.Sorted.{IsStrictlySortedBy}
 use Rattle.std.specs.Ordering.{is_lt}
-use Rattle.std.specs.declared.cmp.Ordering.{Ordering}
-use Rattle.std.specs.declared.cmp.Ordering.TheVariants.{Less, Equal, Greater}
+use Rattle.std.specs.declared.cmp.Ordering.TheVariants.{Less}
 use Rattle.std.proofs.lemmas.List.{nil_from_length}
 use Rattle.std.proofs.lemmas.Option.{slice_get_within, slice_get-get_or}
+use Rattle.plex_num.proofs.Numbers.{is_less}
 use Rattle.flow_points.specs.contracts.fact.FactOrd.TheImpl.Laws.{total-law}
 use Rattle.flow_points.specs.declared.fact.Fact.{Fact}
 use Rattle.certificate_text.specs.Text.{fact_order}
@@ -66,11 +66,6 @@ none_left (x ∷ xs) i e n =
     let some : slice_get (x ∷ xs) i ≡ Some (get_or (x ∷ xs) i x) = slice_get-get_or (x ∷ xs) i x (omega arith) in
     let no : None ≡ Some (get_or (x ∷ xs) i x) = e ∙ some in
     cc
-
-is_less : (o : Ordering) → is_lt o ≡ true → o ≡ Less
-is_less Less e = refl
-is_less Equal e = cc
-is_less Greater e = cc
 
 abbrev pub Tells : List Fact → Fact → Bool → Type 0
 Tells facts f r = (IsTrue r → Rise (facts ++ f ∷ [])) × (Rise (facts ++ f ∷ []) → IsTrue r)

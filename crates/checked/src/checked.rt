@@ -12,10 +12,18 @@ use plex_num::Seq;
 use std::marker::Model;
 
 /// The facts of a certificate that is one of an exchange, and by them the summary of each entry.
-#[derive(Drop)]
 pub struct Checked {
     facts: FactList,
     summaries: Seq<Summary>,
+}
+
+impl Drop for Checked {
+    fn drop(self) {
+        let Checked {
+            facts: _,
+            summaries: _,
+        } = self;
+    }
 }
 
 impl Model for Checked {

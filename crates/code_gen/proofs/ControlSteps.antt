@@ -1,11 +1,11 @@
 -- The code of jumps, choices and loops is appended.
 use Rattle.std.proofs.Common.{◌≡◌, ℕ, ◌+◌, ◌<◌, ◌≤◌, Bool, true, false, List, [], ◌∷◌, ◌++◌, length, drop, get_or, sym, ap, ◌∙◌, arith, append-nil, append_assoc}
 use Rattle.std.proofs.Math.ListN.{drop_of_length-le}
+use Rattle.plex_num.proofs.Lists.{opens}
 use Rattle.machine_code.specs.declared.op.Op.{Op}
 use Rattle.machine_code.specs.declared.op.Op.TheVariants as op
 use Rattle.exchange_model.specs.declared.expr.Cond.{Cond}
 use Rattle.expr_code.specs.Code.{cond_code}
-use Rattle.expr_code.proofs.Emits.{opens}
 use Rattle.stmt_code.specs.declared.lengths.TheConstants.{TURN_LENGTH, NEXT_LENGTH}
 use Rattle.stmt_code.specs.StmtCode.{Places, past_code, takes_code, compare_code, turn, last, turn_code, next_code, turns_code, bounds_code}
 use Rattle.code_gen.specs.declared.control.Choice.{Choice}

@@ -1,18 +1,17 @@
 -- The files of an exchange, by number.
-use Rattle.std.proofs.Common.{◌≡◌, ℕ, zero, suc, ◌+◌, ◌*◌, ◌≤◌, List, [], ◌∷◌, length, take, Option, Some, None, slice_get, refl, sym, ap, ◌∙◌, arith}
+use Rattle.std.proofs.Common.{◌≡◌, ℕ, ◌+◌, ◌*◌, ◌≤◌, List, length, Option, Some, None, slice_get, refl, sym, ap, ◌∙◌, arith}
 use Rattle.std.specs.Option.{MatchOption}
-use Rattle.std.proofs.lemmas.List.Sums.{sum_by-cons}
 use Rattle.std.proofs.lemmas.Nat.{mul-le}
-use Rattle.std.proofs.lemmas.Option.{none-some, same_Some, slice_get_past}
+use Rattle.std.proofs.lemmas.Option.{slice_get_past}
 use Rattle.exchange_model.specs.declared.signal.SignalKind.{SignalKind}
 use Rattle.exchange_model.specs.declared.block.Block.{Block}
 use Rattle.exchange_model.specs.declared.block.FilePlace.{FilePlace}
 use Rattle.exchange_model.specs.Index.{IsFileAt}
-use Rattle.exchange_model.specs.Cells.{Placed, block_cells, cell_count, first_cell, file_cells, placed_files, record_cells}
+use Rattle.exchange_model.specs.Cells.{Placed, first_cell, file_cells, placed_files, record_cells}
 use Rattle.exchange_model.proofs.Facts.{cells_few, file_kept}
 use Rattle.exchange_model.proofs.Places.{file_below}
 use Rattle.store_layout.specs.declared.row.BlockRow.{BlockRow}
-use Rattle.store_layout.specs.Laid.{block_rows}
+use Rattle.store_layout.proofs.Looking.{slice_get-block_rows}
 use Rattle.source_meaning.specs.Config.{base_of, files_of}
 use Rattle.expr_code.specs.Sites.{IsSiteOf}
 use Rattle.code_gen.specs.declared.setting.Setting.{Setting}
@@ -20,17 +19,6 @@ use Rattle.code_gen.specs.Settings.{places_in, placed_of, IsSetting, IsFileIn}
 
 pub signal_past : (signals : List SignalKind) (i : ℕ) → length signals ≤ i → slice_get signals i ≡ None
 signal_past signals i past = slice_get_past signals i past
-
-row_at : (word : ℕ) (bs : List Block) (b : ℕ) (k : Block) → slice_get bs b ≡ Some k → slice_get (block_rows word bs) b ≡ Some (record { first = word + first_cell bs b; variables = length k.variables })
-row_at word [] b k h = absurd (none-some k h)
-row_at word (c ∷ cs) zero k h =
-    let same : c ≡ k = same_Some c k h in
-    let none : word ≡ word + 0 = omega arith in
-    λ i. Some (record { first = none i; variables = length (same i).variables })
-row_at word (c ∷ cs) (suc b) k h =
-    let more : cell_count (c ∷ take b cs) ≡ block_cells c + cell_count (take b cs) = sum_by-cons block_cells c (take b cs) in
-    let at : word + block_cells c + first_cell cs b ≡ word + first_cell (c ∷ cs) (suc b) = omega (arith, more) in
-    row_at (word + block_cells c) cs b k h ∙ ap (λ n. Some (record { first = n; variables = length k.variables })) at
 
 module _ (s : Setting) (h : IsSetting s) where
   abbrev placed : List Placed
@@ -56,7 +44,7 @@ module _ (s : Setting) (h : IsSetting s) where
   unfolding places_in base_of files_of
   site_in k there = record {
     row = record { first = 0 + first_cell s.exchange.now.blocks s.block; variables = length k.variables };
-    there = ap (λ (rs : List BlockRow). slice_get rs s.block) h.layout.blocks ∙ row_at 0 s.exchange.now.blocks s.block k there;
+    there = ap (λ (rs : List BlockRow). slice_get rs s.block) h.layout.blocks ∙ slice_get-block_rows 0 s.exchange.now.blocks s.block k there;
     first = omega arith;
     files = sym h.layout.files;
   }

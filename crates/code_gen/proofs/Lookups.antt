@@ -2,45 +2,28 @@
 use Rattle.std.proofs.Common.{◌≡◌, ℕ, zero, suc, ◌+◌, ◌-◌, ◌≤◌, min, Bool, true, false, List, [], ◌∷◌, length, drop, Some, slice_get, slice_index, refl, sym, ap, ◌∙◌, if◌then◌else◌}
 use Rattle.std.proofs.Math.ListN.{drop_of_length-le}
 use Rattle.std.proofs.Math.Seq.{drop-nil}
-use Rattle.std.proofs.lemmas.Option.{slice_get_past, none-some, same_Some}
+use Rattle.std.proofs.lemmas.Option.{none-some, same_Some}
 use Rattle.exchange_model.specs.declared.exchange.Exchange.{Exchange}
 use Rattle.exchange_model.specs.declared.block.Block.{Block}
-use Rattle.exchange_model.specs.declared.block.Label.{Label}
 use Rattle.exchange_model.specs.declared.block.Variable.{Variable}
 use Rattle.exchange_model.specs.declared.stmt.Stmt.{Stmt}
 use Rattle.exchange_model.specs.declared.stmt.StmtKind.{out-StmtKind}
 use Rattle.exchange_model.specs.Cells.{Placed}
-use Rattle.source_meaning.specs.Config.{body_of, label_of, is_enter}
-use Rattle.std.specs.List.{find}
+use Rattle.source_meaning.specs.Config.{body_of}
+use Rattle.exchange_model.specs.Kept.{is_enter}
 use Rattle.std.specs.Option.{option_map_or}
+use Rattle.plex_num.proofs.Lists.{found_past, found_at}
 use Rattle.source_meaning.specs.Changes.{field_width, variable_width}
+use Rattle.source_meaning.proofs.Lookups.{body_past, body_is}
 use Rattle.stmt_code.specs.Whole.{behind_enter}
 use Rattle.code_gen.specs.declared.addresses.Addresses.{Addresses}
 use Rattle.code_gen.specs.Addresses.{address_in, opens_with_enter}
-
-found_past : {A B : Type 0} (xs : List A) (i : ℕ) (b : B) (f : A → B) → length xs ≤ i → option_map_or f (slice_get xs i) b ≡ b
-found_past xs i b f past = ap (λ o. option_map_or f o b) (slice_get_past xs i past)
-
-found_at : {A B : Type 0} (xs : List A) (i : ℕ) (x : A) (b : B) (f : A → B) → slice_get xs i ≡ Some x → option_map_or f (slice_get xs i) b ≡ f x
-found_at xs i x b f there = ap (λ o. option_map_or f o b) there
 
 pub address_none : (a : Addresses) (b place : ℕ) → length a.blocks ≤ b → a.end ≡ address_in a b place
 address_none a b place past = sym (found_past a.blocks b a.end (λ places. slice_index places (min place (length places - 1))) past)
 
 pub address_some : (a : Addresses) (b place n : ℕ) (places : List ℕ) → slice_get a.blocks b ≡ Some places → n ≡ slice_index places (min place (length places - 1)) → n ≡ address_in a b place
 address_some a b place n places there is = is ∙ sym (found_at a.blocks b places a.end (λ places. slice_index places (min place (length places - 1))) there)
-
-abbrev label_in : ℕ → Block → ℕ
-label_in l k = option_map_or (λ (e : Label). e.place) (slice_get k.labels l) 0
-
-pub found_none : (x : Exchange) (b l : ℕ) → length x.blocks ≤ b → 0 ≡ label_of x b l
-found_none x b l past = sym (found_past x.blocks b 0 (label_in l) past)
-
-pub label_none : (x : Exchange) (b l : ℕ) (k : Block) → slice_get x.blocks b ≡ Some k → length k.labels ≤ l → 0 ≡ label_of x b l
-label_none x b l k there past = sym (found_at x.blocks b k 0 (label_in l) there ∙ found_past k.labels l 0 (λ (e : Label). e.place) past)
-
-pub label_some : (x : Exchange) (b l : ℕ) (k : Block) (e : Label) → slice_get x.blocks b ≡ Some k → slice_get k.labels l ≡ Some e → e.place ≡ label_of x b l
-label_some x b l k e there is = sym (found_at x.blocks b k 0 (label_in l) there ∙ found_at k.labels l e 0 (λ (e : Label). e.place) is)
 
 abbrev width_in : ℕ → Block → ℕ
 width_in v k = option_map_or (λ (e : Variable). e.width) (slice_get k.variables v) 0
@@ -56,14 +39,8 @@ width_some x b v k e there is = sym (found_at x.blocks b k 0 (width_in v) there 
 
 -- an ENTER at a place
 
-body_past : (x : Exchange) (b : ℕ) → length x.blocks ≤ b → body_of x b ≡ []
-body_past x b past = found_past x.blocks b [] (λ (k : Block). k.body) past
-
 pub opens_no_block : (x : Exchange) (b place : ℕ) → length x.blocks ≤ b → false ≡ opens_with_enter (drop place (body_of x b))
 opens_no_block x b place past = sym (ap (λ ss. opens_with_enter (drop place ss)) (body_past x b past) ∙ ap opens_with_enter (drop-nil place))
-
-body_is : (x : Exchange) (b : ℕ) (k : Block) → slice_get x.blocks b ≡ Some k → body_of x b ≡ k.body
-body_is x b k there = found_at x.blocks b k [] (λ (k : Block). k.body) there
 
 pub opens_no_place : (x : Exchange) (b place : ℕ) (k : Block) → slice_get x.blocks b ≡ Some k → length k.body ≤ place → false ≡ opens_with_enter (drop place (body_of x b))
 opens_no_place x b place k there past = sym (ap (λ ss. opens_with_enter (drop place ss)) (body_is x b k there) ∙ ap opens_with_enter (drop_of_length-le k.body past))

@@ -1,11 +1,11 @@
 -- Parts of code, appended one after the other.
 use Rattle.std.proofs.Common.{◌≡◌, ℕ, ◌+◌, ◌<◌, ◌≤◌, List, [], ◌∷◌, ◌++◌, length, drop, get_or, sym, ap, ◌∙◌, append_assoc, append-nil}
 use Rattle.std.proofs.Math.ListN.{drop_of_length-le}
+use Rattle.plex_num.proofs.Lists.{opens}
 use Rattle.machine_code.specs.declared.op.Op.{Op}
 use Rattle.machine_code.specs.declared.op.Op.TheVariants as op
 use Rattle.exchange_model.specs.declared.expr.Expr.{Expr}
 use Rattle.expr_code.specs.Code.{Site, expr_code}
-use Rattle.expr_code.proofs.Emits.{opens}
 use Rattle.stmt_code.specs.StmtCode.{values_code}
 
 pub two : (old n1 new a b : List Op) → n1 ≡ old ++ a → new ≡ n1 ++ b → new ≡ old ++ (a ++ b)

@@ -12,6 +12,7 @@ use Rattle.exchange_model.specs.Kept.{IsExchange}
 use Rattle.store_layout.specs.Laid.{IsLayout}
 use Rattle.source_meaning.specs.Config.{body_of}
 use Rattle.std.specs.Option.{option_map_or}
+use Rattle.plex_num.proofs.Lists.{opens}
 use Rattle.stmt_code.specs.StmtCode.{Places, codes, kind_code, stmt_code}
 use Rattle.stmt_code.specs.Whole.{places_of, code_upto}
 use Rattle.code_gen.specs.declared.addresses.Addresses.{Addresses}
@@ -20,7 +21,6 @@ use Rattle.code_gen.specs.Addresses.{enter_in, table_in, addresses_from, places_
 use Rattle.code_gen.specs.Settings.{places_in, AreIn}
 use Rattle.code_gen.proofs.Parts.{part_more}
 use Rattle.code_gen.proofs.TextSteps.{list_opens, stmt_is}
-use Rattle.expr_code.proofs.Emits.{opens}
 
 -- the statements of a text
 

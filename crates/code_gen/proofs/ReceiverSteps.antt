@@ -3,6 +3,7 @@ use Rattle.std.proofs.Common.{◌≡◌, ℕ, ◌+◌, ◌<◌, ◌≤◌, Bool,
 use Rattle.std.proofs.Math.ListN.{drop_of_length-le}
 use Rattle.std.proofs.lemmas.Option.{slice_get_read}
 use Rattle.std.specs.Option.{option_map_or}
+use Rattle.plex_num.proofs.Lists.{opens}
 use Rattle.exchange_model.specs.declared.exchange.Exchange.{Exchange}
 use Rattle.machine_code.specs.declared.op.Op.{Op}
 use Rattle.machine_code.specs.declared.op.Op.TheVariants as op
@@ -13,7 +14,6 @@ use Rattle.exchange_model.specs.declared.stmt.Holder.TheVariants.{Temporary, Var
 use Rattle.exchange_model.specs.declared.stmt.Receiver.TheVariants.{Held}
 use Rattle.source_meaning.specs.Config.{is_receiver}
 use Rattle.expr_code.specs.Code.{Site}
-use Rattle.expr_code.proofs.Emits.{opens}
 use Rattle.stmt_code.specs.declared.lengths.TheConstants.{COMPARE_LENGTH}
 use Rattle.stmt_code.specs.StmtCode.{Places, compare_code, values_code, holder_code, each_receiver, look_first, receiver_code}
 use Rattle.stmt_code.specs.Whole.{receivers_from}

@@ -1,6 +1,7 @@
 -- The code of searches, and of records that are seized and freed, is appended.
 use Rattle.std.proofs.Common.{◌≡◌, ℕ, ◌+◌, ◌^◌, ◌<◌, ◌≤◌, List, [], ◌∷◌, ◌++◌, length, drop, get_or, None, slice_get, sym, ap, ◌∙◌, arith, append-nil}
 use Rattle.std.proofs.Math.ListN.{drop_of_length-le}
+use Rattle.plex_num.proofs.Lists.{opens}
 use Rattle.machine_code.specs.declared.op.Op.{Op}
 use Rattle.machine_code.specs.declared.op.Op.TheVariants as op
 use Rattle.exchange_model.specs.declared.block.File.{File}
@@ -10,7 +11,6 @@ use Rattle.exchange_model.specs.declared.expr.Expr.{Expr}
 use Rattle.exchange_model.specs.declared.expr.Rel.{Rel}
 use Rattle.exchange_model.specs.Cells.{Placed, record_cells}
 use Rattle.expr_code.specs.Code.{expr_code, pointer_code, rel_op}
-use Rattle.expr_code.proofs.Emits.{opens}
 use Rattle.stmt_code.specs.declared.lengths.TheConstants.{LOOK_LENGTH, FOUND_LENGTH, AGAIN_LENGTH}
 use Rattle.stmt_code.specs.StmtCode.{Places, search_code, for_first_code, free_search_code, seize_code, free_code, inits_code}
 use Rattle.code_gen.specs.declared.setting.Setting.{Setting}

@@ -3,6 +3,7 @@ use Rattle.std.proofs.Common.{◌≡◌, ℕ, ◌+◌, ◌<◌, ◌≤◌, Bool,
 use Rattle.std.proofs.Math.ListN.{drop_of_length-le}
 use Rattle.std.specs.Option.{option_map_or}
 use Rattle.plex_num.specs.declared.level.Level.{Level}
+use Rattle.plex_num.proofs.Lists.{opens}
 use Rattle.machine_code.specs.declared.op.Op.{Op}
 use Rattle.machine_code.specs.declared.op.Op.TheVariants as op
 use Rattle.exchange_model.specs.declared.expr.Expr.{Expr}
@@ -10,7 +11,6 @@ use Rattle.exchange_model.specs.declared.stmt.Receiver.{Receiver}
 use Rattle.exchange_model.specs.declared.signal.SignalKind.{SignalKind}
 use Rattle.exchange_model.specs.declared.signal.SignalKind.TheVariants.{Buffered, Direct, Combined, Answer, Outside}
 use Rattle.exchange_model.specs.Kept.{signal_count}
-use Rattle.expr_code.proofs.Emits.{opens}
 use Rattle.stmt_code.specs.StmtCode.{Places, values_code, send_code, count_in, level_number, queue_number, retrieve_code, receiver_code}
 use Rattle.code_gen.specs.declared.receivers.Arm.TheVariants.{Send, Transfer}
 use Rattle.code_gen.specs.Receivers.{arm_code}

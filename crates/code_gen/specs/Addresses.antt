@@ -6,7 +6,8 @@ use Rattle.std.specs.Prelude.{ℕ, zero, suc, ◌+◌, ◌-◌, min, Bool, false
 use Rattle.exchange_model.specs.declared.exchange.Exchange.{Exchange}
 use Rattle.exchange_model.specs.declared.stmt.Stmt.{Stmt}
 use Rattle.exchange_model.specs.declared.stmt.StmtKind.{out-StmtKind}
-use Rattle.source_meaning.specs.Config.{body_of, label_of, enter_place, is_enter}
+use Rattle.source_meaning.specs.Config.{body_of, label_of, enter_place}
+use Rattle.exchange_model.specs.Kept.{is_enter}
 use Rattle.std.specs.Option.{option_map_or}
 use Rattle.stmt_code.specs.StmtCode.{Places, StmtCode, stmt_code}
 use Rattle.stmt_code.specs.Whole.{Table, places_of, code_upto, behind_enter}

@@ -2,7 +2,8 @@
 ghost use Rattle.std.specs.Prelude.{◌≡◌, drop, slice_get, Some, None, MatchOption, false};
 ghost use Rattle.std.specs.Option.{option_map_or};
 ghost use Rattle.exchange_model.specs.declared.stmt.StmtKind.{out-StmtKind};
-ghost use Rattle.source_meaning.specs.Config.{label_of, body_of, enter_place, is_receiver, is_enter as is_enter_layer};
+ghost use Rattle.source_meaning.specs.Config.{label_of, body_of, enter_place, is_receiver};
+ghost use Rattle.exchange_model.specs.Kept.{is_enter as is_enter_layer};
 ghost use Rattle.source_meaning.specs.Changes.{field_width, variable_width};
 ghost use Rattle.code_gen.specs.Addresses.{opens_with_enter};
 ghost use Rattle.code_gen.specs.Settings.{placed_of};
@@ -10,7 +11,7 @@ ghost use Rattle.code_gen.specs.Settings.{placed_of};
 use exchange_model::{Exchange, FilePlace, SignalKind, StmtKind};
 
 /// The place of a label of a block; 0 where there is none.
-#[tactic(auto, using(crate::proofs::Lookups::found_none, crate::proofs::Lookups::label_none, crate::proofs::Lookups::label_some))]
+#[tactic(auto, using(source_meaning::proofs::Lookups::found_none, source_meaning::proofs::Lookups::label_none, source_meaning::proofs::Lookups::label_some))]
 pub fn label_place(exchange: &Exchange, block: u32, label: u32) -> u32
     ensures { result ≡ label_of exchange.now block label }
 {

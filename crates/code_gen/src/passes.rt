@@ -40,7 +40,7 @@ pub fn compile(alloc: Global, exchange: &Exchange, layout: &Layout) -> Result<Co
     let mut ops = second.ops;
     ops.push(Op::End)?;
     check_length(&ops)?;
-    let code = Code { ops, entries };
+    let code = Code::new(alloc, ops, entries)?;
     whole_code_is_faithful(exchange, &code);
     Ok(code)
 }

@@ -55,7 +55,6 @@ pub struct Bounds {
 }
 
 /// The words of a run after its name.
-#[derive(Drop)]
 pub struct RunWords {
     /// The name of the file with the exchange text.
     pub exchange: Word,
@@ -67,8 +66,18 @@ pub struct RunWords {
     pub certificate: Option<Word>,
 }
 
+impl Drop for RunWords {
+    fn drop(self) {
+        let RunWords {
+            exchange: _,
+            signals: _,
+            bounds: _,
+            certificate: _,
+        } = self;
+    }
+}
+
 /// The words of a run with a table after its name.
-#[derive(Drop)]
 pub struct TimedWords {
     /// The words of the run without the table, which has no certificate.
     pub run: RunWords,
@@ -76,8 +85,13 @@ pub struct TimedWords {
     pub table: Word,
 }
 
+impl Drop for TimedWords {
+    fn drop(self) {
+        let TimedWords { run: _, table: _ } = self;
+    }
+}
+
 /// The words of a change of blocks after its name.
-#[derive(Drop)]
 pub struct ChangeWords {
     /// The words of the run without the change, which has no certificate.
     pub run: RunWords,
@@ -87,13 +101,28 @@ pub struct ChangeWords {
     pub at: u32,
 }
 
+impl Drop for ChangeWords {
+    fn drop(self) {
+        let ChangeWords {
+            run: _,
+            new: _,
+            at: _,
+        } = self;
+    }
+}
+
 /// The words of a trace after its name.
-#[derive(Drop)]
 pub struct TraceWords {
     /// The words of the run that is traced, with one worker and without a certificate.
     pub run: RunWords,
     /// The name of the file with the filter.
     pub filter: Word,
+}
+
+impl Drop for TraceWords {
+    fn drop(self) {
+        let TraceWords { run: _, filter: _ } = self;
+    }
 }
 
 /// The command that these words are; `None` where they are none.

@@ -1,12 +1,18 @@
 // Which events are allowed.
+ghost use Rattle.store_layout.specs.Laid.{IsLayout};
+ghost use Rattle.register_machine.specs.Faithful.{Faithful};
+ghost use Rattle.checked.specs.Kept.{IsChecked};
+
 use crate::given::{NotMade, core_after, exchange_of, least_of, lines_of};
 use crate::texts::{LATE_ASKS, LEVELS, PARTS, THREE_ASKS, TWO_ASKS, TWO_WORKS};
+use checked::Checked;
 use code_gen::compile;
 use exchange_model::Exchange;
 use interleave_core::{CoreEvent, CoreFault, CoreState};
+use machine_code::Code;
 use std::alloc::Global;
 use std::test::Fail;
-use store_layout::layout_of;
+use store_layout::{Layout, layout_of};
 
 /// What is told of a list of events.
 #[derive(Clone, Copy, Debug, PartialEq, Eq)]
@@ -27,6 +33,27 @@ fn told_of(made: Result<CoreState, CoreFault>) -> Result<Told, NotMade> {
     }
 }
 
+fn told_of_core(
+    alloc: Global,
+    exchange: &Exchange,
+    lines: &str,
+    workers: u32,
+    events: &[CoreEvent],
+    layout: &Layout,
+    code: &Code,
+    checked: &Checked,
+) -> Result<Told, NotMade>
+    requires layout { IsLayout exchange.now.blocks layout.now }
+    requires faithful { Faithful exchange.now code.now }
+    requires checked { IsChecked exchange.now checked.now }
+{
+    let lines = lines_of(alloc, exchange, lines)?;
+    let made = core_after(
+        alloc, exchange, layout, code, checked, lines, workers, events,
+    );
+    told_of(made)
+}
+
 fn told_on(
     alloc: Global,
     exchange: &Exchange,
@@ -37,11 +64,9 @@ fn told_on(
     let layout = layout_of(alloc, exchange)?;
     let code = compile(alloc, exchange, &layout)?;
     let checked = least_of(alloc, exchange)?;
-    let lines = lines_of(alloc, exchange, lines)?;
-    let made = core_after(
-        alloc, exchange, &layout, &code, &checked, lines, workers, events,
-    );
-    told_of(made)
+    told_of_core(
+        alloc, exchange, lines, workers, events, &layout, &code, &checked,
+    )
 }
 
 /// What is told of events on the exchange of a text, by its own certificate.

@@ -1,5 +1,4 @@
-// What no clause says of jobs that run at once: on small exchanges, which jobs may follow which, which events are allowed, and
-// where lists of events lead that look random.
+// What no clause says of jobs that run at once: on small exchanges, which jobs may follow which, and which events are allowed.
 //
 // Nothing comes out. These tests make each exchange of its text, so they stand on the crates from the lexer to the core.
 #![tactic(auto)]
@@ -10,7 +9,5 @@ mod events;
 mod given;
 #[cfg(test)]
 mod pairs;
-#[cfg(test)]
-mod played;
 #[cfg(test)]
 mod texts;

@@ -57,7 +57,34 @@ fn first_wrong(checked: &Checked, starts: &[JobStart], pairs: &[Pair]) -> Option
     None
 }
 
-/// The first wrong pair of the jobs of these lines, by the certificate of the exchange or by that which a text tells.
+/// The first wrong pair of the jobs of these lines, by a checked certificate.
+fn wrong_by(
+    alloc: Global,
+    exchange: &Exchange,
+    lines: &str,
+    checked: &Checked,
+    pairs: &[Pair],
+) -> Result<Option<usize>, NotMade> {
+    let starts = starts_of(alloc, exchange, lines)?;
+    Ok(first_wrong(checked, starts.as_slice(), pairs))
+}
+
+/// The same by the certificate of the exchange, or by that which a text tells.
+fn wrong_in(
+    alloc: Global,
+    exchange: &Exchange,
+    lines: &str,
+    certificate: Option<&str>,
+    pairs: &[Pair],
+) -> Result<Option<usize>, NotMade> {
+    let checked = match certificate {
+        Some(text) => told_by(alloc, exchange, text)?,
+        None => least_of(alloc, exchange)?,
+    };
+    wrong_by(alloc, exchange, lines, &checked, pairs)
+}
+
+/// The same on the exchange of a text.
 fn wrong_pair(
     alloc: Global,
     exchange: &str,
@@ -66,12 +93,7 @@ fn wrong_pair(
     pairs: &[Pair],
 ) -> Result<Option<usize>, NotMade> {
     let exchange = exchange_of(alloc, exchange)?;
-    let starts = starts_of(alloc, &exchange, lines)?;
-    let checked = match certificate {
-        Some(text) => told_by(alloc, &exchange, text)?,
-        None => least_of(alloc, &exchange)?,
-    };
-    Ok(first_wrong(&checked, starts.as_slice(), pairs))
+    wrong_in(alloc, &exchange, lines, certificate, pairs)
 }
 
 #[test]
@@ -128,16 +150,34 @@ fn holding(start: &JobStart, held: Held) -> JobStart {
     }
 }
 
-/// Whether the call may follow the digit where the digit's forlopp holds a record of LINE; `None` where one of them is not there.
+/// Whether the first job may follow the third where the forlopp of the third holds a record of LINE; `None` where one of them is
+/// not there.
+fn first_follows_holder(checked: &Checked, starts: &[JobStart]) -> Option<bool> {
+    let (call, digit) = (starts.get(0)?, starts.get(2)?);
+    let holder = holding(digit, Held { file: 0, number: 1 });
+    follows(checked, &holder, call)
+}
+
+/// The same of the call and the digit, by a checked certificate.
+fn call_follows(
+    alloc: Global,
+    exchange: &Exchange,
+    checked: &Checked,
+) -> Result<Option<bool>, NotMade> {
+    let starts = starts_of(alloc, exchange, CALLS)?;
+    Ok(first_follows_holder(checked, starts.as_slice()))
+}
+
+/// The same in an exchange.
+fn call_follows_in(alloc: Global, exchange: &Exchange) -> Result<Option<bool>, NotMade> {
+    let checked = least_of(alloc, exchange)?;
+    call_follows(alloc, exchange, &checked)
+}
+
+/// The same in the exchange of forlopps that hold lines.
 fn call_follows_holder(alloc: Global) -> Result<Option<bool>, NotMade> {
     let exchange = exchange_of(alloc, LINES)?;
-    let starts = starts_of(alloc, &exchange, CALLS)?;
-    let checked = least_of(alloc, &exchange)?;
-    let (Some(call), Some(digit)) = (starts.get(0), starts.get(2)) else {
-        return Ok(None);
-    };
-    let holder = holding(digit, Held { file: 0, number: 1 });
-    Ok(follows(&checked, &holder, call))
+    call_follows_in(alloc, &exchange)
 }
 
 #[test]

@@ -1,21 +1,12 @@
 -- Lists that have more, item by item.
-use Rattle.std.proofs.Common.{◌≡◌, ◌⊎◌, inl, inr, ⊎_elim, ℕ, zero, suc, ◌+◌, ◌<◌, ◌≤◌, List, [], ◌∷◌, ◌++◌, length, drop, get_or, refl, sym, ap, ◌∙◌, subst, arith, add-one, drop-cons}
+use Rattle.std.proofs.Common.{◌≡◌, ◌⊎◌, inl, inr, ⊎_elim, ℕ, ◌+◌, ◌<◌, ◌≤◌, List, [], ◌∷◌, ◌++◌, length, drop, get_or, sym, subst}
 use Rattle.std.specs.List.{Contains}
 use Rattle.std.proofs.Math.ListN.{drop_of_length-le}
 use Rattle.std.proofs.lemmas.List.Elements.{Contains-append_left, Contains-push, Contains-push_cases}
-use Rattle.flow_table.proofs.Telling.{first_or_later}
+use Rattle.std.proofs.lemmas.List.{get_or_default}
+use Rattle.plex_num.proofs.Members.{first_or_later, none_in}
+use Rattle.plex_num.proofs.Lists.{opens}
 use Rattle.entry_accesses.specs.Adding.{Adds, OneGives}
-
-pub opens : {X : Type 0} (xs : List X) (i : ℕ) (x : X) → i < length xs → x ≡ get_or xs i x → drop i xs ≡ x ∷ drop (i + 1) xs
-opens xs i x lt is = drop-cons xs i x lt ∙ ap (λ y. y ∷ drop (suc i) xs) (sym is) ∙ ap (λ n. x ∷ drop n xs) (sym (add-one i))
-
-pub item_is : {A : Type 0} (xs : List A) (i : ℕ) (d e : A) → i < length xs → get_or xs i d ≡ get_or xs i e
-item_is [] i d e lt = absurd (omega arith)
-item_is (x ∷ xs) zero d e lt = refl
-item_is (x ∷ xs) (suc i) d e lt = item_is xs i d e (omega arith)
-
-pub none_in : {A : Type 0} (x : A) → Contains [] x → ⊥
-none_in x c = (let lt = c.1 in omega arith)
 
 -- one item more, or none
 pub push_adds : {A : Type 0} (old new : List A) (x : A) (G : A → Type 0) → new ≡ old ++ x ∷ [] → ((a : A) → x ≡ a → G a) → ((a : A) → G a → x ≡ a) → Adds old new G
@@ -62,7 +53,7 @@ go_end G items i old now past g = record {
 
 -- the same of an item that is told with a default
 pub go_item : {A B : Type 0} (G : B → A → Type 0) (items : List B) (i : ℕ) (d : B) (old now new : List A) → i < length items → Adds now new (G (get_or items i d)) → AddsGo G items i old now → AddsGo G items (i + 1) old new
-go_item G items i d old now new lt h g = go_more G items i (get_or items i d) old now new lt (item_is items i d (get_or items i d) lt) h g
+go_item G items i d old now new lt h g = go_more G items i (get_or items i d) old now new lt (get_or_default items i d (get_or items i d) lt) h g
 
 pub go_new : {A B : Type 0} (G : B → A → Type 0) (items : List B) (now : List A) → now ≡ [] → AddsGo G items 0 [] now
 go_new G items now none = record { each = λ a c. inl (subst (λ l. Contains l a) none c); kept = λ a c. absurd (none_in a c); added = λ a o. inr o }

@@ -6,14 +6,13 @@ use Rattle.std.proofs.lemmas.Bool.{eqb-true, eq-eqb}
 use Rattle.std.proofs.lemmas.List.Kept.{IsStrictlySortedBy-filter}
 use Rattle.plex_num.specs.declared.level.Level.{Level}
 use Rattle.plex_num.specs.declared.level.Level.TheVariants.{A, B, C, D}
+use Rattle.plex_num.proofs.Members.{first_or_later, none_in, in_filter}
 use Rattle.exchange_model.specs.declared.exchange.Exchange.{Exchange}
 use Rattle.source_meaning.proofs.Lists.{first_is, later_is}
 use Rattle.flow_points.specs.Facts.{Facts}
-use Rattle.flow_table.proofs.Telling.{first_or_later}
 use Rattle.entry_summary.specs.Orders.{level_number, level_order}
 use Rattle.entry_summary.specs.Summaries.{MaySendTo}
 use Rattle.entry_accesses.specs.Levels.{is_sent, in_order}
-use Rattle.entry_accesses.proofs.Adding.{none_in}
 
 pub is_among : (sent : List Level) (level : Level) (b : Bool) (old new : List Level) → b ≡ is_sent sent level → b ≡ true → new ≡ old ++ level ∷ [] → new ≡ old ++ filter (is_sent sent) (level ∷ [])
 is_among sent level b old new is yes_is made = made ∙ ap (λ t. old ++ (if t then level ∷ [] else [])) (sym yes_is ∙ is)
@@ -60,22 +59,6 @@ is_found (m ∷ sent) l c = by (nat_eq (level_number m) (level_number l)) refl (
         (λ same. absurd (let clash : false ≡ true = sym here ∙ ap (λ k. nat_eq (level_number k) (level_number l)) same ∙ eq-eqb (level_number l) (level_number l) refl in cc))
         rest
         (first_or_later m l sent c)
-
-in_filter : {T : Type 0} (p : T → Bool) (xs : List T) (x : T) → p x ≡ true → Contains xs x → Contains (filter p xs) x
-in_filter p [] x is c = absurd (none_in x c)
-in_filter {T} p (y ∷ xs) x is c = by (p y) refl (in_filter p xs x is)
-  where
-    by : (t : Bool) → p y ≡ t → (Contains xs x → Contains (filter p xs) x) → Contains (if t then y ∷ filter p xs else filter p xs) x
-    by true at rest =
-        ⊎_elim
-        (λ same. subst (Contains (y ∷ filter p xs)) same (first_is y (filter p xs)))
-        (λ later. later_is y x (filter p xs) (rest later))
-        (first_or_later y x xs c)
-    by false at rest =
-        ⊎_elim
-        (λ same. absurd (let clash : false ≡ true = sym at ∙ ap p same ∙ is in cc))
-        rest
-        (first_or_later y x xs c)
 
 of_filter : {T : Type 0} (p : T → Bool) (xs : List T) (x : T) → Contains (filter p xs) x → p x ≡ true
 of_filter p [] x c = absurd (none_in x c)

@@ -3,6 +3,7 @@ use Rattle.std.proofs.Common.{◌≡◌, ℕ, ◌+◌, ◌<◌, ◌≤◌, List,
 use Rattle.std.proofs.Math.ListN.{drop_of_length-le}
 use Rattle.std.proofs.lemmas.List.{map-append}
 use mathlib.Core.Path.{fun_ext}
+use Rattle.plex_num.proofs.Lists.{opens}
 use Rattle.exchange_model.specs.declared.expr.Expr.{Expr, out-Expr}
 use Rattle.exchange_model.specs.declared.expr.Factor.{Factor}
 use Rattle.exchange_model.specs.declared.expr.Factor.TheVariants as factor
@@ -11,18 +12,19 @@ use Rattle.exchange_model.specs.declared.expr.Relation.{Relation}
 use Rattle.exchange_model.specs.declared.expr.Term.{Term, out-Term}
 use Rattle.exchange_model.specs.declared.stmt.Stmt.{Stmt}
 use Rattle.exchange_model.specs.declared.stmt.When.{When}
-use Rattle.exchange_model.specs.declared.stmt.StmtKind.{StmtKind, StmtKind-F, out-StmtKind, roll-StmtKind, roll-out-StmtKind}
+use Rattle.exchange_model.specs.declared.stmt.StmtKind.{StmtKind, StmtKind-F, out-StmtKind}
 use Rattle.exchange_model.specs.declared.expr.Cond.{Cond}
 use Rattle.exchange_model.specs.declared.expr.Rel.{Rel}
 use Rattle.exchange_model.specs.declared.stmt.Receiver.{Receiver}
 use Rattle.exchange_model.specs.declared.stmt.StmtKind.TheOpen as layer
 use Rattle.exchange_model.specs.declared.stmt.StmtKind.TheVariants as kind
 use Rattle.exchange_model.specs.Inside.{joined, relation_exprs}
+use Rattle.exchange_model.proofs.Layers.{same_kind}
+use Rattle.exchange_model.proofs.Lists.{joined_append}
 use Rattle.source_meaning.specs.Named.{Layer, Named, NamedVariable, NamedField, named_in}
 use Rattle.source_meaning.proofs.Naming.{named_in_term, named_in_factor, named_in_joined, named_in-out, named_in_term-out, named-Variable, named-Field, named-Bracket, named-Number, named-Temporary, named-Reference}
 use Rattle.entry_accesses.specs.declared.operands.Operand.{Operand}
 use Rattle.entry_accesses.specs.Operands.{HasNames, named, names_in, term_names, factor_names, joined_names, relation_names, layer_names}
-use Rattle.entry_accesses.proofs.Adding.{opens}
 
 -- one after the other
 
@@ -70,10 +72,6 @@ both_named e f old mid new g h = record {
 }
 
 -- conditions
-
-joined_append : {A : Type 0} (xs ys : List (List A)) → joined (xs ++ ys) ≡ joined xs ++ joined ys
-joined_append [] ys = refl
-joined_append (x ∷ xs) ys = ap (λ l. x ++ l) (joined_append xs ys) ∙ sym (append_assoc x (joined xs) (joined ys))
 
 pub names_append : (es fs : List Expr) → names_in (es ++ fs) ≡ names_in es ++ names_in fs
 names_append es fs = ap joined (map-append named_in es fs) ∙ joined_append (map named_in es) (map named_in fs)
@@ -148,9 +146,6 @@ pub layer_as : (k : StmtKind) (l : Layer) (old new : List Operand) → out-StmtK
 layer_as k l old new is h = subst (λ (m : Layer). HasNames old new (layer_names m)) (sym is) h
 
 -- a statement with no expression of its own
-
-same_kind : (k m : StmtKind) (l : StmtKind-F StmtKind Stmt When) → out-StmtKind k ≡ l → out-StmtKind m ≡ l → k ≡ m
-same_kind k m l p q = sym (roll-out-StmtKind k) ∙ ap roll-StmtKind (p ∙ sym q) ∙ roll-out-StmtKind m
 
 pub layer_names_none : (k : StmtKind) →
     ((t : ℕ) (e : Expr) → k ≡ kind.SetTemp t e → ⊥) →

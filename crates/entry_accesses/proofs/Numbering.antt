@@ -6,6 +6,7 @@ use Rattle.std.proofs.lemmas.List.{map-append, length-map}
 use Rattle.std.proofs.lemmas.List.Sums.{sum_by-cons}
 use Rattle.std.proofs.lemmas.Option.{none-some, same_Some, slice_get-get_or}
 use Rattle.plex_limits.specs.declared.limits.TheConstants.{MOST_CELLS}
+use Rattle.plex_num.proofs.Lists.{opens, all_from}
 use Rattle.exchange_model.specs.declared.exchange.Exchange.{Exchange}
 use Rattle.exchange_model.specs.declared.block.Block.{Block}
 use Rattle.exchange_model.specs.declared.block.File.{File}
@@ -17,7 +18,6 @@ use Rattle.source_meaning.specs.Config.{files_of}
 use Rattle.source_meaning.specs.Named.{NamedVariable, NamedField}
 use Rattle.entry_accesses.specs.declared.numbers.CellNumbers.{CellNumbers}
 use Rattle.entry_accesses.specs.Numbered.{variable_count, field_count, placed_count, first_variable, first_field, AreFirsts, AreNumbers, HasNumber, IsNumbered, sums_from, field_counts}
-use Rattle.entry_accesses.proofs.Adding.{opens}
 
 -- sums
 
@@ -168,13 +168,9 @@ fields_within (k ∷ ks) fit =
     let cells : cell_count (k ∷ ks) ≡ block_cells k + cell_count ks = sum_by-cons block_cells k ks in
     omega (arith, rest, here, parts, cells)
 
-all_of_each : {A : Type 0} (P : A → Type 0) (xs : List A) → ((i : ℕ) (x : A) → slice_get xs i ≡ Some x → P x) → AllByRecursion P xs
-all_of_each P [] each = tt
-all_of_each P (x ∷ xs) each = (each 0 x refl, all_of_each P xs (λ i y there. each (suc i) y there))
-
 counts_few : (x : Exchange) → IsExchange x → total (field_counts x.blocks) ≤ MOST_CELLS
 counts_few x kept =
-    let fit = all_of_each (λ (k : Block). AllByRecursion FileFits k.files) x.blocks (λ b k there. (kept.blocks.each b k there).files) in
+    let fit = all_from (λ (k : Block). AllByRecursion FileFits k.files) x.blocks (λ b k there. (kept.blocks.each b k there).files) in
     let within = fields_within x.blocks fit in
     let few = cells_few x kept in
     omega (arith, within, few)

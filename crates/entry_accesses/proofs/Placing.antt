@@ -3,6 +3,7 @@ use Rattle.std.proofs.Common.{◌≡◌, ◌↔◌, ⊎_elim, ℕ, zero, suc, Li
 use Rattle.std.specs.List.{Contains}
 use Rattle.std.proofs.lemmas.Option.{none-some, same_Some}
 use Rattle.plex_num.specs.declared.level.Level.{Level}
+use Rattle.plex_num.proofs.Members.{none_in}
 use Rattle.exchange_model.specs.declared.exchange.Exchange.{Exchange}
 use Rattle.exchange_model.specs.declared.signal.SignalKind.{SignalKind}
 use Rattle.exchange_model.specs.declared.signal.SignalKind.TheVariants.{Buffered, Direct, Combined, Answer, Outside}
@@ -20,7 +21,7 @@ use Rattle.entry_accesses.specs.declared.uses.Use.{Use}
 use Rattle.entry_accesses.specs.Adding.{Adds, OneGives, HasAccess}
 use Rattle.entry_accesses.specs.Levels.{HasLevel, buffer_level, sent_level}
 use Rattle.entry_accesses.specs.Uses.{UseGives, layer_uses}
-use Rattle.entry_accesses.proofs.Adding.{none_in, adds_as}
+use Rattle.entry_accesses.proofs.Adding.{adds_as}
 use Rattle.entry_accesses.proofs.Telling.{all_given, given_all}
 
 -- a place of a list is one of its items

@@ -3,6 +3,7 @@ use Rattle.std.proofs.Common.{◌≡◌, ◌⊎◌, inl, inr, ⊎_elim, ℕ, ◌
 use Rattle.std.specs.List.{Contains, range_with_len}
 use Rattle.std.proofs.lemmas.List.Elements.{Contains-append_left, Contains-append_right, Contains-append_cases}
 use Rattle.std.proofs.lemmas.List.FromFn.{length-map-range_with_len, get_or-map-range_with_len}
+use Rattle.plex_num.proofs.Members.{first_or_later, none_in}
 use Rattle.exchange_model.specs.declared.exchange.Exchange.{Exchange}
 use Rattle.exchange_model.specs.declared.stmt.Holder.TheVariants as holder
 use Rattle.exchange_model.specs.declared.stmt.Receiver.{Receiver}
@@ -19,7 +20,6 @@ use Rattle.flow_points.specs.declared.fact.Value.{Value}
 use Rattle.flow_points.specs.declared.fact.Value.TheVariants.{Any}
 use Rattle.flow_points.specs.declared.flow.Source.TheVariants as source
 use Rattle.flow_points.specs.Facts.{Facts, Known}
-use Rattle.flow_table.proofs.Telling.{first_or_later}
 use Rattle.entry_summary.specs.declared.summary.Access.{Access}
 use Rattle.entry_summary.specs.declared.summary.Access.TheVariants as access
 use Rattle.entry_summary.specs.Accesses as told
@@ -31,7 +31,6 @@ use Rattle.entry_accesses.specs.Adding.{OneGives}
 use Rattle.entry_accesses.specs.Numbered.{placed_count}
 use Rattle.entry_accesses.specs.Operands.{layer_names}
 use Rattle.entry_accesses.specs.Uses.{field_use, field_uses, named_uses, read_uses, holder_uses, opened, done_uses, layer_uses, UseGives}
-use Rattle.entry_accesses.proofs.Adding.{none_in}
 
 -- lists of lists
 

@@ -4,7 +4,8 @@ use Rattle.std.specs.List.{AllByRecursion, range_with_len}
 use Rattle.std.proofs.Math.ListN.{drop_of_length-le}
 use Rattle.std.proofs.lemmas.List.Sums.{sum_by_more_le}
 use Rattle.std.proofs.lemmas.Option.{none-some, slice_get_within, get_or_from_slice_get}
-use Rattle.plex_num.proofs.Lists.{all_append}
+use Rattle.std.proofs.lemmas.List.{get_or_default}
+use Rattle.plex_num.proofs.Lists.{all_append, opens}
 use Rattle.plex_limits.specs.declared.limits.TheConstants.{MOST_CELLS}
 use Rattle.exchange_model.specs.declared.exchange.Exchange.{Exchange}
 use Rattle.exchange_model.specs.declared.block.Block.{Block}
@@ -18,13 +19,14 @@ use Rattle.exchange_model.specs.declared.stmt.Receiver.{Receiver}
 use Rattle.exchange_model.specs.declared.stmt.Receiver.TheVariants as receiver
 use Rattle.exchange_model.specs.declared.stmt.Stmt.{Stmt}
 use Rattle.exchange_model.specs.declared.stmt.When.{When}
-use Rattle.exchange_model.specs.declared.stmt.StmtKind.{StmtKind, StmtKind-F, out-StmtKind, roll-StmtKind, roll-out-StmtKind}
+use Rattle.exchange_model.specs.declared.stmt.StmtKind.{StmtKind, StmtKind-F, out-StmtKind}
 use Rattle.exchange_model.specs.declared.stmt.StmtKind.TheOpen as layer
 use Rattle.exchange_model.specs.declared.stmt.StmtKind.TheVariants as kind
 use Rattle.exchange_model.specs.Cells.{Placed, placed_files}
 use Rattle.exchange_model.specs.Fits.{ExprFits, IsField, KindNames, SendFits, Reaches, TransferFits}
 use Rattle.exchange_model.specs.Inside.{own_exprs}
 use Rattle.exchange_model.specs.Kept.{IsExchange, scope_of}
+use Rattle.exchange_model.proofs.Layers.{same_kind}
 use Rattle.source_meaning.specs.Config.{files_of}
 use Rattle.source_meaning.specs.Deeds.{receiver_in}
 use Rattle.source_meaning.specs.Named.{Layer, Named, NamedVariable, NamedField, named_in}
@@ -38,7 +40,6 @@ use Rattle.entry_accesses.specs.declared.uses.Use.TheVariants as use_of
 use Rattle.entry_accesses.specs.Numbered.{variable_count, placed_count, IsNumbered}
 use Rattle.entry_accesses.specs.Operands.{HasNames, named, names_in, layer_names}
 use Rattle.entry_accesses.specs.Uses.{field_use, field_uses, named_uses, read_uses, holder_uses, opened, OpensFew, done_uses, layer_uses}
-use Rattle.entry_accesses.proofs.Adding.{item_is, opens}
 use Rattle.entry_accesses.proofs.Numbering.{variables_few, fields_few}
 
 -- what a block names has a number
@@ -154,7 +155,7 @@ reads_more x b names i o old now new lt is made g = record {
 }
 
 pub reads_item : (x : Exchange) (b : ℕ) (names : List Operand) (i : ℕ) (d : Operand) (old now new : List Use) → i < length names → new ≡ now ++ named_uses x b false (named (get_or names i d)) → ReadsGo x b names i old now → ReadsGo x b names (i + 1) old new
-reads_item x b names i d old now new lt made g = reads_more x b names i (get_or names i d) old now new lt (item_is names i d (get_or names i d) lt) made g
+reads_item x b names i d old now new lt made g = reads_more x b names i (get_or names i d) old now new lt (get_or_default names i d (get_or names i d) lt) made g
 
 pub reads_end : (x : Exchange) (b : ℕ) (names : List Operand) (i : ℕ) (old now : List Use) → length names ≤ i → ReadsGo x b names i old now → now ≡ old ++ read_uses x b (map named names)
 reads_end x b names i old now past g = sym (append-nil now) ∙ sym (ap (λ l. now ++ read_uses x b (map named l)) (drop_of_length-le names past)) ∙ g.same
@@ -231,9 +232,6 @@ freed x b temp file first k old mid new is at one two =
     let fields : List Use = opened (field_number x file 0) (slice_get (files_of x) file) in
     done_as x b k (layer.Free temp file) old new is
     (two ∙ ap (λ l. l ++ use_of.Frees file ∷ []) (one ∙ ap (λ n. old ++ opened n (slice_get (files_of x) file)) at) ∙ append_assoc old fields (use_of.Frees file ∷ []))
-
-same_kind : (k m : StmtKind) (l : StmtKind-F StmtKind Stmt When) → out-StmtKind k ≡ l → out-StmtKind m ≡ l → k ≡ m
-same_kind k m l p q = sym (roll-out-StmtKind k) ∙ ap roll-StmtKind (p ∙ sym q) ∙ roll-out-StmtKind m
 
 pub done_none : (x : Exchange) (b : ℕ) (k : StmtKind) (old : List Use) →
     ((v : ℕ) (e : Expr) → k ≡ kind.SetVariable v e → ⊥) →

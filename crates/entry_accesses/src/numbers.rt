@@ -11,10 +11,18 @@ use std::alloc::Global;
 
 /// Where the numbers through an exchange begin: of each block the number of its first variable, and of each file that of its
 /// first field.
-#[derive(Drop)]
 pub struct CellNumbers {
     pub variables: Seq<u32>,
     pub fields: Seq<u32>,
+}
+
+impl Drop for CellNumbers {
+    fn drop(self) {
+        let CellNumbers {
+            variables: _,
+            fields: _,
+        } = self;
+    }
 }
 
 /// The numbers of an exchange, which are made once.

@@ -2,9 +2,10 @@
 use Rattle.std.proofs.Common.{◌≡◌, ◌⊎◌, inl, inr, ℕ, ◌+◌, ◌^◌, ◌<◌, Bool, true, false, not, nat_eq, nat_lt, List, [], ◌∷◌, ◌||◌, Option, Some, None, refl, sym, ap, ◌∙◌, subst, arith}
 use Rattle.std.specs.Prelude.{◌↔◌}
 use Rattle.std.specs.List.{Contains, list_any}
-use Rattle.std.proofs.lemmas.Bool.{eqb-true, eqb-false, eq-eqb, ne_eqb, ltb-true, ltb-false, lt-ltb, le-ltb}
+use Rattle.std.proofs.lemmas.Bool.{eqb-true, eqb-false, eq-eqb, ne_eqb, ltb-true, ltb-false, lt-ltb, le-ltb, not-true, not_from_false}
 use Rattle.std.proofs.Math.Nat.{pow-le-pow_right}
 use Rattle.std.proofs.lemmas.Nat.{pow_below}
+use Rattle.plex_num.proofs.Members.{first_or_later, none_in}
 use Rattle.source_meaning.proofs.Lists.{first_is, later_is}
 use Rattle.exchange_model.specs.declared.exchange.Exchange.{Exchange}
 use Rattle.source_meaning.specs.Config.{receiver_of}
@@ -12,22 +13,13 @@ use Rattle.flow_points.specs.declared.fact.Value.{Value}
 use Rattle.flow_points.specs.declared.fact.Value.TheVariants.{Arg, Const, Any}
 use Rattle.flow_points.specs.Facts.{Facts, SourceGives}
 use Rattle.flow_table.specs.Giving.{AreValues}
-use Rattle.flow_table.proofs.Telling.{first_or_later}
 use Rattle.entry_summary.specs.Faults.{MayBe}
 use Rattle.entry_faults.specs.declared.question.Asked.{Asked}
 use Rattle.entry_faults.specs.declared.question.Asked.TheVariants.{AtLeast, TooWide, Equal, OtherAnswer, NoReceiver}
 use Rattle.entry_faults.specs.declared.question.Question.{Question}
 use Rattle.entry_faults.specs.Asking.{Meets, MayMeet, MayAnswer, lacks_receiver, number_meets, some_meets, value_meets}
-use Rattle.entry_faults.proofs.Passing.{none_in}
 
 -- Booleans
-
-not_true : (b : Bool) → b ≡ false → not b ≡ true
-not_true b is = ap not is
-
-of_not : (b : Bool) → not b ≡ true → b ≡ false
-of_not true is = absurd (let clash : false ≡ true = is in cc)
-of_not false is = refl
 
 pub wide_is : (b : Bool) (n width : ℕ) → ((b ≡ true) ↔ (n < 2 ^ width)) → not b ≡ not (nat_lt n (2 ^ width))
 wide_is true n width h = ap not (sym (lt-ltb n (2 ^ width) (h.0 refl)))
@@ -50,10 +42,10 @@ lacks None = (λ _. refl, λ _. refl)
 lacks (Some b) = (λ e. absurd (let clash : false ≡ true = e in cc), λ e. absurd (let clash : Some b ≡ None = e in cc))
 
 pub number_is : (x : Exchange) (asked : Asked) (n : ℕ) → (number_meets x asked n ≡ true) ↔ Meets x asked n
-number_is x (AtLeast least) n = (λ e. ltb-false n least (of_not (nat_lt n least) e), λ le. not_true (nat_lt n least) (le-ltb n least le))
-number_is x (TooWide width) n = (λ e. ltb-false n (2 ^ width) (of_not (nat_lt n (2 ^ width)) e), λ le. not_true (nat_lt n (2 ^ width)) (le-ltb n (2 ^ width) le))
+number_is x (AtLeast least) n = (λ e. ltb-false n least (not-true (nat_lt n least) e), λ le. not_from_false (nat_lt n least) (le-ltb n least le))
+number_is x (TooWide width) n = (λ e. ltb-false n (2 ^ width) (not-true (nat_lt n (2 ^ width)) e), λ le. not_from_false (nat_lt n (2 ^ width)) (le-ltb n (2 ^ width) le))
 number_is x (Equal number) n = (λ e. eqb-true n number e, λ is. eq-eqb n number is)
-number_is x (OtherAnswer answer) n = (λ e. eqb-false n (answer + 1) (of_not (nat_eq n (answer + 1)) e), λ other. not_true (nat_eq n (answer + 1)) (ne_eqb n (answer + 1) other))
+number_is x (OtherAnswer answer) n = (λ e. eqb-false n (answer + 1) (not-true (nat_eq n (answer + 1)) e), λ other. not_from_false (nat_eq n (answer + 1)) (ne_eqb n (answer + 1) other))
 number_is x (NoReceiver signal) n = lacks (receiver_of x signal n)
 
 -- some number of 32 bits

@@ -2,7 +2,7 @@
 use Rattle.std.proofs.Common.{◌≡◌, ℕ, ◌+◌, ◌<◌, ◌≤◌, Bool, true, false, ◌||◌, List, length, map, drop, get_or, sym, ap, ◌∙◌}
 use Rattle.std.specs.List.{list_any}
 use Rattle.std.proofs.Math.ListN.{drop_of_length-le}
-use Rattle.entry_faults.proofs.Passing.{opens}
+use Rattle.plex_num.proofs.Lists.{opens}
 
 pub any_more : {A : Type 0} (f : A → Bool) (xs : List A) (i : ℕ) (x : A) (b all : Bool) → i < length xs → x ≡ get_or xs i x → b ≡ f x → b ≡ false → list_any (λ t. t) (map f (drop i xs)) ≡ all → list_any (λ t. t) (map f (drop (i + 1) xs)) ≡ all
 any_more f xs i x b all lt is said none h =

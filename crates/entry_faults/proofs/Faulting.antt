@@ -7,7 +7,10 @@ use Rattle.std.proofs.Math.Nat.{eq-or-lt_of_le}
 use Rattle.std.proofs.lemmas.List.{length-map}
 use Rattle.std.proofs.lemmas.List.Elements.{Contains-append_left, Contains-append_right, Contains-append_cases}
 use Rattle.std.proofs.lemmas.Option.{slice_get_within, same_Some}
+use Rattle.std.proofs.lemmas.Bool.{or_right}
 use Rattle.plex_limits.specs.declared.limits.TheConstants.{MOST_CALLERS}
+use Rattle.plex_num.proofs.Members.{first_or_later, none_in}
+use Rattle.plex_num.proofs.Lists.{opens}
 use Rattle.exchange_model.specs.declared.block.FilePlace.{FilePlace}
 use Rattle.exchange_model.specs.declared.exchange.Exchange.{Exchange}
 use Rattle.exchange_model.specs.declared.expr.Expr.{Expr}
@@ -32,7 +35,7 @@ use Rattle.flow_points.specs.Places.{Place, StandsAt}
 use Rattle.flow_points.specs.Sources.{expr_source}
 use Rattle.flow_table.specs.declared.place.PlaceAt.{PlaceAt}
 use Rattle.flow_table.specs.Texts.{ArePlaces, seen}
-use Rattle.flow_table.proofs.Telling.{first_or_later}
+use Rattle.flow_table.proofs.Rowing.{seen_at}
 use Rattle.entry_summary.specs.Faults.{SourceMayBe, may_divide_by_zero, PointsAt, reads, writes, frees, PutsIn, in_variable, in_field, FaultsAt, no_record, no_receiver, too_wide, divides_by_zero, not_own, seizes, has_caller, no_caller, other_caller, too_deep, SomeFaults, TooManySends, GoesRound, MayFault}
 use Rattle.entry_faults.specs.declared.exprs.ExprAt.{ExprAt}
 use Rattle.entry_faults.specs.declared.fields.Pointer.{Pointer}
@@ -43,8 +46,6 @@ use Rattle.entry_faults.specs.Exprs.{expr_seen}
 use Rattle.entry_faults.specs.Fields.{pointer_to, pointers_named, pointers_in}
 use Rattle.entry_faults.specs.Statements.{placed_as, file_at, own_pointer, alone, pointers_at, is_forlopp, points_at_forlopp, size_question, pointer_question, AnyMisses, wide_question, field_question, width_question, held_question, receiver_question, call_question, depth_question, end_question, awaits_question, is_seize, FaultsHere}
 use Rattle.entry_faults.proofs.Asking.{any_there, there_any}
-use Rattle.entry_faults.proofs.Passing.{opens, none_in}
-use Rattle.entry_faults.proofs.Sending.{seen_at}
 
 -- files
 
@@ -155,10 +156,6 @@ listed_points l q c =
     (Contains-append_cases (pointers_in (own_exprs l)) (alone (own_pointer l)) q c)
 
 -- the faults of a statement
-
-or_right : (s t : Bool) → t ≡ true → (s || t) ≡ true
-or_right true t is = refl
-or_right false t is = is
 
 pub record Divides (l : Layer) : Type 0 where
   pub value : Expr

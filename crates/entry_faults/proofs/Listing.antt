@@ -1,12 +1,12 @@
 -- Expressions are listed, one after the other.
 use Rattle.std.proofs.Common.{◌≡◌, ℕ, ◌+◌, ◌<◌, ◌≤◌, List, [], ◌∷◌, ◌++◌, length, map, drop, get_or, refl, sym, ap, ◌∙◌, subst, append-nil, append_assoc}
 use Rattle.std.proofs.Math.ListN.{drop_of_length-le}
+use Rattle.plex_num.proofs.Lists.{opens}
 use Rattle.exchange_model.specs.declared.expr.Expr.{Expr}
 use Rattle.exchange_model.specs.declared.expr.Relation.{Relation}
 use Rattle.exchange_model.specs.Inside.{joined, relation_exprs}
 use Rattle.entry_faults.specs.declared.exprs.ExprAt.{ExprAt}
 use Rattle.entry_faults.specs.Exprs.{expr_seen, Adds}
-use Rattle.entry_faults.proofs.Passing.{opens}
 
 map_push : (xs : List ExprAt) (x : ExprAt) → map expr_seen (xs ++ x ∷ []) ≡ map expr_seen xs ++ expr_seen x ∷ []
 map_push [] x = refl

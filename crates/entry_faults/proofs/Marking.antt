@@ -3,7 +3,7 @@ use Rattle.std.proofs.Common.{◌≡◌, ℕ, zero, suc, ◌+◌, ◌<◌, Bool,
 use Rattle.std.specs.Prelude.{unwrap_or}
 use Rattle.std.specs.Option.{option_map}
 use Rattle.std.proofs.lemmas.Bool.{eqb-true, eqb-false}
-use Rattle.std.proofs.lemmas.Option.{slice_get_within, none-some, same_Some}
+use Rattle.std.proofs.lemmas.Option.{slice_get_within, none-some, same_Some, slice_get-map}
 use Rattle.entry_faults.specs.declared.mark.Mark.{Mark}
 use Rattle.entry_faults.specs.declared.mark.Mark.TheVariants.{New, Open, Closed}
 use Rattle.entry_faults.specs.Marks.{is_in, kept_mark, mark_at, is_closed, weight_of, weight}
@@ -93,11 +93,6 @@ weight_set (x ∷ xs) (suc p) j k at lt = (let h = weight_set xs p j k at lt in 
 
 -- no point is seen
 
-get_map : {A B : Type 0} (f : A → B) (xs : List A) (i : ℕ) → slice_get (map f xs) i ≡ option_map f (slice_get xs i)
-get_map f [] i = refl
-get_map f (x ∷ xs) zero = refl
-get_map f (x ∷ xs) (suc i) = get_map f xs i
-
 abbrev pub fresh : List Bool → List Mark
 fresh r = map (λ _. New) r
 
@@ -111,7 +106,7 @@ fresh_by r p None none = not_there (ap (λ u. unwrap_or u false) none) (ap (λ u
 fresh_by r p (Some false) some = not_there (ap (λ u. unwrap_or u false) some) (ap (λ u. if unwrap_or u false then kept_mark (fresh r) p else Closed) some)
 fresh_by r p (Some true) some =
     seen_new (ap (λ u. unwrap_or u false) some)
-    (ap (λ u. if unwrap_or u false then kept_mark (fresh r) p else Closed) some ∙ ap (λ u. unwrap_or u Closed) (get_map (λ _. New) r p ∙ ap (option_map (λ _. New)) some))
+    (ap (λ u. if unwrap_or u false then kept_mark (fresh r) p else Closed) some ∙ ap (λ u. unwrap_or u Closed) (slice_get-map (λ _. New) r p ∙ ap (option_map (λ _. New)) some))
 
 pub is_fresh : (r : List Bool) (p : ℕ) → IsFresh r p
 is_fresh r p = fresh_by r p (slice_get r p) refl

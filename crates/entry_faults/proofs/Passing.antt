@@ -3,8 +3,9 @@ use Rattle.std.proofs.Common.{◌≡◌, ◌⊎◌, inl, inr, ⊎_elim, ℕ, zer
 use Rattle.std.specs.List.{Contains}
 use Rattle.std.proofs.Math.ListN.{drop_of_length-le}
 use Rattle.std.proofs.lemmas.Bool.{eqb-true}
+use Rattle.plex_num.proofs.Members.{first_or_later, none_in}
+use Rattle.plex_num.proofs.Lists.{opens}
 use Rattle.source_meaning.proofs.Lists.{first_is, later_is}
-use Rattle.flow_table.proofs.Telling.{first_or_later}
 use Rattle.flow_table.specs.declared.row.FlowTable.{FlowTable}
 use Rattle.flow_table.specs.declared.way.Way.{Way}
 use Rattle.entry_faults.specs.declared.frame.Frame.{Frame}
@@ -14,12 +15,6 @@ use Rattle.entry_faults.specs.Marks.{mark_at, is_closed}
 use Rattle.entry_faults.specs.Circles.{LeadTo, ends_of}
 use Rattle.entry_faults.specs.Frames.{first, Among, Left, IsUnclosed, Passes, Stops, Moves}
 use Rattle.entry_faults.proofs.Marking.{closed_is}
-
-pub opens : {X : Type 0} (xs : List X) (i : ℕ) (x : X) → i < length xs → x ≡ get_or xs i x → drop i xs ≡ x ∷ drop (i + 1) xs
-opens xs i x lt is = drop-cons xs i x lt ∙ ap (λ y. y ∷ drop (suc i) xs) (sym is) ∙ ap (λ n. x ∷ drop n xs) (sym (add-one i))
-
-pub none_in : {A : Type 0} (x : A) → Contains [] x → ⊥
-none_in x c = (let lt = c.1 in omega arith)
 
 -- points
 

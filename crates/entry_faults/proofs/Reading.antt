@@ -2,6 +2,7 @@
 use Rattle.std.proofs.Common.{◌≡◌, ℕ, ◌+◌, ◌<◌, ◌≤◌, List, [], ◌∷◌, ◌++◌, length, map, drop, get_or, refl, sym, ap, ◌∙◌, append-nil, append_assoc}
 use mathlib.Core.Path.{fun_ext}
 use Rattle.std.proofs.Math.ListN.{drop_of_length-le}
+use Rattle.plex_num.proofs.Lists.{opens}
 use Rattle.exchange_model.specs.declared.expr.Expr.{Expr, out-Expr}
 use Rattle.exchange_model.specs.declared.expr.Term.{Term, out-Term}
 use Rattle.exchange_model.specs.declared.expr.Joined.{Joined}
@@ -12,7 +13,6 @@ use Rattle.source_meaning.specs.Named.{Named, NamedVariable, NamedField, named_i
 use Rattle.source_meaning.proofs.Naming.{named_in_term, named_in_factor, named_in-out, named_in_term-out, named-Variable, named-Field, named-Bracket, named-Number, named-Temporary, named-Reference}
 use Rattle.entry_faults.specs.declared.fields.Pointer.{Pointer}
 use Rattle.entry_faults.specs.Fields.{pointer_to, pointers_named, term_names, factor_names}
-use Rattle.entry_faults.proofs.Passing.{opens}
 
 term_same : (t : Term) → named_in_term t ≡ term_names t
 unfolding named_in_term term_names

@@ -7,6 +7,7 @@ use Rattle.std.proofs.lemmas.List.{length-map}
 use Rattle.std.proofs.lemmas.Option.{slice_get_within, none-some, same_Some}
 use Rattle.plex_num.specs.declared.seq.Memory.{Memory}
 use Rattle.plex_num.proofs.Lists.{slice_get-append_left, slice_get-append_seam, some_at}
+use Rattle.plex_num.proofs.Members.{none_in}
 use Rattle.exchange_model.specs.declared.exchange.Exchange.{Exchange}
 use Rattle.exchange_model.specs.declared.signal.SignalKind.{SignalKind}
 use Rattle.exchange_model.specs.declared.stmt.StmtKind.TheOpen as layer
@@ -28,7 +29,6 @@ use Rattle.entry_faults.specs.Marks.{is_in}
 use Rattle.entry_faults.specs.Circles.{ends_of, ways_in, ways_at, LeadTo, Leads, Route, One, More, Circles}
 use Rattle.entry_faults.specs.Reaching.{AreReached}
 use Rattle.entry_faults.proofs.Marking.{in_within}
-use Rattle.entry_faults.proofs.Passing.{none_in}
 
 -- which places are reached
 

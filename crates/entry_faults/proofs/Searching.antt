@@ -4,6 +4,7 @@ use Rattle.std.specs.Prelude.{◌↔◌}
 use Rattle.std.specs.List.{Contains}
 use Rattle.std.proofs.lemmas.Bool.{cases_lt}
 use Rattle.std.proofs.lemmas.List.{reverse-append}
+use Rattle.plex_num.proofs.Members.{none_in}
 use Rattle.flow_table.specs.declared.row.FlowTable.{FlowTable}
 use Rattle.entry_faults.specs.declared.frame.Frame.{Frame}
 use Rattle.entry_faults.specs.declared.mark.Mark.{Mark}
@@ -13,7 +14,7 @@ use Rattle.entry_faults.specs.Circles.{LeadTo, ways_at, Leads, Route, One, More,
 use Rattle.entry_faults.specs.Frames.{first, Begins, Stops, Moves}
 use Rattle.entry_faults.specs.Searches.{IsOn, IsFrame, LedFrom, IsPath, Sound, Opens, NoneNew, GoesOn, IsOver}
 use Rattle.entry_faults.proofs.Marking.{closed_clash, two_marks, IsMarked, marked, AfterSet, it, another, after_set, weight_set, fresh, IsFresh, seen_new, not_there, is_fresh, in_within}
-use Rattle.entry_faults.proofs.Passing.{none_in, first_none, first_some}
+use Rattle.entry_faults.proofs.Passing.{first_none, first_some}
 
 -- routes
 

@@ -1,5 +1,5 @@
 -- Sends are counted.
-use Rattle.std.proofs.Common.{◌≡◌, ⊎_elim, ℕ, zero, suc, ◌+◌, ◌^◌, ◌<◌, ◌≤◌, Bool, true, false, ◌&&◌, nat_eq, nat_lt, List, [], ◌∷◌, ◌++◌, length, map, get_or, Option, Some, None, slice_get, refl, sym, ap, ◌∙◌, subst, arith}
+use Rattle.std.proofs.Common.{◌≡◌, ⊎_elim, ℕ, ◌+◌, ◌^◌, ◌<◌, ◌≤◌, Bool, true, false, ◌&&◌, nat_eq, nat_lt, List, [], ◌∷◌, ◌++◌, length, map, get_or, Option, Some, None, slice_get, refl, sym, ◌∙◌, subst, arith}
 use Rattle.std.specs.Prelude.{◌↔◌}
 use Rattle.std.specs.List.{Contains, IsDistinct, list_any}
 use Rattle.std.proofs.lemmas.Bool.{eqb-true, eqb-false, cases_lt, lt-ltb, ltb-true}
@@ -9,6 +9,7 @@ use Rattle.std.proofs.lemmas.Map.Keys.{IsDistinct-push}
 use Rattle.plex_limits.specs.declared.limits.TheConstants.{MOST_SENT}
 use Rattle.std.proofs.lemmas.List.{length-map}
 use Rattle.std.proofs.lemmas.Option.{slice_get_within, same_Some}
+use Rattle.plex_num.proofs.Members.{first_or_later, none_in}
 use Rattle.exchange_model.specs.Kept.{IsExchange}
 use Rattle.source_meaning.proofs.Lists.{first_is, later_is, all_contained}
 use Rattle.exchange_model.specs.declared.exchange.Exchange.{Exchange}
@@ -21,11 +22,10 @@ use Rattle.flow_points.specs.Facts.{Facts, Reached}
 use Rattle.flow_points.specs.Places.{Place, StandsAt}
 use Rattle.flow_table.specs.declared.place.PlaceAt.{PlaceAt}
 use Rattle.flow_table.specs.Texts.{ArePlaces, seen}
-use Rattle.flow_table.proofs.Telling.{first_or_later}
+use Rattle.flow_table.proofs.Rowing.{seen_at}
 use Rattle.entry_summary.specs.Faults.{JoinsOutbox, Posts, PostsAt, TooManySends}
 use Rattle.entry_faults.specs.Sends.{joins_outbox, posts, PostsHere, counts}
 use Rattle.entry_faults.proofs.Asking.{any_there}
-use Rattle.entry_faults.proofs.Passing.{none_in}
 
 -- a statement
 
@@ -88,11 +88,6 @@ not_in points i below = by (list_any (nat_eq i) points) refl
     by true is = absurd (let h = any_there (nat_eq i) points is in let lt = below h.0 h.1 in let e = eqb-true i h.0 h.2 in omega (arith, lt, e))
 
 -- sends so far
-
-pub seen_at : (places : List PlaceAt) (i : ℕ) (at : PlaceAt) → i < length places → at ≡ get_or places i at → slice_get (map seen places) i ≡ Some (seen at)
-seen_at [] i at lt is = absurd (omega arith)
-seen_at (a ∷ places) zero at lt is = ap (λ (p : PlaceAt). Some (seen p)) (sym is)
-seen_at (a ∷ places) (suc i) at lt is = seen_at places i at (omega arith) is
 
 pub record SendsGo (x : Exchange) (P : Facts) (e i sends : ℕ) : Type 0 where
   pub few : sends ≤ i

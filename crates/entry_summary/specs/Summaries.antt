@@ -1,5 +1,5 @@
 -- The summary of an entry.
-use Rattle.std.specs.Prelude.{◌≡◌, ◌↔◌, ℕ, Bool, true, List, length, Option, Some, slice_get}
+use Rattle.std.specs.Prelude.{◌≡◌, ◌↔◌, ℕ, Bool, true, List, Option, Some, slice_get}
 use Rattle.std.specs.List.{Contains}
 use Rattle.std.specs.List.Sorted.{IsStrictlySortedBy}
 use Rattle.plex_num.specs.declared.level.Level.{Level}
@@ -8,7 +8,7 @@ use Rattle.exchange_model.specs.declared.expr.Expr.{Expr}
 use Rattle.exchange_model.specs.declared.signal.SignalKind.TheVariants.{Buffered}
 use Rattle.exchange_model.specs.declared.stmt.Receiver.{Receiver}
 use Rattle.exchange_model.specs.declared.stmt.StmtKind.TheOpen as stmt
-use Rattle.source_meaning.specs.Arrivals.{level_of}
+use Rattle.exchange_model.specs.Names.{level_of}
 use Rattle.source_meaning.specs.Named.{Layer}
 use Rattle.entry_summary.specs.declared.summary.Access.{Access}
 use Rattle.entry_summary.specs.declared.summary.Summary.{Summary}

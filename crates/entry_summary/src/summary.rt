@@ -31,10 +31,20 @@ pub enum Access {
 
 /// What the jobs of an entry may do: the level of the entry, their accesses in order, the levels to which they send in order,
 /// and whether one may fault. No access and no level stands twice.
-#[derive(Drop)]
 pub struct Summary {
     pub level: Level,
     pub accesses: Seq<Access>,
     pub levels: Seq<Level>,
     pub fault: bool,
+}
+
+impl Drop for Summary {
+    fn drop(self) {
+        let Summary {
+            level: _,
+            accesses: _,
+            levels: _,
+            fault: _,
+        } = self;
+    }
 }

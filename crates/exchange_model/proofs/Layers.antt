@@ -3,7 +3,7 @@
 -- Of a statement or an expression the types have one layer, whose parts are statements or expressions again. A fact of all
 -- layers is a fact of the outer one and of each part; a number that is made layer by layer is made of those of the parts.
 use Rattle.std.specs.Prelude.{List, [], ◌∷◌, map}
-use Rattle.std.proofs.Common.{subst}
+use Rattle.std.proofs.Common.{◌≡◌, sym, ap, ◌∙◌, subst}
 use Rattle.std.specs.List.{AllByRecursion}
 use Rattle.exchange_model.specs.declared.expr.Expr.{Expr, Expr-F, out-Expr, every-Expr, every_here-Expr, every_held-Expr}
 use Rattle.exchange_model.specs.declared.expr.Term.{Term, Term-F, out-Term, every-Term, every_here-Term, every_held-Term}
@@ -12,12 +12,16 @@ use Rattle.exchange_model.specs.declared.expr.Factor.{Factor, Factor-F, out-Fact
 use Rattle.exchange_model.specs.declared.expr.Factor.TheOpen.{Bracket}
 use Rattle.exchange_model.specs.declared.stmt.Stmt.{Stmt, Stmt-F, every-Stmt, every_held-Stmt}
 use Rattle.exchange_model.specs.declared.stmt.When.{When, When-F, out-When, every-When, every_held-When}
-use Rattle.exchange_model.specs.declared.stmt.StmtKind.{StmtKind, StmtKind-F, out-StmtKind, every-StmtKind, every_here-StmtKind, every_held-StmtKind, map-StmtKind}
+use Rattle.exchange_model.specs.declared.stmt.StmtKind.{StmtKind, StmtKind-F, out-StmtKind, roll-StmtKind, roll-out-StmtKind, every-StmtKind, every_here-StmtKind, every_held-StmtKind, map-StmtKind}
 use Rattle.exchange_model.specs.declared.stmt.StmtKind.TheOpen as layer
 use Rattle.exchange_model.specs.Fits.{Scope, LayerFits, StmtFits, FactorFits, TermsStand, FactorsStand, ExprFits}
 use Rattle.exchange_model.specs.PartFits.{StmtsFit, PartsFit, TermFits, JoinedFits, FactorOwnFits, InsideFits}
 
 -- statements
+
+-- kinds of the same layer are the same
+pub same_kind : (k m : StmtKind) (l : StmtKind-F StmtKind Stmt When) → out-StmtKind k ≡ l → out-StmtKind m ≡ l → k ≡ m
+same_kind k m l p q = sym (roll-out-StmtKind k) ∙ ap roll-StmtKind (p ∙ sym q) ∙ roll-out-StmtKind m
 
 pub stmt_fits-out : (s : Scope) (k : StmtKind) → StmtFits s k → LayerFits s (out-StmtKind k)
 unfolding StmtFits

@@ -1,5 +1,5 @@
--- How long joined lists are, and what stands at a place of them.
-use Rattle.std.proofs.Common.{◌≡◌, ℕ, zero, suc, ◌+◌, ◌-◌, ◌*◌, ◌<◌, ◌≤◌, List, [], ◌∷◌, ◌++◌, length, take, map, sum_by, replicate, Some, slice_get, refl, ap, ◌∙◌, arith, length-append}
+-- How long joined lists are, what stands at a place of them, and how they are put together.
+use Rattle.std.proofs.Common.{◌≡◌, ℕ, zero, suc, ◌+◌, ◌-◌, ◌*◌, ◌<◌, ◌≤◌, List, [], ◌∷◌, ◌++◌, length, take, map, sum_by, replicate, Some, slice_get, refl, sym, ap, ◌∙◌, arith, length-append, append_assoc, append-nil}
 use Rattle.std.proofs.lemmas.List.Sums.{sum_by-cons}
 use Rattle.std.proofs.lemmas.Option.{none-some, same_Some}
 use Rattle.plex_num.proofs.Lists.{slice_get-append_left, slice_get-append_right}
@@ -40,3 +40,11 @@ slice_get-joined-replicate (suc n) r (suc i) j lt within =
     let past : length r ≤ suc i * length r + j = omega arith in
     let left : suc i * length r + j - length r ≡ i * length r + j = omega arith in
     slice_get-append_right r (joined (replicate n r)) (suc i * length r + j) past ∙ ap (slice_get (joined (replicate n r))) left ∙ slice_get-joined-replicate n r i j (omega arith) within
+
+pub joined_append : {T : Type 0} (xs ys : List (List T)) → joined (xs ++ ys) ≡ joined xs ++ joined ys
+joined_append [] ys = refl
+joined_append (x ∷ xs) ys = ap (λ l. x ++ l) (joined_append xs ys) ∙ sym (append_assoc x (joined xs) (joined ys))
+
+pub joined_push : {T : Type 0} (xs : List (List T)) (x : List T) → joined (xs ++ x ∷ []) ≡ joined xs ++ x
+joined_push [] x = append-nil x
+joined_push (y ∷ xs) x = ap (λ l. y ++ l) (joined_push xs x) ∙ sym (append_assoc y (joined xs) x)

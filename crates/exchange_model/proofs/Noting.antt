@@ -7,6 +7,7 @@ use Rattle.std.proofs.lemmas.Bool.{cases_lt, cases_order, and_parts, eqb-true, n
 use Rattle.std.proofs.lemmas.List.{take_more, take_all, length-take-le}
 use Rattle.std.proofs.lemmas.List.Folds.{find-append, position_or_len_push}
 use Rattle.std.proofs.lemmas.Option.{slice_get_past, slice_get_read}
+use Rattle.plex_num.proofs.Options.{stays, comes, option_or-None}
 use Rattle.exchange_model.specs.declared.block.Block.{Block}
 use Rattle.exchange_model.specs.declared.block.Enter.{Enter as Row}
 use Rattle.exchange_model.specs.declared.entry.Entry.{Entry}
@@ -14,10 +15,6 @@ use Rattle.exchange_model.specs.declared.index.Noted.{Noted}
 use Rattle.exchange_model.specs.Index.{is_entry, place_in, rows_of, enter_of, is_pair, noted, HasNoted, HasNotedRows, IsOfEntries, IsOfEnters}
 
 -- options
-
-pub option_or-None : {X : Type 0} (o : Option X) → option_or o None ≡ o
-option_or-None None = refl
-option_or-None (Some x) = refl
 
 pub option_or-option_or : {X : Type 0} (o p q : Option X) → option_or (option_or o p) q ≡ option_or o (option_or p q)
 option_or-option_or None p q = refl
@@ -28,16 +25,6 @@ option_map-option_or f None p = refl
 option_map-option_or f (Some x) p = refl
 
 -- one number more
-
--- what is there stays
-stays : (t : Bool) (o : Option ℕ) (n m : ℕ) → (t ≡ true → o ≡ Some m) → o ≡ option_or o (cond t (Some n) None)
-stays true o n m h = let e : o ≡ Some m = h refl in e ∙ ap (λ p. option_or p (Some n)) (sym e)
-stays false o n m h = sym (option_or-None o)
-
--- what is not there comes
-comes : (t : Bool) (o : Option ℕ) (n : ℕ) → (t ≡ true → o ≡ None) → cond t (Some n) o ≡ option_or o (cond t (Some n) None)
-comes true o n h = ap (λ p. option_or p (Some n)) (sym (h refl))
-comes false o n h = sym (option_or-None o)
 
 -- the pair that is asked for is the one that is noted
 same_pair : (n : Noted) (block signal b s : ℕ) → (nat_eq block b && nat_eq signal s) ≡ true → noted n b s ≡ noted n block signal

@@ -104,6 +104,10 @@ abbrev pub entered : {K S W : Type 0} → StmtKind-F K S W → Option ℕ
 entered (Enter signal temps) = Some signal
 entered _ = None
 
+abbrev pub is_enter : {K S W : Type 0} → StmtKind-F K S W → Bool
+is_enter (Enter signal temps) = true
+is_enter _ = false
+
 abbrev pub row_at : Option ℕ → ℕ → Option Row
 row_at None place = None
 row_at (Some signal) place = Some (record { signal = signal; place = place })

@@ -3,6 +3,7 @@ pub mod Fits
 pub mod Index
 pub mod Inside
 pub mod Kept
+pub mod Names
 pub mod Opening
 pub mod PartCounts
 pub mod PartFits

@@ -5,7 +5,6 @@ use crate::stmt::Stmt;
 use plex_num::{Name, Seq};
 
 /// A block: its stored data, and the statements that alone reach it.
-#[derive(Drop)]
 pub struct Block {
     pub name: Name,
     pub variables: Seq<Variable>,
@@ -16,6 +15,21 @@ pub struct Block {
     pub enters: Seq<Enter>,
     pub labels: Seq<Label>,
     pub body: Seq<Stmt>,
+}
+
+impl Drop for Block {
+    fn drop(self) {
+        let Block {
+            name: _,
+            variables: _,
+            temporaries: _,
+            files: _,
+            sends: _,
+            enters: _,
+            labels: _,
+            body: _,
+        } = self;
+    }
 }
 
 /// A stored variable, or a field: its width in bits, its value before the first job, and whether a restart gives it that
@@ -30,7 +44,6 @@ pub struct Variable {
 
 /// A file: its number through the exchange, and its records, which are numbered from 0. Those of a forlopp file are
 /// seized and freed.
-#[derive(Drop)]
 pub struct File {
     pub name: Name,
     pub number: u32,
@@ -38,6 +51,18 @@ pub struct File {
     /// The number of its records.
     pub size: u32,
     pub fields: Seq<Variable>,
+}
+
+impl Drop for File {
+    fn drop(self) {
+        let File {
+            name: _,
+            number: _,
+            forlopp: _,
+            size: _,
+            fields: _,
+        } = self;
+    }
 }
 
 /// A file of an exchange, with the number of its block and the cell at which its records begin.

@@ -3,19 +3,19 @@ ghost use Rattle.exchange_model.specs.Parts.{parts};
 ghost use Rattle.exchange_model.specs.Cells.{first_cell};
 ghost use Rattle.exchange_model.specs.Index.{IsFileAt, enter_of, is_entry};
 ghost use Rattle.exchange_model.specs.Kept.{IsExchange};
+ghost use Rattle.exchange_model.specs.Names.{level_of, name_of_block, name_of_signal};
 
 use crate::block::{Block, FilePlace};
 use crate::entry::{Entry, PointInfo};
 use crate::index::Index;
 use crate::signal::SignalKind;
 use plex_limits::MOST_ENTRIES;
-use plex_num::{Memory, Seq};
+use plex_num::{Level, Memory, Seq};
 use std::alloc::Global;
 use std::marker::Model;
 
 /// An exchange: signals, blocks, the entries at which jobs start, and the points, which are the statements
 /// of all blocks in order. `cells` counts the stored variables, fields and marks of all blocks.
-#[derive(Drop)]
 pub struct Exchange {
     pub signals: Seq<SignalKind>,
     pub blocks: Seq<Block>,
@@ -23,6 +23,19 @@ pub struct Exchange {
     pub points: Seq<PointInfo>,
     pub cells: u32,
     index: Index,
+}
+
+impl Drop for Exchange {
+    fn drop(self) {
+        let Exchange {
+            signals: _,
+            blocks: _,
+            entries: _,
+            points: _,
+            cells: _,
+            index: _,
+        } = self;
+    }
 }
 
 impl Model for Exchange {
@@ -121,6 +134,39 @@ impl Exchange {
             file: &block.files.as_slice()[position.place],
             first: position.first,
         })
+    }
+
+    /// The name of the signal of this number; no bytes where there is none.
+    pub fn signal_name(&self, number: u32) -> &[u8]
+        ensures { result.now ≡ name_of_signal self.now.signals number }
+    {
+        match self.signals.get(number as usize) {
+            Some(signal) => signal.name().as_slice(),
+            None => &[],
+        }
+    }
+
+    /// The name of the block of this number; no bytes where there is none.
+    pub fn block_name(&self, number: u32) -> &[u8]
+        ensures { result.now ≡ name_of_block self.now.blocks number }
+    {
+        match self.blocks.get(number as usize) {
+            Some(block) => block.name.as_slice(),
+            None => &[],
+        }
+    }
+
+    /// The level at which the jobs of an entry wait; B where there is none of this number.
+    pub fn level_of(&self, entry: u32) -> Level
+        ensures { result ≡ level_of self.now entry }
+    {
+        let Some(start) = self.entries.get(entry as usize) else {
+            return Level::B;
+        };
+        match self.signals.get(start.signal as usize) {
+            Some(SignalKind::Buffered { level, .. }) => *level,
+            _ => Level::B,
+        }
     }
 
     /// The number of the entry of a signal at a block, if there is one.

@@ -52,17 +52,31 @@ pub enum Factor {
 }
 
 /// A condition: it holds where all relations of one of the lists hold. In an exchange no list in it is empty.
-#[derive(Drop)]
 pub struct Cond {
     pub any: Seq<Seq<Relation>>,
 }
 
+impl Drop for Cond {
+    fn drop(self) {
+        let Cond { any: _ } = self;
+    }
+}
+
 /// Two expressions, and how the first must stand to the second.
-#[derive(Drop)]
 pub struct Relation {
     pub left: Expr,
     pub rel: Rel,
     pub right: Expr,
+}
+
+impl Drop for Relation {
+    fn drop(self) {
+        let Relation {
+            left: _,
+            rel: _,
+            right: _,
+        } = self;
+    }
 }
 
 /// How one number stands to another.

@@ -6,7 +6,7 @@ ghost use Rattle.exchange_model.specs.Index.{HasNoted, HasNotedRows, IsOfEnters,
 use crate::block::{Block, Enter, File};
 use crate::entry::Entry;
 use plex_limits::MOST_ENTRIES;
-use plex_num::{Memory, Seq};
+use plex_num::{Memory, Seed, Seq};
 use std::alloc::Global;
 use std::collections::HashMap;
 
@@ -21,7 +21,7 @@ pub(crate) struct FilePosition {
 
 /// Numbers that were noted of pairs of a block and a signal. What is noted first stays.
 pub(crate) struct Noted {
-    pub(crate) numbers: HashMap<(u32, u32), u32>,
+    pub(crate) numbers: HashMap<(u32, u32), u32, Seed>,
 }
 
 impl Drop for Noted {
@@ -32,7 +32,6 @@ impl Drop for Noted {
 
 /// Of each block its first cell, of each file where it stands, and of each signal of a block the number of its entry and
 /// the place of its ENTER.
-#[derive(Drop)]
 pub(crate) struct Index {
     pub(crate) firsts: Seq<u32>,
     pub(crate) files: Seq<FilePosition>,
@@ -40,12 +39,23 @@ pub(crate) struct Index {
     pub(crate) enters: Noted,
 }
 
+impl Drop for Index {
+    fn drop(self) {
+        let Index {
+            firsts: _,
+            files: _,
+            entries: _,
+            enters: _,
+        } = self;
+    }
+}
+
 impl Noted {
-    fn new(alloc: Global) -> Noted
+    fn new(alloc: Global, seed: Seed) -> Noted
         ensures { (b s : ℕ) → noted result b s ≡ None }
     {
         Noted {
-            numbers: HashMap::new(alloc),
+            numbers: HashMap::with_hasher(alloc, seed),
         }
     }
 
@@ -139,13 +149,40 @@ fn add_positions(
     Ok(cell)
 }
 
+/// The seed of what is noted of these entries.
+fn seed_of_entries(entries: &[Entry]) -> Seed {
+    let mut seed = Seed::new();
+    for entry in entries {
+        seed = seed.with_number(entry.block).with_number(entry.signal);
+    }
+    seed
+}
+
+/// The seed of what is noted of the ENTERs of these blocks.
+fn seed_of_enters(blocks: &[Block]) -> Seed {
+    let mut seed = Seed::new();
+    for block in blocks {
+        seed = with_rows(seed, block.enters.as_slice());
+    }
+    seed
+}
+
+/// The seed that hangs on the rows of one block more.
+fn with_rows(seed: Seed, rows: &[Enter]) -> Seed {
+    let mut seed = seed.with(&rows.len().to_le_bytes());
+    for row in rows {
+        seed = seed.with_number(row.signal);
+    }
+    seed
+}
+
 /// The numbers of the entries.
 #[tactic(auto, using(crate::proofs::Noting::entries_end))]
 fn entries_of(alloc: Global, entries: &[Entry]) -> Result<Noted, Memory>
     requires { length entries.now ≤ MOST_ENTRIES }
     ensures { IfOk result (λ made. IsOfEntries made entries.now) }
 {
-    let mut made = Noted::new(alloc);
+    let mut made = Noted::new(alloc, seed_of_entries(entries));
     for (number, entry) in entries.iter().enumerate() {
         made.note(entry.block, entry.signal, number as u32)?;
     }
@@ -158,7 +195,7 @@ fn enters_of(alloc: Global, blocks: &[Block]) -> Result<Noted, Memory>
     requires { length blocks.now < 2 ^ 32 }
     ensures { IfOk result (λ made. IsOfEnters made blocks.now) }
 {
-    let mut made = Noted::new(alloc);
+    let mut made = Noted::new(alloc, seed_of_enters(blocks));
     for (number, block) in blocks.iter().enumerate() {
         made.note_rows(number as u32, block.enters.as_slice())?;
     }

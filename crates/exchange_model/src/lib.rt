@@ -15,6 +15,7 @@ mod exchange;
 mod expr;
 mod index;
 mod laws;
+mod names;
 mod signal;
 mod stmt;
 

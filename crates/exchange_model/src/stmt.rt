@@ -1,5 +1,5 @@
 ghost use Rattle.std.specs.Prelude.{◌≡◌};
-ghost use Rattle.exchange_model.specs.Kept.{entered};
+ghost use Rattle.exchange_model.specs.Kept.{entered, is_enter};
 ghost use Rattle.exchange_model.specs.declared.stmt.StmtKind.{out-StmtKind};
 
 use crate::expr::{Cond, Expr, Rel};
@@ -118,6 +118,13 @@ impl StmtKind {
             StmtKind::Enter { signal, .. } => Some(*signal),
             _ => None,
         }
+    }
+
+    /// Whether it is an ENTER.
+    pub fn is_enter(&self) -> bool
+        ensures { result ≡ is_enter (out-StmtKind self.now) }
+    {
+        matches!(self, StmtKind::Enter { .. })
     }
 }
 

@@ -1,19 +1,16 @@
 -- A start that may run on the stored words is one that the register machine can begin with.
-use Rattle.std.proofs.Common.{◌≡◌, ℕ, ◌<◌, ◌≤◌, ◌^◌, Bool, true, List, [], ◌∷◌, length, Option, Some, refl, sym, ap, ◌∙◌, subst, arith}
-use Rattle.std.specs.Prelude.{nat_lt, ◌&&◌}
+use Rattle.std.proofs.Common.{◌≡◌, ℕ, ◌<◌, ◌≤◌, List, [], ◌∷◌, length, Option, Some, refl, sym, ap, ◌∙◌, subst, arith}
 use Rattle.std.specs.List.{AllByRecursion}
-use Rattle.std.proofs.lemmas.Bool.Decides.{nat_tests}
 use Rattle.job_types.specs.declared.job.JobStart.{JobStart}
 use Rattle.job_types.specs.declared.outcome.Outcome.{Outcome}
-use Rattle.job_types.specs.declared.outcome.JobDone.{JobDone}
 use Rattle.job_types.specs.declared.touch.Touch.{Touch}
 use Rattle.job_types.specs.declared.touch.Touch.TheVariants.{Load, Store}
-use Rattle.job_types.specs.Own.{done_of, outcome_of}
-use Rattle.machine_code.specs.declared.code.Code.{Code}
+use Rattle.job_types.specs.Own.{outcome_of}
+use Rattle.machine_code.specs.Coded.{Code}
 use Rattle.machine_code.specs.Listed.{is_word_of}
 use Rattle.exchange_model.specs.declared.exchange.Exchange.{Exchange}
 use Rattle.exchange_model.specs.Kept.{IsExchange}
-use Rattle.source_meaning.specs.Config.{Config}
+use Rattle.machine_code.proofs.Listed.{word_of}
 use Rattle.source_meaning.specs.Job.{job}
 use Rattle.source_meaning.proofs.Budget.{job_over}
 use Rattle.source_meaning.proofs.Touching.{touches_inside}
@@ -21,8 +18,7 @@ use Rattle.source_meaning.specs.Traces.{AreOfCells}
 use Rattle.register_machine.specs.Private.{Private}
 use Rattle.register_machine.specs.Faithful.{Begins, ComesToMeaning, Faithful, MayMake, started}
 use Rattle.exchange_run.specs.Machines.{Leaves}
-use Rattle.exchange_run.specs.Runs.{MayRun, left_by, words_after}
-use Rattle.retire_order.proofs.Cells.{word_of}
+use Rattle.exchange_run.specs.Runs.{MayRun, left_by}
 
 pub entry_within : (x : Exchange) (code : Code) (start : JobStart) (words : List ℕ) → Faithful x code → MayRun x start words → start.job.entry < length code.entries
 entry_within x code start words f m = let e = f.entries in let w = m.fitting.job.entry in omega (arith, e, w)

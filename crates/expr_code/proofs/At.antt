@@ -26,16 +26,11 @@ use Rattle.store_layout.specs.declared.row.FileRow.{FileRow}
 use Rattle.store_layout.specs.Laid.{HasCell, IsLayout, file_row}
 use Rattle.store_layout.specs.Rows.{Rows}
 use Rattle.expr_code.specs.Code.{Site}
-use Rattle.expr_code.proofs.Rows.{first_of, file_row_at}
+use Rattle.expr_code.proofs.Rows.{first_of}
 use Rattle.expr_code.specs.Sites.{IsSiteOf, IsExprOf, IsTermOf, IsFactorOf, IsCondOf, IsSide, IsRelationOf, AreRelationsOf}
-use Rattle.plex_num.proofs.Lists.{all_left, all_right}
+use Rattle.plex_num.proofs.Lists.{all_left, all_right, all_here}
+use Rattle.store_layout.proofs.Looking.{file_row_at}
 use Rattle.expr_code.proofs.Fitted.{variable_fits, field_fits, bracket_fits, reference_fits, factors_fit, term_is_deep, bracket_is_deep}
-
--- what holds of each holds at a place
-each_at : {A : Type 0} (P : A → Type 0) (xs : List A) (i : ℕ) (x : A) → AllByRecursion P xs → i < length xs → x ≡ get_or xs i x → P x
-each_at P [] i x all lt is = absurd (omega arith)
-each_at P (y ∷ xs) zero x all lt is = subst P (sym is) all.0
-each_at P (y ∷ xs) (suc i) x all lt is = each_at P xs i x all.1 (omega arith) is
 
 most_at : {A : Type 0} (f : A → ℕ) (xs : List A) (i : ℕ) (x : A) → i < length xs → x ≡ get_or xs i x → f x ≤ most (map f xs)
 most_at f [] i x lt is = absurd (omega arith)
@@ -46,7 +41,7 @@ pub term_at : (e : Expr) (l : Rows) (b : ℕ) (ts : List Term) (i : ℕ) (t : Te
 term_at e l b ts i t r h room is lt item =
     let all : AllByRecursion (TermFits h.scope) ts = subst (AllByRecursion (TermFits h.scope)) (sym is) (expr_fits-out h.scope e h.fits).1 in
     let deep : bracket_depth e ≡ most (map term_depth ts) = bracket_depth-out e ∙ ap (λ l. most (map term_depth l)) (sym is) in
-    (record { scope = h.scope; is_scope = h.is_scope; fits = each_at (TermFits h.scope) ts i t all lt item }, omega (arith, deep, most_at term_depth ts i t lt item))
+    (record { scope = h.scope; is_scope = h.is_scope; fits = all_here (TermFits h.scope) ts i t all lt item }, omega (arith, deep, most_at term_depth ts i t lt item))
 
 pub first_term_at : (e : Expr) (l : Rows) (b : ℕ) (ts : List Term) (t : Term) (rest : List Term) (r : ℕ) → IsExprOf l b e → r + (2 * bracket_depth e + 2) < 16 → ts ≡ (out-Expr e).terms → ts ≡ t ∷ rest → IsTermOf l b t × (r + (2 * term_depth t + 1) < 16)
 first_term_at e l b ts t rest r h room same is =
@@ -62,7 +57,7 @@ factor_at t l b js i j r h room is lt item =
     let depth : Joined → ℕ = λ j. factor_own_depth j.factor in
     let all : AllByRecursion Fits js = subst (AllByRecursion Fits) (sym is) (factors_fit h.scope t h.fits) in
     let deep : term_depth t ≡ most (map depth js) = term_is_deep t ∙ ap (λ l. most (map depth l)) (sym is) in
-    (record { scope = h.scope; is_scope = h.is_scope; fits = each_at Fits js i j all lt item }, omega (arith, deep, most_at depth js i j lt item))
+    (record { scope = h.scope; is_scope = h.is_scope; fits = all_here Fits js i j all lt item }, omega (arith, deep, most_at depth js i j lt item))
 
 pub first_factor_at : (t : Term) (l : Rows) (b : ℕ) (js : List Joined) (j : Joined) (rest : List Joined) (r : ℕ) → IsTermOf l b t → r + (2 * term_depth t + 1) < 16 → js ≡ (out-Term t).factors → js ≡ j ∷ rest → IsFactorOf l b j.factor × (r + 2 * factor_own_depth j.factor < 16)
 first_factor_at t l b js j rest r h room same is =

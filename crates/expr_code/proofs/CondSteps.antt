@@ -2,6 +2,7 @@
 use Rattle.std.proofs.Common.{◌≡◌, ℕ, ◌+◌, ◌<◌, ◌≤◌, List, [], ◌∷◌, ◌++◌, length, drop, get_or, refl, sym, ap, ◌∙◌, subst, append-nil}
 use Rattle.std.proofs.Math.ListN.{drop_of_length-le}
 use Rattle.std.proofs.lemmas.List.{nil_from_length}
+use Rattle.plex_num.proofs.Lists.{opens}
 use Rattle.machine_code.specs.declared.op.Op.{Op}
 use Rattle.machine_code.specs.declared.op.Op.TheVariants.{Ldi, Ldt, Stt, And, Or}
 use Rattle.exchange_model.specs.declared.expr.Cond.{Cond}
@@ -9,7 +10,7 @@ use Rattle.exchange_model.specs.declared.expr.Relation.{Relation}
 use Rattle.store_layout.specs.Rows.{Rows}
 use Rattle.expr_code.specs.Code.{Site, rel_op, and_local, or_local, expr_code, relation_code, and_code, all_code, or_code, any_code, cond_code}
 use Rattle.expr_code.specs.Sites.{Begins, Grows}
-use Rattle.expr_code.proofs.Emits.{Emitted, Emitting, emitting_begin, emitting_on, emitting_with, emitting_end, grows_plain, begins_is, begins_on, opens}
+use Rattle.expr_code.proofs.Emits.{Emitted, Emitting, emitting_begin, emitting_on, emitting_with, emitting_end, grows_plain, begins_is, begins_on}
 
 -- the last part is appended
 emitting_last : (l : Rows) (b : ℕ) (old now new part : List Op) (left all : Site → List Op) → ((site : Site) → left site ≡ part) → Emitting l b old now left all → new ≡ now ++ part → Grows l b old new all

@@ -2,6 +2,7 @@
 use Rattle.std.proofs.Common.{◌≡◌, ℕ, ◌+◌, ◌<◌, ◌≤◌, List, [], ◌∷◌, ◌++◌, length, drop, map, get_or, refl, sym, ap, ◌∙◌, subst}
 use Rattle.std.proofs.Math.ListN.{drop_of_length-le}
 use Rattle.std.proofs.lemmas.List.{nil_from_length}
+use Rattle.plex_num.proofs.Lists.{opens}
 use Rattle.machine_code.specs.declared.op.Op.{Op}
 use Rattle.exchange_model.specs.declared.expr.Expr.{Expr, out-Expr}
 use Rattle.exchange_model.specs.declared.expr.Term.{Term, out-Term}
@@ -9,7 +10,7 @@ use Rattle.exchange_model.specs.declared.expr.Joined.{Joined}
 use Rattle.store_layout.specs.Rows.{Rows}
 use Rattle.expr_code.specs.Code.{Site, term_op, factor_op, sum_code, product_code, whole_sum, whole_product, expr_code, term_code, factor_code, joined_code, summand_code}
 use Rattle.expr_code.specs.Sites.{Begins, Grows}
-use Rattle.expr_code.proofs.Emits.{Emitting, emitting_begin, emitting_on, emitting_with, emitting_end, begins_on, opens}
+use Rattle.expr_code.proofs.Emits.{Emitting, emitting_begin, emitting_on, emitting_with, emitting_end, begins_on}
 use Rattle.expr_code.proofs.Opened.{expr_code-out, term_code-out}
 
 -- terms

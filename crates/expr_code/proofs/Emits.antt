@@ -1,5 +1,5 @@
 -- Lists of instructions that grow at the end.
-use Rattle.std.proofs.Common.{◌≡◌, ℕ, suc, ◌+◌, ◌<◌, List, [], ◌∷◌, ◌++◌, length, drop, get_or, refl, sym, ap, ◌∙◌, append_assoc, append-nil, add-one, drop-cons, subst}
+use Rattle.std.proofs.Common.{◌≡◌, ℕ, ◌+◌, List, [], ◌++◌, refl, sym, ap, ◌∙◌, append_assoc, append-nil, subst}
 use Rattle.machine_code.specs.declared.op.Op.{Op}
 use Rattle.store_layout.specs.Rows.{Rows}
 use Rattle.expr_code.specs.Code.{Site}
@@ -33,10 +33,6 @@ emitted_on old now new part left all e h = record {
 
 pub emitted_end : (old now all : List Op) → Emitted old now [] all → now ≡ old ++ all
 emitted_end old now all h = h.is ∙ ap (λ l. old ++ l) (sym (append-nil h.made) ∙ h.whole)
-
--- what is left of a list begins with the item at this place
-pub opens : {X : Type 0} (xs : List X) (i : ℕ) (x : X) → i < length xs → x ≡ get_or xs i x → drop i xs ≡ x ∷ drop (i + 1) xs
-opens xs i x lt is = drop-cons xs i x lt ∙ ap (λ y. y ∷ drop (suc i) xs) (sym is) ∙ ap (λ n. x ∷ drop n xs) (sym (add-one i))
 
 -- the same for each site of a block
 pub record Emitting (l : Rows) (b : ℕ) (old now : List Op) (left all : Site → List Op) : Type 0 where

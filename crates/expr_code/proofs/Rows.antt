@@ -4,7 +4,7 @@ use Rattle.std.specs.Option.{option_map}
 use Rattle.std.proofs.lemmas.List.Sums.{sum_by-cons}
 use Rattle.std.proofs.lemmas.Option.{none-some, same_Some, slice_get-map}
 use Rattle.exchange_model.specs.declared.block.Block.{Block}
-use Rattle.exchange_model.specs.Cells.{Placed, block_cells, cell_count, first_cell, placed_files}
+use Rattle.exchange_model.specs.Cells.{Placed, block_cells, cell_count, first_cell}
 use Rattle.store_layout.specs.declared.row.BlockRow.{BlockRow}
 use Rattle.store_layout.specs.declared.row.FileRow.{FileRow}
 use Rattle.store_layout.specs.Laid.{IsLayout, block_rows, file_row}
@@ -24,9 +24,6 @@ first_in word (c ∷ cs) (suc b) k row h there =
 -- a block's row begins at the block's first cell
 pub first_of : (bs : List Block) (l : Rows) (b : ℕ) (k : Block) (row : BlockRow) → IsLayout bs l → slice_get bs b ≡ Some k → slice_get l.blocks b ≡ Some row → row.first ≡ first_cell bs b
 first_of bs l b k row laid h there = omega (arith, first_in 0 bs b k row h (ap (λ (rs : List BlockRow). slice_get rs b) (sym laid.blocks) ∙ there))
-
-pub file_row_at : (bs : List Block) (l : Rows) (f : ℕ) (p : Placed) → IsLayout bs l → slice_get (placed_files bs) f ≡ Some p → slice_get l.files f ≡ Some (file_row p)
-file_row_at bs l f p laid h = ap (λ (rs : List FileRow). slice_get rs f) laid.files ∙ slice_get-map file_row (placed_files bs) f ∙ ap (option_map file_row) h
 
 -- a file of the site, from its row
 pub record IsOfRow (row : FileRow) (o : Option Placed) : Type 0 where

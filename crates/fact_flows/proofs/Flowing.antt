@@ -5,13 +5,10 @@ use Rattle.std.specs.List.{AllByRecursion, Contains}
 use Rattle.std.proofs.lemmas.Option.{none-some, same_Some, slice_get_past}
 use Rattle.exchange_model.specs.declared.exchange.Exchange.{Exchange}
 use Rattle.exchange_model.specs.declared.entry.Entry.{Entry}
-use Rattle.exchange_model.specs.declared.signal.SignalKind.{SignalKind}
 use Rattle.exchange_model.specs.declared.stmt.StmtKind.TheOpen as stmt
-use Rattle.exchange_model.specs.Fits.{retrieved, AnswerFits}
 use Rattle.exchange_model.specs.Kept.{IsExchange}
 use Rattle.source_meaning.specs.Changes.{value_count}
-use Rattle.source_meaning.specs.Named.{Layer}
-use Rattle.source_meaning.specs.Rests.{IsOfBlock}
+use Rattle.source_meaning.proofs.Fitting.{answer_below}
 use Rattle.flow_points.specs.declared.fact.Fact.{Fact}
 use Rattle.flow_points.specs.declared.fact.Slot.{Slot}
 use Rattle.flow_points.specs.declared.flow.Passing.{Passing}
@@ -68,14 +65,6 @@ to_retrieves x t P e p w answer listed points old new table is there same h =
     way_of_ends x P e p w points old new
     (λ q. subst (λ k. Contains points q ↔ IsEnd x k q) (sym is) (λ c. (are.exact q).0 (subst (λ l. Contains l q) same c), λ r. subst (λ l. Contains l q) (sym same) ((are.exact q).1 r)))
     h
-
--- a RETRIEVE is of an answer of the exchange
-fits_none : {A : Type 0} (signals : List SignalKind) (answer n : ℕ) → length signals ≤ answer → AnswerFits (slice_get signals answer) n → A
-fits_none signals answer n past fits = absurd (subst (λ o. AnswerFits o n) (slice_get_past signals answer past) fits)
-
-answer_below : (x : Exchange) (b : ℕ) (l : Layer) (answer : ℕ) → length x.signals ≤ answer → IsOfBlock x b l → retrieved l ≡ Some answer → ⊥
-answer_below x b (stmt.Retrieve m temps) answer past fits is = fits_none x.signals m (length temps) (subst (λ n. length x.signals ≤ n) (sym (same_Some m answer is)) past) fits.fits.names.0
-answer_below x b _ answer past fits is = none-some answer is
 
 pub no_retrieves : (x : Exchange) (t : FlowTable) (P : Facts) (e p : ℕ) (w : Way) (answer : ℕ) (old : List Fact) → IsExchange x → IsTable x t → w.ends ≡ ends.Retrieves answer → length t.retrieves ≤ answer → HasGiven old old (WayGives x P e p w)
 no_retrieves x t P e p w answer old kept table is past =

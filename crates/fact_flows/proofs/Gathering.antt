@@ -1,15 +1,13 @@
 -- What several give, one after the other.
-use Rattle.std.proofs.Common.{◌≡◌, ◌⊎◌, inl, inr, ⊎_elim, ℕ, zero, suc, ◌+◌, ◌<◌, ◌≤◌, List, [], ◌∷◌, ◌++◌, length, drop, get_or, refl, sym, ap, ◌∙◌, subst, arith, append-nil, append_assoc, add-one, drop-cons}
+use Rattle.std.proofs.Common.{◌≡◌, ◌⊎◌, inl, inr, ⊎_elim, ℕ, ◌+◌, ◌<◌, ◌≤◌, List, [], ◌++◌, length, drop, get_or, sym, ap, ◌∙◌, subst, append-nil, append_assoc}
 use Rattle.std.proofs.Math.ListN.{drop_of_length-le}
 use Rattle.std.proofs.lemmas.List.Elements.{Contains-append_left, Contains-append_right, Contains-append_cases}
 use Rattle.std.specs.List.{Contains}
+use Rattle.std.proofs.lemmas.List.{get_or_default, drop_more}
+use Rattle.plex_num.proofs.Members.{first_or_later, none_in}
 use Rattle.flow_points.specs.declared.fact.Fact.{Fact}
 use Rattle.flow_table.specs.Giving.{HasGiven}
-use Rattle.flow_table.proofs.Telling.{first_or_later}
 use Rattle.fact_flows.specs.Flows.{OneGives}
-
-none_in : {A : Type 0} (x : A) → Contains [] x → ⊥
-none_in x c = (let lt = c.1 in omega arith)
 
 pub record Gathers {A : Type 0} (G : A → Fact → Type 0) (xs : List A) (old : List Fact) (i : ℕ) (now : List Fact) : Type 0 where
   pub added : List Fact
@@ -20,14 +18,6 @@ pub record Gathers {A : Type 0} (G : A → Fact → Type 0) (xs : List A) (old :
 pub gather_begin : {A : Type 0} (G : A → Fact → Type 0) (xs : List A) (old : List Fact) → Gathers G xs old 0 old
 gather_begin G xs old = record { added = []; is = sym (append-nil old); each = λ f c. absurd (none_in f c); listed = λ f h. inr h }
 
-item_is : {A : Type 0} (xs : List A) (i : ℕ) (d e : A) → i < length xs → get_or xs i d ≡ get_or xs i e
-item_is [] i d e lt = absurd (omega arith)
-item_is (x ∷ xs) zero d e lt = refl
-item_is (x ∷ xs) (suc i) d e lt = item_is xs i d e (omega arith)
-
-opens : {A : Type 0} (xs : List A) (i : ℕ) (d : A) → i < length xs → drop i xs ≡ get_or xs i d ∷ drop (i + 1) xs
-opens xs i d lt = drop-cons xs i d lt ∙ ap (λ n. get_or xs i d ∷ drop n xs) (sym (add-one i))
-
 pub gather_more : {A : Type 0} (G : A → Fact → Type 0) (xs : List A) (i : ℕ) (d : A) (old now new : List Fact) → i < length xs → HasGiven now new (G (get_or xs i d)) → Gathers G xs old i now → Gathers G xs old (i + 1) new
 gather_more {A} G xs i d old now new lt h g = record {
   added = g.added ++ h.added;
@@ -37,14 +27,14 @@ gather_more {A} G xs i d old now new lt h g = record {
 }
   where
     own : (f : Fact) → G (get_or xs i d) f → OneGives G xs f
-    own f k = record { one = get_or xs i d; among = (i, lt, item_is xs i (get_or xs i d) d lt); gives = k }
+    own f k = record { one = get_or xs i d; among = (i, lt, get_or_default xs i (get_or xs i d) d lt); gives = k }
 
     later : (f : Fact) → OneGives G (drop i xs) f → Contains (g.added ++ h.added) f ⊎ OneGives G (drop (i + 1) xs) f
     later f o =
         ⊎_elim
         (λ same. inl (Contains-append_right g.added h.added f (h.listed f (subst (λ a. G a f) (sym same) o.gives))))
         (λ more. inr (record { one = o.one; among = more; gives = o.gives }))
-        (first_or_later (get_or xs i d) o.one (drop (i + 1) xs) (subst (λ l. Contains l o.one) (opens xs i d lt) o.among))
+        (first_or_later (get_or xs i d) o.one (drop (i + 1) xs) (subst (λ l. Contains l o.one) (drop_more xs i d lt) o.among))
 
 pub gather_item : {A : Type 0} (G : A → Fact → Type 0) (xs : List A) (i : ℕ) (a : A) (old now new : List Fact) → i < length xs → a ≡ get_or xs i a → HasGiven now new (G a) → Gathers G xs old i now → Gathers G xs old (i + 1) new
 gather_item G xs i a old now new lt is h g = gather_more G xs i a old now new lt (subst (λ b. HasGiven now new (G b)) is h) g

@@ -4,6 +4,7 @@ use Rattle.std.proofs.Math.Nat.{le-max_left, le-max_right}
 use Rattle.std.proofs.lemmas.List.Elements.{Contains-append_cases}
 use Rattle.std.proofs.lemmas.List.FromFn.{length-range_with_len, get_or-range_with_len}
 use Rattle.std.specs.List.{Contains, range_with_len}
+use Rattle.plex_num.proofs.Members.{first_or_later, none_in}
 use Rattle.exchange_model.specs.declared.block.Block.{Block}
 use Rattle.exchange_model.specs.declared.exchange.Exchange.{Exchange}
 use Rattle.exchange_model.specs.declared.expr.Expr.{Expr}
@@ -21,15 +22,11 @@ use Rattle.source_meaning.specs.Rests.{IsRow, whole, later, branch, turn, first_
 use Rattle.source_meaning.proofs.Lists.{first_is, later_is}
 use Rattle.source_meaning.proofs.Points.{points_many}
 use Rattle.flow_points.specs.Places.{Place, place_of, StandsAt}
-use Rattle.flow_table.proofs.Telling.{first_or_later}
 
 -- a statement at the point
 pub record Standing (x : Exchange) (p : ℕ) : Type 0 where
   pub at : Place
   pub stands : StandsAt x p at
-
-none_in : {A : Type 0} (x : A) → Contains [] x → ⊥
-none_in x c = (let lt = c.1 in omega arith)
 
 left_lt : (a b n : ℕ) → max a b < n → a < n
 left_lt a b n lt = (let le = le-max_left a b in omega (arith, le, lt))

@@ -1,9 +1,10 @@
 -- The slots before a point, as a row tells them.
-use Rattle.std.proofs.Common.{◌≡◌, ⊎_elim, ℕ, zero, suc, ◌+◌, ◌<◌, ◌≤◌, List, [], ◌∷◌, ◌++◌, length, map, Some, slice_get, sym, ap, ◌∙◌, subst, arith, append-nil, append_assoc}
+use Rattle.std.proofs.Common.{◌≡◌, ⊎_elim, ℕ, ◌+◌, ◌<◌, ◌≤◌, List, [], ◌∷◌, ◌++◌, length, map, Some, slice_get, sym, ap, ◌∙◌, subst, arith, append-nil, append_assoc}
 use Rattle.std.proofs.lemmas.List.Elements.{Contains-append_left, Contains-append_right, Contains-append_cases}
 use Rattle.std.proofs.lemmas.List.FromFn.{length-map-range_with_len, get_or-map-range_with_len, map-range_with_len_more}
-use Rattle.std.proofs.lemmas.Option.{none-some, same_Some, slice_get_past}
+use Rattle.std.proofs.lemmas.Option.{none-some, same_Some, slice_get_past, slice_get_within}
 use Rattle.std.specs.List.{Contains, range_with_len}
+use Rattle.plex_num.proofs.Members.{first_or_later, none_in}
 use Rattle.exchange_model.specs.declared.exchange.Exchange.{Exchange}
 use Rattle.exchange_model.specs.Kept.{IsExchange}
 use Rattle.source_meaning.proofs.Lists.{first_is, later_is}
@@ -14,14 +15,10 @@ use Rattle.flow_points.specs.Slots.{IsSlotOf, HasSlot}
 use Rattle.flow_table.specs.declared.row.Row.{Row}
 use Rattle.flow_table.specs.declared.row.FlowTable.{FlowTable}
 use Rattle.flow_table.specs.Rows.{IsRowOf, IsTable}
-use Rattle.flow_table.proofs.Telling.{first_or_later}
 use Rattle.fact_flows.specs.declared.slots.Numbered.{Numbered}
 use Rattle.fact_flows.specs.declared.slots.Numbered.TheVariants.{Temp, Given, Answered}
 use Rattle.fact_flows.specs.Slots.{AreSlots, numbered_slot, row_slots}
 use Rattle.fact_flows.proofs.Peopled.{point_stands}
-
-none_in : {A : Type 0} (x : A) → Contains [] x → ⊥
-none_in x c = (let lt = c.1 in omega arith)
 
 -- a loop over numbers
 
@@ -138,17 +135,12 @@ place_to_row x at r slot.Awaits is h = tt
 pub row_of : (x : Exchange) (t : FlowTable) (p : ℕ) (r : Row) (at : Place) → IsTable x t → slice_get t.rows p ≡ Some r → StandsAt x p at → IsRowOf x at r
 row_of x t p r at table there stands = (let h = table.rows.each p at stands in subst (IsRowOf x at) (same_Some h.row r (sym h.there ∙ there)) h.is)
 
-got_below : {A : Type 0} (xs : List A) (i : ℕ) (x : A) → slice_get xs i ≡ Some x → i < length xs
-got_below [] i x there = absurd (none-some x there)
-got_below (y ∷ xs) zero x there = omega arith
-got_below (y ∷ xs) (suc i) x there = (let lt = got_below xs i x there in omega arith)
-
 pub some_slots : (x : Exchange) (t : FlowTable) (p : ℕ) (r : Row) (slots : List Slot) → IsExchange x → IsTable x t → slice_get t.rows p ≡ Some r → slots ≡ row_slots r → AreSlots x p slots
 some_slots x t p r slots kept table there is = record { exact = λ s. (from s, to s) }
   where
     from : (s : Slot) → Contains slots s → HasSlot x p s
     from s c =
-        let below : p < length x.points = (let lt = got_below t.rows p r there in let e = table.rows.each_point in omega (arith, lt, e)) in
+        let below : p < length x.points = (let lt = slice_get_within t.rows p r there in let e = table.rows.each_point in omega (arith, lt, e)) in
         let at = point_stands x kept p below in
         record { place = at.at; stands = at.stands; slot = row_to_place x at.at r s (row_of x t p r at.at table there at.stands) (listed_has r s (subst (λ l. Contains l s) is c)) }
 

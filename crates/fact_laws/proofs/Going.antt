@@ -18,7 +18,8 @@ use Rattle.exchange_model.specs.Kept.{IsExchange, entered, scope_of, signal_coun
 use Rattle.source_meaning.specs.Named.{Layer}
 use Rattle.source_meaning.specs.Value.{Gives, expr_value}
 use Rattle.source_meaning.specs.Valid.{IsWord}
-use Rattle.source_meaning.specs.Config.{Item, Do, Turns, Config, sight, body_of, label_of, from_place, is_enter}
+use Rattle.source_meaning.specs.Config.{Item, Do, Turns, Config, sight, body_of, label_of, from_place}
+use Rattle.exchange_model.specs.Kept.{is_enter}
 use Rattle.source_meaning.specs.Changes.{value_count, takes}
 use Rattle.source_meaning.specs.Deeds.{Deed, Doing, deed_point, label_in, GoesOnAfter, MayGoOn, IsBranch, IsNoEnter, GoesOn, to_next, with_value, to_label, to_branch, to_loop, to_turn, with_found, with_seized, with_answers, with_given, from_no_enter}
 use Rattle.source_meaning.specs.Rests.{StandsAs, IsRest, first_point, head_point}

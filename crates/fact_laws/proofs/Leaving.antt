@@ -20,7 +20,8 @@ use Rattle.exchange_model.specs.Fits.{Scope, ExprFits, Reaches, retrieved}
 use Rattle.exchange_model.specs.Kept.{IsExchange, scope_of, signal_count}
 use Rattle.source_meaning.specs.Named.{Layer}
 use Rattle.source_meaning.specs.Value.{values_of}
-use Rattle.source_meaning.specs.Config.{Item, Do, Start, Turns, Caller, Config, blank, sight, is_enter, is_receiver, from_signal}
+use Rattle.source_meaning.specs.Config.{Item, Do, Start, Turns, Caller, Config, blank, sight, is_receiver, from_signal}
+use Rattle.exchange_model.specs.Kept.{is_enter}
 use Rattle.source_meaning.specs.Changes.{value_count}
 use Rattle.source_meaning.specs.Deeds.{Deed, deed_point, GoesTo, out, named, held, IsBeginning, by_send, by_transfer, IsAsking, by_combined}
 use Rattle.source_meaning.specs.Rests.{StandsAs, IsRest, IsRetrieveOf, head_point, first_point}

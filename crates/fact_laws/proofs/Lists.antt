@@ -5,11 +5,7 @@ use Rattle.source_meaning.specs.Config.{blank}
 use Rattle.job_types.specs.Own.{eight}
 use Rattle.plex_limits.specs.declared.limits.TheConstants.{MOST_TEMPORARIES, MOST_VALUES}
 use Rattle.std.specs.Prelude.{◌-◌}
-
-pub index_zeros : (n k : ℕ) → slice_index (replicate n 0) k ≡ 0
-index_zeros zero k = refl
-index_zeros (suc n) zero = refl
-index_zeros (suc n) (suc k) = index_zeros n k
+use Rattle.plex_num.proofs.Lists.{index_zeros}
 
 index_padded : (vs : List ℕ) (n k : ℕ) → slice_index (vs ++ replicate n 0) k ≡ slice_index vs k
 index_padded [] n k = index_zeros n k

@@ -14,7 +14,8 @@ use Rattle.exchange_model.specs.declared.stmt.StmtKind.TheOpen as stmt
 use Rattle.exchange_model.specs.Fits.{ArePaired, answer_of, awaited, retrieved}
 use Rattle.exchange_model.specs.Kept.{IsExchange, entered, scope_of}
 use Rattle.source_meaning.specs.Named.{Layer}
-use Rattle.source_meaning.specs.Config.{Item, Do, Start, Turns, Caller, Config, from_signal, from_place, label_of, is_enter, next_counted}
+use Rattle.source_meaning.specs.Config.{Item, Do, Start, Turns, Caller, Config, from_signal, from_place, label_of, next_counted}
+use Rattle.exchange_model.specs.Kept.{is_enter}
 use Rattle.source_meaning.specs.Changes.{ends}
 use Rattle.source_meaning.specs.Deeds.{Deed, Doing, Starting, Turning, deed_of, label_in, GoesOnAfter, MayGoOn, IsBranch, IsAsking, by_combined, GoesOn, to_next, with_value, to_label, to_branch, to_loop, to_turn, with_found, with_seized, with_answers, with_given, from_no_enter}
 use Rattle.source_meaning.specs.Effects.{Effect, Looks, Goes, Leave, Begins, Asks, Returns, Ends, Faults}

@@ -7,7 +7,8 @@ use Rattle.exchange_model.specs.declared.stmt.Stmt.{Stmt}
 use Rattle.exchange_model.specs.declared.stmt.StmtKind.{out-StmtKind}
 use Rattle.exchange_model.specs.declared.stmt.StmtKind.TheOpen as stmt
 use Rattle.source_meaning.specs.Named.{Layer}
-use Rattle.source_meaning.specs.Config.{Item, Do, Start, Turns, Caller, is_enter, next_counted}
+use Rattle.source_meaning.specs.Config.{Item, Do, Start, Turns, Caller, next_counted}
+use Rattle.exchange_model.specs.Kept.{is_enter}
 use Rattle.source_meaning.specs.Deeds.{deed_of, deed_point}
 use Rattle.source_meaning.specs.Rests.{IsRow, StandsAs, IsLoop, IsRest, first_point, head_point}
 use Rattle.source_meaning.proofs.Rests.{cons_head, stands_next}

@@ -10,6 +10,7 @@ use Rattle.std.proofs.lemmas.Cmp.{alike_right, nat_cmp_total, ranked, tied_itsel
 use Rattle.std.proofs.lemmas.List.{get_or-map, get_or_default, length-map}
 use Rattle.std.proofs.lemmas.List.Sorted.{searchable_from_sorted}
 use Rattle.std.proofs.lemmas.Map.Keys.{Less-from_sorted}
+use Rattle.plex_num.proofs.Numbers.{nat_same}
 use Rattle.flow_points.specs.declared.fact.Slot.{Slot}
 use Rattle.flow_points.specs.declared.fact.Slot.TheVariants.{Depth}
 use Rattle.flow_points.specs.declared.fact.Value.{Value}
@@ -22,7 +23,7 @@ use Rattle.flow_points.specs.contracts.fact.SlotOrd.TheImpl.Laws as slot_laws
 use Rattle.flow_points.specs.contracts.fact.ValueOrd.TheImpl as values
 use Rattle.flow_table.specs.Giving.{AreValues}
 use Rattle.fact_rows.specs.Orders.{fact_order}
-use Rattle.fact_rows.proofs.Listing.{nat_same, slot_same}
+use Rattle.fact_rows.proofs.Listing.{slot_same}
 use Rattle.fact_list.specs.declared.search.Span.{Span}
 use Rattle.fact_list.specs.Spans.{IsSpan, value_of}
 

@@ -15,9 +15,14 @@ use std::alloc::Global;
 use std::marker::Model;
 
 /// Facts in their order, each once, which contracts see as the list of them.
-#[derive(Drop)]
 pub struct FactList {
     facts: Seq<Fact>,
+}
+
+impl Drop for FactList {
+    fn drop(self) {
+        let FactList { facts: _ } = self;
+    }
 }
 
 impl Model for FactList {

@@ -1,5 +1,5 @@
 -- What the numbers of all slots become, and what is known then.
-use Rattle.std.proofs.Common.{◌≡◌, ◌⊎◌, inl, inr, ⊎_elim, ◌↔◌, ℕ, zero, suc, ◌+◌, ◌-◌, ◌*◌, ◌<◌, ◌≤◌, Bool, true, false, not, List, [], ◌∷◌, ◌++◌, slice_get, length, get_or, set, map, drop, drop-cons, add-one, Contains, Option, Some, None, Result, IfOk, Ok, Err, refl, sym, subst, ap, ◌∙◌, arith, length-set, get_or-set_same, get_or-set_other}
+use Rattle.std.proofs.Common.{◌≡◌, ◌⊎◌, inl, inr, ⊎_elim, ◌↔◌, ℕ, suc, ◌+◌, ◌-◌, ◌*◌, ◌<◌, ◌≤◌, Bool, true, false, not, List, [], ◌∷◌, ◌++◌, slice_get, length, get_or, set, map, Contains, Option, Some, None, Result, IfOk, Ok, Err, refl, sym, subst, ap, ◌∙◌, arith, length-set, get_or-set_same, get_or-set_other}
 use Rattle.std.specs.Prelude.{nat_eq, IsTrue}
 use Rattle.std.specs.declared.cmp.Ordering.TheVariants.{Less}
 use Rattle.std.specs.Bool.{MatchBool}
@@ -14,6 +14,7 @@ use Rattle.std.proofs.lemmas.Option.{slice_get_within, get_or_from_slice_get}
 use Rattle.std.proofs.lemmas.List.Elements.{Contains-append_left, Contains-append_right, All-contains, All-from_recursion, All-get_or, All-head, All-nil, All-set, All-tail, All-weaker, Contains-get_or}
 use Rattle.std.proofs.lemmas.List.Sums.{sum_by-cons, sum_by-set}
 use Rattle.std.proofs.lemmas.Map.Keys.{sorted_head, sorted_tail}
+use Rattle.plex_num.proofs.Members.{none_in}
 use Rattle.flow_points.specs.declared.fact.Slot.{Slot}
 use Rattle.flow_points.specs.declared.fact.Slot.TheVariants.{Depth}
 use Rattle.flow_points.specs.declared.fact.Value.{Value}
@@ -36,9 +37,6 @@ use Rattle.fact_rows.proofs.Valuing.{value_back, number_same}
 
 -- ---- lists
 
-pub none_in : {A : Type 0} (x : A) → Contains [] x → ⊥
-none_in x c = (let lt = c.1 in omega arith)
-
 pub from_map : {A : Type 0} (f : ℕ → A) (ns : List ℕ) (y : A) → Contains (map f ns) y → (n : ℕ) × Contains ns n × (f n ≡ y)
 from_map f ns y c =
     let lt : c.0 < length ns = (let l = c.1 in omega (arith, length-map ns f)) in
@@ -47,15 +45,8 @@ from_map f ns y c =
 pub to_map : {A : Type 0} (f : ℕ → A) (ns : List ℕ) (n : ℕ) → Contains ns n → Contains (map f ns) (f n)
 to_map f ns n c = (let l = c.1 in (c.0, omega (arith, length-map ns f), get_or-map f ns c.0 n (f n) l ∙ ap f c.2))
 
-pub first_or_rest : {A : Type 0} (y : A) (xs : List A) (x : A) → Contains (y ∷ xs) x → (y ≡ x) ⊎ Contains xs x
-first_or_rest y xs x (zero, lt, is) = inl is
-first_or_rest y xs x (suc k, lt, is) = inr (k, (let l = lt in omega arith), is)
-
 each_all : (P : ℕ → Type 0) (ns : List ℕ) → ((n : ℕ) → Contains ns n → P n) → All P ns
 each_all P ns h = λ k d lt. h (get_or ns k d) (Contains-get_or ns k d lt)
-
-pub opens : {X : Type 0} (xs : List X) (i : ℕ) (x : X) → i < length xs → x ≡ get_or xs i x → drop i xs ≡ x ∷ drop (i + 1) xs
-opens xs i x lt is = drop-cons xs i x lt ∙ ap (λ y. y ∷ drop (suc i) xs) (sym is) ∙ ap (λ n. x ∷ drop n xs) (sym (add-one i))
 
 no_planed : (bound : ℕ) → ArePlaned bound []
 unfolding IsStrictlySortedBy

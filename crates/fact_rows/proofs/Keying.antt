@@ -10,6 +10,8 @@ use Rattle.std.proofs.lemmas.List.Elements.{Contains-append_cases, Contains-appe
 use Rattle.std.proofs.lemmas.List.FromFn.{map-range_with_len_more}
 use Rattle.std.proofs.lemmas.Map.Keys.{sorted_tail}
 use Rattle.std.proofs.Math.ListN.{drop_of_length-le}
+use Rattle.plex_num.proofs.Members.{none_in, first_or_later, later_is}
+use Rattle.plex_num.proofs.Lists.{opens}
 use Rattle.flow_points.specs.declared.fact.Slot.{Slot}
 use Rattle.flow_points.specs.declared.fact.Slot.TheVariants as slot
 use Rattle.flow_points.specs.declared.fact.Fact.{Fact}
@@ -25,8 +27,8 @@ use Rattle.fact_rows.specs.Known.{Rows, Knows, AreFacts}
 use Rattle.fact_rows.specs.Touched.{key_order, key, IsKept, facts_at, facts_of, keys_at, keys_before, keys_if, keys_of, numbered_keys, numbered_slot}
 use Rattle.fact_rows.proofs.Numbering.{in_range, range_has, range_rises}
 use Rattle.fact_rows.proofs.Laying.{numbers_by, slot_placed}
-use Rattle.fact_rows.proofs.Holding.{first_or_rest, from_map, none_in, opens, rising_past, to_map}
-use Rattle.fact_rows.proofs.Listing.{facts_exact, in_more, nat_less, sorted_append, sorted_cons, sorted_map, sorted_none}
+use Rattle.fact_rows.proofs.Holding.{from_map, rising_past, to_map}
+use Rattle.fact_rows.proofs.Listing.{facts_exact, nat_less, sorted_append, sorted_cons, sorted_map, sorted_none}
 
 -- ---- a loop over numbers
 
@@ -155,13 +157,13 @@ module _ (p : ℕ) where
   last_from k c =
       ⊎_elim
       (λ (is : key p slot.Depth ≡ k). subst (IsFrom p 3) is (record { point = refl; from = omega arith }))
-      (λ rest. ⊎_elim (λ (is : key p slot.Awaits ≡ k). subst (IsFrom p 3) is (record { point = refl; from = omega arith })) (λ none. absurd (none_in k none)) (first_or_rest (key p slot.Awaits) [] k rest))
-      (first_or_rest (key p slot.Depth) (key p slot.Awaits ∷ []) k c)
+      (λ rest. ⊎_elim (λ (is : key p slot.Awaits ≡ k). subst (IsFrom p 3) is (record { point = refl; from = omega arith })) (λ none. absurd (none_in k none)) (first_or_later (key p slot.Awaits) k [] rest))
+      (first_or_later (key p slot.Depth) k (key p slot.Awaits ∷ []) c)
 
   last_rise : IsStrictlySortedBy key_order last_keys
   last_rise =
       sorted_cons key_order (key p slot.Depth) (key p slot.Awaits ∷ [])
-      (λ k c. ⊎_elim (λ (is : key p slot.Awaits ≡ k). subst (λ j. key_order (key p slot.Depth) j ≡ Less) is (same_point (key p slot.Depth) (key p slot.Awaits) refl refl)) (λ none. absurd (none_in k none)) (first_or_rest (key p slot.Awaits) [] k c))
+      (λ k c. ⊎_elim (λ (is : key p slot.Awaits ≡ k). subst (λ j. key_order (key p slot.Depth) j ≡ Less) is (same_point (key p slot.Depth) (key p slot.Awaits) refl refl)) (λ none. absurd (none_in k none)) (first_or_later (key p slot.Awaits) k [] c))
       (sorted_cons key_order (key p slot.Awaits) [] (λ k none. absurd (none_in k none)) (sorted_none key_order))
 
   module _ (c : Counts) where
@@ -220,7 +222,7 @@ of_points all [] k c = absurd (none_in k c)
 of_points all (p ∷ ps) k c =
     ⊎_elim
     (λ here. (0, omega arith, sym (before_at p (slice_get all p) k here)))
-    (λ there. in_more p ps k.point (of_points all ps k there))
+    (λ there. later_is p k.point ps (of_points all ps k there))
     (Contains-append_cases (keys_before all p) (keys_of all ps) k c)
 
 keys_rise : (all : List Counts) (ps : List ℕ) → IsStrictlySortedBy nat_cmp ps → IsStrictlySortedBy key_order (keys_of all ps)
@@ -239,7 +241,7 @@ keys_has all (q ∷ ps) p s c there at place =
     (λ (same : q ≡ p). Contains-append_left (keys_before all q) (keys_of all ps) (key p s)
     (subst (λ r. Contains (keys_before all r) (key p s)) (sym same) (subst (λ o. Contains (keys_if p o) (key p s)) (sym at) (at_has p c s place))))
     (λ later. Contains-append_right (keys_before all q) (keys_of all ps) (key p s) (keys_has all ps p s c later at place))
-    (first_or_rest q ps p there)
+    (first_or_later q p ps there)
 
 -- ---- the facts of all slots before points
 

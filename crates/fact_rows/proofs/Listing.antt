@@ -1,5 +1,5 @@
 -- Facts in their order: slot by slot, and of each slot by their numbers.
-use Rattle.std.proofs.Common.{◌≡◌, inl, inr, ⊎_elim, ℕ, suc, ◌+◌, ◌-◌, ◌<◌, ◌≤◌, List, [], ◌∷◌, ◌++◌, length, get_or, drop, map, Contains, refl, sym, subst, ap, ◌∙◌, arith, append-nil, append_assoc}
+use Rattle.std.proofs.Common.{◌≡◌, inl, inr, ⊎_elim, ℕ, ◌+◌, ◌-◌, ◌<◌, ◌≤◌, List, [], ◌∷◌, ◌++◌, length, get_or, drop, map, Contains, refl, sym, subst, ap, ◌∙◌, arith, append-nil, append_assoc}
 use Rattle.std.specs.declared.cmp.Ordering.{Ordering}
 use Rattle.std.specs.declared.cmp.Ordering.TheVariants.{Less, Equal, Greater}
 use Rattle.std.specs.List.{dedup}
@@ -9,7 +9,7 @@ use Rattle.std.specs.Ordering.{nat_cmp, ordering_then}
 use Rattle.std.specs.Prelude.{nat_lt, nat_eq, if◌then◌else◌}
 use Rattle.std.proofs.lemmas.Bool.{cases_lt, cond-true, lt-ltb}
 use Rattle.std.specs.Cmp.{unsigned_ties}
-use Rattle.std.proofs.lemmas.Cmp.{nat_cmp_total, ranked, tied_itself}
+use Rattle.std.proofs.lemmas.Cmp.{nat_cmp_total, tied_itself}
 use Rattle.std.proofs.lemmas.List.{get_or_default}
 use Rattle.std.proofs.lemmas.List.Elements.{All-contains, All-from_recursion, recursion_from_All, Contains-append_cases, Contains-append_left, Contains-append_right, Contains-get_or}
 use Rattle.std.proofs.lemmas.List.Filters.{dedup_is}
@@ -18,6 +18,9 @@ use Rattle.std.proofs.lemmas.List.Sorted.{Contains-permutation, IsPermutation-sy
 use Rattle.std.proofs.lemmas.Map.Keys.{sorted_head, sorted_tail}
 use Rattle.std.proofs.Math.ListN.{drop_of_length-le}
 use Rattle.plex_limits.specs.declared.limits.TheConstants.{MOST_VALUES}
+use Rattle.plex_num.proofs.Members.{none_in, first_or_later, later_is}
+use Rattle.plex_num.proofs.Lists.{opens}
+use Rattle.plex_num.proofs.Numbers.{nat_same}
 use Rattle.flow_points.specs.declared.fact.Slot.{Slot}
 use Rattle.flow_points.specs.declared.fact.Slot.TheVariants.{Temp, Given, Answered, Depth, Awaits}
 use Rattle.flow_points.specs.declared.fact.Value.{Value}
@@ -35,12 +38,9 @@ use Rattle.fact_rows.specs.Known.{Rows, Knows, AreFacts}
 use Rattle.fact_rows.specs.Numbers.{AreNumbers}
 use Rattle.fact_rows.specs.Touched.{key_order, key, IsKept, facts_at, facts_of}
 use Rattle.fact_rows.proofs.Valuing.{arg_is, const_is, any_is}
-use Rattle.fact_rows.proofs.Holding.{from_map, to_map, first_or_rest, rising_past, slot_below, none_in, opens}
+use Rattle.fact_rows.proofs.Holding.{from_map, to_map, rising_past, slot_below}
 
 -- ---- lists that rise
-
-pub in_more : {X : Type 0} (x : X) (xs : List X) (y : X) → Contains xs y → Contains (x ∷ xs) y
-in_more x xs y c = (let lt = c.1 in (suc c.0, omega arith, c.2))
 
 module _ {X : Type 0} (cmp : X → X → Ordering) where
   pub sorted_none : IsStrictlySortedBy cmp []
@@ -59,14 +59,14 @@ module _ {X : Type 0} (cmp : X → X → Ordering) where
   sorted_append (x ∷ xs) ys up_x up_y h =
       sorted_cons x (xs ++ ys)
       (λ y c. ⊎_elim (λ left. before_rest x xs up_x y left) (λ right. h x y (0, omega arith, refl) right) (Contains-append_cases xs ys y c))
-      (sorted_append xs ys (sorted_tail cmp x xs up_x) up_y (λ u v c d. h u v (in_more x xs u c) d))
+      (sorted_append xs ys (sorted_tail cmp x xs up_x) up_y (λ u v c d. h u v (later_is x u xs c) d))
 
   pub sorted_map : (f : ℕ → X) (bound : ℕ) → ((a b : ℕ) → a < b → b < bound → cmp (f a) (f b) ≡ Less) → (ns : List ℕ) → IsStrictlySortedBy nat_cmp ns → ((n : ℕ) → Contains ns n → n < bound) → IsStrictlySortedBy cmp (map f ns)
   sorted_map f bound less [] up below = sorted_none
   sorted_map f bound less (n ∷ ns) up below =
       sorted_cons (f n) (map f ns)
-      (λ y c. let there = from_map f ns y c in subst (λ z. cmp (f n) z ≡ Less) there.2 (less n there.0 (rising_past n ns up there.0 there.1) (below there.0 (in_more n ns there.0 there.1))))
-      (sorted_map f bound less ns (sorted_tail nat_cmp n ns up) (λ m c. below m (in_more n ns m c)))
+      (λ y c. let there = from_map f ns y c in subst (λ z. cmp (f n) z ≡ Less) there.2 (less n there.0 (rising_past n ns up there.0 there.1) (below there.0 (later_is n there.0 ns there.1))))
+      (sorted_map f bound less ns (sorted_tail nat_cmp n ns up) (λ m c. below m (later_is n m ns c)))
 
 -- ---- the order of facts
 
@@ -139,7 +139,7 @@ listed_from e m (k ∷ ks) f c =
     ⊎_elim
     (λ here. let there = from_map (λ n. fact e k.point k.slot (value_in k.slot n)) (numbers_at m k.point k.slot) f here in
     record { own = k; one = (0, omega arith, refl); number = there.0; there = there.1; is = there.2 })
-    (λ later. let l = listed_from e m ks f later in record { own = l.own; one = in_more k ks l.own l.one; number = l.number; there = l.there; is = l.is })
+    (λ later. let l = listed_from e m ks f later in record { own = l.own; one = later_is k l.own ks l.one; number = l.number; there = l.there; is = l.is })
     (Contains-append_cases (facts_at e k (numbers_at m k.point k.slot)) (facts_of e m ks) f c)
 
 listed_to : (e : ℕ) (m : Marks) (ks : List Key) (k : Key) (n : ℕ) → Contains ks k → Contains (numbers_at m k.point k.slot) n → Contains (facts_of e m ks) (fact e k.point k.slot (value_in k.slot n))
@@ -149,7 +149,7 @@ listed_to e m (j ∷ ks) k n c there =
     (λ (same : j ≡ k). Contains-append_left (facts_at e j (numbers_at m j.point j.slot)) (facts_of e m ks) (fact e k.point k.slot (value_in k.slot n))
     (subst (λ (h : Key). Contains (facts_at e h (numbers_at m h.point h.slot)) (fact e k.point k.slot (value_in k.slot n))) (sym same) (to_map (λ i. fact e k.point k.slot (value_in k.slot i)) (numbers_at m k.point k.slot) n there)))
     (λ rest. Contains-append_right (facts_at e j (numbers_at m j.point j.slot)) (facts_of e m ks) (fact e k.point k.slot (value_in k.slot n)) (listed_to e m ks k n rest there))
-    (first_or_rest j ks k c)
+    (first_or_later j k ks c)
 
 module _ (e : ℕ) (m : Marks) (touched : List ℕ) (kept : IsKept m touched) where
   abbrev rows : Rows
@@ -188,9 +188,6 @@ module _ (e : ℕ) (m : Marks) (touched : List ℕ) (kept : IsKept m touched) wh
           subst (Contains (facts_of e m ks)) is (listed_to e m ks (key f.point f.slot) there.0 (all f.point f.slot there.0 there.1) there.1)
 
 -- ---- slots that are the same
-
-pub nat_same : (a b : ℕ) → nat_cmp a b ≡ Equal → a ≡ b
-nat_same a b e = ranked a b Equal (sym e)
 
 pub slot_same : (s t : Slot) → slots.ghosts.cmp s t ≡ Equal → s ≡ t
 slot_same (Temp a) (Temp b) e = ap Temp (nat_same a b e)

@@ -16,21 +16,10 @@ use Rattle.std.proofs.lemmas.List.Kept.{IsStrictlySortedBy-filter}
 use Rattle.std.proofs.lemmas.Map.Keys.{sorted_from_strictly_increasing}
 use Rattle.std.proofs.lemmas.Nat.{one_shl, pow_pos}
 use Rattle.std.proofs.lemmas.Nat.Bits.{bit_at_set_same, bit_at_set_other, bit_at-zero, bit_at-lt, and_pow, same_from_bits_below}
+use Rattle.plex_num.proofs.Members.{later_is, in_filter}
 use Rattle.fact_rows.specs.Numbers.{has_bit, numbers, AreNumbers, bit_number, bits_of}
 
 -- ---- filters
-
-later : {X : Type 0} (y x : X) (xs : List X) → Contains xs x → Contains (y ∷ xs) x
-later y x xs c = (let lt = c.1 in (suc c.0, omega arith, c.2))
-
-pub in_filter : {X : Type 0} (p : X → Bool) (xs : List X) (x : X) → Contains xs x → p x ≡ true → Contains (filter p xs) x
-in_filter p [] x c e = absurd (let lt = c.1 in omega arith)
-in_filter p (y ∷ xs) x (zero, lt, is) e = subst (λ b. Contains (cond b (y ∷ filter p xs) (filter p xs)) x) (sym (ap p is ∙ e)) (0, omega arith, is)
-in_filter p (y ∷ xs) x (suc k, lt, is) e = by (p y) (in_filter p xs x (k, (let h = lt in omega arith), is) e)
-  where
-    by : (b : Bool) → Contains (filter p xs) x → Contains (cond b (y ∷ filter p xs) (filter p xs)) x
-    by true rest = later y x (filter p xs) rest
-    by false rest = rest
 
 pub from_filter : {X : Type 0} (p : X → Bool) (xs : List X) (x : X) → Contains (filter p xs) x → Contains xs x × (p x ≡ true)
 from_filter p xs x c = (All-contains (Contains xs) (filter p xs) x (All-filter p (Contains xs) xs (All-contains_itself xs)) c, All-contains (λ y. p y ≡ true) (filter p xs) x (filter_passes p xs) c)
@@ -38,7 +27,7 @@ from_filter p xs x c = (All-contains (Contains xs) (filter p xs) x (All-filter p
 pub filter_alike : {X : Type 0} (p q : X → Bool) (xs : List X) → ((x : X) → Contains xs x → p x ≡ q x) → filter p xs ≡ filter q xs
 filter_alike p q [] h = refl
 filter_alike p q (x ∷ xs) h =
-    let rest = filter_alike p q xs (λ y c. h y (later x y xs c)) in
+    let rest = filter_alike p q xs (λ y c. h y (later_is x y xs c)) in
     let here : p x ≡ q x = h x (0, omega arith, refl) in
     λ i. cond (here i) (x ∷ rest i) (rest i)
 
@@ -91,7 +80,7 @@ numbers_rise words = IsStrictlySortedBy-filter nat_cmp (has_bit words) (range_wi
 
 pub number_there : (words : List ℕ) (n : ℕ) → n < 64 * length words → has_bit words n ≡ true → Contains (numbers words) n
 unfolding numbers
-number_there words n within e = in_filter (has_bit words) (range_with_len 0 (64 * length words)) n (range_has 0 (64 * length words) n (omega arith) (omega arith)) e
+number_there words n within e = in_filter (has_bit words) (range_with_len 0 (64 * length words)) n e (range_has 0 (64 * length words) n (omega arith) (omega arith))
 
 pub number_set : (words : List ℕ) (n : ℕ) → Contains (numbers words) n → (n < 64 * length words) × (has_bit words n ≡ true)
 unfolding numbers

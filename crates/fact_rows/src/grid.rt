@@ -46,8 +46,8 @@ impl Grid {
     pub(crate) fn new(alloc: Global, rows: &[Row]) -> Result<Grid, Memory>
         ensures { IfOk result (IsBlank (map counts_of_row rows.now)) }
     {
-        let mut slots = with_room(alloc, rows.len())?;
-        let mut starts = with_room(alloc, rows.len())?;
+        let mut slots = Seq::with_capacity(alloc, rows.len())?;
+        let mut starts = Seq::with_capacity(alloc, rows.len())?;
         let mut size = 0;
         for row in rows {
             let counts = counts_of(row);
@@ -131,16 +131,6 @@ impl Grid {
     {
         self.planes.clear();
         self.awaits.clear();
-    }
-}
-
-/// The empty list, with room for so many items: appending these takes no more memory.
-fn with_room<T>(alloc: Global, items: usize) -> Result<Seq<T>, Memory>
-    ensures { IfOk result (λ list. list ≡ []) }
-{
-    match Vec::with_capacity(alloc, items) {
-        Ok(list) => Ok(Seq::from_vec(list)),
-        Err(_) => Err(Memory),
     }
 }
 

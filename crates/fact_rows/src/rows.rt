@@ -23,11 +23,20 @@ use std::marker::Model;
 /// The facts of one entry, as rows of sets: for each point of a table a set of numbers for each slot before it. They are made once
 /// for a table, and begun anew for each entry, in the time of what was added. A slot takes four bytes, and beside them each set
 /// that the entry has met stands once.
-#[derive(Drop)]
 pub struct FactRows {
     entry: u32,
     grid: Grid,
     touched: Vec<u32>,
+}
+
+impl Drop for FactRows {
+    fn drop(self) {
+        let FactRows {
+            entry: _,
+            grid: _,
+            touched: _,
+        } = self;
+    }
 }
 
 impl Model for FactRows {

@@ -1,12 +1,13 @@
 -- The points that a job has counted. Where none leads back to itself, each was counted at most once as a statement and at most
 -- once as a turn, and each signal that was sent has a SEND of its own.
 use Rattle.std.proofs.Common.{◌≡◌, ◌⊎◌, inl, inr, ⊎_elim, ℕ, suc, ◌+◌, ◌<◌, ◌≤◌, Bool, true, false, List, [], ◌∷◌, length, refl, sym, ap, ◌∙◌, subst, arith}
-use Rattle.std.proofs.lemmas.Bool.{eqb-true, eqb-false, ltb-false}
+use Rattle.std.proofs.lemmas.Bool.{eqb-false, ltb-false}
 use Rattle.std.proofs.lemmas.Map.Keys.{IsDistinct-cons}
 use Rattle.std.proofs.lemmas.Map.Steps.{length-le_from_distinct_below}
 use Rattle.std.specs.Prelude.{nat_lt, nat_eq, ◌||◌}
 use Rattle.std.specs.List.{AllByRecursion, Contains, IsDistinct, list_any}
 use Rattle.plex_limits.specs.declared.limits.TheConstants.{MOST_SENT, MOST_STATEMENTS}
+use Rattle.plex_num.proofs.Members.{first_or_later, found_in}
 use Rattle.job_types.specs.Own.{budget}
 use Rattle.exchange_model.specs.declared.exchange.Exchange.{Exchange}
 use Rattle.exchange_model.specs.declared.stmt.Stmt.{Stmt}
@@ -15,7 +16,6 @@ use Rattle.source_meaning.specs.Config.{Config}
 use Rattle.source_meaning.specs.Deeds.{Deed, Doing, Starting, Turning, deed_point}
 use Rattle.source_meaning.proofs.Lists.{all_contained, first_is, later_is}
 use Rattle.flow_points.specs.Facts.{Facts}
-use Rattle.flow_table.proofs.Telling.{first_or_later}
 use Rattle.entry_summary.specs.Faults.{PostsAt, TooManySends, Walk, GoesRound}
 use Rattle.fault_laws.proofs.Following.{Follows, IsTurnAt, walk_join}
 use Rattle.fault_laws.proofs.Moves.{PostsBy, SendsOne}
@@ -35,14 +35,6 @@ apart p (q ∷ ps) is = by (nat_eq p q) refl is (apart p ps)
 
 not_in : (p : ℕ) (ps : List ℕ) → list_any (nat_eq p) ps ≡ false → Contains ps p → ⊥
 not_in p ps none at = eqb-false p p (all_contained (λ q. nat_eq p q ≡ false) ps p (apart p ps none) at) refl
-
-found_in : (p : ℕ) (ps : List ℕ) → list_any (nat_eq p) ps ≡ true → Contains ps p
-found_in p [] is = absurd (let clash : false ≡ true = is in cc)
-found_in p (q ∷ ps) is = by (nat_eq p q) refl is (found_in p ps)
-  where
-    by : (b : Bool) → nat_eq p q ≡ b → (b || list_any (nat_eq p) ps) ≡ true → (list_any (nat_eq p) ps ≡ true → Contains ps p) → Contains (q ∷ ps) p
-    by true same some more = subst (Contains (q ∷ ps)) (sym (eqb-true p q same)) (first_is q ps)
-    by false same some more = later_is q p ps (more some)
 
 absent : (p : ℕ) (ps : List ℕ) → (Contains ps p → ⊥) → list_any (nat_eq p) ps ≡ false
 absent p ps none = by (list_any (nat_eq p) ps) refl

@@ -3,6 +3,7 @@ use Rattle.std.proofs.Common.{◌≡◌, ℕ, zero, suc, Bool, true, false, List
 use Rattle.std.proofs.lemmas.List.Elements.{Contains-append_left, Contains-append_right}
 use Rattle.std.specs.Prelude.{nat_lt, not, ◌&&◌, ◌||◌, slice_index}
 use Rattle.std.specs.List.{AllByRecursion, Contains, list_any}
+use Rattle.std.proofs.lemmas.Bool.{or_left, or_right}
 use Rattle.job_types.specs.declared.fault.Fault.{Fault}
 use Rattle.job_types.specs.declared.fault.Fault.TheVariants as fault
 use Rattle.job_types.specs.declared.touch.Touch.{Touch}
@@ -26,14 +27,6 @@ use Rattle.source_meaning.proofs.Parts.{Parts, every_expr}
 use Rattle.entry_summary.specs.Divides.{term_divides, divisor_in, above_zero, joins_badly}
 use Rattle.entry_summary.specs.Faults.{divides, may_divide_by_zero}
 use Rattle.entry_summary.proofs.Dividing.{expr_out, term_out, inside_is}
-
-or_left : (a b : Bool) → a ≡ true → (a || b) ≡ true
-or_left true b is = refl
-or_left false b is = cc
-
-or_right : (a b : Bool) → b ≡ true → (a || b) ≡ true
-or_right true b is = refl
-or_right false b is = is
 
 abbrev above : Factor-F Factor Expr Joined Term → Bool
 above l = above_zero l

@@ -14,7 +14,8 @@ use Rattle.exchange_model.specs.declared.stmt.StmtKind.{out-StmtKind}
 use Rattle.exchange_model.specs.declared.stmt.StmtKind.TheOpen as stmt
 use Rattle.exchange_model.specs.Kept.{IsExchange, scope_of}
 use Rattle.source_meaning.specs.Named.{Layer}
-use Rattle.source_meaning.specs.Config.{Item, Do, Start, Turns, Caller, Config, from_signal, is_enter, next_counted}
+use Rattle.source_meaning.specs.Config.{Item, Do, Start, Turns, Caller, Config, from_signal, next_counted}
+use Rattle.exchange_model.specs.Kept.{is_enter}
 use Rattle.source_meaning.specs.Deeds.{Deed, Doing, Turning, deed_of, deed_point, GoesOn, to_next, with_value, to_label, to_branch, to_loop, to_turn, with_found, with_seized, with_answers, with_given, from_no_enter, IsBeginning, by_send, by_transfer, IsAsking, by_combined}
 use Rattle.source_meaning.specs.Effects.{Leave, Begins, Asks, Returns, Ends, Faults}
 use Rattle.source_meaning.specs.Rests.{StandsAs, DeedStands, IsRest, IsRetrieveOf, WaitsAtRetrieve, head_point}

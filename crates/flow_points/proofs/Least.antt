@@ -1,6 +1,7 @@
 -- The least facts are closed, they stand in whatever is closed, and a flow looks at its point alone.
-use Rattle.std.proofs.Common.{◌≡◌, ◌⊎◌, inl, inr, ⊎_elim, ℕ, List, [], ◌∷◌, ◌++◌, Contains, refl, sym, subst, arith}
-use Rattle.std.proofs.lemmas.List.Elements.{Contains-append_left, Contains-append_right, Contains-push_cases, Contains-append_cases}
+use Rattle.std.proofs.Common.{inl, inr, ⊎_elim, ℕ, List, [], ◌∷◌, ◌++◌, Contains, sym, subst, arith}
+use Rattle.std.proofs.lemmas.List.Elements.{Contains-append_left, Contains-append_right}
+use Rattle.plex_num.proofs.Members.{first_or_later, first_is}
 use Rattle.exchange_model.specs.declared.exchange.Exchange.{Exchange}
 use Rattle.flow_points.specs.declared.fact.Slot.TheVariants.{Depth}
 use Rattle.flow_points.specs.declared.fact.Value.{Value}
@@ -80,22 +81,16 @@ gives_more x P Q more f (inr g) = inr (g.0, point_more x P Q g.0 f more g.1)
 
 -- what is derived stands in whatever is closed
 
-Contains-head : (f : Fact) (fs : List Fact) → Contains (f ∷ fs) f
-Contains-head f fs = (0, omega arith, refl)
-
-Contains-first : (g : Fact) (fs : List Fact) (f : Fact) → Contains (g ∷ fs) f → (g ≡ f) ⊎ Contains fs f
-Contains-first g fs f c = ⊎_elim (λ one. ⊎_elim (λ none. absurd (omega (arith, none.1))) inl (Contains-push_cases [] g f one)) inr (Contains-append_cases (g ∷ []) fs f c)
-
 pub derived_in : (x : Exchange) (P : Facts) → IsClosed x P → (fs : List Fact) → IsDerivation x fs → (f : Fact) → Contains fs f → P f
 derived_in x P closed [] d f c = absurd (omega (arith, c.1))
 derived_in x P closed (g ∷ fs) d f c =
     ⊎_elim
     (λ is. subst P is (closed g (gives_more x (Contains fs) P (λ h k. derived_in x P closed fs d.1 h k) g d.0)))
     (λ later. derived_in x P closed fs d.1 f later)
-    (Contains-first g fs f c)
+    (first_or_later g f fs c)
 
 pub least_in : (x : Exchange) (P : Facts) → IsClosed x P → (f : Fact) → IsLeast x f → P f
-least_in x P closed f h = derived_in x P closed (f ∷ h.before) h.derived f (Contains-head f h.before)
+least_in x P closed f h = derived_in x P closed (f ∷ h.before) h.derived f (first_is f h.before)
 
 module _ (x : Exchange) where
   -- two derivations, one after the other
@@ -110,7 +105,7 @@ module _ (x : Exchange) where
     holds : A list
 
   least_has : (f : Fact) → IsLeast x f → Has (λ fs. Contains fs f)
-  least_has f h = record { list = f ∷ h.before; derived = h.derived; holds = Contains-head f h.before }
+  least_has f h = record { list = f ∷ h.before; derived = h.derived; holds = first_is f h.before }
 
   source_has : (e p : ℕ) (s : Source) (v : Value) → SourceGives (IsLeast x) e p s v → Has (λ fs. SourceGives (Contains fs) e p s v)
   source_has e p (Of s) v h = (let a = least_has (fact e p s v) h in record { list = a.list; derived = a.derived; holds = a.holds })

@@ -3,7 +3,7 @@
 -- A rule looks at facts that are known, whichever these are. The least facts are those to which a list leads in which each fact
 -- follows from facts before it. Facts are closed where all that follows from them is among them. A flow from a point looks
 -- only at facts at that point, and for an answer at whether the RETRIEVE is reached.
-use Rattle.std.specs.Prelude.{◌≡◌, ◌⊎◌, ℕ, ◌+◌, ◌<◌, List, [], ◌∷◌, length, Contains, Some, slice_get}
+use Rattle.std.specs.Prelude.{◌≡◌, ◌⊎◌, ℕ, ◌+◌, ◌<◌, List, [], ◌∷◌, Contains, Some, slice_get}
 use Rattle.plex_limits.specs.declared.limits.TheConstants.{MOST_CALLERS}
 use Rattle.exchange_model.specs.declared.exchange.Exchange.{Exchange}
 use Rattle.exchange_model.specs.declared.entry.Entry.{Entry}
@@ -11,7 +11,7 @@ use Rattle.source_meaning.specs.Changes.{value_count}
 use Rattle.flow_points.specs.declared.fact.Slot.{Slot}
 use Rattle.flow_points.specs.declared.fact.Slot.TheVariants.{Depth}
 use Rattle.flow_points.specs.declared.fact.Value.{Value}
-use Rattle.flow_points.specs.declared.fact.Value.TheVariants.{Arg, Const}
+use Rattle.flow_points.specs.declared.fact.Value.TheVariants.{Const}
 use Rattle.flow_points.specs.declared.fact.Fact.{Fact}
 use Rattle.flow_points.specs.declared.flow.Source.{Source}
 use Rattle.flow_points.specs.declared.flow.Source.TheVariants.{Of, Is, Deeper, Nothing}

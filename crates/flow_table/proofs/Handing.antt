@@ -1,11 +1,14 @@
 -- The facts that a flow gives, slot by slot.
-use Rattle.std.proofs.Common.{◌≡◌, ◌⊎◌, Bool, true, false, not, nat_eq, Result, Ok, Err, OnOk, inl, inr, ⊎_elim, ℕ, zero, suc, ◌+◌, ◌<◌, ◌≤◌, List, [], ◌∷◌, ◌++◌, length, map, drop, get_or, refl, sym, ap, ◌∙◌, subst, arith, append-nil, append_assoc, add-one, drop-cons}
+use Rattle.std.proofs.Common.{◌≡◌, ◌⊎◌, Bool, true, false, not, nat_eq, Result, Ok, Err, OnOk, inl, inr, ⊎_elim, ℕ, ◌+◌, ◌<◌, ◌≤◌, List, [], ◌∷◌, ◌++◌, length, map, drop, get_or, refl, sym, ap, ◌∙◌, subst, arith, append-nil, append_assoc}
 use Rattle.std.proofs.Math.ListN.{drop_of_length-le}
 use Rattle.std.proofs.lemmas.Bool.{ne_eqb}
 use Rattle.std.proofs.lemmas.List.Elements.{Contains-append_left, Contains-append_right, Contains-append_cases}
 use Rattle.std.specs.List.{Contains}
 use Rattle.std.specs.Prelude.{◌↔◌}
+use Rattle.std.proofs.lemmas.List.{get_or_default}
 use Rattle.plex_num.specs.declared.seq.Memory.{Memory}
+use Rattle.plex_num.proofs.Members.{none_in, first_or_later}
+use Rattle.plex_num.proofs.Lists.{opens}
 use Rattle.source_meaning.proofs.Lists.{first_is, later_is}
 use Rattle.flow_points.specs.declared.fact.Fact.{Fact}
 use Rattle.flow_points.specs.declared.fact.Slot.{Slot}
@@ -18,10 +21,6 @@ use Rattle.flow_points.specs.declared.fact.Value.TheVariants.{Const}
 use Rattle.flow_points.specs.Facts.{Facts, fact, SourceGives, Guarded, HasRoom, Reached}
 use Rattle.flow_points.specs.Sources.{source_of}
 use Rattle.flow_table.specs.Giving.{AreValues, HasGiven, SlotGives, SlotsGive}
-use Rattle.flow_table.proofs.Telling.{first_or_later}
-
-opens : {X : Type 0} (xs : List X) (i : ℕ) (x : X) → i < length xs → x ≡ get_or xs i x → drop i xs ≡ x ∷ drop (i + 1) xs
-opens xs i x lt is = drop-cons xs i x lt ∙ ap (λ y. y ∷ drop (suc i) xs) (sym is) ∙ ap (λ n. x ∷ drop n xs) (sym (add-one i))
 
 -- a fact for each value
 
@@ -39,9 +38,6 @@ record Made (e q : ℕ) (s : Slot) (values : List Value) (f : Fact) : Type 0 whe
   value : Value
   one : Contains values value
   is : fact e q s value ≡ f
-
-none_in : {A : Type 0} (x : A) → Contains [] x → ⊥
-none_in x c = (let lt = c.1 in omega arith)
 
 made_of : (e q : ℕ) (s : Slot) (values : List Value) (f : Fact) → Contains (map (fact e q s) values) f → Made e q s values f
 made_of e q s [] f c = absurd (none_in f c)
@@ -145,10 +141,5 @@ guard_calls P e p q how values answer vs b is are test = subst (λ h. (b ≡ tru
 pub guard_answers : (P : Facts) (e p q : ℕ) (how : Passing) (values : List Source) (b : Bool) → how ≡ Answers values → (b ≡ true) ↔ Reached P e q → (b ≡ true) ↔ Guarded P e p q how
 guard_answers P e p q how values b is h = subst (λ o. (b ≡ true) ↔ Guarded P e p q o) (sym is) h
 
-item_is : {A : Type 0} (xs : List A) (i : ℕ) (d e : A) → i < length xs → get_or xs i d ≡ get_or xs i e
-item_is [] i d e lt = absurd (omega arith)
-item_is (x ∷ xs) zero d e lt = refl
-item_is (x ∷ xs) (suc i) d e lt = item_is xs i d e (omega arith)
-
 pub flow_item : (P : Facts) (e p : ℕ) (how : Passing) (q : ℕ) (slots : List Slot) (i : ℕ) (d : Slot) (source : Source) (old now new : List Fact) → i < length slots → source ≡ source_of how (get_or slots i d) → HasGiven now new (SlotGives P e p source q (get_or slots i d)) → FlowGoes P e p how q slots old i now → FlowGoes P e p how q slots old (i + 1) new
-flow_item P e p how q slots i d source old now new lt from h g = flow_more P e p how q slots i (get_or slots i d) source old now new lt (item_is slots i d (get_or slots i d) lt) from h g
+flow_item P e p how q slots i d source old now new lt from h g = flow_more P e p how q slots i (get_or slots i d) source old now new lt (get_or_default slots i d (get_or slots i d) lt) from h g

@@ -2,44 +2,19 @@
 use Rattle.std.proofs.Common.{◌≡◌, ℕ, zero, suc, ◌<◌, ◌≤◌, Bool, true, false, List, [], ◌∷◌, ◌++◌, length, drop, map, Some, None, slice_get, Option, refl, sym, ap, ◌∙◌, if◌then◌else◌, append-nil, arith}
 use Rattle.std.proofs.Math.ListN.{drop_of_length-le}
 use Rattle.std.proofs.Math.Seq.{drop-nil}
-use Rattle.std.proofs.lemmas.Option.{slice_get_past, none-some, same_Some}
+use Rattle.std.proofs.lemmas.Option.{none-some, same_Some}
 use Rattle.exchange_model.specs.declared.exchange.Exchange.{Exchange}
 use Rattle.exchange_model.specs.declared.block.Block.{Block}
-use Rattle.exchange_model.specs.declared.block.Label.{Label}
 use Rattle.exchange_model.specs.declared.stmt.Stmt.{Stmt}
 use Rattle.exchange_model.specs.declared.stmt.StmtKind.{out-StmtKind}
-use Rattle.source_meaning.specs.Config.{Do, Start, body_of, label_of, enter_place, is_enter, starting}
+use Rattle.source_meaning.specs.Config.{Do, Start, body_of, enter_place, starting}
+use Rattle.exchange_model.specs.Kept.{is_enter}
 use Rattle.source_meaning.specs.Rests.{first_point, head_point}
-use Rattle.std.specs.List.{find}
-use Rattle.std.specs.Option.{option_map_or}
+use Rattle.source_meaning.proofs.Lookups.{body_past, body_is}
 use Rattle.flow_points.specs.Places.{enter_point, receives}
 use Rattle.flow_table.specs.Ways.{listed, enters_in, receiving}
 
-found_past : {A B : Type 0} (xs : List A) (i : ℕ) (b : B) (f : A → B) → length xs ≤ i → option_map_or f (slice_get xs i) b ≡ b
-found_past xs i b f past = ap (λ o. option_map_or f o b) (slice_get_past xs i past)
-
-found_at : {A B : Type 0} (xs : List A) (i : ℕ) (x : A) (b : B) (f : A → B) → slice_get xs i ≡ Some x → option_map_or f (slice_get xs i) b ≡ f x
-found_at xs i x b f there = ap (λ o. option_map_or f o b) there
-
-abbrev label_in : ℕ → Block → ℕ
-label_in l k = option_map_or (λ (e : Label). e.place) (slice_get k.labels l) 0
-
-pub found_none : (x : Exchange) (b l : ℕ) → length x.blocks ≤ b → 0 ≡ label_of x b l
-found_none x b l past = sym (found_past x.blocks b 0 (label_in l) past)
-
-pub label_none : (x : Exchange) (b l : ℕ) (k : Block) → slice_get x.blocks b ≡ Some k → length k.labels ≤ l → 0 ≡ label_of x b l
-label_none x b l k there past = sym (found_at x.blocks b k 0 (label_in l) there ∙ found_past k.labels l 0 (λ (e : Label). e.place) past)
-
-pub label_some : (x : Exchange) (b l : ℕ) (k : Block) (e : Label) → slice_get x.blocks b ≡ Some k → slice_get k.labels l ≡ Some e → e.place ≡ label_of x b l
-label_some x b l k e there is = sym (found_at x.blocks b k 0 (label_in l) there ∙ found_at k.labels l e 0 (λ (e : Label). e.place) is)
-
 -- the text of a block from a place on
-
-body_past : (x : Exchange) (b : ℕ) → length x.blocks ≤ b → body_of x b ≡ []
-body_past x b past = found_past x.blocks b [] (λ (k : Block). k.body) past
-
-body_is : (x : Exchange) (b : ℕ) (k : Block) → slice_get x.blocks b ≡ Some k → body_of x b ≡ k.body
-body_is x b k there = found_at x.blocks b k [] (λ (k : Block). k.body) there
 
 pub first_no_block : (x : Exchange) (b place : ℕ) → length x.blocks ≤ b → None ≡ first_point (drop place (body_of x b)) None
 first_no_block x b place past = sym (ap (λ ss. first_point (drop place ss) None) (body_past x b past) ∙ ap (λ ss. first_point ss None) (drop-nil place))

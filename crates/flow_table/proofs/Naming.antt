@@ -1,15 +1,13 @@
 -- The last name counts.
-use Rattle.std.proofs.Common.{◌≡◌, ℕ, zero, suc, ◌+◌, ◌<◌, ◌≤◌, arith, List, [], ◌∷◌, length, drop, get_or, nat_eq, if◌then◌else◌, refl, sym, ap, ◌∙◌, add-one, drop-cons}
+use Rattle.std.proofs.Common.{◌≡◌, ℕ, ◌+◌, ◌<◌, ◌≤◌, List, length, drop, get_or, nat_eq, if◌then◌else◌, refl, sym, ap, ◌∙◌}
 use Rattle.std.proofs.Math.ListN.{drop_of_length-le}
+use Rattle.plex_num.proofs.Lists.{opens}
 use Rattle.flow_points.specs.declared.fact.Slot.{Slot}
 use Rattle.flow_points.specs.declared.flow.Source.{Source}
 use Rattle.flow_points.specs.declared.flow.Source.TheVariants.{Of}
 use Rattle.flow_points.specs.Sources.{named}
 use Rattle.flow_table.specs.declared.passing.Origin.{Origin}
 use Rattle.flow_table.specs.Small.{slot_at}
-
-opens : {X : Type 0} (xs : List X) (i : ℕ) (x : X) → i < length xs → x ≡ get_or xs i x → drop i xs ≡ x ∷ drop (i + 1) xs
-opens xs i x lt is = drop-cons xs i x lt ∙ ap (λ y. y ∷ drop (suc i) xs) (sym is) ∙ ap (λ n. x ∷ drop n xs) (sym (add-one i))
 
 -- the names from one on are left
 pub record NamesGo (names : List ℕ) (o : Origin) (t : ℕ) (before : Source) (i : ℕ) (now : Source) : Type 0 where
@@ -26,9 +24,3 @@ names_more names o t before i name own now new lt is at e g = record {
 
 pub names_end : (names : List ℕ) (o : Origin) (t : ℕ) (before : Source) (i : ℕ) (now : Source) → length names ≤ i → NamesGo names o t before i now → now ≡ named names (slot_at o) 0 t before
 names_end names o t before i now past g = sym (ap (λ l. named l (slot_at o) i t now) (drop_of_length-le names past)) ∙ g.all
-
--- within a list the other value does not matter
-pub default_same : (xs : List ℕ) (i a b : ℕ) → i < length xs → get_or xs i a ≡ get_or xs i b
-default_same [] i a b lt = absurd (omega arith)
-default_same (x ∷ xs) zero a b lt = refl
-default_same (x ∷ xs) (suc i) a b lt = default_same xs i a b (omega arith)

@@ -1,11 +1,13 @@
 -- One caller more, and what comes from a source.
-use Rattle.std.proofs.Common.{◌≡◌, ⊎_elim, ℕ, suc, ◌+◌, ◌<◌, ◌≤◌, Bool, true, false, nat_lt, if◌then◌else◌, List, [], ◌∷◌, ◌++◌, length, drop, get_or, Result, IfOk, Ok, Err, refl, sym, ap, ◌∙◌, subst, arith, append-nil, append_assoc, add-one, drop-cons}
+use Rattle.std.proofs.Common.{◌≡◌, ⊎_elim, ℕ, ◌+◌, ◌<◌, ◌≤◌, Bool, true, false, nat_lt, if◌then◌else◌, List, [], ◌∷◌, ◌++◌, length, drop, get_or, Result, IfOk, Ok, Err, refl, sym, ap, ◌∙◌, subst, append-nil, append_assoc}
 use Rattle.std.proofs.Math.ListN.{drop_of_length-le}
 use Rattle.std.proofs.lemmas.Bool.{ltb-true, lt-ltb, le-ltb}
 use Rattle.std.proofs.lemmas.List.Elements.{Contains-append_left, Contains-append_right, Contains-append_cases}
 use Rattle.std.specs.List.{Contains}
 use Rattle.plex_limits.specs.declared.limits.TheConstants.{MOST_CALLERS}
 use Rattle.plex_num.specs.declared.seq.Memory.{Memory}
+use Rattle.plex_num.proofs.Members.{none_in, first_or_later}
+use Rattle.plex_num.proofs.Lists.{opens}
 use Rattle.source_meaning.proofs.Lists.{first_is, later_is}
 use Rattle.flow_points.specs.declared.fact.Slot.TheVariants.{Depth}
 use Rattle.flow_points.specs.declared.fact.Value.{Value}
@@ -13,10 +15,6 @@ use Rattle.flow_points.specs.declared.fact.Value.TheVariants.{Arg, Const, Any}
 use Rattle.flow_points.specs.declared.flow.Source.TheVariants.{Is, Deeper, Nothing}
 use Rattle.flow_points.specs.Facts.{Facts, fact, SourceGives}
 use Rattle.flow_table.specs.Giving.{AreValues, raised_one, raised}
-use Rattle.flow_table.proofs.Telling.{first_or_later}
-
-opens : {X : Type 0} (xs : List X) (i : ℕ) (x : X) → i < length xs → x ≡ get_or xs i x → drop i xs ≡ x ∷ drop (i + 1) xs
-opens xs i x lt is = drop-cons xs i x lt ∙ ap (λ y. y ∷ drop (suc i) xs) (sym is) ∙ ap (λ n. x ∷ drop n xs) (sym (add-one i))
 
 pub raised_begin : (depths : List Value) (now : List Value) → now ≡ [] → now ++ raised depths ≡ raised depths
 raised_begin depths now none = ap (λ l. l ++ raised depths) none
@@ -38,9 +36,6 @@ pub none_raised : (v : Value) (old : List Value) → [] ≡ raised_one v → old
 none_raised v old none = sym (append-nil old) ∙ ap (λ l. old ++ l) none
 
 -- what comes from a source
-
-none_in : {A : Type 0} (x : A) → Contains [] x → ⊥
-none_in x c = (let lt = c.1 in omega arith)
 
 pub one_value : (P : Facts) (e p : ℕ) (w : Value) (vs : List Value) → vs ≡ w ∷ [] → AreValues (SourceGives P e p (Is w)) vs
 one_value P e p w vs is = record {

@@ -1,5 +1,5 @@
 -- The rows of the table, step by step.
-use Rattle.std.proofs.Common.{◌≡◌, ◌≢◌, ◌⊎◌, Bool, true, false, nat_eq, if◌then◌else◌, inl, inr, ℕ, zero, suc, ◌+◌, ◌<◌, ◌≤◌, List, [], ◌∷◌, ◌++◌, length, map, drop, get_or, Option, Some, None, slice_get, refl, sym, ap, ◌∙◌, subst, arith, append-nil, append_assoc, add-one, drop-cons, ⊎_elim}
+use Rattle.std.proofs.Common.{◌≡◌, ◌≢◌, ◌⊎◌, Bool, true, false, nat_eq, if◌then◌else◌, inl, inr, ℕ, zero, suc, ◌+◌, ◌<◌, ◌≤◌, List, [], ◌∷◌, ◌++◌, length, map, drop, get_or, Option, Some, None, slice_get, refl, sym, ap, ◌∙◌, subst, arith, append-nil, append_assoc, ⊎_elim}
 use Rattle.std.specs.Option.{option_map_or}
 use Rattle.std.specs.List.{AllByRecursion, Contains}
 use Rattle.std.proofs.Math.ListN.{drop_of_length-le}
@@ -8,6 +8,8 @@ use Rattle.std.proofs.lemmas.List.{length-map}
 use Rattle.std.proofs.lemmas.List.Elements.{Contains-append_left, Contains-push, Contains-push_cases}
 use Rattle.source_meaning.proofs.Lists.{first_is, later_is}
 use Rattle.std.proofs.lemmas.Option.{slice_get_past, none-some, same_Some}
+use Rattle.plex_num.proofs.Members.{first_or_later}
+use Rattle.plex_num.proofs.Lists.{opens}
 use Rattle.exchange_model.specs.declared.block.Block.{Block}
 use Rattle.exchange_model.specs.declared.exchange.Exchange.{Exchange}
 use Rattle.exchange_model.specs.declared.stmt.StmtKind.{out-StmtKind}
@@ -26,7 +28,7 @@ use Rattle.flow_table.specs.Texts.{ArePlaces, seen}
 use Rattle.flow_table.specs.Ways.{AreWays, ways_of}
 use Rattle.flow_table.specs.Small.{IsSmall}
 use Rattle.flow_table.proofs.Smallness.{ways_small}
-use Rattle.flow_table.proofs.Telling.{ways_exact, first_or_later}
+use Rattle.flow_table.proofs.Telling.{ways_exact}
 
 -- a place is of its block
 
@@ -66,9 +68,6 @@ pub temps_few : (x : Exchange) (b n : ℕ) (k : Block) → IsExchange x → slic
 temps_few x b n k kept there is = (let few = (kept.blocks.each b k there).temporaries in omega (arith, few, is))
 
 -- rows, one after the other
-
-opens : {X : Type 0} (xs : List X) (i : ℕ) (x : X) → i < length xs → x ≡ get_or xs i x → drop i xs ≡ x ∷ drop (i + 1) xs
-opens xs i x lt is = drop-cons xs i x lt ∙ ap (λ y. y ∷ drop (suc i) xs) (sym is) ∙ ap (λ n. x ∷ drop n xs) (sym (add-one i))
 
 -- each place with its row
 abbrev Pairs : Exchange → List PlaceAt → List Row → Type 0
@@ -112,7 +111,7 @@ rows_end x places i now are past g =
       each = λ p at stands. pairs_get x places now pairs p at (are.listed p at stands);
     }
 
-seen_at : (places : List PlaceAt) (i : ℕ) (at : PlaceAt) → i < length places → at ≡ get_or places i at → slice_get (map seen places) i ≡ Some (seen at)
+pub seen_at : (places : List PlaceAt) (i : ℕ) (at : PlaceAt) → i < length places → at ≡ get_or places i at → slice_get (map seen places) i ≡ Some (seen at)
 seen_at [] i at lt is = absurd (omega arith)
 seen_at (a ∷ places) zero at lt is = ap (λ (p : PlaceAt). Some (seen p)) (sym is)
 seen_at (a ∷ places) (suc i) at lt is = seen_at places i at (omega arith) is
@@ -163,7 +162,7 @@ retrieves_not x answer places i at now lt is not_is g = record {
   to = λ q h. ⊎_elim inl (λ l. ⊎_elim (λ f. absurd (not_is f.0)) inr (later_listed answer places i at q lt is l)) (g.to q h);
 }
 
-placed_from : (places : List PlaceAt) (q : ℕ) (p : Place) → slice_get (map seen places) q ≡ Some p → (at : PlaceAt) × Contains places at × (seen at ≡ p)
+pub placed_from : (places : List PlaceAt) (q : ℕ) (p : Place) → slice_get (map seen places) q ≡ Some p → (at : PlaceAt) × Contains places at × (seen at ≡ p)
 placed_from [] q p there = absurd (none-some p there)
 placed_from (a ∷ places) zero p there = (a, first_is a places, same_Some (seen a) p there)
 placed_from (a ∷ places) (suc q) p there = (let f = placed_from places q p there in (f.0, later_is a f.0 places f.1, f.2))

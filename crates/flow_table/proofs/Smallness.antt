@@ -1,8 +1,9 @@
 -- What a way says is small: names are few, and the number of an answer is too.
-use Rattle.std.proofs.Common.{◌≡◌, ℕ, zero, suc, ◌<◌, ◌≤◌, List, [], ◌∷◌, length, Option, Some, slice_get, refl, subst, arith}
+use Rattle.std.proofs.Common.{◌≡◌, ℕ, ◌≤◌, List, length, Option, Some, slice_get, refl, subst, arith}
 use Rattle.std.specs.List.{AllByRecursion}
-use Rattle.std.proofs.lemmas.Option.{none-some, same_Some}
+use Rattle.std.proofs.lemmas.Option.{slice_get_within}
 use Rattle.plex_limits.specs.declared.limits.TheConstants.{MOST_VALUES}
+use Rattle.plex_num.proofs.Lists.{all_at}
 use Rattle.exchange_model.specs.declared.exchange.Exchange.{Exchange}
 use Rattle.exchange_model.specs.declared.expr.Expr.{Expr}
 use Rattle.exchange_model.specs.declared.signal.SignalKind.{SignalKind}
@@ -17,16 +18,6 @@ use Rattle.flow_points.specs.Places.{Place}
 use Rattle.flow_table.specs.declared.way.Way.{Way}
 use Rattle.flow_table.specs.Small.{IsSmall}
 use Rattle.flow_table.specs.Ways.{send_ways, layer_ways, ways_of}
-
-all_at : {A : Type 0} (P : A → Type 0) (xs : List A) (i : ℕ) (x : A) → AllByRecursion P xs → slice_get xs i ≡ Some x → P x
-all_at P [] i x all there = absurd (none-some x there)
-all_at P (y ∷ xs) zero x all there = subst P (same_Some y x there) all.0
-all_at P (y ∷ xs) (suc i) x all there = all_at P xs i x all.1 there
-
-got_below : {A : Type 0} (xs : List A) (i : ℕ) (x : A) → slice_get xs i ≡ Some x → i < length xs
-got_below [] i x there = absurd (none-some x there)
-got_below (y ∷ xs) zero x there = omega arith
-got_below (y ∷ xs) (suc i) x there = (let lt = got_below xs i x there in omega arith)
 
 few_values : (x : Exchange) (kept : IsExchange x) (signal : ℕ) (s : SignalKind) → slice_get x.signals signal ≡ Some s → signal_count s ≤ MOST_VALUES
 few_values x kept signal s there = all_at (λ s. signal_count s ≤ MOST_VALUES) x.signals signal s kept.signals.values there
@@ -49,7 +40,7 @@ send_small x kept (Some (Buffered name level count)) next signal to values there
 send_small x kept (Some (Direct name count)) next signal to values there = (tt, tt)
 send_small x kept (Some (Combined name count answer)) next signal to values there =
     let is = (kept.signals.answers signal (Combined name count answer) there).0 in
-    let below = got_below x.signals signal (Combined name count answer) there in
+    let below = slice_get_within x.signals signal (Combined name count answer) there in
     let few = kept.signals.few in
     (omega (arith, is, below, few), (tt, tt))
 send_small x kept (Some (Outside name count)) next signal to values there = (tt, tt)

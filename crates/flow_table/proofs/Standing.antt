@@ -1,5 +1,5 @@
 -- What is walked stands in the text.
-use Rattle.std.proofs.Common.{◌≡◌, inl, inr, ℕ, suc, ◌+◌, List, [], ◌∷◌, ◌++◌, Option, Some, None, slice_get, refl, subst, arith}
+use Rattle.std.proofs.Common.{◌≡◌, inl, inr, ℕ, suc, ◌+◌, List, ◌∷◌, Option, Some, None, slice_get, refl, subst, arith}
 use Rattle.std.specs.List.{Contains}
 use Rattle.exchange_model.specs.declared.exchange.Exchange.{Exchange}
 use Rattle.exchange_model.specs.declared.block.Block.{Block}
@@ -13,12 +13,9 @@ use Rattle.source_meaning.specs.Deeds.{IsBranch}
 use Rattle.source_meaning.specs.Rests.{IsRow, whole, later, branch, turn, first_point}
 use Rattle.source_meaning.proofs.Lists.{first_is, later_is}
 use Rattle.std.specs.List.{AllByRecursion}
+use Rattle.plex_num.proofs.Lists.{all_append}
 use Rattle.flow_points.specs.Places.{Place, place_of, IsPlace}
 use Rattle.flow_table.specs.Texts.{Walked, nothing_left, statement, Chosen, no_choice, choice, Inside, of_none, of_if, of_case, of_on, Texts, no_block, block}
-
-pub all_append : {A : Type 0} (P : A → Type 0) (xs ys : List A) → AllByRecursion P xs → AllByRecursion P ys → AllByRecursion P (xs ++ ys)
-all_append P [] ys h k = k
-all_append P (x ∷ xs) ys h k = (h.0, all_append P xs ys h.1 k)
 
 module _ (x : Exchange) (b : ℕ) where
   row_place : (s : Stmt) (list : List Stmt) (end : Option ℕ) → IsRow x b (s ∷ list) end → IsPlace x (place_of b s (first_point list end))

@@ -1,15 +1,9 @@
 -- The table, signal by signal.
-use Rattle.std.proofs.Common.{◌≡◌, ◌⊎◌, inl, inr, ⊎_elim, ℕ, zero, suc, ◌+◌, ◌≤◌, List, [], ◌∷◌, ◌++◌, length, Some, slice_get, refl, sym, ap, ◌∙◌, subst, arith, length-append}
-use Rattle.std.proofs.lemmas.Option.{none-some, same_Some}
+use Rattle.std.proofs.Common.{◌≡◌, ◌⊎◌, ⊎_elim, ℕ, ◌+◌, ◌≤◌, List, [], ◌∷◌, ◌++◌, length, Some, slice_get, sym, ap, ◌∙◌, subst, arith, length-append}
+use Rattle.std.proofs.lemmas.Option.{none-some}
+use Rattle.plex_num.proofs.Lists.{get_push}
 use Rattle.exchange_model.specs.declared.exchange.Exchange.{Exchange}
 use Rattle.flow_table.specs.Rows.{AreRetrieves, AreAllRetrieves}
-
--- an item of a list that has one more
-pub get_push : {A : Type 0} (xs : List A) (x y : A) (m : ℕ) → slice_get (xs ++ x ∷ []) m ≡ Some y → (slice_get xs m ≡ Some y) ⊎ ((m ≡ length xs) × (x ≡ y))
-get_push [] x y zero there = inr (refl, same_Some x y there)
-get_push [] x y (suc m) there = absurd (none-some y there)
-get_push (z ∷ xs) x y zero there = inl there
-get_push (z ∷ xs) x y (suc m) there = ⊎_elim inl (λ h. inr (let e = h.0 in omega arith, h.1)) (get_push xs x y m there)
 
 pub record AllGo (x : Exchange) (n : ℕ) (all : List (List ℕ)) : Type 0 where
   pub long : length all ≡ n

@@ -14,6 +14,7 @@ use Rattle.exchange_model.specs.declared.stmt.Receiver.TheVariants as receiver
 use Rattle.exchange_model.specs.declared.stmt.When.{When, out-When}
 use Rattle.exchange_model.specs.declared.stmt.StmtKind.TheOpen as stmt
 use Rattle.std.specs.Option.{option_map_or}
+use Rattle.plex_num.proofs.Members.{none_in, first_or_later}
 use Rattle.source_meaning.specs.Config.{is_receiver}
 use Rattle.source_meaning.specs.Named.{Layer}
 use Rattle.source_meaning.specs.Rests.{first_point}
@@ -29,13 +30,6 @@ use Rattle.flow_table.specs.declared.way.Way.{Way}
 use Rattle.flow_table.specs.Ways.{WayLeads, WaysLead, AreWays, listed, to_points, to_next, receiving, receivers_of, enters_in, to_enters, choice_points, send_ways, layer_ways, ways_of}
 
 -- lists
-
-pub first_or_later : {A : Type 0} (y x : A) (xs : List A) → Contains (y ∷ xs) x → (y ≡ x) ⊎ Contains xs x
-first_or_later y x xs (zero, lt, is) = inl is
-first_or_later y x xs (suc i, lt, is) = inr (i, (let h = lt in omega arith), is)
-
-none_in : {A : Type 0} (x : A) → Contains [] x → ⊥
-none_in x c = (let lt = c.1 in omega arith)
 
 in_listed : (o : Option ℕ) (q : ℕ) → Contains (listed o) q → o ≡ Some q
 in_listed None q c = absurd (none_in q c)

@@ -1,5 +1,5 @@
 -- The walk over a text, step by step.
-use Rattle.std.proofs.Common.{◌≡◌, ℕ, suc, ◌+◌, ◌<◌, ◌≤◌, List, [], ◌∷◌, ◌++◌, length, map, drop, get_or, Option, Some, None, refl, sym, ap, ◌∙◌, subst, append-nil, append_assoc, add-one, drop-cons}
+use Rattle.std.proofs.Common.{◌≡◌, ℕ, ◌+◌, ◌<◌, ◌≤◌, List, [], ◌∷◌, ◌++◌, length, map, drop, get_or, Option, Some, None, refl, sym, ap, ◌∙◌, subst, append-nil, append_assoc}
 use Rattle.std.proofs.lemmas.List.{map-append}
 use Rattle.std.proofs.Math.ListN.{drop_of_length-le}
 use Rattle.exchange_model.specs.declared.block.Block.{Block}
@@ -8,20 +8,19 @@ use Rattle.exchange_model.specs.Kept.{IsExchange}
 use Rattle.flow_table.proofs.Numbered.{are_places}
 use Rattle.exchange_model.specs.declared.stmt.Stmt.{Stmt}
 use Rattle.exchange_model.specs.declared.stmt.When.{When, out-When}
-use Rattle.exchange_model.specs.declared.stmt.StmtKind.{StmtKind, StmtKind-F, out-StmtKind, roll-StmtKind, roll-out-StmtKind}
+use Rattle.exchange_model.specs.declared.stmt.StmtKind.{StmtKind, StmtKind-F, out-StmtKind}
 use Rattle.exchange_model.specs.declared.stmt.StmtKind.TheOpen as layer
 use Rattle.exchange_model.specs.declared.stmt.StmtKind.TheVariants as kind
 use Rattle.exchange_model.specs.declared.expr.Cond.{Cond}
 use Rattle.exchange_model.specs.declared.expr.Expr.{Expr}
 use Rattle.std.specs.Prelude.{true, false, if◌then◌else◌}
-use Rattle.source_meaning.specs.Config.{is_enter}
+use Rattle.plex_num.proofs.Lists.{opens}
+use Rattle.exchange_model.specs.Kept.{is_enter}
+use Rattle.exchange_model.proofs.Layers.{same_kind}
 use Rattle.source_meaning.specs.Rests.{first_point}
 use Rattle.flow_points.specs.Places.{Place, place_of}
 use Rattle.flow_table.specs.declared.place.PlaceAt.{PlaceAt}
 use Rattle.flow_table.specs.Texts.{seen, Walked, nothing_left, statement, Chosen, no_choice, choice, Inside, of_none, of_if, of_case, of_on, HoldsNone, Texts, no_block, block, HasMore, ArePlaces}
-
-opens : {X : Type 0} (xs : List X) (i : ℕ) (x : X) → i < length xs → x ≡ get_or xs i x → drop i xs ≡ x ∷ drop (i + 1) xs
-opens xs i x lt is = drop-cons xs i x lt ∙ ap (λ y. y ∷ drop (suc i) xs) (sym is) ∙ ap (λ n. x ∷ drop n xs) (sym (add-one i))
 
 -- a list that has some places more, which are all that is left but for these
 pub record Goes (old now : List PlaceAt) (Left All : List Place → Type 0) : Type 0 where
@@ -156,10 +155,6 @@ pub on_added : (b p : ℕ) (next : Option ℕ) (k : StmtKind) (temp : ℕ) (from
 on_added b p next k temp from upto body given old new is be h =
     subst (λ l. HasMore old new (Inside b p next l)) (sym is)
     (record { added = h.added; is = h.is; are = of_on temp from upto body (map seen h.added) (subst (λ l. Walked b l (Some p) (map seen h.added)) be h.are) })
-
--- two kinds of one layer are the same
-same_kind : (k m : StmtKind) (l : StmtKind-F StmtKind Stmt When) → out-StmtKind k ≡ l → out-StmtKind m ≡ l → k ≡ m
-same_kind k m l p q = sym (roll-out-StmtKind k) ∙ ap roll-StmtKind (p ∙ sym q) ∙ roll-out-StmtKind m
 
 pub none_inside : (b p : ℕ) (next : Option ℕ) (k : StmtKind) (old : List PlaceAt) →
     ((c : Cond) (ys ns : List Stmt) → k ≡ kind.If c ys ns → ⊥) →

@@ -1,10 +1,11 @@
 -- The ways from a statement, kind by kind.
-use Rattle.std.proofs.Common.{◌≡◌, ℕ, zero, suc, ◌+◌, ◌<◌, ◌≤◌, ◌^◌, max, List, [], ◌∷◌, ◌++◌, length, drop, get_or, Option, Some, Result, IfOk, slice_get, sym, ap, ◌∙◌, subst, arith, append-nil, append_assoc, add-one, drop-cons}
+use Rattle.std.proofs.Common.{◌≡◌, ℕ, zero, suc, ◌+◌, ◌<◌, ◌≤◌, ◌^◌, max, List, [], ◌∷◌, ◌++◌, length, drop, get_or, Option, Some, Result, IfOk, slice_get, sym, ap, ◌∙◌, subst, arith, append-nil, append_assoc}
 use Rattle.std.proofs.Math.ListN.{drop_of_length-le}
 use Rattle.std.proofs.lemmas.Option.{slice_get_past}
 use Rattle.std.specs.List.{AllByRecursion}
 use Rattle.std.specs.Option.{option_map_or}
 use Rattle.plex_num.specs.declared.seq.Memory.{Memory}
+use Rattle.plex_num.proofs.Lists.{opens}
 use Rattle.exchange_model.specs.declared.block.Block.{Block}
 use Rattle.exchange_model.specs.declared.block.Enter.{Enter as Row}
 use Rattle.exchange_model.specs.declared.exchange.Exchange.{Exchange}
@@ -23,9 +24,6 @@ use Rattle.flow_points.specs.Slots.{given_count}
 use Rattle.flow_table.specs.declared.way.Way.{Way}
 use Rattle.flow_table.specs.Alone.{IsExprIn}
 use Rattle.flow_table.specs.Ways.{listed, choice_points, layer_ways, most_of}
-
-opens : {X : Type 0} (xs : List X) (i : ℕ) (x : X) → i < length xs → x ≡ get_or xs i x → drop i xs ≡ x ∷ drop (i + 1) xs
-opens xs i x lt is = drop-cons xs i x lt ∙ ap (λ y. y ∷ drop (suc i) xs) (sym is) ∙ ap (λ n. x ∷ drop n xs) (sym (add-one i))
 
 -- the choices of a CASE
 

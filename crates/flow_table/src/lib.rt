@@ -12,7 +12,6 @@ mod lookup;
 mod passing;
 mod place;
 mod points;
-mod room;
 mod row;
 mod source;
 mod table;

@@ -1,12 +1,13 @@
 // Where labels stand, at which ENTERs a signal begins an activation, and which points these are.
 ghost use Rattle.std.specs.Prelude.{◌≡◌, ◌∷◌, ◌++◌, [], drop, OnOk, None, Some, if◌then◌else◌};
 ghost use Rattle.exchange_model.specs.declared.stmt.StmtKind.{out-StmtKind};
-ghost use Rattle.source_meaning.specs.Config.{body_of, enter_place, is_enter as is_enter_layer, label_of};
+ghost use Rattle.source_meaning.specs.Config.{body_of, enter_place, label_of};
+ghost use Rattle.exchange_model.specs.Kept.{is_enter as is_enter_layer};
 ghost use Rattle.source_meaning.specs.Rests.{first_point};
 ghost use Rattle.flow_points.specs.Places.{enter_point as enter_point_of, label_point as label_point_of, receives as receives_signal};
 ghost use Rattle.flow_table.specs.Ways.{all_receiving, enters_in, listed, receivers_of, receiving};
 
-use crate::walk::{first_of, from, is_enter};
+use crate::walk::{first_of, from};
 use exchange_model::{Exchange, Receiver, Stmt};
 use plex_num::{Memory, Seq};
 
@@ -26,7 +27,7 @@ fn first_at(exchange: &Exchange, block: u32, place: u32) -> Option<u32>
 }
 
 /// The place of a label of a block; 0 where there is none.
-#[tactic(auto, using(crate::proofs::Lookups::found_none, crate::proofs::Lookups::label_none, crate::proofs::Lookups::label_some))]
+#[tactic(auto, using(source_meaning::proofs::Lookups::found_none, source_meaning::proofs::Lookups::label_none, source_meaning::proofs::Lookups::label_some))]
 fn label_place(exchange: &Exchange, block: u32, label: u32) -> u32
     ensures { result ≡ label_of exchange.now block label }
 {
@@ -68,7 +69,7 @@ fn entered_point(statement: &Stmt) -> Option<u32>
     ensures { result ≡ (if is_enter_layer (out-StmtKind statement.now.kind)
         then Some statement.now.point else None) }
 {
-    if is_enter(&statement.kind) {
+    if statement.kind.is_enter() {
         Some(statement.point)
     } else {
         None

@@ -8,7 +8,6 @@ ghost use Rattle.flow_table.specs.Rows.{AreAllRetrieves, AreRetrieves, AreRows, 
 ghost use Rattle.flow_table.specs.Texts.{ArePlaces, seen};
 
 use crate::place::PlaceAt;
-use crate::room::with_room;
 use crate::row::{FlowTable, Row};
 use crate::walk::places_of;
 use crate::ways::{count_of, given_of, ways_of};
@@ -38,7 +37,7 @@ fn all_retrieves(
 {
     exchange.kept();
     let count = exchange.signals.len();
-    let mut all = with_room(alloc, count)?;
+    let mut all = Seq::with_capacity(alloc, count)?;
     for answer in 0..count {
         all.push(retrieves_of(alloc, exchange, places, answer as u32)?)?;
     }
@@ -55,7 +54,7 @@ pub fn rows_of(
     requires { ArePlaces exchange.now (map seen places.now) }
     ensures { IfOk result (λ rows. AreRows exchange.now rows) }
 {
-    let mut rows = with_room(alloc, places.len())?;
+    let mut rows = Seq::with_capacity(alloc, places.len())?;
     for at in places {
         rows.push(row_of(alloc, exchange, at)?)?;
     }

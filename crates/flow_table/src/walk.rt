@@ -2,12 +2,10 @@
 ghost use Rattle.std.specs.Prelude.{◌≡◌, ◌≤◌, drop, length, map, IfOk, OnOk, None};
 ghost use Rattle.plex_limits.specs.declared.limits.TheConstants.{MOST_BLOCKS};
 ghost use Rattle.exchange_model.specs.declared.stmt.StmtKind.{out-StmtKind};
-ghost use Rattle.source_meaning.specs.Config.{is_enter as is_enter_layer};
 ghost use Rattle.source_meaning.specs.Rests.{first_point};
 ghost use Rattle.flow_table.specs.Texts.{ArePlaces, Chosen, HasMore, Inside, Texts, Walked, seen};
 
 use crate::place::PlaceAt;
-use crate::room::with_room;
 use exchange_model::{Block, Exchange, Stmt, StmtKind, When};
 use plex_num::{Memory, Seq};
 use std::alloc::Global;
@@ -17,7 +15,7 @@ pub fn places_of<'a>(alloc: Global, exchange: &'a Exchange) -> Result<Seq<PlaceA
     ensures { IfOk result (λ places. ArePlaces exchange.now (map seen places)) }
 {
     exchange.kept();
-    let mut places = with_room(alloc, exchange.points.len())?;
+    let mut places = Seq::with_capacity(alloc, exchange.points.len())?;
     add_blocks(exchange.blocks.as_slice(), &mut places)?;
     Ok(places)
 }
@@ -117,16 +115,9 @@ pub fn first_of(statements: &[Stmt], end: Option<u32>) -> Option<u32>
     ensures { result ≡ first_point statements.now end }
 {
     for statement in statements {
-        if !is_enter(&statement.kind) {
+        if !statement.kind.is_enter() {
             return Some(statement.point);
         }
     }
     end
-}
-
-/// Whether a statement is an ENTER.
-pub(crate) fn is_enter(kind: &StmtKind) -> bool
-    ensures { result ≡ is_enter_layer (out-StmtKind kind.now) }
-{
-    matches!(kind, StmtKind::Enter { .. })
 }

@@ -17,7 +17,6 @@ ghost use Rattle.flow_table.specs.Ways.{choice_points, layer_ways, listed, most_
 
 use crate::lookup::{label_point, push_enters, push_point};
 use crate::points::Points;
-use crate::room::with_room;
 use crate::source::source_of;
 use crate::walk::first_of;
 use crate::way::{Ends, Way};
@@ -117,7 +116,7 @@ fn push_next(how: Passing, next: Option<u32>, ways: &mut Seq<Way>) -> Result<(),
 fn one_way(alloc: Global, how: Passing, next: Option<u32>) -> Result<Seq<Way>, Memory>
     ensures { IfOk result (λ ways. ways ≡ to_next how next ∷ []) }
 {
-    let mut ways = with_room(alloc, 1)?;
+    let mut ways = Seq::with_capacity(alloc, 1)?;
     push_next(how, next, &mut ways)?;
     Ok(ways)
 }
@@ -153,10 +152,10 @@ fn either(alloc: Global, first: Option<u32>, other: Option<u32>) -> Result<Seq<W
     ensures { IfOk result
         (λ ways. ways ≡ to_points passing.Kept (listed first ++ listed other) ∷ []) }
 {
-    let mut points = with_room(alloc, 2)?;
+    let mut points = Seq::with_capacity(alloc, 2)?;
     push_point(first, &mut points)?;
     push_point(other, &mut points)?;
-    let mut ways = with_room(alloc, 1)?;
+    let mut ways = Seq::with_capacity(alloc, 1)?;
     push_way(alloc, Passing::Kept, points, &mut ways)?;
     Ok(ways)
 }
@@ -171,10 +170,10 @@ fn choices(
     ensures { IfOk result (λ ways. ways ≡ to_points passing.Kept
         (choice_points whens.now next ++ listed other) ∷ []) }
 {
-    let mut points = with_room(alloc, whens.len() + 1)?;
+    let mut points = Seq::with_capacity(alloc, whens.len() + 1)?;
     push_choices(whens, next, &mut points)?;
     push_point(other, &mut points)?;
-    let mut ways = with_room(alloc, 1)?;
+    let mut ways = Seq::with_capacity(alloc, 1)?;
     push_way(alloc, Passing::Kept, points, &mut ways)?;
     Ok(ways)
 }
@@ -200,7 +199,7 @@ fn sets_or_goes(
         ∷ to_next passing.Kept goes ∷ []) }
 {
     let source = Source::Is(Value::Any);
-    let mut ways = with_room(alloc, 2)?;
+    let mut ways = Seq::with_capacity(alloc, 2)?;
     push_next(Passing::Sets { temp, source }, sets, &mut ways)?;
     push_next(Passing::Kept, goes, &mut ways)?;
     Ok(ways)
@@ -217,7 +216,7 @@ fn push_way_in(
 ) -> Result<(), Memory>
     ensures { OnOk result (ways.new ≡ ways.old ++ to_enters exchange.now signal to how ∷ []) }
 {
-    let mut points = with_room(alloc, 1)?;
+    let mut points = Seq::with_capacity(alloc, 1)?;
     push_enters(exchange, signal, to, &mut points)?;
     push_way(alloc, how, points, ways)
 }
@@ -228,7 +227,7 @@ fn sources_of(alloc: Global, values: &[Expr]) -> Result<Seq<Source>, Memory>
     requires { AllByRecursion IsExprIn values.now }
     ensures { IfOk result (λ sources. sources ≡ map expr_source values.now) }
 {
-    let mut sources = with_room(alloc, values.len())?;
+    let mut sources = Seq::with_capacity(alloc, values.len())?;
     for value in values {
         sources.push(source_of(value))?;
     }
@@ -244,7 +243,7 @@ fn returns(alloc: Global, answer: u32, values: &[Expr]) -> Result<Seq<Way>, Memo
     } ∷ []) }
 {
     let values = sources_of(alloc, values)?;
-    let mut ways = with_room(alloc, 1)?;
+    let mut ways = Seq::with_capacity(alloc, 1)?;
     ways.push(Way {
         how: Passing::Answers { values },
         ends: Ends::Retrieves(answer),
@@ -291,7 +290,7 @@ fn begins(
 {
     let values = sources_of(alloc, values)?;
     let how = Passing::Begins { values };
-    let mut ways = with_room(alloc, 1)?;
+    let mut ways = Seq::with_capacity(alloc, 1)?;
     push_way_in(alloc, exchange, signal, to, how, &mut ways)?;
     Ok(ways)
 }
@@ -312,7 +311,7 @@ fn calls(
 {
     let values = sources_of(alloc, values)?;
     let how = Passing::Calls { values, answer };
-    let mut ways = with_room(alloc, 2)?;
+    let mut ways = Seq::with_capacity(alloc, 2)?;
     push_way_in(alloc, exchange, signal, to, how, &mut ways)?;
     push_next(Passing::Kept, next, &mut ways)?;
     Ok(ways)
@@ -330,7 +329,7 @@ fn transfers(
         (passing.Passes (passed exchange.now block signal)) ∷ []) }
 {
     let count = smaller(count_of(exchange, signal), given_of(exchange, block));
-    let mut ways = with_room(alloc, 1)?;
+    let mut ways = Seq::with_capacity(alloc, 1)?;
     push_way_in(
         alloc,
         exchange,

@@ -13,10 +13,15 @@ use std::marker::Model;
 
 /// The chain of each number that holds records, and the numbers that are dead. Contracts see a map, a bound with a set,
 /// and for how many more chains and deaths there is room.
-#[derive(Drop)]
 pub struct Chains {
     held: HeldChains,
     dead: DeadNumbers,
+}
+
+impl Drop for Chains {
+    fn drop(self) {
+        let Chains { held: _, dead: _ } = self;
+    }
 }
 
 impl Model for Chains {

@@ -12,6 +12,7 @@ mod fault;
 pub mod laws;
 mod phases;
 mod points;
+mod seed;
 
 pub use fault::TextFault;
 pub use phases::resolve;

@@ -11,28 +11,31 @@ ghost use Rattle.front_end.specs.Resolved.{resolved, IsToldOf, Resolves};
 
 use crate::collected::exchange_with;
 use crate::fault::TextFault;
+use crate::seed::seed_of;
 use exchange_model::{Block, Exchange, SignalKind};
 use plex_ast::Tree;
-use plex_num::{Memory, Seq};
+use plex_num::{Memory, Seed, Seq};
 use resolved_block::resolve_blocks;
 use signal_types::{SignalTable, kinds_of_signals};
 use std::alloc::Global;
 use text_events::{Event, walk_text};
 use text_rules::{BlockTable, Fault, Rule, check_blocks, check_links, check_signals};
 
-/// What stands in a text, where it keeps the rules of signals and of names of blocks.
+/// Whether a text keeps the rules of signals and of names of blocks.
 #[tactic(auto, using(crate::proofs::Told::signals_first))]
-fn events_of<'a>(alloc: Global, tree: &'a Tree) -> Result<Seq<Seq<Event<'a>>>, TextFault>
-    ensures events { IfOk result (λ parts. parts ≡ text_events tree.now) }
+fn check_names(
+    alloc: Global,
+    tree: &Tree,
+    parts: &[Seq<Event<'_>>],
+    seed: Seed,
+) -> Result<(), TextFault>
+    requires events { parts.now ≡ text_events tree.now }
     ensures fine { IfOk result (λ _. signals_told (text_events tree.now) ≡ None) }
     ensures told { IfErr result (IsToldOf (text_told tree.now)) }
 {
-    let parts = match walk_text(alloc, tree) {
-        Ok(parts) => parts,
-        Err(Memory) => return Err(TextFault::Memory),
-    };
-    match check_signals(alloc, parts.as_slice()) {
-        Ok(()) => Ok(parts),
+    let _ = tree;
+    match check_signals(alloc, parts, seed) {
+        Ok(()) => Ok(()),
         Err(Fault::Rule { rule, line }) => Err(TextFault::Rule {
             rule: Rule::Signals(rule),
             line,
@@ -83,6 +86,7 @@ fn blocks_of(
     tree: &Tree,
     kinds: &[SignalKind],
     parts: &[Seq<Event<'_>>],
+    seed: Seed,
 ) -> Result<Seq<Block>, TextFault>
     requires events { parts.now ≡ text_events tree.now }
     requires signals { kinds.now ≡ signals_of tree.now }
@@ -91,11 +95,11 @@ fn blocks_of(
     ensures blocks { IfOk result (λ list. list ≡ typed_blocks tree.now) }
     ensures told { IfErr result (IsToldOf (text_told tree.now)) }
 {
-    let signals = match SignalTable::of(alloc, kinds) {
+    let signals = match SignalTable::of(alloc, kinds, seed) {
         Ok(signals) => signals,
         Err(Memory) => return Err(TextFault::Memory),
     };
-    let blocks = match BlockTable::of(alloc, tree.blocks.as_slice()) {
+    let blocks = match BlockTable::of(alloc, tree.blocks.as_slice(), seed) {
         Ok(blocks) => blocks,
         Err(Memory) => return Err(TextFault::Memory),
     };
@@ -117,15 +121,20 @@ pub fn resolve(alloc: Global, tree: &Tree) -> Result<Exchange, TextFault>
     requires few { choices_in (exchange_of_tree tree.now) ≤ MOST_WHENS }
     ensures { Resolves (resolved tree.now) result }
 {
-    let parts = match events_of(alloc, tree) {
+    let parts = match walk_text(alloc, tree) {
         Ok(parts) => parts,
-        Err(fault) => return Err(fault),
+        Err(Memory) => return Err(TextFault::Memory),
     };
+    let seed = seed_of(parts.as_slice());
+    match check_names(alloc, tree, parts.as_slice(), seed) {
+        Ok(()) => {}
+        Err(fault) => return Err(fault),
+    }
     let kinds = match kinds_of_signals(alloc, tree.signals.as_slice()) {
         Ok(kinds) => kinds,
         Err(Memory) => return Err(TextFault::Memory),
     };
-    let blocks = match blocks_of(alloc, tree, kinds.as_slice(), parts.as_slice()) {
+    let blocks = match blocks_of(alloc, tree, kinds.as_slice(), parts.as_slice(), seed) {
         Ok(blocks) => blocks,
         Err(fault) => return Err(fault),
     };

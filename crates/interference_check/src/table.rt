@@ -39,13 +39,23 @@ const MOST_LOOKS: usize = 262_144;
 /// they must pass. It is made once, so that a question looks up one item and goes through the tests of its pair alone. Where the
 /// summaries are long, it is made for the first entries only, and of other pairs their summaries are looked at when they are asked
 /// for. Contracts see it as what is kept of the certificate.
-#[derive(Drop)]
 pub struct PairTable<'c> {
     checked: &'c Checked,
     /// Of how many entries, from the first on, all pairs are told.
     told: u32,
     pairs: Seq<Pair>,
     tests: Seq<Test>,
+}
+
+impl Drop for PairTable<'_> {
+    fn drop(self) {
+        let PairTable {
+            checked: _,
+            told: _,
+            pairs: _,
+            tests: _,
+        } = self;
+    }
 }
 
 impl<'c> Model for PairTable<'c> {
@@ -173,21 +183,11 @@ fn pair_of(
         Verdict::Tests => {
             let own = tests_of(alloc, first, later)?;
             let from = tests.len();
-            push_all(tests, own.as_slice())?;
+            tests.push_all(own.as_slice())?;
             let to = tests.len();
             Ok(Pair::Asks { from, to })
         }
     }
-}
-
-/// Appends these tests.
-fn push_all(tests: &mut Seq<Test>, more: &[Test]) -> Result<(), Memory>
-    ensures { OnOk result (tests.new ≡ tests.old ++ more.now) }
-{
-    for test in more {
-        tests.push(*test)?;
-    }
-    Ok(())
 }
 
 /// The pair of two entries, if it is told.

@@ -10,7 +10,7 @@ use Rattle.job_types.specs.declared.outcome.JobDone.{JobDone}
 use Rattle.job_types.specs.Own.{done_of}
 use Rattle.job_types.specs.Touches.{stored}
 use Rattle.job_types.proofs.Touched.{stored-kept}
-use Rattle.machine_code.specs.declared.code.Code.{Code}
+use Rattle.machine_code.specs.Coded.{Code}
 use Rattle.exchange_model.specs.declared.exchange.Exchange.{Exchange}
 use Rattle.exchange_model.specs.Kept.{IsExchange}
 use Rattle.source_meaning.specs.Arrivals.{arrivals}

@@ -1,6 +1,6 @@
 -- Events from books and words of a valid state: each can be made, and they lead to what follows the single run.
 use Rattle.std.proofs.Common.{◌≡◌, ℕ, List, MatchResult, Result, Ok, Err, refl}
-use Rattle.machine_code.specs.declared.code.Code.{Code}
+use Rattle.machine_code.specs.Coded.{Code}
 use Rattle.exchange_model.specs.declared.exchange.Exchange.{Exchange}
 use Rattle.exchange_model.specs.Kept.{IsExchange}
 use Rattle.source_meaning.specs.Arrivals.{arrivals}

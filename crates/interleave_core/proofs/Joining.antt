@@ -16,10 +16,11 @@ use Rattle.job_types.specs.Forlopps.{ChainMap}
 use Rattle.job_types.specs.Own.{World, done_of, outcome_of}
 use Rattle.job_types.specs.Touches.{stored}
 use Rattle.job_types.proofs.Touched.{length-stored, stored-append}
-use Rattle.machine_code.specs.declared.code.Code.{Code}
+use Rattle.machine_code.specs.Coded.{Code}
 use Rattle.machine_code.specs.Listed.{is_word_of}
 use Rattle.exchange_model.specs.declared.exchange.Exchange.{Exchange}
 use Rattle.exchange_model.specs.Kept.{IsExchange}
+use Rattle.machine_code.proofs.Listed.{word_of}
 use Rattle.source_meaning.specs.Config.{Config}
 use Rattle.source_meaning.specs.Job.{job}
 use Rattle.source_meaning.specs.SingleRun.{begun, next_start, turn}
@@ -34,7 +35,6 @@ use Rattle.source_meaning.proofs.Touching.{touches_inside}
 use Rattle.register_machine.specs.Faithful.{Faithful, Means, RunsAsMeant, started}
 use Rattle.register_machine.specs.Machine.{Machine, op_at, reach, stepped}
 use Rattle.register_machine.specs.Steps.{MayStep}
-use Rattle.retire_order.proofs.Cells.{word_of}
 use Rattle.order_laws.specs.Books.{AreAhead, settles}
 use Rattle.order_laws.specs.Ends.{Spares, words_left}
 use Rattle.order_laws.specs.Keeps.{NoLineBefore}
@@ -154,7 +154,7 @@ done_same m end c is means =
 -- ## The next job
 
 -- states in which jobs have begun are valid
-begun_all_valid : (x : Exchange) (js : List Job) (s : State) → IsValid x s → IsValid x (all_begun js s)
+pub begun_all_valid : (x : Exchange) (js : List Job) (s : State) → IsValid x s → IsValid x (all_begun js s)
 begun_all_valid x [] s v = v
 begun_all_valid x (j ∷ js) s v = begun_all_valid x js (begun s) (begun_valid x s v)
 

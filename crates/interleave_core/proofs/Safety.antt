@@ -5,7 +5,7 @@ use Rattle.std.specs.List.{AllByRecursion}
 use Rattle.job_types.specs.declared.job.JobStart.{JobStart}
 use Rattle.job_types.specs.Forlopps.{is_dead}
 use Rattle.job_types.proofs.Touched.{length-stored}
-use Rattle.machine_code.specs.declared.code.Code.{Code}
+use Rattle.machine_code.specs.Coded.{Code}
 use Rattle.machine_code.specs.Listed.{is_word_of}
 use Rattle.exchange_model.specs.declared.exchange.Exchange.{Exchange}
 use Rattle.exchange_model.specs.Kept.{IsExchange}

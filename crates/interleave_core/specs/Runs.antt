@@ -1,6 +1,6 @@
 -- Lists of events: where they lead, and which is the first that is not allowed.
 use Rattle.std.specs.Prelude.{◌≡◌, ℕ, List, [], ◌∷◌, take, slice_get, Some}
-use Rattle.machine_code.specs.declared.code.Code.{Code}
+use Rattle.machine_code.specs.Coded.{Code}
 use Rattle.exchange_model.specs.declared.exchange.Exchange.{Exchange}
 use Rattle.retire_order.specs.Accounts.{Account}
 use Rattle.checked.specs.Kept.{Kept}

@@ -17,11 +17,20 @@ pub struct WindowJob {
 
 /// What stands after some events: the books, the stored words, and the jobs of the window, in the order in which they were
 /// issued.
-#[derive(Drop)]
 pub struct CoreState {
     pub books: Books,
     pub words: Seq<u32>,
     pub window: Seq<WindowJob>,
+}
+
+impl Drop for CoreState {
+    fn drop(self) {
+        let CoreState {
+            books: _,
+            words: _,
+            window: _,
+        } = self;
+    }
 }
 
 /// The same while events happen, and how many jobs have retired since they began.

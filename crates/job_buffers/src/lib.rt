@@ -11,7 +11,5 @@ mod buffers;
 mod queue;
 mod queues;
 mod stays;
-#[cfg(test)]
-mod tests;
 
 pub use buffers::Buffers;

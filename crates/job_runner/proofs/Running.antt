@@ -1,18 +1,18 @@
 -- A job that is ready is one that the machine can run, and what the machine leaves is what comes back.
-use Rattle.std.proofs.Common.{◌≡◌, ℕ, ◌≤◌, ◌<◌, ◌^◌, Bool, true, List, [], ◌∷◌, length, Option, Some, None, refl, sym, ap, ◌∙◌, subst, arith}
-use Rattle.std.specs.Prelude.{nat_lt, ◌&&◌}
+use Rattle.std.proofs.Common.{◌≡◌, ℕ, ◌≤◌, List, [], ◌∷◌, length, Option, Some, None, refl, sym, ap, ◌∙◌, subst, arith}
 use Rattle.std.specs.List.{AllByRecursion}
-use Rattle.std.proofs.lemmas.Bool.Decides.{nat_tests}
+use Rattle.std.proofs.lemmas.Bool.{and_from}
 use Rattle.job_types.specs.declared.job.JobStart.{JobStart}
 use Rattle.job_types.specs.declared.touch.Touch.{Touch}
 use Rattle.job_types.specs.declared.touch.Touch.TheVariants.{Load, Store}
 use Rattle.job_types.specs.Own.{World}
 use Rattle.job_types.specs.Touches.{stored}
-use Rattle.machine_code.specs.declared.code.Code.{Code}
+use Rattle.machine_code.specs.Coded.{Code}
 use Rattle.machine_code.specs.Listed.{is_word_of}
 use Rattle.machine_code.specs.Permits.{may_read, may_write}
 use Rattle.exchange_model.specs.declared.exchange.Exchange.{Exchange}
 use Rattle.exchange_model.specs.Kept.{IsExchange}
+use Rattle.machine_code.proofs.Listed.{word_of}
 use Rattle.source_meaning.specs.Job.{job}
 use Rattle.source_meaning.specs.Traces.{AreOfCells, trace_of}
 use Rattle.source_meaning.proofs.Touching.{touches_inside}
@@ -24,19 +24,12 @@ use Rattle.shared_store.specs.Seats.{JobView, StoreId}
 use Rattle.job_runner.specs.Seen.{readable, writable}
 use Rattle.job_runner.specs.Runs.{HasRun, IsReady, Keeps}
 
-both : (a b : Bool) → a ≡ true → b ≡ true → (a && b) ≡ true
-both a b e f = ap (λ t. t && b) e ∙ f
-
--- a cell of the exchange is a word of as many values
-word_of : (vs : List ℕ) (cells w : ℕ) → length vs ≡ cells → cells ≤ 1000000 → w < cells → is_word_of vs w ≡ true
-word_of vs cells w whole few lt = both (nat_lt w (length vs)) (nat_lt w (2 ^ 32)) (grind (arith, nat_tests, whole, lt)) (grind (arith, nat_tests, few, lt))
-
 -- touches of cells that the permit lets are touches that the seat may make
 may_make : (x : Exchange) (loan : Lent) (ts : List Touch) → length loan.base ≡ x.cells → x.cells ≤ 1000000 → AreOfCells x ts
     → Keeps loan.permit ts → AllByRecursion (MayMake (readable loan) (writable loan)) ts
 may_make x loan [] whole few cells keeps = tt
-may_make x loan (Load w v ∷ ts) whole few cells keeps = (both (is_word_of loan.base w) (may_read loan.permit w) (word_of loan.base x.cells w whole few cells.0) keeps.0, may_make x loan ts whole few cells.1 keeps.1)
-may_make x loan (Store w v ∷ ts) whole few cells keeps = (both (is_word_of loan.base w) (may_write loan.permit w) (word_of loan.base x.cells w whole few cells.0) keeps.0, may_make x loan ts whole few cells.1 keeps.1)
+may_make x loan (Load w v ∷ ts) whole few cells keeps = (and_from (is_word_of loan.base w) (may_read loan.permit w) (word_of loan.base x.cells w whole few cells.0) keeps.0, may_make x loan ts whole few cells.1 keeps.1)
+may_make x loan (Store w v ∷ ts) whole few cells keeps = (and_from (is_word_of loan.base w) (may_write loan.permit w) (word_of loan.base x.cells w whole few cells.0) keeps.0, may_make x loan ts whole few cells.1 keeps.1)
 
 -- a seat that has touched nothing sees the base values
 base_seen : (seat : JobView) → seat.1.touches ≡ [] → current seat.1 ≡ seat.1.lent.base

@@ -7,9 +7,8 @@ use Rattle.std.specs.Str.Lines.{lines}
 use Rattle.std.proofs.lemmas.Bool.{eq-eqb, le-leb, ne_eqb}
 use Rattle.std.proofs.lemmas.List.{map-append}
 use Rattle.std.proofs.lemmas.List.Concat.{flat_map-cons}
-use Rattle.std.proofs.lemmas.List.Sums.{fold-append}
 use Rattle.std.proofs.lemmas.Option.{none-some, same_Some}
-use Rattle.plex_num.proofs.Lists.{all_append, all_at, all_right, some_at}
+use Rattle.plex_num.proofs.Lists.{all_append, all_at, all_right, some_at, all_weaker, got_map}
 use Rattle.text_lines.proofs.Numerals.{number_of-decimal}
 use Rattle.exchange_model.specs.declared.block.Block.{Block}
 use Rattle.exchange_model.specs.declared.entry.Entry.{Entry}
@@ -24,16 +23,19 @@ use Rattle.signal_file.specs.declared.fault.SignalFault.TheVariants.{BadAs, Fall
 use Rattle.signal_file.specs.declared.line.Line.{Line}
 use Rattle.signal_file.specs.declared.line.LineKind.{LineKind}
 use Rattle.signal_file.specs.declared.line.LineKind.TheVariants.{Bare, Fresh, Same}
-use Rattle.signal_file.specs.Form.{Saying, closing, has_no_word, is_comment, is_skipped, said_in, with, words}
+use Rattle.signal_file.specs.Form.{Saying, closing, said_in, with}
+use Rattle.text_lines.specs.Words.{has_no_word, is_comment, is_skipped, words}
 use Rattle.signal_file.specs.Lines.{lines_behind, signal_lines}
-use Rattle.signal_file.specs.Rules.{added, and_then, before_of, block_names, count_or, entry_of, gives, gives_forlopp, has_origin, if_buffered, is_origin, is_true, last_count, meaning, need, need_that, next_number, says, signal_names, signal_of, told}
+use Rattle.signal_file.specs.Rules.{added, and_then, before_of, count_or, entry_of, gives, gives_forlopp, has_origin, if_buffered, is_origin, is_true, last_count, meaning, need, need_that, next_number, says, signal_of, told}
+use Rattle.exchange_model.specs.Names.{names_of_blocks, names_of_signals}
 use Rattle.source_meaning.specs.State.{Coming}
 use Rattle.source_meaning.specs.Valid.{HasOrigin, LinesFit, NamesEarlier, entry_count}
 use Rattle.retire_order.specs.Lines.{coming_of, origin_of}
-use Rattle.retire_order.proofs.Fitting.{weaker}
 use Rattle.job_table.specs.Fit.{AreNumberedFrom, HasWords, IsPlain}
-use Rattle.job_table.specs.Writing.{block_at, ending_words, entry_at, line_words, signal_at, value_words, written_out}
-use Rattle.job_table.proofs.Entries.{HasNames, IsBuffered, entry_named, got_map, name_found}
+use Rattle.job_table.specs.Writing.{ending_words, line_words, value_words, written_out}
+use Rattle.exchange_model.specs.Names.{name_of_block, name_of_entry, name_of_signal}
+use Rattle.retire_order.proofs.Fitting.{counts_more, before_is}
+use Rattle.job_table.proofs.Entries.{HasNames, IsBuffered, entry_named, name_found}
 use Rattle.job_table.proofs.Fit.{giver_gives, lines_of_coming}
 use Rattle.job_table.proofs.Signals.{after_block, after_signal}
 use Rattle.job_table.proofs.Words.{AllAbove, AreSmall, HasSmall, NoEnds, decimal_plain, line_first, low_all, plain_after, tail_is, tail_read, tail_words, word_first}
@@ -76,16 +78,16 @@ written_line x kept has l inside many =
     let kind : SignalKind = b.4.0 in
     let name : List ℕ = signal_name kind in
     let block : List ℕ = n.owner.name in
-    let signal_there : slice_get (signal_names x) e.signal ≡ Some name = got_map signal_name x.signals e.signal kind b.4.1 in
-    let block_there : slice_get (block_names x) e.block ≡ Some block = got_map (λ (k : Block). k.name) x.blocks e.block n.owner n.block in
-    let names : entry_at x l.entry ≡ name ++ codes " " ++ block =
-    ap (λ o. option_map_or (λ (q : Entry). signal_at x q.signal ++ codes " " ++ block_at x q.block) o []) there.1
-    ∙ ap (λ o. option_map_or signal_name o [] ++ codes " " ++ block_at x e.block) b.4.1
+    let signal_there : slice_get (names_of_signals x.signals) e.signal ≡ Some name = got_map signal_name x.signals e.signal kind b.4.1 in
+    let block_there : slice_get (names_of_blocks x.blocks) e.block ≡ Some block = got_map (λ (k : Block). k.name) x.blocks e.block n.owner n.block in
+    let names : name_of_entry x l.entry ≡ name ++ codes " " ++ block =
+    ap (λ o. option_map_or (λ (q : Entry). name_of_signal x.signals q.signal ++ codes " " ++ name_of_block x.blocks q.block) o []) there.1
+    ∙ ap (λ o. option_map_or signal_name o [] ++ codes " " ++ name_of_block x.blocks e.block) b.4.1
     ∙ ap (λ o. name ++ codes " " ++ option_map_or (λ (k : Block). k.name) o []) n.block in
     let found : signal_of x name ≡ Some b.0 =
-    ap (λ o. with o (λ number. if_buffered number (slice_get x.signals number))) (name_found (signal_names x) e.signal name kept.signals.names signal_there) ∙ b.1 in
+    ap (λ o. with o (λ number. if_buffered number (slice_get x.signals number))) (name_found (names_of_signals x.signals) e.signal name kept.signals.names signal_there) ∙ b.1 in
     let entry : entry_of x e.signal block ≡ Some l.entry =
-    ap (λ o. with o (λ number. position (is_entry number e.signal) x.entries)) (name_found (block_names x) e.block block kept.blocks.names block_there) ∙ n.first in
+    ap (λ o. with o (λ number. position (is_entry number e.signal) x.entries)) (name_found (names_of_blocks x.blocks) e.block block kept.blocks.names block_there) ∙ n.first in
     let count : entry_count x l.entry ≡ b.0.count =
     ap (λ o. option_map_or (λ (q : Entry). option_map_or signal_count (slice_get x.signals q.signal) 0) o 0) there.1 ∙ b.3 in
     record {
@@ -93,8 +95,8 @@ written_line x kept has l inside many =
       block = block;
       signal = b.0;
       text = ap (λ t. codes "AFTER " ++ decimal l.after ++ codes " " ++ t ++ value_words l.values ++ ending_words l.kind) names ∙ shape (decimal l.after) name block (value_words l.values) (ending_words l.kind);
-      name_plain = all_at IsPlain (signal_names x) e.signal name has.signals signal_there;
-      block_plain = all_at IsPlain (block_names x) e.block block has.blocks block_there;
+      name_plain = all_at IsPlain (names_of_signals x.signals) e.signal name has.signals signal_there;
+      block_plain = all_at IsPlain (names_of_blocks x.blocks) e.block block has.blocks block_there;
       found = found;
       entry = ap (λ number. entry_of x number block) b.2 ∙ entry;
       many = many ∙ count;
@@ -158,7 +160,7 @@ added_is x b l r number no_less origin =
 -- ---- the lines of the text
 
 low : (bytes : List ℕ) → AllAbove bytes → NoEnds bytes
-low bytes all = weaker (λ b. 32 < b) (λ b. 31 < b) bytes (λ b above. omega arith) all
+low bytes all = all_weaker (λ b. 32 < b) (λ b. 31 < b) bytes (λ b above. omega arith) all
 
 values_low : (values : List ℕ) → AreSmall values → NoEnds (value_words values)
 values_low [] small = tt
@@ -199,10 +201,6 @@ behind_begin : IsBehind [] []
 unfolding last_count
 behind_begin = record { origins = refl; last = λ n all. omega arith }
 
-counts_more : (before : List (List ℕ)) (line : List ℕ) → last_count (before ++ line ∷ []) ≡ count_or (last_count before) (says line)
-unfolding last_count
-counts_more before line = fold-append (λ n l. count_or n (says l)) 0 before (line ∷ [])
-
 behind_more : (x : Exchange) (before : List (List ℕ)) (done : List Line) (l : Line) → IsReady x l → IsBehind before done → IsBehind (before ++ line_words x l ∷ []) (done ++ l ∷ [])
 unfolding saying_of
 behind_more x before done l r b =
@@ -215,10 +213,6 @@ behind_more x before done l r b =
           ∙ sym (map-append (λ (k : Line). gives k.kind) done (l ∷ []));
       last = λ n all. let le = (all_right (λ (k : Line). k.after ≤ n) done (l ∷ []) all).0 in omega (arith, count, le);
     }
-
-before_is : (before : List (List ℕ)) → before_of before ≡ record { last = last_count before; origins = map is_origin before }
-unfolding before_of
-before_is before = refl
 
 number_at : (from : ℕ) (done : List Line) (j : ℕ) (c : Coming) → AreNumberedFrom from done → slice_get (map coming_of done) j ≡ Some c → c.number ≡ from + j
 number_at from [] j c numbers is = absurd (none-some c is)

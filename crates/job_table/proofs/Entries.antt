@@ -5,7 +5,7 @@ use Rattle.std.specs.Str.{bytes_eq}
 use Rattle.std.proofs.lemmas.Bool.{cases_Bool, cases_lt, cond_below, eq-eqb, ne_eqb}
 use Rattle.std.proofs.lemmas.Cmp.{nat_list_eq_equiv}
 use Rattle.std.proofs.lemmas.Map.Keys.{IsDistinct-head, IsDistinct-tail}
-use Rattle.std.proofs.lemmas.Option.{none-some, same_Some}
+use Rattle.std.proofs.lemmas.Option.{none-some, same_Some, slice_get_within}
 use Rattle.std.proofs.lemmas.Slice.Eq.{bytes_eq-Decides}
 use Rattle.plex_num.proofs.Lists.{all_at, slice_get-append_left, slice_get-append_right}
 use Rattle.exchange_model.specs.declared.block.Block.{Block}
@@ -40,14 +40,9 @@ passes_behind : {A : Type 0} (p : A → Bool) (xs ys : List A) (n : ℕ) → All
 passes_behind p [] ys n none is = is ∙ omega arith
 passes_behind p (x ∷ xs) ys n none is = passes_later p x (xs ++ ys) (length xs + n) none.0 (passes_behind p xs ys n none.1 is) ∙ omega arith
 
-inside_from : {A : Type 0} (xs : List A) (i : ℕ) (x : A) → slice_get xs i ≡ Some x → i < length xs
-inside_from [] i x is = absurd (none-some x is)
-inside_from (y ∷ xs) zero x is = omega arith
-inside_from (y ∷ xs) (suc i) x is = let less = inside_from xs i x is in omega (arith, less)
-
 pub position_is : {A : Type 0} (p : A → Bool) (xs : List A) (i : ℕ) (x : A) → position_or_len p xs ≡ i → slice_get xs i ≡ Some x → position p xs ≡ Some i
 position_is p xs i x is there =
-    let inside = inside_from xs i x there in
+    let inside = slice_get_within xs i x there in
     sym (cond_below (position_or_len p xs) (length xs) (Some (position_or_len p xs)) None (omega (arith, is, inside))) ∙ ap Some is
 
 -- ---- a name stands once
@@ -61,11 +56,6 @@ name_once (n ∷ names) (suc i) name once is =
 
 pub name_found : (names : List (List ℕ)) (i : ℕ) (name : List ℕ) → IsDistinct bytes_eq names → slice_get names i ≡ Some name → position (bytes_eq name) names ≡ Some i
 name_found names i name once is = position_is (bytes_eq name) names i name (name_once names i name once is) is
-
-pub got_map : {A B : Type 0} (f : A → B) (xs : List A) (i : ℕ) (x : A) → slice_get xs i ≡ Some x → slice_get (map f xs) i ≡ Some (f x)
-got_map f [] i x is = absurd (none-some x is)
-got_map f (y ∷ xs) zero x is = ap (λ z. Some (f z)) (same_Some y x is)
-got_map f (y ∷ xs) (suc i) x is = got_map f xs i x is
 
 -- ---- the entries of a block
 

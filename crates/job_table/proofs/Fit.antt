@@ -6,7 +6,7 @@ use Rattle.std.specs.Option.{option_map, unwrap_or}
 use Rattle.std.proofs.lemmas.Bool.{cases_Bool, cond_below, eqb-true, eq-eqb}
 use Rattle.std.proofs.lemmas.List.{map-append}
 use Rattle.std.proofs.lemmas.Option.{none-some, same_Some}
-use Rattle.plex_num.proofs.Lists.{all_append, all_left, all_right}
+use Rattle.plex_num.proofs.Lists.{all_append, all_left, all_right, all_weaker}
 use Rattle.exchange_model.specs.declared.exchange.Exchange.{Exchange}
 use Rattle.signal_file.specs.declared.line.Line.{Line}
 use Rattle.signal_file.specs.declared.line.LineKind.{LineKind}
@@ -16,7 +16,7 @@ use Rattle.signal_file.specs.Rules.{gives}
 use Rattle.source_meaning.specs.State.{Coming}
 use Rattle.source_meaning.specs.Valid.{HasOrigin, IsWord, LineFits, LinesFit, NamesEarlier, entry_count}
 use Rattle.retire_order.specs.Lines.{coming_of, origin_of}
-use Rattle.retire_order.proofs.Fitting.{all_coming, got_coming, signal_lines_fit, weaker}
+use Rattle.retire_order.proofs.Fitting.{all_coming, got_coming, signal_lines_fit}
 use Rattle.job_table.specs.declared.period.Period.{Period}
 use Rattle.job_table.specs.Fit.{AreNumberedFrom}
 use Rattle.job_table.specs.Merged.{all_lines, by_count, has_number, line_at, lines_of, merged, number_in, numbered_from, placed_in, renamed, renumbered}
@@ -108,8 +108,8 @@ only_giver x g done (l ∷ rest) fit (inl is) giving =
     numbers_above x l (done ++ l ∷ []) rest (has_last l l done (inl refl)) (subst (λ us. LinesFit x us (map coming_of rest)) (sym (map-append coming_of done (l ∷ []))) fit.1) in
     let same : g.number ≡ l.number = ap (λ (q : Line). q.number) is in
     all_append (λ (m : Line). m.number ≡ g.number → gives m.kind ≡ true) done (l ∷ rest)
-    (weaker (λ (m : Line). m.number < l.number) (λ (m : Line). m.number ≡ g.number → gives m.kind ≡ true) done (λ m less e. absurd (omega (arith, less, e, same))) numbers)
-    ((λ e. ap (λ (q : Line). gives q.kind) (sym is) ∙ giving), weaker (λ (m : Line). l.number < m.number) (λ (m : Line). m.number ≡ g.number → gives m.kind ≡ true) rest (λ m less e. absurd (omega (arith, less, e, same))) above)
+    (all_weaker (λ (m : Line). m.number < l.number) (λ (m : Line). m.number ≡ g.number → gives m.kind ≡ true) done (λ m less e. absurd (omega (arith, less, e, same))) numbers)
+    ((λ e. ap (λ (q : Line). gives q.kind) (sym is) ∙ giving), all_weaker (λ (m : Line). l.number < m.number) (λ (m : Line). m.number ≡ g.number → gives m.kind ≡ true) rest (λ m less e. absurd (omega (arith, less, e, same))) above)
 only_giver x g done (l ∷ rest) fit (inr later) giving =
     subst (λ ls. Gives ls g.number) (append_assoc done (l ∷ []) rest)
     (only_giver x g (done ++ l ∷ []) rest (subst (λ us. LinesFit x us (map coming_of rest)) (sym (map-append coming_of done (l ∷ []))) fit.1) later giving)
@@ -409,17 +409,17 @@ module _ (x : Exchange) (signals table : List ℕ) (lines : List Line) (periods 
   giving_all g has giving =
       let some : 1 ≤ g.number = (has_all IsSound g lines sound has).number in
       all_append (λ (m : Line). m.number ≡ g.number → gives m.kind ≡ true) lines (flat_map lines_of periods) (only_giver x g [] lines fit has giving)
-      (weaker (IsTurn x) (λ (m : Line). m.number ≡ g.number → gives m.kind ≡ true) (flat_map lines_of periods) (λ m t e. let n = t.number in absurd (omega (arith, n, e, some))) turns)
+      (all_weaker (IsTurn x) (λ (m : Line). m.number ≡ g.number → gives m.kind ≡ true) (flat_map lines_of periods) (λ m t e. let n = t.number in absurd (omega (arith, n, e, some))) turns)
 
   origins : Origins (all_lines lines periods) [] (all_lines lines periods)
   origins =
       origins_append (all_lines lines periods) [] lines (flat_map lines_of periods) (origins_from x (all_lines lines periods) [] [] lines (λ g has. has) giving_all fit)
-      (weaker (IsTurn x) (λ (m : Line). IsOwn m.kind) (flat_map lines_of periods) (λ m t. t.own) turns)
+      (all_weaker (IsTurn x) (λ (m : Line). IsOwn m.kind) (flat_map lines_of periods) (λ m t. t.own) turns)
 
   fine : AllByRecursion (IsFine x) (by_count (all_lines lines periods))
   fine =
       all_by_count (IsFine x) (all_lines lines periods)
-      (all_append (IsFine x) lines (flat_map lines_of periods) (lines_are x [] lines fit sound) (weaker (IsTurn x) (IsFine x) (flat_map lines_of periods) (λ m t. t.fine) turns))
+      (all_append (IsFine x) lines (flat_map lines_of periods) (lines_are x [] lines fit sound) (all_weaker (IsTurn x) (IsFine x) (flat_map lines_of periods) (λ m t. t.fine) turns))
 
   pub merged_fit : LinesFit x [] (map coming_of (merged lines periods))
   merged_fit =
@@ -431,4 +431,4 @@ module _ (x : Exchange) (signals table : List ℕ) (lines : List Line) (periods 
   pub merged_small : AllByRecursion (λ (l : Line). l.after < 2 ^ 32) (merged lines periods)
   merged_small =
       let sorted : List Line = by_count (all_lines lines periods) in
-      all_numbered (λ (l : Line). l.after < 2 ^ 32) (number_in sorted) 1 sorted (λ l n small. small) (weaker (IsFine x) (λ (l : Line). l.after < 2 ^ 32) sorted (λ l f. f.after) fine)
+      all_numbered (λ (l : Line). l.after < 2 ^ 32) (number_in sorted) 1 sorted (λ l n small. small) (all_weaker (IsFine x) (λ (l : Line). l.after < 2 ^ 32) sorted (λ l f. f.after) fine)

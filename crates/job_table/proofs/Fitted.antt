@@ -7,7 +7,8 @@ use Rattle.std.proofs.lemmas.Option.{same_Some}
 use Rattle.std.specs.Prelude.{codes}
 use Rattle.exchange_model.specs.declared.exchange.Exchange.{Exchange}
 use Rattle.signal_file.specs.declared.line.Line.{Line}
-use Rattle.signal_file.specs.Form.{Closing, closing, with, words}
+use Rattle.signal_file.specs.Form.{Closing, closing, with}
+use Rattle.text_lines.specs.Words.{words}
 use Rattle.source_meaning.specs.Valid.{IsWord, entry_count}
 use Rattle.retire_order.proofs.Fitting.{closing_words, entry_there}
 use Rattle.job_table.specs.declared.fault.TableFault.{TableFault}

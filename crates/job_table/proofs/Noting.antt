@@ -4,7 +4,8 @@ use Rattle.std.specs.HashMap.{Updates}
 use Rattle.std.specs.Option.{option_map, option_or}
 use Rattle.std.proofs.lemmas.Bool.{eqb-true}
 use Rattle.std.proofs.lemmas.List.{take_more, take_all, length-take-le}
-use Rattle.exchange_model.proofs.Noting.{option_or-None, position-push}
+use Rattle.plex_num.proofs.Options.{option_or-None}
+use Rattle.exchange_model.proofs.Noting.{position-push}
 use Rattle.signal_file.specs.declared.line.Line.{Line}
 use Rattle.job_table.specs.declared.places.Places.{Places}
 use Rattle.job_table.specs.Merged.{has_number, number_in}

@@ -1,39 +1,26 @@
 -- What is known of each line of a signal file: it has a number, and its count is below 2^32.
-use Rattle.std.proofs.Common.{◌≡◌, ℕ, ◌<◌, ◌≤◌, ◌^◌, ◌&&◌, Bool, true, false, nat_eq, List, [], ◌∷◌, ◌++◌, length, Option, Some, None, Result, Ok, Err, refl, subst, arith}
-use Rattle.std.specs.Prelude.{codes, if◌then◌else◌, nat_le, nat_lt}
+use Rattle.std.proofs.Common.{◌≡◌, ℕ, ◌<◌, ◌≤◌, ◌^◌, Bool, true, false, nat_eq, List, [], ◌∷◌, ◌++◌, length, Option, Some, None, Result, Ok, Err, refl, subst, arith}
+use Rattle.std.specs.Prelude.{codes, if◌then◌else◌, nat_le}
 use Rattle.std.specs.List.{AllByRecursion, cons_option}
 use Rattle.std.specs.Str.{bytes_eq}
 use Rattle.std.specs.Str.Lines.{lines}
-use Rattle.std.proofs.lemmas.Bool.{ltb-true}
 use Rattle.std.proofs.lemmas.Option.{same_Some}
-use Rattle.plex_num.specs.Number.{below_2_32, digits_from, number_of}
+use Rattle.plex_num.specs.Number.{number_of}
+use Rattle.plex_num.proofs.Digits.{below_small, number_small}
 use Rattle.exchange_model.specs.declared.exchange.Exchange.{Exchange}
 use Rattle.signal_file.specs.declared.before.Before.{Before}
 use Rattle.signal_file.specs.declared.directory.Signal.{Signal}
 use Rattle.signal_file.specs.declared.fault.SignalFault.{SignalFault}
 use Rattle.signal_file.specs.declared.fault.SignalFault.TheVariants.{BadAs, FallingCount, UnknownBlock, UnknownSignal, WrongData}
 use Rattle.signal_file.specs.declared.line.Line.{Line}
-use Rattle.signal_file.specs.Form.{Closing, Saying, closing, is_skipped, said_in, with, words}
+use Rattle.signal_file.specs.Form.{Closing, Saying, closing, said_in, with}
+use Rattle.text_lines.specs.Words.{is_skipped, words}
 use Rattle.signal_file.specs.Lines.{lines_behind, signal_lines}
 use Rattle.signal_file.specs.Rules.{added, and_then, before_of, entry_of, has_origin, meaning, need, need_that, next_number, signal_of, told}
+use Rattle.signal_file.proofs.Behind.{ok_first}
+use Rattle.retire_order.proofs.Fitting.{needed}
 
 -- numbers are small
-
-below : (m : ℕ) (b : Bool) (k n : ℕ) → nat_lt k m ≡ b → (if b then Some k else None) ≡ Some n → n < m
-below m true k n lt e = let same : k ≡ n = cc in let under = ltb-true k m lt in omega (arith, same, under)
-below m false k n lt e = absurd (cc)
-
-small : (o : Option ℕ) (n : ℕ) → below_2_32 o ≡ Some n → n < 2 ^ 32
-small None n e = absurd (cc)
-small (Some k) n e = below (2 ^ 32) (nat_lt k (2 ^ 32)) k n refl e
-
-tested : (b : Bool) (o : Option ℕ) (n : ℕ) → (if b then below_2_32 o else None) ≡ Some n → n < 2 ^ 32
-tested true o n e = small o n e
-tested false o n e = absurd (cc)
-
-pub number_small : (text : List ℕ) (n : ℕ) → number_of text ≡ Some n → n < 2 ^ 32
-unfolding number_of
-number_small text n e = tested (nat_lt 0 (length text) && nat_le (length text) 10) (digits_from 0 text) n e
 
 count_small : (b : Bool) (o : Option ℕ) (signal block : List ℕ) (r : Option Closing) (s : Saying) → ((n : ℕ) → o ≡ Some n → n < 2 ^ 32)
     → (if b then with o (λ n. with r (λ t. Some (record { after = n; signal = signal; block = block; values = t.values; kind = t.kind }))) else None) ≡ Some s → s.after < 2 ^ 32
@@ -51,10 +38,6 @@ said_small (a ∷ b ∷ c ∷ []) s e = absurd (cc)
 said_small (first ∷ count ∷ signal ∷ block ∷ rest) s e = count_small (bytes_eq first (codes "AFTER")) (number_of count) signal block (closing rest) s (λ n is. number_small count n is) e
 
 -- what a line means
-
-needed : {A B : Type 0} (f : SignalFault) (o : Option A) (go : A → Result B SignalFault) (b : B) → need f o go ≡ Ok b → (a : A) × (o ≡ Some a) × (go a ≡ Ok b)
-needed f None go b e = absurd (cc)
-needed f (Some a) go b e = (a, refl, e)
 
 tests_hold : (f g h : SignalFault) (a b c : Bool) (line l : Line) → need_that f a (need_that g b (need_that h c (Ok line))) ≡ Ok l → line ≡ l
 tests_hold f g h false b c line l e = absurd (cc)
@@ -80,13 +63,13 @@ after_signal x b s signal = need (UnknownBlock (next_number b)) (entry_of x sign
 
 meant : (x : Exchange) (b : Before) (s : Saying) (l : Line) → s.after < 2 ^ 32 → meaning x b s ≡ Ok l → IsSound l
 unfolding meaning
-meant x b s l small e =
+meant x b s l below_small e =
     let n = next_number b in
     let line : ℕ → Line = λ entry. record { number = n; after = s.after; entry = entry; values = s.values; kind = s.kind } in
     let signal = needed (UnknownSignal n) (signal_of x s.signal) (after_signal x b s) l e in
     let entry = needed (UnknownBlock n) (entry_of x signal.0.number s.block) (after_block x b s signal.0) l signal.2 in
     let same = tests_hold (WrongData n) (FallingCount n) (BadAs n) (nat_eq (length s.values) signal.0.count) (nat_le b.last s.after) (has_origin b s.kind) (line entry.0) l entry.2 in
-    subst IsSound same (record { number = omega arith; after = small })
+    subst IsSound same (record { number = omega arith; after = below_small })
 
 -- what a line adds
 abbrev AllSound : Option Line → Type 0
@@ -94,8 +77,8 @@ AllSound None = Unit {0}
 AllSound (Some l) = IsSound l
 
 sound_said : (x : Exchange) (b : Before) (s : Saying) (m : Result Line SignalFault) (r : Option Line) → s.after < 2 ^ 32 → meaning x b s ≡ m → and_then m (λ l. Ok (Some l)) ≡ Ok r → AllSound r
-sound_said x b s (Ok l) r small is e = let same : Some l ≡ r = cc in subst AllSound same (meant x b s l small is)
-sound_said x b s (Err f) r small is e = absurd (cc)
+sound_said x b s (Ok l) r below_small is e = let same : Some l ≡ r = cc in subst AllSound same (meant x b s l below_small is)
+sound_said x b s (Err f) r below_small is e = absurd (cc)
 
 sound_told : (x : Exchange) (b : Before) (ws : List (List ℕ)) (o : Option Saying) (r : Option Line) → said_in ws ≡ o → told x b o ≡ Ok r → AllSound r
 sound_told x b ws None r is e = absurd (cc)
@@ -109,10 +92,6 @@ sound_added : (x : Exchange) (b : Before) (line : List ℕ) (r : Option Line) �
 unfolding added
 sound_added x b line r e = sound_that x b (is_skipped line) (words line) r e
 
-gone : {A B : Type 0} (r : Result A SignalFault) (go : A → Result B SignalFault) (b : B) → and_then r go ≡ Ok b → (a : A) × (r ≡ Ok a) × (go a ≡ Ok b)
-gone (Ok a) go b e = (a, refl, e)
-gone (Err f) go b e = absurd (cc)
-
 joined : (first : Option Line) (ls : List Line) → AllSound first → AllByRecursion IsSound ls → AllByRecursion IsSound (cons_option first ls)
 joined None ls one all = all
 joined (Some l) ls one all = (one, all)
@@ -121,8 +100,8 @@ lines_sound : (x : Exchange) (before rest : List (List ℕ)) (list : List Line) 
 unfolding lines_behind
 lines_sound x before [] list e = let same : [] ≡ list = cc in subst (AllByRecursion IsSound) same tt
 lines_sound x before (line ∷ rest) list e =
-    let here = gone (added x (before_of before) line) (λ first. and_then (lines_behind x (before ++ line ∷ []) rest) (λ ls. Ok (cons_option first ls))) list e in
-    let more = gone (lines_behind x (before ++ line ∷ []) rest) (λ ls. Ok (cons_option here.0 ls)) list here.2 in
+    let here = ok_first (added x (before_of before) line) (λ first. and_then (lines_behind x (before ++ line ∷ []) rest) (λ ls. Ok (cons_option first ls))) list e in
+    let more = ok_first (lines_behind x (before ++ line ∷ []) rest) (λ ls. Ok (cons_option here.0 ls)) list here.2 in
     let told_all : Ok (cons_option here.0 more.0) ≡ Ok list = more.2 in
     let same : cons_option here.0 more.0 ≡ list = cc in
     subst (AllByRecursion IsSound) same (joined here.0 more.0 (sound_added x (before_of before) line here.0 here.1) (lines_sound x (before ++ line ∷ []) rest more.0 more.1))

@@ -13,7 +13,8 @@ use Rattle.plex_num.specs.Number.{digits_from, number_of}
 use Rattle.text_lines.proofs.Numerals.{decimal_all_digits, number_of-decimal}
 use Rattle.signal_file.specs.declared.line.LineKind.{LineKind}
 use Rattle.signal_file.specs.declared.line.LineKind.TheVariants.{Bare, Fresh, Same}
-use Rattle.signal_file.specs.Form.{closing, end_or_value, ending, is_blank, is_line_end, is_some_byte, with, words}
+use Rattle.signal_file.specs.Form.{closing, end_or_value, ending, with}
+use Rattle.text_lines.specs.Words.{is_blank, is_line_end, is_some_byte, words}
 use Rattle.job_table.specs.Fit.{IsPlain}
 use Rattle.job_table.specs.Writing.{ending_words, value_words}
 

@@ -3,8 +3,8 @@ use Rattle.std.specs.Prelude.{◌≡◌, ℕ, ◌+◌, ◌<◌, true, List, [], 
 use Rattle.std.specs.List.{AllByRecursion}
 use Rattle.exchange_model.specs.declared.exchange.Exchange.{Exchange}
 use Rattle.signal_file.specs.declared.line.Line.{Line}
-use Rattle.signal_file.specs.Form.{is_some_byte}
-use Rattle.signal_file.specs.Rules.{block_names, signal_names}
+use Rattle.text_lines.specs.Words.{is_some_byte}
+use Rattle.exchange_model.specs.Names.{names_of_blocks, names_of_signals}
 
 -- these lines have these numbers, one after the other
 abbrev pub AreNumberedFrom : ℕ → List Line → Type 0
@@ -18,5 +18,5 @@ pub record IsPlain (word : List ℕ) : Type 0 where
 
 -- the names of signals and blocks are words
 pub record HasWords (x : Exchange) : Type 0 where
-  pub signals : AllByRecursion IsPlain (signal_names x)
-  pub blocks : AllByRecursion IsPlain (block_names x)
+  pub signals : AllByRecursion IsPlain (names_of_signals x.signals)
+  pub blocks : AllByRecursion IsPlain (names_of_blocks x.blocks)

@@ -3,7 +3,7 @@
 -- A line is looked at with what counts of the lines before it. Its faults are looked for in a fixed order, and the first decides.
 use Rattle.std.specs.Prelude.{ℕ, ◌+◌, ◌-◌, ◌*◌, ◌^◌, ◌&&◌, nat_eq, nat_le, nat_lt, Bool, true, false, List, length, Option, Some, None, Result, Ok, Err, if◌then◌else◌}
 use Rattle.exchange_model.specs.declared.exchange.Exchange.{Exchange}
-use Rattle.signal_file.specs.Form.{is_skipped, words}
+use Rattle.text_lines.specs.Words.{is_skipped, words}
 use Rattle.signal_file.specs.Rules.{entry_of, signal_of}
 use Rattle.job_table.specs.declared.fault.TableFault.{TableFault}
 use Rattle.job_table.specs.declared.fault.TableFault.TheVariants.{BadLine, UnknownSignal, UnknownBlock, WrongData, BadRange, TooMany}

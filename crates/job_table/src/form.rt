@@ -1,10 +1,11 @@
 // The form of a line of a table: what its words say, whatever their names mean.
 ghost use Rattle.std.specs.Prelude.{◌≡◌, MatchOption, None, Some};
-ghost use Rattle.signal_file.specs.Form.{words};
+ghost use Rattle.text_lines.specs.Words.{words};
 ghost use Rattle.job_table.specs.Form.{IsSaid, fresh_of, numbered, said_in};
 
 use plex_num::{Values, read_number};
-use signal_file::{LineKind, is_word, next_word, tail_of};
+use signal_file::{LineKind, tail_of};
+use text_lines::{is_word, next_word};
 
 /// What a line of a table says, with the names of its signal and its block. The first eight values are kept, and all are counted.
 #[derive(Drop)]

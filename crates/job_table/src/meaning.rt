@@ -8,7 +8,8 @@ use crate::fault::TableFault;
 use crate::form::{Said, said_of};
 use crate::period::{MOST_LINES, Period};
 use exchange_model::Exchange;
-use signal_file::{Directory, entry_of, is_skipped, signal_of};
+use signal_file::{Directory, entry_of, signal_of};
+use text_lines::is_skipped;
 
 /// What counts of the lines before a line: how many lines of the table there are, and how many signals in the signal file and in
 /// these lines.

@@ -10,8 +10,9 @@ use crate::meaning::{Before, added};
 use crate::period::Period;
 use exchange_model::Exchange;
 use plex_num::{Memory, Seq};
-use signal_file::{Line, directory_of, next_line};
+use signal_file::{Line, directory_of};
 use std::alloc::Global;
+use text_lines::next_line;
 
 /// The periods of a table of at most 16 MiB, in order; or the first fault of its first faulty line. It is to be merged with these
 /// lines of a signal file, whose number counts.

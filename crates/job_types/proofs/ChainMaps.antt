@@ -1,5 +1,5 @@
 -- What a map of chains has at each number, after each change, and the records of all chains.
-use Rattle.std.proofs.Common.{◌≡◌, ◌≢◌, ℕ, Bool, true, false, cond, eqb, ◌&&◌, ltb, List, [], ◌∷◌, ◌++◌, flat_map, Option, None, Some, unwrap_or, refl, sym, ap, subst, ◌∙◌, arith}
+use Rattle.std.proofs.Common.{◌≡◌, ◌≢◌, ℕ, Bool, true, false, cond, eqb, ltb, List, [], ◌∷◌, ◌++◌, flat_map, Option, None, Some, unwrap_or, refl, sym, ap, subst, ◌∙◌, arith}
 use lib.Dec.{T}
 use Rattle.std.specs.declared.cmp.Ordering.TheVariants.{Less, Equal, Greater}
 use Rattle.std.specs.Ordering.{nat_cmp, is_lt}
@@ -9,6 +9,7 @@ use Rattle.std.specs.FinMap.Entries.{below_all, is_sorted, find}
 use Rattle.std.specs.List.{AllByRecursion}
 use Rattle.std.specs.Map.{keys_of, values_of}
 use Rattle.std.proofs.lemmas.Bool.{ltb-true, ne_eqb, eq-eqb}
+use Rattle.plex_num.proofs.Options.{split}
 use Rattle.job_types.specs.declared.chain.Held.{Held}
 use Rattle.job_types.specs.Forlopps.{ChainMap, all_records, chain_at, with_chain}
 
@@ -41,10 +42,6 @@ chain_same m n chain = chain_at-with_chain m n chain n ∙ ap (λ b. cond b chai
 
 pub chain_other : (m : ChainMap) (n k : ℕ) (chain : List Held) → k ≢ n → chain_at (with_chain m n chain) k ≡ chain_at m k
 chain_other m n k chain other = chain_at-with_chain m n chain k ∙ ap (λ b. cond b chain (chain_at m k)) (ne_eqb k n other)
-
-split : (a b : Bool) → T (a && b) → T a × T b
-split true b p = (tt, p)
-split false b p = absurd p
 
 -- ---- the chains of all numbers, as the numbers rise
 

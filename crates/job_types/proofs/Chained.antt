@@ -4,6 +4,7 @@ use Rattle.std.specs.Prelude.{◌&&◌, nat_eq, position, remove, if◌then◌el
 use Rattle.std.specs.List.{prefix_len}
 use Rattle.std.proofs.lemmas.List.{take_all, drop_all, append-nil}
 use Rattle.std.proofs.lemmas.Bool.Decides.{nat_tests}
+use Rattle.plex_num.proofs.Options.{not_chosen}
 use Rattle.job_types.specs.declared.chain.Held.{Held}
 use Rattle.job_types.specs.Chain.{without}
 
@@ -28,10 +29,6 @@ without_split (h ∷ hs) file number = by_test (is_held file number h) (without_
 chosen : (b : Bool) (k i : ℕ) → cond b (Some k) None ≡ Some i → k ≡ i
 chosen true k i e = cc
 chosen false k i e = cc
-
-not_chosen : (b : Bool) (k : ℕ) → cond b (Some k) None ≡ None → b ≡ false
-not_chosen true k e = cc
-not_chosen false k e = refl
 
 pub without_found : (hs : List Held) (file number i : ℕ) → position (λ h. is_held file number h) hs ≡ Some i → without hs file number ≡ remove hs i
 without_found hs file number i e =

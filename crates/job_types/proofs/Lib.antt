@@ -1,3 +1,4 @@
 pub mod ChainMaps
 pub mod Chained
+pub mod Died
 pub mod Touched

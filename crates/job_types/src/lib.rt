@@ -17,8 +17,6 @@ mod job;
 mod laws;
 mod outbox;
 mod outcome;
-#[cfg(test)]
-mod tests;
 mod touch;
 
 pub use chain::{Chain, Held};

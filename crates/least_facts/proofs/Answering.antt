@@ -1,40 +1,32 @@
 -- The table of answers, statement by statement.
-use Rattle.std.proofs.Common.{◌≡◌, ◌≢◌, ◌⊎◌, inl, inr, ⊎_elim, ℕ, zero, suc, ◌+◌, ◌<◌, ◌≤◌, Bool, true, false, nat_eq, List, [], ◌∷◌, ◌++◌, length, map, drop, get_or, replicate, Option, Some, None, slice_get, slice_set, refl, sym, ap, ◌∙◌, subst, arith, add-one, drop-cons}
+use Rattle.std.proofs.Common.{◌≡◌, ◌≢◌, ◌⊎◌, inl, inr, ⊎_elim, ℕ, zero, suc, ◌+◌, ◌<◌, ◌≤◌, Bool, true, false, nat_eq, List, [], ◌∷◌, ◌++◌, length, map, drop, get_or, replicate, Option, Some, None, slice_get, slice_set, refl, sym, ap, ◌∙◌, subst, arith}
 use Rattle.std.specs.Prelude.{◌↔◌}
 use Rattle.std.specs.List.{Contains}
 use Rattle.std.proofs.Math.ListN.{drop_of_length-le}
-use Rattle.std.proofs.lemmas.Bool.{eqb-true, eqb-false}
-use Rattle.std.proofs.lemmas.List.{get_or-set_same, get_or-set_other, length-map, length-replicate, length-set, replicate_more, set_past}
+use Rattle.std.proofs.lemmas.Bool.{eqb-true, eqb-false, cases_lt}
+use Rattle.std.proofs.lemmas.List.{get_or-set_same, get_or-set_other, length-map, length-replicate, length-set, replicate_more, set_past, get_or_default}
 use Rattle.std.proofs.lemmas.List.Elements.{Contains-append_left, Contains-push, Contains-push_cases}
 use Rattle.std.proofs.lemmas.Option.{none-some, same_Some}
+use Rattle.plex_num.proofs.Members.{first_or_later, none_in}
+use Rattle.plex_num.proofs.Lists.{opens}
 use Rattle.exchange_model.specs.declared.exchange.Exchange.{Exchange}
 use Rattle.exchange_model.specs.declared.stmt.StmtKind.{out-StmtKind}
 use Rattle.exchange_model.specs.Fits.{retrieved}
-use Rattle.source_meaning.proofs.Lists.{first_is, later_is}
 use Rattle.flow_points.specs.Places.{Place}
 use Rattle.flow_table.specs.declared.place.PlaceAt.{PlaceAt}
 use Rattle.flow_table.specs.Texts.{ArePlaces, seen}
-use Rattle.flow_table.proofs.Rowing.{place_at}
-use Rattle.flow_table.proofs.Telling.{first_or_later}
+use Rattle.flow_table.proofs.Rowing.{place_at, placed_from}
 use Rattle.least_facts.specs.declared.answers.AnswerTable.{AnswerTable}
 use Rattle.least_facts.specs.Answers.{AreAllReturns, AreAnswers, IsReturnAt, awaited_by, listed_at, put, returned}
-
-none_in : {A : Type 0} (x : A) → Contains [] x → ⊥
-none_in x c = (let lt = c.1 in omega arith)
 
 -- one list with a point more
 
 pub put_past : (i point : ℕ) (lists : List (List ℕ)) → length lists ≤ i → lists ≡ put i point lists
 put_past i point lists past = sym (set_past lists i (get_or lists i [] ++ point ∷ []) past)
 
-item_is : {A : Type 0} (xs : List A) (i : ℕ) (d e : A) → i < length xs → get_or xs i d ≡ get_or xs i e
-item_is [] i d e lt = absurd (omega arith)
-item_is (x ∷ xs) zero d e lt = refl
-item_is (x ∷ xs) (suc i) d e lt = item_is xs i d e (omega arith)
-
 pub put_at : (i point : ℕ) (lists new : List (List ℕ)) (before after : List ℕ) → i < length lists → before ≡ get_or lists i before → after ≡ before ++ point ∷ [] → new ≡ slice_set lists i after → new ≡ put i point lists
 put_at i point lists new before after lt is pushed made =
-    made ∙ ap (λ l. slice_set lists i l) (pushed ∙ ap (λ l. l ++ point ∷ []) (is ∙ item_is lists i before [] lt))
+    made ∙ ap (λ l. slice_set lists i l) (pushed ∙ ap (λ l. l ++ point ∷ []) (is ∙ get_or_default lists i before [] lt))
 
 -- so many empty lists
 
@@ -76,9 +68,6 @@ returns_begin n places lists none = record {
   listed = λ m p lt h. inr h;
 }
 
-opens : {X : Type 0} (xs : List X) (i : ℕ) (x : X) → i < length xs → x ≡ get_or xs i x → drop i xs ≡ x ∷ drop (i + 1) xs
-opens xs i x lt is = drop-cons xs i x lt ∙ ap (λ y. y ∷ drop (suc i) xs) (sym is) ∙ ap (λ n. x ∷ drop n xs) (sym (add-one i))
-
 later_among : (m : ℕ) (places : List PlaceAt) (i : ℕ) (at : PlaceAt) (p : ℕ) → i < length places → at ≡ get_or places i at → Among m (drop i places) p → ((returned_by at ≡ Some m) × (at.point ≡ p)) ⊎ Among m (drop (i + 1) places) p
 later_among m places i at p lt is h =
     ⊎_elim
@@ -97,12 +86,6 @@ get_past : (ls : List (List ℕ)) (k : ℕ) → length ls ≤ k → get_or ls k 
 get_past [] k h = refl
 get_past (l ∷ ls) zero h = absurd (omega arith)
 get_past (l ∷ ls) (suc k) h = get_past ls k (omega arith)
-
-below_or : (m n : ℕ) → (m < n) ⊎ (n ≤ m)
-below_or zero zero = inr (omega arith)
-below_or zero (suc n) = inl (omega arith)
-below_or (suc m) zero = inr (omega arith)
-below_or (suc m) (suc n) = ⊎_elim (λ lt. inl (omega (arith, lt))) (λ le. inr (omega (arith, le))) (below_or m n)
 
 returns_some : (n : ℕ) (places : List PlaceAt) (i : ℕ) (at : PlaceAt) (answer : ℕ) (now : List (List ℕ)) → i < length places → at ≡ get_or places i at → returned_by at ≡ Some answer → ReturnsGo n places i now → ReturnsGo n places (i + 1) (put answer at.point now)
 returns_some n places i at answer now lt is some g = record {
@@ -132,7 +115,7 @@ returns_some n places i at answer now lt is some g = record {
 
     each : (m p : ℕ) (t : Bool) → nat_eq m answer ≡ t → Contains (get_or new m []) p → Among m places p
     each m p false differ c = g.each m p (subst (λ l. Contains l p) (other m (eqb-false m answer differ)) c)
-    each m p true eq c = low_or_high m p (eqb-true m answer eq) c (below_or m (length now))
+    each m p true eq c = low_or_high m p (eqb-true m answer eq) c (cases_lt m (length now))
 
     listed : (m p : ℕ) → m < n → (t : Bool) → nat_eq m answer ≡ t → Contains (get_or now m []) p ⊎ Among m (drop i places) p → Contains (get_or new m []) p ⊎ Among m (drop (i + 1) places) p
     listed m p low false differ (inl c) = inl (subst (λ l. Contains l p) (sym (other m (eqb-false m answer differ))) c)
@@ -158,11 +141,6 @@ found_at : {A : Type 0} (xs : List A) (i : ℕ) (x d : A) → slice_get xs i ≡
 found_at [] i x d there = absurd (none-some x there)
 found_at (y ∷ xs) zero x d there = (omega arith, sym (same_Some y x there))
 found_at (y ∷ xs) (suc i) x d there = (let f = found_at xs i x d there in let lt = f.0 in (omega arith, f.1))
-
-placed_from : (places : List PlaceAt) (q : ℕ) (p : Place) → slice_get (map seen places) q ≡ Some p → (at : PlaceAt) × Contains places at × (seen at ≡ p)
-placed_from [] q p there = absurd (none-some p there)
-placed_from (a ∷ places) zero p there = (a, first_is a places, same_Some (seen a) p there)
-placed_from (a ∷ places) (suc q) p there = (let f = placed_from places q p there in (f.0, later_is a f.0 places f.1, f.2))
 
 pub returns_end : (x : Exchange) (n : ℕ) (places : List PlaceAt) (i : ℕ) (now lists : List (List ℕ)) → ArePlaces x (map seen places) → n ≡ length x.signals → length places ≤ i → lists ≡ now → ReturnsGo n places i now → AreAllReturns x lists
 returns_end x n places i now lists are count past same g = subst (AreAllReturns x) (sym same) (record {

@@ -7,22 +7,24 @@ use Rattle.std.specs.List.Sorted.{IsStrictlySortedBy}
 use Rattle.std.specs.Ordering.{nat_cmp}
 use Rattle.std.proofs.Math.ListN.{drop_of_length-le}
 use Rattle.std.proofs.Math.Nat.{mul-le-mul_right, suc-mul}
-use Rattle.std.proofs.lemmas.Bool.{eqb-true, eqb-false}
+use Rattle.std.proofs.lemmas.Bool.{eqb-true, eqb-false, cases_lt}
 use Rattle.std.proofs.lemmas.List.Elements.{Contains-append_left, Contains-append_right}
 use Rattle.std.proofs.lemmas.Map.Views.{length-le_from_below}
-use Rattle.std.proofs.lemmas.Option.{none-some, same_Some, slice_get_past}
+use Rattle.std.proofs.lemmas.Option.{slice_get_within}
+use Rattle.plex_num.proofs.Members.{first_or_later, none_in}
+use Rattle.plex_num.proofs.Lists.{some_at}
 use Rattle.exchange_model.specs.declared.exchange.Exchange.{Exchange}
 use Rattle.exchange_model.specs.declared.expr.Expr.{Expr}
 use Rattle.exchange_model.specs.declared.signal.SignalKind.{SignalKind}
 use Rattle.exchange_model.specs.declared.signal.SignalKind.TheVariants.{Buffered, Direct, Combined, Outside}
 use Rattle.exchange_model.specs.declared.stmt.Receiver.{Receiver}
 use Rattle.exchange_model.specs.declared.stmt.StmtKind.TheOpen as stmt
-use Rattle.exchange_model.specs.Fits.{retrieved, AnswerFits}
+use Rattle.exchange_model.specs.Fits.{retrieved}
 use Rattle.exchange_model.specs.Kept.{IsExchange}
 use Rattle.source_meaning.specs.Changes.{value_count}
 use Rattle.source_meaning.specs.Named.{Layer}
-use Rattle.source_meaning.specs.Rests.{IsOfBlock}
 use Rattle.source_meaning.proofs.Lists.{first_is, later_is}
+use Rattle.source_meaning.proofs.Fitting.{answer_below}
 use Rattle.flow_points.specs.declared.fact.Fact.{Fact}
 use Rattle.flow_points.specs.declared.fact.Slot.{Slot}
 use Rattle.flow_points.specs.declared.fact.Slot.TheVariants.{Temp, Given, Answered, Depth, Awaits}
@@ -41,7 +43,6 @@ use Rattle.flow_table.specs.declared.row.FlowTable.{FlowTable}
 use Rattle.flow_table.specs.Giving.{HasGiven}
 use Rattle.flow_table.specs.Rows.{IsTable}
 use Rattle.flow_table.proofs.Rowing.{place_fits}
-use Rattle.flow_table.proofs.Telling.{first_or_later}
 use Rattle.fact_flows.specs.Given.{GivenAt, GivenAtStart}
 use Rattle.fact_rows.specs.declared.place.Counts.{Counts}
 use Rattle.fact_rows.specs.Orders.{fact_order}
@@ -52,9 +53,6 @@ use Rattle.least_facts.specs.Answers.{AreAnswers, known_answer, returned, Return
 use Rattle.least_facts.specs.Growing.{AreFound, Grows, IsAdded, IsFresh, IsSame, Settled, Went}
 use Rattle.least_facts.specs.Least.{HasLearned}
 use Rattle.least_facts.proofs.Fitting.{least_below, least_fits}
-
-none_in : {A : Type 0} (x : A) → Contains [] x → ⊥
-none_in x c = (let lt = c.1 in omega arith)
 
 -- to which RETRIEVEs an answer flows
 
@@ -105,37 +103,13 @@ answered x b p next (stmt.Free temp file) q values g = other values _ g.is refl
 answered x b p next stmt.Exit q values g = absurd g
 answered x b p next stmt.Finish q values g = absurd g
 
-found : {A : Type 0} (xs : List A) (i : ℕ) → i < length xs → (a : A) × (slice_get xs i ≡ Some a)
-found [] i lt = absurd (omega arith)
-found (x ∷ xs) zero lt = (x, refl)
-found (x ∷ xs) (suc i) lt = found xs i (omega arith)
-
-got_below : {A : Type 0} (xs : List A) (i : ℕ) (a : A) → slice_get xs i ≡ Some a → i < length xs
-got_below [] i a there = absurd (none-some a there)
-got_below (y ∷ xs) zero a there = omega arith
-got_below (y ∷ xs) (suc i) a there = (let lt = got_below xs i a there in omega arith)
-
-below_or : (m n : ℕ) → (m < n) ⊎ (n ≤ m)
-below_or zero zero = inr (omega arith)
-below_or zero (suc n) = inl (omega arith)
-below_or (suc m) zero = inr (omega arith)
-below_or (suc m) (suc n) = ⊎_elim (λ lt. inl (omega (arith, lt))) (λ le. inr (omega (arith, le))) (below_or m n)
-
--- a RETRIEVE is of an answer of the exchange
-fits_none : (signals : List SignalKind) (answer n : ℕ) → length signals ≤ answer → AnswerFits (slice_get signals answer) n → ⊥
-fits_none signals answer n past fits = subst (λ o. AnswerFits o n) (slice_get_past signals answer past) fits
-
-answer_below : (x : Exchange) (b : ℕ) (l : Layer) (answer : ℕ) → length x.signals ≤ answer → IsOfBlock x b l → retrieved l ≡ Some answer → ⊥
-answer_below x b (stmt.Retrieve m temps) answer past fits is = fits_none x.signals m (length temps) (subst (λ n. length x.signals ≤ n) (sym (same_Some m answer is)) past) fits.fits.names.0
-answer_below x b _ answer past fits is = none-some answer is
-
 -- a RETURN from which an answer flows is in the table
 answers_return : (x : Exchange) (a : AnswerTable) (p q : ℕ) → IsExchange x → AreAnswers x a → AnswersTo x p q → ReturnsTo a q p
 answers_return x a p q kept are h =
     let r = answered x h.at.block h.at.point h.at.next h.at.layer q h.values h.leads in
     let w = r.awaits in
-    let low : r.answer < length a.returns = ⊎_elim (λ lt. lt) (λ past. absurd (answer_below x w.place.block w.place.layer r.answer (let e = are.returns.each_signal in omega (arith, e, past)) (place_fits x w.place kept w.stands.place) w.retrieves)) (below_or r.answer (length a.returns)) in
-    let f = found a.returns r.answer low in
+    let low : r.answer < length a.returns = ⊎_elim (λ lt. lt) (λ past. absurd (answer_below x w.place.block w.place.layer r.answer (let e = are.returns.each_signal in omega (arith, e, past)) (place_fits x w.place kept w.stands.place) w.retrieves)) (cases_lt r.answer (length a.returns)) in
+    let f = some_at a.returns r.answer low in
     record {
       answer = r.answer;
       awaits = ap known_answer (are.awaits q w.place w.stands) ∙ w.retrieves;
@@ -148,7 +122,7 @@ answers_return x a p q kept are h =
 return_below : (x : Exchange) (a : AnswerTable) (q p : ℕ) → AreAnswers x a → ReturnsTo a q p → p < length x.points
 return_below x a q p are r =
     let s = ((are.returns.exact r.answer r.points r.there).exact p).0 r.among in
-    let lt = got_below a.awaited p (retrieved s.place.layer) (are.awaits p s.place s.stands) in
+    let lt = slice_get_within a.awaited p (retrieved s.place.layer) (are.awaits p s.place s.stands) in
     let long = are.each_point in
     omega (arith, lt, long)
 

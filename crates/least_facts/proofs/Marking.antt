@@ -1,5 +1,5 @@
 -- Points that are marked.
-use Rattle.std.proofs.Common.{◌≡◌, ◌⊎◌, inl, inr, ⊎_elim, ℕ, zero, suc, ◌+◌, ◌<◌, ◌≤◌, List, [], ◌∷◌, ◌++◌, length, drop, get_or, true, is_some, if◌then◌else◌, IfSome, Option, Some, None, slice_get, refl, sym, ap, ◌∙◌, subst, arith, add-one, drop-cons}
+use Rattle.std.proofs.Common.{◌≡◌, ◌⊎◌, inl, inr, ⊎_elim, ℕ, ◌+◌, ◌<◌, ◌≤◌, List, [], ◌∷◌, ◌++◌, length, drop, get_or, true, is_some, if◌then◌else◌, IfSome, Option, Some, None, slice_get, refl, sym, ap, ◌∙◌, subst, arith}
 use Rattle.std.specs.declared.cmp.Ordering.{Ordering}
 use Rattle.std.specs.declared.cmp.Ordering.TheVariants.{Less, Equal, Greater}
 use Rattle.std.specs.BTreeSet.{insert_key}
@@ -10,14 +10,12 @@ use Rattle.std.proofs.lemmas.Bool.{false≢true}
 use Rattle.std.proofs.lemmas.List.Elements.{Contains-append_left, Contains-append_right, Contains-append_cases}
 use Rattle.std.proofs.lemmas.Map.Lookups.{exact_unsigned}
 use Rattle.std.proofs.lemmas.Option.{none-some, same_Some, slice_get_past}
+use Rattle.std.proofs.lemmas.List.{get_or_default, drop_more}
+use Rattle.plex_num.proofs.Members.{first_or_later, none_in}
 use Rattle.source_meaning.proofs.Lists.{first_is, later_is}
-use Rattle.flow_table.proofs.Telling.{first_or_later}
 use Rattle.least_facts.specs.declared.answers.AnswerTable.{AnswerTable}
 use Rattle.least_facts.specs.Answers.{Returns, awaited_at, known_answer}
 use Rattle.least_facts.specs.Marks.{IsThis, Marks, Takes}
-
-none_in : {A : Type 0} (x : A) → Contains [] x → ⊥
-none_in x c = (let lt = c.1 in omega arith)
 
 -- one point
 
@@ -70,19 +68,11 @@ pub record MarksGo (points : List ℕ) (i : ℕ) (old now : List ℕ) : Type 0 w
 pub marks_begin : (points old : List ℕ) → MarksGo points 0 old old
 marks_begin points old = record { still = λ p c. c; each = λ p c. inl c; all = λ p c. inr c }
 
-opens : (xs : List ℕ) (i d : ℕ) → i < length xs → drop i xs ≡ get_or xs i d ∷ drop (i + 1) xs
-opens xs i d lt = drop-cons xs i d lt ∙ ap (λ n. get_or xs i d ∷ drop n xs) (sym (add-one i))
-
-item_is : (xs : List ℕ) (i d e : ℕ) → i < length xs → get_or xs i d ≡ get_or xs i e
-item_is [] i d e lt = absurd (omega arith)
-item_is (x ∷ xs) zero d e lt = refl
-item_is (x ∷ xs) (suc i) d e lt = item_is xs i d e (omega arith)
-
 pub marks_more : (points : List ℕ) (i d : ℕ) (old now new : List ℕ) → i < length points → Marks now new (IsThis (get_or points i d)) → MarksGo points i old now → MarksGo points (i + 1) old new
 marks_more points i d old now new lt h g = record {
   still = λ p c. h.still p (g.still p c);
-  each = λ p c. ⊎_elim (g.each p) (λ e. inr (subst (Contains points) (sym e) (i, lt, item_is points i (get_or points i d) d lt))) (h.each p c);
-  all = λ p c. ⊎_elim (λ n. inl (h.still p n)) (λ l. ⊎_elim (λ e. inl (h.all p (sym e))) inr (first_or_later (get_or points i d) p (drop (i + 1) points) (subst (λ xs. Contains xs p) (opens points i d lt) l))) (g.all p c);
+  each = λ p c. ⊎_elim (g.each p) (λ e. inr (subst (Contains points) (sym e) (i, lt, get_or_default points i (get_or points i d) d lt))) (h.each p c);
+  all = λ p c. ⊎_elim (λ n. inl (h.still p n)) (λ l. ⊎_elim (λ e. inl (h.all p (sym e))) inr (first_or_later (get_or points i d) p (drop (i + 1) points) (subst (λ xs. Contains xs p) (drop_more points i d lt) l))) (g.all p c);
 }
 
 pub marks_end : (points : List ℕ) (i : ℕ) (old now : List ℕ) → length points ≤ i → MarksGo points i old now → Marks old now (Contains points)

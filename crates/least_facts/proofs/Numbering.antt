@@ -1,7 +1,7 @@
 -- Each source over a flow gives values that have a number in the plane of the slot.
 use Rattle.std.proofs.Common.{◌≡◌, inl, inr, ℕ, zero, suc, ◌+◌, ◌<◌, ◌≤◌, Bool, true, false, nat_lt, nat_eq, if◌then◌else◌, List, [], ◌∷◌, length, map, Option, Some, None, slice_get, refl, sym, subst, arith}
 use Rattle.std.proofs.lemmas.Bool.{ltb-true}
-use Rattle.std.proofs.lemmas.Option.{none-some, same_Some}
+use Rattle.std.proofs.lemmas.Option.{none-some, same_Some, slice_get_within}
 use Rattle.std.specs.List.{AllByRecursion}
 use Rattle.std.specs.Option.{option_map_or}
 use Rattle.plex_limits.specs.declared.limits.TheConstants.{MOST_BLOCKS, MOST_SIGNALS, MOST_VALUES}
@@ -186,14 +186,9 @@ answers_fit values each Awaits = tt
 
 -- statements
 
-got_below : {A : Type 0} (xs : List A) (i : ℕ) (x : A) → slice_get xs i ≡ Some x → i < length xs
-got_below [] i x there = absurd (none-some x there)
-got_below (y ∷ xs) zero x there = omega arith
-got_below (y ∷ xs) (suc i) x there = (let lt = got_below xs i x there in omega arith)
-
 answer_some : (signals : List SignalKind) (combined answer : ℕ) (o : Option SignalKind) → slice_get signals answer ≡ o → IsAnswerOf combined o → answer < length signals
 answer_some signals combined answer None there is = absurd is
-answer_some signals combined answer (Some s) there is = got_below signals answer s there
+answer_some signals combined answer (Some s) there is = slice_get_within signals answer s there
 
 as_made : (how made : Passing) → how ≡ made → HowFits made → HowFits how
 as_made how made is h = λ s. subst (λ (k : Passing). SourceFits s (source_of k s)) (sym is) (h s)

@@ -21,10 +21,18 @@ use std::alloc::Global;
 
 /// What the least facts of entries are found with. It is made once for an exchange, so that each entry takes the time of its own
 /// facts and of the flows between them.
-#[derive(Drop)]
 pub struct Analyser {
     answers: AnswerTable,
     rows: FactRows,
+}
+
+impl Drop for Analyser {
+    fn drop(self) {
+        let Analyser {
+            answers: _,
+            rows: _,
+        } = self;
+    }
 }
 
 impl Analyser {

@@ -12,10 +12,18 @@ use std::alloc::Global;
 
 /// For each point the answer that its statement awaits, if it is a RETRIEVE; and for each signal the points of the RETURNs that
 /// give it as an answer.
-#[derive(Drop)]
 pub struct AnswerTable {
     pub awaited: Seq<Option<u32>>,
     pub returns: Seq<Seq<u32>>,
+}
+
+impl Drop for AnswerTable {
+    fn drop(self) {
+        let AnswerTable {
+            awaited: _,
+            returns: _,
+        } = self;
+    }
 }
 
 /// The answers of an exchange, which are listed once.
@@ -32,21 +40,11 @@ pub fn answers_of(alloc: Global, exchange: &Exchange) -> Result<AnswerTable, Mem
 fn awaited_at(alloc: Global, places: &[PlaceAt<'_>]) -> Result<Seq<Option<u32>>, Memory>
     ensures { IfOk result (λ awaited. awaited ≡ map awaited_by_place places.now) }
 {
-    let mut awaited = with_room(alloc, places.len())?;
+    let mut awaited = Seq::with_capacity(alloc, places.len())?;
     for at in places {
         awaited.push(awaited_by(at.kind))?;
     }
     Ok(awaited)
-}
-
-/// The empty list, with room for so many items: appending these takes no more memory.
-fn with_room<T>(alloc: Global, items: usize) -> Result<Seq<T>, Memory>
-    ensures { IfOk result (λ list. list ≡ []) }
-{
-    match Vec::with_capacity(alloc, items) {
-        Ok(list) => Ok(Seq::from_vec(list)),
-        Err(_) => Err(Memory),
-    }
 }
 
 /// The answer that a statement awaits, if it is a RETRIEVE.

@@ -11,10 +11,18 @@ use std::collections::BTreeSet;
 
 /// The points that are to be looked at: those at which something new came to be known, the lowest first; and after them the
 /// RETURNs whose answers reach one more RETRIEVE, so that they are looked at once for many.
-#[derive(Drop)]
 pub struct Marked {
     pub points: BTreeSet<u32>,
     pub returning: BTreeSet<u32>,
+}
+
+impl Drop for Marked {
+    fn drop(self) {
+        let Marked {
+            points: _,
+            returning: _,
+        } = self;
+    }
 }
 
 impl Marked {

@@ -4,7 +4,7 @@ use Rattle.std.specs.List.{AllByRecursion, flat_map, list_all}
 use Rattle.std.proofs.lemmas.Bool.{and_from, and_parts, cases_lt, cases_order}
 use Rattle.std.proofs.lemmas.List.{take-append-drop, take-take, take_all}
 use Rattle.std.proofs.lemmas.List.Elements.{recursion_from_All}
-use Rattle.machine_code.specs.declared.code.Code.{Code}
+use Rattle.machine_code.specs.Coded.{Code}
 use Rattle.machine_code.specs.declared.op.Op.{Op}
 use Rattle.machine_code.specs.Operands.{OpFits, IsNumber}
 use Rattle.listing.specs.declared.fault.ListFault.{ListFault}
@@ -252,3 +252,19 @@ one_spelling t u code is too = is.so ∙ sym too.so
 
 pub own_listing : (code : Code) → CodeFits code → IsListing (code_text code) code
 own_listing code fits = record { fits = fits; so = refl }
+
+-- the code that was read, unless memory was refused
+pub code_told : (text : List ℕ) (told : Result Code ListFault) (code : Code) → IsListing text code → IsUnlessMemory told (Ok code) → Tells text told
+code_told text (Ok c) code listing is =
+    let e : ◌≡◌ {A = Result Code ListFault} (Ok c) (Ok code) = is in
+    let same : c ≡ code = cc in
+    subst (λ (d : Code). IsListing text d) (sym same) listing
+code_told text (Err (BadLine l)) code listing is = absurd (differ is)
+  where
+    differ : ◌≡◌ {A = Result Code ListFault} (Err (BadLine l)) (Ok code) → ⊥
+    differ e = cc
+code_told text (Err (BadOperand l)) code listing is = absurd (differ is)
+  where
+    differ : ◌≡◌ {A = Result Code ListFault} (Err (BadOperand l)) (Ok code) → ⊥
+    differ e = cc
+code_told text (Err Memory) code listing is = tt

@@ -2,7 +2,7 @@
 use Rattle.std.proofs.Common.{◌≡◌, ℕ, Bool, true, false, nat_eq, List, [], ◌∷◌, ◌++◌, refl, ap, ◌∙◌}
 use Rattle.std.specs.Prelude.{if◌then◌else◌}
 use Rattle.std.specs.List.{onto_first}
-use Rattle.machine_code.specs.declared.code.Code.{Code}
+use Rattle.machine_code.specs.Coded.{Code}
 use Rattle.listing.specs.Faults.{whole}
 use Rattle.listing.specs.Listing.{code_text, first_line, inner_lines, last_line}
 use Rattle.text_lines.proofs.Cuts.{HasNo-head, HasNo-tail}

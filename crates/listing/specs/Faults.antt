@@ -6,7 +6,7 @@
 -- longer with it.
 use Rattle.std.specs.Prelude.{◌≡◌, ℕ, ◌-◌, List, [], ◌∷◌, ◌++◌, map, take, Result, Ok, Err}
 use Rattle.std.specs.List.{AllByRecursion}
-use Rattle.machine_code.specs.declared.code.Code.{Code}
+use Rattle.machine_code.specs.Coded.{Code}
 use Rattle.listing.specs.declared.fault.ListFault.{ListFault}
 use Rattle.listing.specs.declared.fault.ListFault.TheVariants.{BadLine, BadOperand, Memory}
 use Rattle.listing.specs.Forms.{EachFrom, HasEntryForm, HasOpForm}

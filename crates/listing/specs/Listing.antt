@@ -5,7 +5,7 @@
 use Rattle.std.specs.Prelude.{◌≡◌, ℕ, ◌+◌, ◌<◌, ◌^◌, List, [], ◌∷◌, ◌++◌, length, map, All, codes}
 use Rattle.std.specs.Fmt.{decimal}
 use Rattle.std.specs.List.{flat_map}
-use Rattle.machine_code.specs.declared.code.Code.{Code}
+use Rattle.machine_code.specs.Coded.{Code}
 use Rattle.machine_code.specs.declared.op.Op.{Op}
 use Rattle.machine_code.specs.Operands.{OpFits, IsNumber}
 use Rattle.text_lines.specs.Lines.{ended}

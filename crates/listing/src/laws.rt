@@ -1,7 +1,7 @@
 // What the words of the definitions mean, for every text and every code.
 ghost use Rattle.std.specs.Prelude.{◌≡◌, ◌≤◌, List, ℕ, length};
 ghost use Rattle.std.specs.List.{flat_map};
-ghost use Rattle.machine_code.specs.declared.code.Code.{Code};
+ghost use Rattle.machine_code.specs.Coded.{Code};
 ghost use Rattle.listing.specs.Faults.{HasBadLine, HasBadOperand};
 ghost use Rattle.listing.specs.Listing.{CodeFits, IsListing, code_text};
 ghost use Rattle.text_lines.specs.Lines.{lines_in};

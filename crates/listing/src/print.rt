@@ -19,7 +19,7 @@ pub fn print_code(alloc: Global, code: &Code) -> Result<Seq<u8>, Memory>
     requires { All OpFits code.now.ops }
     ensures { IfOk result (λ text. IsListing text code.now) }
 {
-    listing(alloc, code.entries.as_slice(), code.ops.as_slice())
+    listing(alloc, code.entries(), code.ops())
 }
 
 /// The listing of these entries and instructions.

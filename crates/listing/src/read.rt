@@ -3,7 +3,7 @@ ghost use Rattle.std.specs.Prelude.{◌≡◌, ◌≤◌, ◌^◌, ℕ, Ok, Err,
 ghost use Rattle.listing.specs.Faults.{HasBadLine, HasBadOperand, IsUnlessMemory, Tells};
 ghost use Rattle.listing.specs.Listing.{IsListing, first_line};
 ghost use Rattle.listing.specs.Statements.{Adds};
-ghost use Rattle.machine_code.specs.declared.code.Code.{Code};
+ghost use Rattle.machine_code.specs.Coded.{Code};
 ghost use Rattle.text_lines.specs.Parts.{IsCut};
 
 use crate::fault::ListFault;
@@ -59,7 +59,7 @@ fn read_lines(alloc: Global, text: &[u8], rest: &[u8]) -> Result<Code, ListFault
     while let Some((line, after)) = cut(rest, b'\n') {
         if line == b"END CODE".as_slice() {
             return if after.is_empty() {
-                Ok(Code { ops, entries })
+                code_of(alloc, ops, entries)
             } else {
                 Err(ListFault::BadLine { line: number + 2 })
             };
@@ -72,6 +72,16 @@ fn read_lines(alloc: Global, text: &[u8], rest: &[u8]) -> Result<Code, ListFault
         rest = after;
     }
     Err(ListFault::BadLine { line: number + 1 })
+}
+
+/// The code of what was read.
+fn code_of(alloc: Global, ops: Seq<Op>, entries: Seq<u32>) -> Result<Code, ListFault>
+    ensures { IsUnlessMemory result (Ok (record { ops = ops; entries = entries })) }
+{
+    match Code::new(alloc, ops, entries) {
+        Ok(code) => Ok(code),
+        Err(_) => Err(ListFault::Memory),
+    }
 }
 
 /// Adds an instruction or an entry.

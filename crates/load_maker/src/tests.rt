@@ -25,25 +25,3 @@ fn writes_whole_texts(rt: HostRuntime) -> Result<(), Fail> {
     }
     Ok(())
 }
-
-fn count_lines(text: &[u8]) -> usize {
-    text.iter().filter(|byte| **byte == b'\n').count()
-}
-
-#[test]
-fn writes_a_line_for_each_call(rt: HostRuntime) -> Result<(), Fail> {
-    let alloc = rt.alloc();
-    let exchange = load_exchange(alloc, 10_000)?;
-    let signals = load_signals(alloc, 10_000)?;
-    for (case, text, lines, bytes) in [
-        ("the exchange", exchange.as_slice(), 110, 2_777),
-        ("the signals", signals.as_slice(), 10_000, 268_890),
-    ] {
-        assert_eq!(rt; count_lines(text), lines, "{case}");
-        assert_eq!(rt; text.len(), bytes, "{case}");
-        assert!(rt; text.ends_with(b"\n"), "{case}");
-    }
-    let last = b"AFTER 0 S1 B1 9999 0 0 NEW\n";
-    assert!(rt; signals.as_slice().ends_with(last), "the last call");
-    Ok(())
-}

@@ -1,2 +1,4 @@
+pub mod Listed
 pub mod Spanned
 pub mod Told
+pub mod Fusing

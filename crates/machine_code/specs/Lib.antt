@@ -2,3 +2,5 @@ pub mod Operands
 pub mod Permits
 pub mod Told
 pub mod Listed
+pub mod Coded
+pub mod Forms

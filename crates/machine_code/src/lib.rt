@@ -9,15 +9,17 @@
 
 mod code;
 mod crossing;
+mod fused;
 mod laws;
 mod op;
 mod permit;
-#[cfg(test)]
-mod tests;
+mod prepare;
+mod propose;
 mod words;
 
 pub use code::Code;
 pub use crossing::{code_crosses, permit_crosses};
+pub use fused::{Fused, Test};
 pub use laws::span_has_its_words_alone;
 pub use op::Op;
 pub use permit::{Permit, Span};

@@ -6,7 +6,8 @@ use Rattle.job_types.specs.declared.job.Job.{Job}
 use Rattle.job_types.specs.Forlopps.{is_dead}
 use Rattle.job_types.specs.Waiting.{joins, pick}
 use Rattle.exchange_model.specs.declared.exchange.Exchange.{Exchange}
-use Rattle.source_meaning.specs.Arrivals.{arrivals, arrivals_of, arrives, comes, forlopp_for, is_due, is_quiet, level_of, next_after}
+use Rattle.source_meaning.specs.Arrivals.{arrivals, arrivals_of, arrives, comes, forlopp_for, is_due, is_quiet, next_after}
+use Rattle.exchange_model.specs.Names.{level_of}
 use Rattle.source_meaning.specs.State.{State, Coming, Lost, has_stopped}
 use Rattle.order_laws.specs.Keeps.{ArrivalsKeep, NoLineBefore, NoneDue}
 use Rattle.order_laws.proofs.Placing.{placed_join}

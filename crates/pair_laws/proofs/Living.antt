@@ -1,10 +1,5 @@
 -- The start of the later job fits still where the first has retired.
-use Rattle.std.proofs.Common.{◌≡◌, ◌≢◌, ⊎_elim, ℕ, zero, suc, ◌+◌, ◌<◌, Bool, true, false, ◌&&◌, ◌||◌, List, [], ◌∷◌, refl, sym, ap, ◌∙◌, subst, arith}
-use Rattle.std.proofs.lemmas.Bool.{eqb-true}
-use Rattle.std.proofs.lemmas.Cmp.{nat_cmp_total}
-use Rattle.std.specs.Prelude.{nat_lt}
-use Rattle.std.specs.Cmp.{unsigned_tied}
-use Rattle.std.specs.Ordering.{nat_cmp, eq_by_cmp}
+use Rattle.std.proofs.Common.{◌≡◌, ◌≢◌, ℕ, zero, suc, ◌+◌, ◌<◌, true, false, List, [], ◌∷◌, refl, sym, ◌∙◌, subst, arith}
 use Rattle.std.specs.FinSet as set
 use Rattle.job_types.specs.declared.job.JobStart.{JobStart}
 use Rattle.job_types.specs.declared.outbox.Sent.{Sent}
@@ -13,12 +8,12 @@ use Rattle.job_types.specs.declared.outbox.SendTo.TheVariants.{Queue, Outside}
 use Rattle.job_types.specs.declared.outcome.JobDone.{JobDone}
 use Rattle.job_types.specs.declared.outcome.Outcome.{Outcome}
 use Rattle.job_types.specs.declared.outcome.Outcome.TheVariants.{Ended, Faulted}
-use Rattle.job_types.specs.Forlopps.{Dead, is_dead, with_dead}
+use Rattle.job_types.specs.Forlopps.{Dead, is_dead}
 use Rattle.exchange_model.specs.declared.exchange.Exchange.{Exchange}
+use Rattle.job_types.proofs.Died.{alive_still}
 use Rattle.source_meaning.specs.Retirement.{all_delivered, delivered, delivered_to, keeps_chain, retires, with_outcome}
 use Rattle.source_meaning.specs.State.{State, chain_in}
 use Rattle.source_meaning.specs.Valid.{IsFitting, IsLive, MayBe}
-use Rattle.source_meaning.proofs.Booleans.{bool_cases}
 use Rattle.flow_points.specs.declared.fact.Fact.{Fact}
 use Rattle.entry_summary.specs.declared.summary.Summary.{Summary}
 use Rattle.pair_laws.specs.Pairs.{IsDoneBy, IsFaulted, LeavesChains, MayRunAtOnce}
@@ -26,17 +21,6 @@ use Rattle.pair_laws.proofs.Apart.{some_forlopp}
 use Rattle.pair_laws.proofs.Retiring.{chains_left}
 
 -- a number that is not dead, where another one dies
-
-neither : (a b c : Bool) → (a || c) ≡ false → b ≡ false → (a || (b || c)) ≡ false
-neither true b c h k = h
-neither false true c h k = k
-neither false false c h k = h
-
-alive_still : (d : Dead) (n k : ℕ) → k ≢ n → is_dead d k ≡ false → is_dead (with_dead d n) k ≡ false
-alive_still d n k other alive =
-    ap (λ b. (nat_lt 0 k && nat_lt k d.below) || b) (set.contains-insert nat_cmp_total d.others n k)
-    ∙ neither (nat_lt 0 k && nat_lt k d.below) (eq_by_cmp nat_cmp k n) (set.contains d.others k) alive
-    (⊎_elim (λ tied. absurd (other (eqb-true k n (sym (unsigned_tied k n) ∙ tied)))) (λ apart. apart) (bool_cases (eq_by_cmp nat_cmp k n)))
 
 -- a number that is live, where sends take effect
 

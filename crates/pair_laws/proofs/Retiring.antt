@@ -1,19 +1,17 @@
 -- What the retirement of the first job leaves of the chains.
-use Rattle.std.proofs.Common.{◌≡◌, inl, inr, ℕ, zero, suc, ◌+◌, true, false, List, [], ◌∷◌, refl, sym, ap, ◌∙◌, subst}
+use Rattle.std.proofs.Common.{◌≡◌, inl, inr, ℕ, zero, suc, ◌+◌, true, false, List, [], refl, sym, ap, ◌∙◌, subst}
 use Rattle.job_types.specs.declared.job.JobStart.{JobStart}
-use Rattle.job_types.specs.declared.outbox.Sent.{Sent}
-use Rattle.job_types.specs.declared.outbox.SendTo.{SendTo}
-use Rattle.job_types.specs.declared.outbox.SendTo.TheVariants.{Queue, Outside}
 use Rattle.job_types.specs.declared.outcome.JobDone.{JobDone}
 use Rattle.job_types.specs.declared.outcome.Outcome.{Outcome}
 use Rattle.job_types.specs.declared.outcome.Outcome.TheVariants.{Ended, Faulted}
 use Rattle.job_types.specs.Chain.{holds}
 use Rattle.job_types.specs.Forlopps.{ChainMap, chain_at, with_chain}
 use Rattle.exchange_model.specs.declared.exchange.Exchange.{Exchange}
-use Rattle.source_meaning.specs.Retirement.{all_delivered, delivered, delivered_to, keeps_chain, retires, with_outcome}
+use Rattle.source_meaning.specs.Retirement.{all_delivered, keeps_chain, retires, with_outcome}
 use Rattle.source_meaning.specs.State.{State}
 use Rattle.source_meaning.proofs.Booleans.{true_not_false}
 use Rattle.source_meaning.proofs.Chains.{chain_other, chain_same}
+use Rattle.source_meaning.proofs.Delivering.{all_delivered_chains}
 use Rattle.flow_points.specs.declared.fact.Fact.{Fact}
 use Rattle.entry_summary.specs.declared.summary.Summary.{Summary}
 use Rattle.pair_laws.specs.Pairs.{IsDoneBy, IsFaulted, LeavesChains, MayRunAtOnce}
@@ -21,15 +19,6 @@ use Rattle.pair_laws.proofs.Apart.{held_at_start, some_forlopp}
 use Rattle.pair_laws.proofs.Staying.{bare_holds_none}
 
 -- sends leave the chains as they are
-
-sent_chains : (to : SendTo) (forlopp : ℕ) (values : List ℕ) (t : State) → (delivered_to to forlopp values t).chains ≡ t.chains
-sent_chains (Outside signal) forlopp values t = refl
-sent_chains (Queue entry level true) forlopp values t = refl
-sent_chains (Queue entry level false) forlopp values t = refl
-
-delivered_chains : (forlopp : ℕ) (sends : List Sent) (t : State) → (all_delivered forlopp sends t).chains ≡ t.chains
-delivered_chains forlopp [] t = refl
-delivered_chains forlopp (m ∷ rest) t = delivered_chains forlopp rest (delivered forlopp m t) ∙ sent_chains m.to forlopp m.values t
 
 module _ (x : Exchange) (facts : List Fact) (s : State) (first later : Summary) (a b : JobStart) (done : JobDone) (h : MayRunAtOnce x facts s first later a b) (d : IsDoneBy x first a s.chains done) where
   left_by : (f : ℕ) (o : Outcome) (t : State) → f ≡ a.job.forlopp → done.outcome ≡ o → t.chains ≡ s.chains → LeavesChains first a s.chains (with_outcome x f o (keeps_chain f done.chain t)).chains
@@ -58,4 +47,4 @@ module _ (x : Exchange) (facts : List Fact) (s : State) (first later : Summary) 
   pub chains_left : (t : State) → t.chains ≡ s.chains → LeavesChains first a s.chains (retires x a done t).chains
   chains_left t same =
       let counted : State = record t { ended = t.ended + 1 } in
-      left_by a.job.forlopp done.outcome (all_delivered a.job.forlopp done.sends counted) refl refl (delivered_chains a.job.forlopp done.sends counted ∙ same)
+      left_by a.job.forlopp done.outcome (all_delivered a.job.forlopp done.sends counted) refl refl (all_delivered_chains a.job.forlopp done.sends counted ∙ same)

@@ -1,7 +1,6 @@
 -- Conflicts of accesses and levels are the conflicts of two summaries.
-use Rattle.std.proofs.Common.{◌≡◌, ◌⊎◌, inl, inr, ℕ, ◌<◌, Bool, true, false, ◌&&◌, ◌||◌, nat_eq, nat_lt, List, Option, Some, refl, sym, subst, arith}
-use Rattle.std.proofs.lemmas.Bool.{eqb-true, eq-eqb}
-use Rattle.std.proofs.lemmas.Bool.Decides.{nat_tests}
+use Rattle.std.proofs.Common.{◌≡◌, ◌⊎◌, inl, inr, ℕ, Bool, true, false, ◌&&◌, ◌||◌, nat_eq, nat_lt, List, Option, Some, refl, sym, subst}
+use Rattle.std.proofs.lemmas.Bool.{eqb-true, eq-eqb, and_from, and_parts, ltb-true, lt-ltb}
 use Rattle.std.proofs.lemmas.Option.{none-some, same_Some}
 use Rattle.std.specs.List.{Contains}
 use Rattle.plex_num.specs.declared.level.Level.{Level}
@@ -25,14 +24,6 @@ chosen false x y e = absurd (none-some y e)
 choose : (b : Bool) (x : Conflict) → b ≡ true → only_if b x ≡ Some x
 choose true x e = refl
 choose false x e = cc
-
-pub both : (a b : Bool) → (a && b) ≡ true → (a ≡ true) × (b ≡ true)
-both true b e = (refl, e)
-both false b e = cc
-
-pub join : (a b : Bool) → a ≡ true → b ≡ true → (a && b) ≡ true
-join true b e f = f
-join false b e f = cc
 
 pub meet_is : (u v : Value) → meet u v ≡ true → Meet u v
 meet_is Any v e = tt
@@ -59,16 +50,10 @@ pub record Shared (n m : ℕ) (w v : Bool) : Type 0 where
   pub writes : (w || v) ≡ true
 
 pub shared : (n m : ℕ) (w v : Bool) → share n m w v ≡ true → Shared n m w v
-shared n m w v e = (let h = both (nat_eq n m) (w || v) e in record { number = eqb-true n m h.0; writes = h.1 })
+shared n m w v e = (let h = and_parts (nat_eq n m) (w || v) e in record { number = eqb-true n m h.0; writes = h.1 })
 
 pub sharing : (n : ℕ) (w v : Bool) → (w || v) ≡ true → share n n w v ≡ true
-sharing n w v e = join (nat_eq n n) (w || v) (eq-eqb n n refl) e
-
-below_is : (n m : ℕ) → n < m → nat_lt n m ≡ true
-below_is n m h = grind (arith, nat_tests)
-
-is_below : (n m : ℕ) → nat_lt n m ≡ true → n < m
-is_below n m h = grind (arith, nat_tests)
+sharing n w v e = and_from (nat_eq n n) (w || v) (eq-eqb n n refl) e
 
 module _ (first later : Summary) where
   file_clash : (f g : ℕ) (c : Conflict) → (f ≡ g → ShareFile first later f) → only_if (nat_eq f g) (conflict.Seizing f) ≡ Some c → IsConflict first later c
@@ -89,7 +74,7 @@ module _ (first later : Summary) where
       }))
   clash_is (Field w n u) (Field v m z) c at there e =
       let h = chosen (share n m w v && meet u z) (conflict.Field n u z) c e in
-      let b = both (share n m w v) (meet u z) h.0 in
+      let b = and_parts (share n m w v) (meet u z) h.0 in
       let s = shared n m w v b.0 in
       subst (IsConflict first later) h.1 (on_field n u z (record {
         first_writes = w;
@@ -118,10 +103,10 @@ module _ (first later : Summary) where
   conflict_cases c (on_field n u v s m) =
       inl (clashes (Field s.first_writes n u) (Field s.later_writes n v) (conflict.Field n u v) s.by_first s.by_later
       (choose (share n n s.first_writes s.later_writes && meet u v) (conflict.Field n u v)
-      (join (share n n s.first_writes s.later_writes) (meet u v) (sharing n s.first_writes s.later_writes s.one_writes) (meet_has u v m))))
+      (and_from (share n n s.first_writes s.later_writes) (meet u v) (sharing n s.first_writes s.later_writes s.one_writes) (meet_has u v m))))
   conflict_cases c (on_file f s) = inl (file_has f s)
   conflict_cases c (on_level level at below) =
-      inr (record { level = level; there = at; clash = choose (nat_lt (level_number level) (level_number later.level)) (conflict.Above level) (below_is (level_number level) (level_number later.level) below) })
+      inr (record { level = level; there = at; clash = choose (nat_lt (level_number level) (level_number later.level)) (conflict.Above level) (lt-ltb (level_number level) (level_number later.level) below) })
 
   pub of_accesses : (c : Conflict) → Clashes first.accesses later.accesses c → IsConflict first later c
   of_accesses c h = clash_is h.one h.clash.other c h.there h.clash.there h.clash.clash
@@ -129,7 +114,7 @@ module _ (first later : Summary) where
   pub of_level : (c : Conflict) → ClashesAbove first.levels later.level c → IsConflict first later c
   of_level c h =
       let e = chosen (nat_lt (level_number h.level) (level_number later.level)) (conflict.Above h.level) c h.clash in
-      subst (IsConflict first later) e.1 (on_level h.level h.there (is_below (level_number h.level) (level_number later.level) e.0))
+      subst (IsConflict first later) e.1 (on_level h.level h.there (ltb-true (level_number h.level) (level_number later.level) e.0))
 
 -- the first of the conflicts of accesses and of levels
 pub first_of : (first later : Summary) (ones others : List Access) (levels : List Level) (clash above result : Option Conflict)

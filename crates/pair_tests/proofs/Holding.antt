@@ -1,11 +1,12 @@
 -- Tests that hold of two jobs.
-use Rattle.std.proofs.Common.{◌≡◌, ◌≢◌, ◌⊎◌, inl, inr, ⊎_elim, ℕ, ◌+◌, ◌<◌, ◌≤◌, Bool, true, false, ◌&&◌, List, [], ◌∷◌, ◌++◌, length, take, get_or, Option, Some, None, refl, sym, ◌∙◌, subst, arith}
+use Rattle.std.proofs.Common.{◌≡◌, ◌≢◌, ◌⊎◌, inl, inr, ⊎_elim, ℕ, ◌+◌, ◌<◌, ◌≤◌, Bool, true, false, ◌&&◌, List, [], ◌∷◌, ◌++◌, length, take, get_or, Option, Some, None, refl, sym, ◌∙◌, subst}
 use Rattle.std.specs.Prelude.{◌↔◌, IsTrue}
 use Rattle.std.specs.Option.{is_some}
 use Rattle.std.specs.List.{All, Contains}
 use Rattle.std.proofs.lemmas.List.{take_all, take_more}
 use Rattle.std.proofs.lemmas.List.Elements.{All-contains, Contains-get_or}
 use Rattle.std.proofs.lemmas.Option.{none-some, same_Some}
+use Rattle.plex_num.proofs.Members.{none_in}
 use Rattle.job_types.specs.declared.chain.Held.{Held}
 use Rattle.job_types.specs.declared.job.JobStart.{JobStart}
 use Rattle.entry_summary.specs.declared.summary.Access.{Access}
@@ -18,9 +19,6 @@ use Rattle.pair_tests.specs.Asked.{asked_of, asks, release_test, AskedWith, Aske
 use Rattle.pair_tests.specs.Nearby.{passes_reads, AreNear}
 use Rattle.pair_tests.specs.Pairs.{Holds, IsConflict, IsTest, Passes}
 use Rattle.pair_tests.proofs.Tested.{with_pushed, all_pushed, seizing_pushed, near_asked, asked_all, none_asked_with, writes_asked, of_asked, of_release, test_cases}
-
-none_in : {A : Type 0} (x : A) → Contains [] x → ⊥
-none_in x c = (let lt = c.1 in omega arith)
 
 sure : (r : Bool) → r ≡ true → IsTrue r
 sure r e = e

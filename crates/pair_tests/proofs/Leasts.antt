@@ -1,10 +1,10 @@
 -- The first of several conflicts.
-use Rattle.std.proofs.Common.{◌≡◌, ◌⊎◌, inl, inr, ⊎_elim, ℕ, ◌+◌, ◌<◌, List, [], ◌∷◌, ◌++◌, length, take, get_or, Option, Some, None, refl, sym, ap, ◌∙◌, subst, arith}
+use Rattle.std.proofs.Common.{◌≡◌, ◌⊎◌, inl, inr, ⊎_elim, ℕ, ◌+◌, ◌<◌, List, [], ◌∷◌, ◌++◌, length, take, get_or, Option, Some, None, refl, sym, ap, ◌∙◌, subst}
 use Rattle.std.proofs.lemmas.List.{take_more}
 use Rattle.std.proofs.lemmas.List.Elements.{Contains-append_left, Contains-push, Contains-push_cases}
 use Rattle.std.proofs.lemmas.Option.{none-some, same_Some}
-use Rattle.std.specs.List.{Contains}
 use Rattle.plex_num.specs.declared.level.Level.{Level}
+use Rattle.plex_num.proofs.Members.{none_in}
 use Rattle.entry_summary.specs.declared.summary.Access.{Access}
 use Rattle.pair_tests.specs.declared.pair.Conflict.{Conflict}
 use Rattle.pair_tests.specs.Clashes.{clash_of, above_of, ClashesWith, Clashes, ClashesAbove, IsLeast, IsSooner}
@@ -42,9 +42,6 @@ least_joined P Q R from_p from_q cases (Some b) (Some d) result p q (inr is) =
     subst (IsLeast R) (sym is.0) (from_p b p.0, λ c h before. ⊎_elim (λ k. p.1 c k before) (λ k. not_before b c d is.1 (q.1 c k) before) (cases c h))
 
 -- of one access with others
-
-none_in : {A : Type 0} (x : A) → Contains [] x → ⊥
-none_in x c = (let lt = c.1 in omega arith)
 
 pub with_none : (one : Access) → IsLeast (ClashesWith one []) None
 with_none one = least_none (ClashesWith one []) (λ c h. none_in h.other h.there)

@@ -8,13 +8,14 @@ use Rattle.std.specs.Prelude.{if◌then◌else◌, IsTrue, slice_get}
 use Rattle.std.specs.Bool.{MatchBool}
 use Rattle.std.specs.List.{Contains}
 use Rattle.std.specs.List.Sorted.{IsPartitionedBy, IsStrictlySortedBy}
-use Rattle.std.proofs.lemmas.Bool.{cases_lt, eqb-true}
+use Rattle.std.proofs.lemmas.Bool.{cases_lt, eqb-true, not-true, and_parts, both_ways}
 use Rattle.std.proofs.lemmas.Bool.Decides.{nat_tests}
 use Rattle.std.proofs.lemmas.Cmp.{tied_itself, alike_right}
 use Rattle.std.proofs.lemmas.List.Elements.{AllWithin-none}
 use Rattle.std.proofs.lemmas.List.{get_or-take, get_or-drop, length-take, length-drop}
 use Rattle.std.proofs.lemmas.Map.Keys.{Less-from_sorted}
 use Rattle.std.proofs.lemmas.Option.{get_or_from_slice_get, none-some}
+use Rattle.plex_num.proofs.Numbers.{is_less}
 use Rattle.flow_points.specs.declared.fact.Value.{Value}
 use Rattle.flow_points.specs.declared.fact.Value.TheVariants.{Arg, Const, Any}
 use Rattle.entry_summary.specs.declared.summary.Access.{Access}
@@ -30,17 +31,12 @@ use Rattle.pair_tests.specs.declared.near.Bound.{Bound}
 use Rattle.pair_tests.specs.declared.near.Bound.TheVariants.{Below, UpTo}
 use Rattle.pair_tests.specs.Nearby.{file_access, lowest, highest, passes_reads, within, IsNear, AreCounted, AreNear, ArePast, AreWithin}
 use Rattle.pair_tests.proofs.Leasts.{least_joined, least_same}
-use Rattle.pair_tests.proofs.Conflicting.{shared, both, chosen}
+use Rattle.pair_tests.proofs.Conflicting.{shared, chosen}
 
 accesses_total : IsTotalOrder access_order
 accesses_total = total-law
 
 -- what stands below in order passes a bound that is passed above
-
-is_less : (o : Ordering) → is_lt o ≡ true → o ≡ Less
-is_less Less e = refl
-is_less Equal e = cc
-is_less Greater e = cc
 
 up_to_at : (x y high : Access) (o : Ordering) → access_order x y ≡ Less → access_order y high ≡ o → is_le o ≡ true → access_order x high ≡ Less
 up_to_at x y high Less below e le = accesses_total.trans x y high below e
@@ -164,10 +160,6 @@ part_has xs from to k b bound low high is =
     let same : from + (k - from) ≡ k = omega arith in
     (k - from, lt, get_or-drop from (take to xs) (k - from) b ∙ ap (λ i. get_or (take to xs) i b) same ∙ get_or-take to xs k b high ∙ is)
 
-both_ways : (b : Bool) → b ≡ true → b ≡ false → ⊥
-both_ways true e f = cc
-both_ways false e f = cc
-
 pub near_part : (one : Access) (v : Bool) (low high : Access) (xs some : List Access) (from to : ℕ)
     → low ≡ lowest one v → high ≡ highest one v → AreCounted (Below low) xs from → AreCounted (UpTo high) xs to
     → some ≡ drop from (take to xs) → AreNear one v xs some
@@ -181,12 +173,12 @@ near_part one v low high xs some from to is_low is_high begins ends is =
     placed : (b : Access) (k : ℕ) → k < length xs → get_or xs k b ≡ b → is_lt (access_order b low) ≡ false → is_le (access_order b high) ≡ true → Contains (drop from (take to xs)) b
     placed b k lt at l h =
         let above : from ≤ k = ⊎_elim
-        (λ past. absurd (both_ways (is_lt (access_order b low)) (subst (λ x. is_lt (access_order x low) ≡ true) at (begins.parts.0 k b (omega arith) past)) l))
+        (λ past. absurd (both_ways (is_lt (access_order b low)) l (subst (λ x. is_lt (access_order x low) ≡ true) at (begins.parts.0 k b (omega arith) past))))
         (λ up. up)
         (cases_lt k from) in
         let under : k < to = ⊎_elim
         (λ up. up)
-        (λ past. absurd (both_ways (is_le (access_order b high)) h (subst (λ x. is_le (access_order x high) ≡ false) at (ends.parts.1 k b past lt))))
+        (λ past. absurd (both_ways (is_le (access_order b high)) (subst (λ x. is_le (access_order x high) ≡ false) at (ends.parts.1 k b past lt)) h))
         (cases_lt k to) in
         part_has xs from to k b ends.there above under at
 
@@ -205,7 +197,7 @@ by_write one false b near = inl near
 pub clash_near : (one b : Access) (c : Conflict) → clash_of one b ≡ Some c → IsNear one false b ⊎ IsNear one true b
 clash_near (Variable w n) (Variable v m) c e = by_write (Variable w n) v (Variable v m) (same_variable v n m (shared n m w v (chosen (share n m w v) (conflict.Variable n) c e).0).number)
 clash_near (Field w n u) (Field v m z) c e =
-    by_write (Field w n u) v (Field v m z) (same_field v n m z (shared n m w v (both (share n m w v) (meet u z) (chosen (share n m w v && meet u z) (conflict.Field n u z) c e).0).0).number)
+    by_write (Field w n u) v (Field v m z) (same_field v n m z (shared n m w v (and_parts (share n m w v) (meet u z) (chosen (share n m w v && meet u z) (conflict.Field n u z) c e).0).0).number)
 clash_near (Seizes f) (Seizes g) c e = inl (ap Seizes (sym (eqb-true f g (chosen (nat_eq f g) (conflict.Seizing f) c e).0)))
 clash_near (Seizes f) (Frees g) c e = inr (ap Frees (sym (eqb-true f g (chosen (nat_eq f g) (conflict.Seizing f) c e).0)))
 clash_near (Frees f) (Seizes g) c e = inl (ap Seizes (sym (eqb-true f g (chosen (nat_eq f g) (conflict.Seizing f) c e).0)))
@@ -224,19 +216,15 @@ asked_near _ _ t e = absurd (none-some t e)
 with_writing : (v : Bool) → (false || v) ≡ true → v ≡ true
 with_writing v e = e
 
-is_reading : (w : Bool) → not w ≡ true → w ≡ false
-is_reading true e = cc
-is_reading false e = refl
-
 one_writing : (w v : Bool) → not w ≡ true → (w || v) ≡ true → v ≡ true
-one_writing w v reads e = subst (λ u. (u || v) ≡ true) (is_reading w reads) e
+one_writing w v reads e = subst (λ u. (u || v) ≡ true) (not-true w reads) e
 
 pub clash_writes : (one b : Access) (c : Conflict) → passes_reads one ≡ true → clash_of one b ≡ Some c → IsNear one true b
 clash_writes (Variable w n) (Variable v m) c reads e =
     let s = shared n m w v (chosen (share n m w v) (conflict.Variable n) c e).0 in
     subst (λ u. Variable v m ≡ Variable u n) (one_writing w v reads s.writes) (same_variable v n m s.number)
 clash_writes (Field w n u) (Field v m z) c reads e =
-    let s = shared n m w v (both (share n m w v) (meet u z) (chosen (share n m w v && meet u z) (conflict.Field n u z) c e).0).0 in
+    let s = shared n m w v (and_parts (share n m w v) (meet u z) (chosen (share n m w v && meet u z) (conflict.Field n u z) c e).0).0 in
     subst (λ t. (y : Value) × (Field v m z ≡ Field t n y)) (one_writing w v reads s.writes) (same_field v n m z s.number)
 clash_writes (Seizes f) b c reads e = cc
 clash_writes (Frees f) b c reads e = cc

@@ -3,12 +3,12 @@ use Rattle.std.proofs.Common.{◌≡◌, ◌⊎◌, inl, inr, ℕ, ◌<◌, refl
 use Rattle.std.specs.declared.cmp.Ordering.{Ordering}
 use Rattle.std.specs.declared.cmp.Ordering.TheVariants.{Less, Equal, Greater}
 use Rattle.std.specs.Cmp.{IsTotalOrder}
-use Rattle.std.specs.Ordering.{nat_cmp, ordering_reverse}
+use Rattle.std.specs.Ordering.{ordering_reverse}
 use Rattle.std.proofs.lemmas.Bool.{cases_lt}
-use Rattle.std.proofs.lemmas.Bool.Decides.{nat_tests}
 use Rattle.std.proofs.lemmas.Cmp.{tied_itself}
 use Rattle.plex_num.specs.declared.level.Level.{Level}
 use Rattle.plex_num.specs.declared.level.Level.TheVariants.{A, B, C, D}
+use Rattle.plex_num.proofs.Numbers.{nat_same}
 use Rattle.flow_points.specs.declared.fact.Value.{Value}
 use Rattle.flow_points.specs.declared.fact.Value.TheVariants.{Arg, Const, Any}
 use Rattle.flow_points.specs.contracts.fact.ValueOrd.TheImpl.Laws.{total-law}
@@ -77,12 +77,9 @@ pub data Ranked (c d : Conflict) : Type 0 where
   Before : Precedes c d → Ranked c d
   After : Precedes d c → Ranked c d
 
-pub number_equal : (a b : ℕ) → nat_cmp a b ≡ Equal → a ≡ b
-number_equal a b e = grind (arith, nat_tests)
-
 value_equal : (u w : Value) → value_order u w ≡ Equal → u ≡ w
-value_equal (Arg a) (Arg b) e = ap Arg (number_equal a b e)
-value_equal (Const a) (Const b) e = ap Const (number_equal a b e)
+value_equal (Arg a) (Arg b) e = ap Arg (nat_same a b e)
+value_equal (Const a) (Const b) e = ap Const (nat_same a b e)
 value_equal Any Any e = refl
 value_equal (Arg a) (Const b) e = cc
 value_equal (Arg a) Any e = cc

@@ -1,5 +1,5 @@
 -- The tests of two summaries, one after the other.
-use Rattle.std.proofs.Common.{◌≡◌, ◌⊎◌, inl, inr, ⊎_elim, ℕ, ◌+◌, ◌<◌, ◌≤◌, Bool, true, false, List, [], ◌∷◌, ◌++◌, length, take, get_or, Option, Some, None, refl, sym, ap, ◌∙◌, subst, arith}
+use Rattle.std.proofs.Common.{◌≡◌, ◌⊎◌, inl, inr, ⊎_elim, ℕ, ◌+◌, ◌<◌, ◌≤◌, Bool, true, false, List, [], ◌∷◌, ◌++◌, length, take, get_or, Option, Some, None, refl, sym, ap, ◌∙◌, subst}
 use Rattle.std.specs.Prelude.{◌↔◌, if◌then◌else◌}
 use Rattle.std.specs.declared.cmp.Ordering.{Ordering}
 use Rattle.std.specs.declared.cmp.Ordering.TheVariants.{Less, Equal, Greater}
@@ -13,6 +13,8 @@ use Rattle.std.proofs.lemmas.List.Sorted.{Contains-permutation, IsPermutation-sy
 use Rattle.std.proofs.lemmas.List.{take_all, take_more}
 use Rattle.std.proofs.lemmas.List.Elements.{Contains-append_left, Contains-push, Contains-push_cases}
 use Rattle.std.proofs.lemmas.Option.{none-some, same_Some}
+use Rattle.plex_num.proofs.Members.{none_in}
+use Rattle.plex_num.proofs.Numbers.{nat_same}
 use Rattle.flow_points.specs.declared.fact.Value.{Value}
 use Rattle.flow_points.specs.declared.fact.Value.TheVariants.{Arg, Const, Any}
 use Rattle.entry_summary.specs.declared.summary.Access.{Access}
@@ -26,12 +28,8 @@ use Rattle.pair_tests.specs.Clashes.{share}
 use Rattle.pair_tests.specs.Asked.{selector_test, asked_of, asks as ask, release_test, AskedWith, Asked, AskedSeizing, AskedRelease, Adds}
 use Rattle.pair_tests.specs.Nearby.{passes_reads, AreNear}
 use Rattle.pair_tests.specs.Pairs.{ShareField, IsTest, two_values, first_value, later_value, in_forlopp, holds_none}
-use Rattle.pair_tests.proofs.Preceding.{number_equal}
 use Rattle.pair_tests.proofs.Conflicting.{shared, sharing}
 use Rattle.pair_tests.proofs.Nearing.{asks, asked_near, asked_writes}
-
-none_in : {A : Type 0} (x : A) → Contains [] x → ⊥
-none_in x c = (let lt = c.1 in omega arith)
 
 -- the sets of tests
 
@@ -222,14 +220,14 @@ is_equal Equal e = refl
 is_equal Greater e = cc
 
 pairs_equal : (a b c d : ℕ) → ordering_then (nat_cmp a c) (nat_cmp b d) ≡ Equal → (a ≡ c) × (b ≡ d)
-pairs_equal a b c d e = (let h = then_equal (nat_cmp a c) (nat_cmp b d) e in (number_equal a c h.0, number_equal b d h.1))
+pairs_equal a b c d e = (let h = then_equal (nat_cmp a c) (nat_cmp b d) e in (nat_same a c h.0, nat_same b d h.1))
 
 tests_equal : (x y : Test) → test_order x y ≡ Equal → x ≡ y
 tests_equal (test.Differ a b) (test.Differ c d) e = (let h = pairs_equal a b c d e in λ i. test.Differ (h.0 i) (h.1 i))
 tests_equal (test.FirstNot a b) (test.FirstNot c d) e = (let h = pairs_equal a b c d e in λ i. test.FirstNot (h.0 i) (h.1 i))
 tests_equal (test.LaterNot a b) (test.LaterNot c d) e = (let h = pairs_equal a b c d e in λ i. test.LaterNot (h.0 i) (h.1 i))
 tests_equal test.InForlopp test.InForlopp e = refl
-tests_equal (test.HoldsNo f) (test.HoldsNo g) e = ap test.HoldsNo (number_equal f g e)
+tests_equal (test.HoldsNo f) (test.HoldsNo g) e = ap test.HoldsNo (nat_same f g e)
 tests_equal _ _ e = cc
 
 tests_total : IsTotalOrder test_order

@@ -1,21 +1,12 @@
 // Whether tests hold of two jobs.
-ghost use Rattle.std.specs.Prelude.{◌≡◌, ◌≢◌, ◌↔◌, IsTrue, slice_index};
+ghost use Rattle.std.specs.Prelude.{◌≡◌, ◌≢◌, ◌↔◌, IsTrue};
 ghost use Rattle.std.specs.List.{All, Contains};
 ghost use Rattle.job_types.specs.declared.chain.Held.{Held};
 ghost use Rattle.pair_tests.specs.Pairs.{Holds};
 
 use crate::pair::Test;
 use job_types::{Held, JobStart};
-
-/// The value at a place, 0 where there is none.
-fn value_at(values: &[u32], place: u8) -> u32
-    ensures { result ≡ slice_index values.now place }
-{
-    match values.get(place as usize) {
-        Some(value) => *value,
-        None => 0,
-    }
-}
+use plex_num::value_at;
 
 /// Whether all records of a chain are of other files.
 fn are_of_others(chain: &[Held], file: u32) -> bool
@@ -37,10 +28,13 @@ pub(crate) fn holds(test: Test, a: &JobStart, b: &JobStart) -> bool
 {
     match test {
         Test::Differ { first, later } => {
-            value_at(a.job.values.as_slice(), first) != value_at(b.job.values.as_slice(), later)
+            value_at(a.job.values.as_slice(), first as usize)
+                != value_at(b.job.values.as_slice(), later as usize)
         }
-        Test::FirstNot { first, value } => value_at(a.job.values.as_slice(), first) != value,
-        Test::LaterNot { later, value } => value_at(b.job.values.as_slice(), later) != value,
+        Test::FirstNot { first, value } => value_at(a.job.values.as_slice(), first as usize)
+            != value,
+        Test::LaterNot { later, value } => value_at(b.job.values.as_slice(), later as usize)
+            != value,
         Test::InForlopp => a.job.forlopp != 0,
         Test::HoldsNo { file } => holds_none(a.chain.as_slice(), file),
     }

@@ -7,7 +7,7 @@ use Rattle.job_types.specs.declared.job.JobStart.{JobStart}
 use Rattle.job_types.specs.declared.outcome.JobDone.{JobDone}
 use Rattle.job_types.specs.declared.touch.Touch.{Touch}
 use Rattle.job_types.specs.declared.touch.Touch.TheVariants.{Load, Store}
-use Rattle.machine_code.specs.declared.code.Code.{Code}
+use Rattle.machine_code.specs.Coded.{Code}
 use Rattle.machine_code.specs.Listed.{is_word_of}
 use Rattle.exchange_model.specs.declared.exchange.Exchange.{Exchange}
 use Rattle.exchange_model.specs.Kept.{IsExchange}
@@ -30,17 +30,24 @@ use Rattle.retire_order.specs.Retired.{HasRetired, retired_world}
 use Rattle.retire_order.specs.Stores.{MayStore}
 use Rattle.exchange_run.specs.Machines.{Leaves}
 use Rattle.exchange_run.specs.Runs.{MayRun, left_by, words_after}
-use Rattle.retire_order.proofs.Cells.{word_of}
 use Rattle.exchange_run.proofs.Starting.{entry_within, leaves}
 use Rattle.exchange_run.proofs.Turning.{goes_on, may_be, may_retire, may_run, turn_ended, turn_more, turn_starts}
 use Rattle.shared_store.specs.declared.view.Lent.{Lent}
 use Rattle.shared_store.specs.declared.view.Top.{Top}
-use Rattle.shared_store.specs.Loans.{Has, lent_out, seen_by, unlent}
+use Rattle.shared_store.specs.Loans.{Has, lender, lent, lent_out, seen_by, unlent}
 use Rattle.shared_store.specs.Seats.{StoreId}
 use Rattle.job_runner.specs.Seen.{free_to_read, free_to_write}
 use Rattle.parallel_dispatch.specs.declared.moves.Retired.{Retired}
 use Rattle.parallel_dispatch.specs.Flying.{Fly, arrived}
-use Rattle.parallel_dispatch.specs.Made.{HasRunAlone, JobMakes, RunMakes}
+use Rattle.parallel_dispatch.specs.Made.{HasRunAlone, JobMakes, RunEnds, RunMakes}
+use Rattle.job_types.specs.Own.{done_of}
+use Rattle.machine_code.proofs.Listed.{word_of}
+use Rattle.source_meaning.specs.Retirement.{retires}
+use Rattle.order_laws.specs.Keeps.{NoLineBefore}
+use Rattle.interleave_core.specs.Runs.{setting}
+use Rattle.shared_store.specs.Seats.{no_permit}
+use Rattle.parallel_dispatch.specs.Events.{IsLed, whole_turn}
+use Rattle.parallel_dispatch.proofs.Events.{is_issued, issue_then_turn, turn_led}
 use Rattle.parallel_dispatch.specs.Moves.{AreCounted, HasTurned, MayRunAlone, to_do}
 use Rattle.parallel_dispatch.specs.Windows.{View}
 use Rattle.parallel_dispatch.proofs.Lending.{and_not, free_stores}
@@ -111,7 +118,7 @@ module _ (x : Exchange) (code : Code) (kept : IsExchange x) (start : JobStart) (
       record {
         leaves = leaves x start start top.values told now_told left now.values refl means;
         root_is = λ i. record { values = means.store_is i; loans = bare_now i };
-        makes = record { end = end.end; ends = end.ends; made_is = ap (λ (p : Private). p.made) end.run_is };
+        comes = record { end = end.end; ends = end.ends; run_is = end.run_is; words_are = end.store_is };
       }
 
 -- what the run leaves is what the job leaves
@@ -241,13 +248,38 @@ module _ (x : Exchange) (k : Kept) (books : Account) (top : Top) (start : JobSta
             let limit = limit_alone in
             omega (arith, few, ended, runs, before, limit)
 
-        pub turned_alone : (y : Exchange) (code : Code) (store : StoreId) (w v : View) (left : Retired) (made : ℕ) → x ≡ y → w.loans ≡ [] → v ≡ w → left.root.1.values ≡ words → left.root.1.loans ≡ mid.loans → RunMakes code start top.values made → left.steps ≡ made → left.root.0 ≡ store → AreCounted books w → HasTurned y k code store books top w last left v
-        turned_alone y code store w v left made same alone kept_window values kept_loans makes is home counted = record {
-          fly = λ s fly. gone_alone y w.loans v.loans s left.root.1 same alone (ap (λ (u : View). u.loans) kept_window) fly values kept_loans;
-          steps = λ s fly. makes_alone y w.loans code s made left.steps same alone fly makes is;
-          home = home;
-          limit = limit_alone;
-          room = ap (λ (u : View). u.room) kept_window;
-          counted = counted_alone w v kept_window counted;
-          fewer = fewer_alone;
-        }
+        -- its events are Issue, its instructions, and Retire
+        led_alone : (code : Code) (workers : ℕ) (run : Private) → 0 < workers → NoLineBefore (books.state.ended + 1) books.state.lines → RunEnds code start top.values run mid → done ≡ done_of run.own run.over → (now : Top) → now.values ≡ words → IsLed (setting x code k workers) whole_turn books top [] last now []
+        led_alone code workers run some line comes leaves now values =
+            let mid_books = after_start (Some start) books in
+            let lends = lender start no_permit top in
+            let loan = lent top start no_permit in
+            let none = nobody in
+            let count : books.state.ended + 1 ≡ books.state.ended + 0 + 1 = omega arith in
+            let same : done ≡ done_of comes.end.run.own comes.end.run.over = leaves ∙ ap (λ (r : Private). done_of r.own r.over) comes.run_is in
+            let left : with_words next.state words ≡ retires x start (done_of comes.end.run.own comes.end.run.over) (with_words mid_books.state comes.end.world.store) =
+            retired.state ∙ λ i. retires x start (same i) (with_words (begins i).state (comes.words_are i)) in
+            let limit : next.limit ≡ mid_books.limit = retired.limit ∙ ap (λ (b : Account). b.limit) begins in
+            let issue = is_issued x code k workers books top [] start no_permit none n.next some (subst (λ m. NoLineBefore m books.state.lines) count line) tt in
+            let turn = turn_led x code k workers mid_books lends start [] comes.end comes.ends next words left next_none limit now values loan refl in
+            subst (λ b. IsLed (setting x code k workers) whole_turn books top [] b now []) (sym last_is) (issue_then_turn (setting x code k workers) books mid_books (record next { state = arrived x next.running next.state }) top lends now [] (loan ∷ []) [] issue turn)
+
+        led_there : (y : Exchange) (code : Code) (w v : View) (run : Private) → x ≡ y → MayRunAlone books w start → v ≡ w → RunEnds code start top.values run mid → done ≡ done_of run.own run.over → (now : Top) → now.values ≡ words → IsLed (setting y code k w.room) whole_turn books top w.loans last now v.loans
+        led_there y code w v run same may kept_window comes leaves now values =
+            subst (λ (z : Exchange × (List Lent × List Lent)). IsLed (setting z.0 code k w.room) whole_turn books top z.1.0 last now z.1.1)
+            (λ i. (same i, (sym may.alone i, sym (ap (λ (u : View). u.loans) kept_window ∙ may.alone) i)))
+            (led_alone code w.room run may.room may.line comes leaves now values)
+
+        pub turned_alone : (y : Exchange) (code : Code) (store : StoreId) (w v : View) (left : Retired) (run : Private) → x ≡ y → MayRunAlone books w start → v ≡ w → left.root.1.values ≡ words → left.root.1.loans ≡ mid.loans → RunEnds code start top.values run mid → done ≡ done_of run.own run.over → left.steps ≡ run.made → left.root.0 ≡ store → AreCounted books w → HasTurned y k code store whole_turn books top w last left v
+        turned_alone y code store w v left run same may kept_window values kept_loans comes leaves is home counted =
+            let makes : RunMakes code start top.values run.made = record { end = comes.end; ends = comes.ends; made_is = ap (λ (r : Private). r.made) comes.run_is } in
+            record {
+              fly = λ s fly. gone_alone y w.loans v.loans s left.root.1 same may.alone (ap (λ (u : View). u.loans) kept_window) fly values kept_loans;
+              steps = λ s fly. makes_alone y w.loans code s run.made left.steps same may.alone fly makes is;
+              led = led_there y code w v run same may kept_window comes leaves left.root.1 values;
+              home = home;
+              limit = limit_alone;
+              room = ap (λ (u : View). u.room) kept_window;
+              counted = counted_alone w v kept_window counted;
+              fewer = fewer_alone;
+            }

@@ -11,7 +11,7 @@ use Rattle.retire_order.specs.Accounts.{Account, next_count, upcoming}
 use Rattle.shared_store.specs.declared.view.Lent.{Lent}
 use Rattle.parallel_dispatch.specs.Flying.{starts_of}
 use Rattle.parallel_dispatch.specs.Moves.{MayFly, MayRunAlone}
-use Rattle.parallel_dispatch.specs.Told.{PassBy}
+use Rattle.interleave_core.specs.Allowed.{MayFollow}
 use Rattle.parallel_dispatch.specs.Windows.{View}
 
 -- ## Lines
@@ -33,8 +33,8 @@ none_there : (loans : List Lent) → length loans ≡ 0 → loans ≡ []
 none_there [] e = refl
 none_there (l ∷ rest) e = absurd (omega (arith, e))
 
-pub may_run_alone : (books : Account) (w : View) (start : JobStart) → Some start ≡ upcoming books → length w.loans ≡ 0 → MayRunAlone books w start
-may_run_alone books w start is none = record { next = is; alone = none_there w.loans none }
+pub may_run_alone : (books : Account) (w : View) (start : JobStart) → Some start ≡ upcoming books → length w.loans ≡ 0 → 0 < w.room → (w.loans ≡ [] → NoLineBefore (books.state.ended + 1) books.state.lines) → MayRunAlone books w start
+may_run_alone books w start is none some line = (let empty = none_there w.loans none in record { next = is; alone = empty; room = some; line = line empty })
 
 pub may_fly_alone : (k : Kept) (books : Account) (w : View) (start : JobStart) → Some start ≡ upcoming books → length w.loans ≡ 0 → 0 < w.room → (w.loans ≡ [] → NoLineBefore (books.state.ended + 1) books.state.lines) → MayFly k books w start
 may_fly_alone k books w start is none some line =
@@ -44,10 +44,10 @@ may_fly_alone k books w start is none some line =
       next = is;
       room = omega (arith, none, some);
       line = subst (λ n. NoLineBefore n books.state.lines) count (line empty);
-      pass = subst (λ (ls : List Lent). AllByRecursion (λ (older : JobStart). PassBy k older start) (starts_of ls)) (sym empty) tt;
+      pass = subst (λ (ls : List Lent). AllByRecursion (λ (older : JobStart). MayFollow k older start) (starts_of ls)) (sym empty) tt;
     }
 
-pub may_fly_beside : (k : Kept) (books : Account) (w : View) (start : JobStart) → Some start ≡ upcoming books → length w.loans < w.room → NoLineBefore (books.state.ended + length w.loans + 1) books.state.lines → AllByRecursion (λ (older : JobStart). PassBy k older start) (starts_of w.loans) → MayFly k books w start
+pub may_fly_beside : (k : Kept) (books : Account) (w : View) (start : JobStart) → Some start ≡ upcoming books → length w.loans < w.room → NoLineBefore (books.state.ended + length w.loans + 1) books.state.lines → AllByRecursion (λ (older : JobStart). MayFollow k older start) (starts_of w.loans) → MayFly k books w start
 may_fly_beside k books w start is lt line pass = record { next = is; room = lt; line = line; pass = pass }
 
 pub some_fly : (w : View) (o : Option JobStart) → length w.loans ≢ 0 → w.loans ≡ [] → None ≡ o

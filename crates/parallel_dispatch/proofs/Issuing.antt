@@ -2,13 +2,10 @@
 use Rattle.std.proofs.Common.{◌≡◌, inl, inr, ℕ, ◌+◌, ◌<◌, Bool, true, false, List, [], ◌∷◌, ◌++◌, length, Some, None, refl, sym, ap, ◌∙◌, subst, arith, if◌then◌else◌}
 use Rattle.std.proofs.lemmas.Bool.{ltb-true}
 use Rattle.std.proofs.lemmas.List.{length-map, map-append}
-use Rattle.std.specs.Prelude.{◌↔◌, nat_lt, slice_index}
+use Rattle.std.specs.Prelude.{nat_lt, slice_index}
 use Rattle.std.specs.List.{AllByRecursion}
 use Rattle.plex_num.proofs.Lists.{all_append, all_right}
-use Rattle.job_types.specs.declared.job.Job.{Job}
 use Rattle.job_types.specs.declared.job.JobStart.{JobStart}
-use Rattle.job_types.specs.declared.touch.Touch.{Touch}
-use Rattle.job_types.specs.declared.touch.Touch.TheVariants.{Load, Store}
 use Rattle.machine_code.specs.declared.permit.Permit.{Permit}
 use Rattle.machine_code.specs.Permits.{may_read, may_write}
 use Rattle.exchange_model.specs.declared.exchange.Exchange.{Exchange}
@@ -17,13 +14,12 @@ use Rattle.source_meaning.specs.SingleRun.{begun, next_start}
 use Rattle.source_meaning.specs.State.{State}
 use Rattle.source_meaning.specs.Traces.{trace_of}
 use Rattle.source_meaning.specs.Valid.{IsFitting, IsJob, IsValid}
-use Rattle.source_meaning.proofs.Retiring.{begun_valid, start_fits}
+use Rattle.source_meaning.proofs.Retiring.{start_fits}
 use Rattle.entry_summary.specs.declared.summary.Summary.{Summary}
 use Rattle.start_permit.specs.Granted.{MayRead, MayWrite}
 use Rattle.checked.specs.Kept.{IsChecked, Kept}
 use Rattle.order_laws.specs.Books.{AreAhead}
 use Rattle.order_laws.specs.Keeps.{NoLineBefore}
-use Rattle.order_laws.specs.Picks.{all_begun}
 use Rattle.order_laws.specs.Windows.{MakesWay, jobs_of}
 use Rattle.order_laws.proofs.Following.{ahead_issue}
 use Rattle.order_laws.proofs.Moving.{window_fits}
@@ -34,8 +30,11 @@ use Rattle.shared_store.specs.declared.view.Lent.{Lent}
 use Rattle.shared_store.specs.declared.view.Top.{Top}
 use Rattle.shared_store.specs.Loans.{FitsBeside, Has, lender, lent}
 use Rattle.job_runner.specs.Runs.{IsForJob, Keeps}
+use Rattle.interleave_core.proofs.Joining.{begun_all_valid}
+use Rattle.parallel_dispatch.specs.Bare.{bare}
 use Rattle.parallel_dispatch.specs.Flying.{AllPass, AreWithin, Fly, IsLent, starts_of}
 use Rattle.parallel_dispatch.specs.Told.{AreTrue, IsSummaryOf, PassBy}
+use Rattle.parallel_dispatch.proofs.Bare.{bare_reads, bare_writes, keeps_bare}
 use Rattle.parallel_dispatch.proofs.Lending.{has_last, has_left, of_loan, of_start}
 use Rattle.parallel_dispatch.proofs.Told.{apart_from}
 
@@ -47,10 +46,6 @@ upcoming_parts b start is = by (nat_lt (b.state.ended + b.running) b.limit) refl
     by : (t : Bool) → nat_lt (b.state.ended + b.running) b.limit ≡ t → Some start ≡ (if t then next_start b.state else None) → (b.state.ended + b.running < b.limit) × (next_start b.state ≡ Some start)
     by true lt e = (ltb-true (b.state.ended + b.running) b.limit lt, sym e)
     by false lt e = cc
-
-all_begun_valid : (x : Exchange) (js : List Job) (s : State) → IsValid x s → IsValid x (all_begun js s)
-all_begun_valid x [] s v = v
-all_begun_valid x (j ∷ js) s v = all_begun_valid x js (begun s) (begun_valid x s v)
 
 -- ## Lists
 
@@ -68,13 +63,6 @@ long_more (o ∷ rest) l = (let e = long_more rest l in omega (arith, e))
 within_more : (limit ended : ℕ) (loans : List Lent) (l : Lent) → ended + length loans < limit → AreWithin limit ended (loans ++ l ∷ [])
 within_more limit ended [] l lt = omega (arith, lt)
 within_more limit ended (o ∷ rest) l lt = (let e = long_more rest l in omega (arith, lt, e))
-
--- touches that are permitted keep a permit that lets do as much
-keeps_permit : (x : Exchange) (s : State) (m : Summary) (start : JobStart) (p : Permit) → ((w : ℕ) → MayRead x m start s.chains w → may_read p w ≡ true) → ((w : ℕ) → MayWrite x m start s.chains w → may_write p w ≡ true)
-    → (ts : List Touch) → ArePermitted x m start s.chains ts → Keeps p ts
-keeps_permit x s m start p reads writes [] all = tt
-keeps_permit x s m start p reads writes (Load w v ∷ ts) all = (reads w all.0, keeps_permit x s m start p reads writes ts all.1)
-keeps_permit x s m start p reads writes (Store w v ∷ ts) all = (writes w all.0, keeps_permit x s m start p reads writes ts all.1)
 
 -- ## The job is lent its words, and flies
 
@@ -99,7 +87,7 @@ module _ (x : Exchange) (k : Kept) (kept : IsExchange x) (checked : IsChecked x 
 
     -- the job is one of an entry of the exchange
     pub is_job : IsJob x start.job
-    is_job = (start_fits x (with_words books.state s.store) start (subst (IsValid x) (sym fly.ahead.same) (all_begun_valid x (jobs_of starts) s fly.valid)) next).job
+    is_job = (start_fits x (with_words books.state s.store) start (subst (IsValid x) (sym fly.ahead.same) (begun_all_valid x (jobs_of starts) s fly.valid)) next).job
 
     -- the books have the chains and the count of the state
     pub same_chains : books.state.chains ≡ s.chains
@@ -122,19 +110,25 @@ module _ (x : Exchange) (k : Kept) (kept : IsExchange x) (checked : IsChecked x 
       older_fits : (l : Lent) → Has loans l → IsFitting x s l.start
       older_fits l has = of_start (IsFitting x s) loans l (window_fits x s starts fly.valid fly.ahead.window) has
 
-      module _ (p : Permit) (reads : (w : ℕ) → (may_read p w ≡ true) ↔ MayRead x n start books.state.chains w) (writes : (w : ℕ) → (may_write p w ≡ true) ↔ MayWrite x n start books.state.chains w) where
-        reads_here : (w : ℕ) → (may_read p w ≡ true) ↔ MayRead x n start s.chains w
-        reads_here w = subst (λ m. (may_read p w ≡ true) ↔ MayRead x n start m w) same_chains (reads w)
+      module _ (p : Permit) (p_is : p ≡ bare (trace_of x start top.values)) where
+        permitted : ArePermitted x n start s.chains (trace_of x start s.store)
+        permitted = (true_of.keeps s n start fly.valid fits told).touches
 
-        writes_here : (w : ℕ) → (may_write p w ≡ true) ↔ MayWrite x n start s.chains w
-        writes_here w = subst (λ m. (may_write p w ≡ true) ↔ MayWrite x n start m w) same_chains (writes w)
+        here : p ≡ bare (trace_of x start s.store)
+        here = p_is ∙ ap (λ ws. bare (trace_of x start ws)) fly.values
+
+        reads_here : (w : ℕ) → may_read p w ≡ true → MayRead x n start s.chains w
+        reads_here = subst (λ (q : Permit). (w : ℕ) → may_read q w ≡ true → MayRead x n start s.chains w) (sym here) (bare_reads x n start s.chains (trace_of x start s.store) permitted)
+
+        writes_here : (w : ℕ) → may_write p w ≡ true → MayWrite x n start s.chains w
+        writes_here = subst (λ (q : Permit). (w : ℕ) → may_write q w ≡ true → MayWrite x n start s.chains w) (sym here) (bare_writes x n start s.chains (trace_of x start s.store) permitted)
 
         -- the permit is apart from all loans
         pub fits_beside : FitsBeside top.loans p
         fits_beside l has =
             let has_here = fly.listed l has in
             apart_from x k kept checked s fly.valid l n start p (of_loan (IsLent x k s) loans l fly.lent has_here) (older_fits l has_here) fits told
-            (of_start (λ (older : JobStart). PassBy k older start) loans l pass has_here) (λ w. (reads_here w).0) (λ w. (writes_here w).0)
+            (of_start (λ (older : JobStart). PassBy k older start) loans l pass has_here) reads_here writes_here
 
         -- the loan is one for the job
         pub for_job : IsForJob x (lent top start p)
@@ -143,7 +137,7 @@ module _ (x : Exchange) (k : Kept) (kept : IsExchange x) (checked : IsChecked x 
           valid = fly.valid;
           fitting = fits;
           store_is = sym fly.values;
-          keeps = subst (λ ws. Keeps p (trace_of x start ws)) (sym fly.values) (keeps_permit x s n start p (λ w. (reads_here w).1) (λ w. (writes_here w).1) (trace_of x start s.store) (true_of.keeps s n start fly.valid fits told).touches);
+          keeps = subst (λ (q : Permit). Keeps q (trace_of x start top.values)) (sym p_is) (keeps_bare (trace_of x start top.values));
         }
 
         new_lent : IsLent x k s (lent top start p)
@@ -151,8 +145,8 @@ module _ (x : Exchange) (k : Kept) (kept : IsExchange x) (checked : IsChecked x 
           summary = n;
           told = told;
           same = record { long = ap length fly.values; same = λ w at. ap (λ ws. slice_index ws w) fly.values };
-          reads = λ w. (reads_here w).0;
-          writes = λ w. (writes_here w).0;
+          reads = reads_here;
+          writes = writes_here;
         }
 
         listed_more : (l : Lent) → Has (lent top start p ∷ top.loans) l → Has (loans ++ lent top start p ∷ []) l

@@ -2,6 +2,7 @@
 use Rattle.std.proofs.Common.{◌≡◌, inl, inr, ℕ, Bool, true, false, List, [], ◌∷◌, ◌++◌, refl, ap, ◌∙◌, subst}
 use Rattle.std.specs.Prelude.{◌&&◌, not}
 use Rattle.std.specs.List.{AllByRecursion}
+use Rattle.std.proofs.lemmas.Bool.{false_from_ne_true}
 use Rattle.job_types.specs.declared.job.JobStart.{JobStart}
 use Rattle.job_types.specs.declared.touch.Touch.{Touch}
 use Rattle.job_types.specs.declared.touch.Touch.TheVariants.{Load, Store}
@@ -15,7 +16,6 @@ use Rattle.shared_store.specs.Loans.{Has, seen_by}
 use Rattle.shared_store.proofs.Loaned.{seen_by_all}
 use Rattle.job_runner.specs.Seen.{free_to_write}
 use Rattle.parallel_dispatch.specs.Flying.{starts_of}
-use Rattle.parallel_dispatch.proofs.Told.{never}
 
 -- ## Loans of a list
 
@@ -48,6 +48,6 @@ pub free_stores : (t : Top) (ts : List Touch) → MayStore (is_word_of t.values)
 free_stores t [] may aside = tt
 free_stores t (Load u v ∷ ts) may aside = free_stores t ts may aside
 free_stores t (Store u v ∷ ts) may aside = (
-  and_not (is_word_of t.values u) (seen_by t.loans u) may.0 (seen_by_all t.loans u (λ l has. never (may_read l.permit u) (λ reads. (aside l has u reads).0 refl))),
+  and_not (is_word_of t.values u) (seen_by t.loans u) may.0 (seen_by_all t.loans u (λ l has. false_from_ne_true (may_read l.permit u) (λ reads. (aside l has u reads).0 refl))),
   free_stores t ts may.1 (λ l has w reads. (aside l has w reads).1),
 )

@@ -1,22 +1,19 @@
 -- The moves, over what the calls leave.
-use Rattle.std.proofs.Common.{◌≡◌, ℕ, ◌+◌, ◌^◌, ◌<◌, ◌≤◌, true, List, [], ◌∷◌, ◌++◌, length, Option, Some, refl, sym, ap, ◌∙◌, subst, arith}
-use Rattle.std.specs.Prelude.{◌↔◌}
+use Rattle.std.proofs.Common.{◌≡◌, ℕ, ◌+◌, ◌^◌, ◌<◌, ◌≤◌, List, [], ◌∷◌, ◌++◌, length, Option, Some, refl, sym, ap, ◌∙◌, subst, arith}
 use Rattle.plex_limits.specs.declared.limits.TheConstants.{MOST_JOBS}
 use Rattle.job_types.specs.declared.job.JobStart.{JobStart}
 use Rattle.job_types.specs.declared.outcome.JobDone.{JobDone}
 use Rattle.job_types.specs.declared.touch.Touch.{Touch}
-use Rattle.job_types.specs.Forlopps.{ChainMap}
-use Rattle.machine_code.specs.declared.code.Code.{Code}
+use Rattle.machine_code.specs.Coded.{Code}
 use Rattle.machine_code.specs.declared.permit.Permit.{Permit}
-use Rattle.machine_code.specs.Permits.{may_read, may_write}
 use Rattle.exchange_model.specs.declared.exchange.Exchange.{Exchange}
 use Rattle.exchange_model.specs.Kept.{IsExchange}
 use Rattle.source_meaning.specs.Job.{job}
 use Rattle.source_meaning.specs.Retirement.{retires}
 use Rattle.source_meaning.specs.SingleRun.{turn}
 use Rattle.source_meaning.specs.State.{State}
+use Rattle.source_meaning.specs.Traces.{trace_of}
 use Rattle.entry_summary.specs.declared.summary.Summary.{Summary}
-use Rattle.start_permit.specs.Granted.{MayRead, MayWrite}
 use Rattle.checked.specs.Kept.{IsChecked, Kept}
 use Rattle.order_laws.specs.Windows.{done_by}
 use Rattle.register_machine.specs.Faithful.{started}
@@ -31,11 +28,18 @@ use Rattle.shared_store.specs.Seats.{JobView, RootView, StoreId}
 use Rattle.job_runner.specs.Runs.{HasRun, IsReady}
 use Rattle.job_runner.specs.Seen.{free_to_write}
 use Rattle.parallel_dispatch.specs.declared.moves.Retired.{Retired}
-use Rattle.parallel_dispatch.specs.Flying.{Fly, arrived}
+use Rattle.parallel_dispatch.specs.Bare.{bare}
+use Rattle.parallel_dispatch.specs.Flying.{Fly, arrived, starts_of}
 use Rattle.parallel_dispatch.specs.Made.{JobMakes}
 use Rattle.parallel_dispatch.specs.Moves.{AreCounted, Flying, HasSummary, HasTurned, MayFly, to_do}
 use Rattle.parallel_dispatch.specs.Told.{AreTrue, IsSummaryOf}
 use Rattle.parallel_dispatch.specs.Windows.{View}
+use Rattle.interleave_core.specs.Runs.{setting}
+use Rattle.parallel_dispatch.specs.Events.{IsIssued, IsLed}
+use Rattle.parallel_dispatch.specs.Turning.{turn_of}
+use Rattle.parallel_dispatch.proofs.Events.{is_issued}
+use Rattle.parallel_dispatch.proofs.Reaching.{retired_led}
+use Rattle.parallel_dispatch.proofs.Told.{all_pass_of}
 use Rattle.parallel_dispatch.proofs.Issuing.{fits_beside, fly_more, for_job, is_job, upcoming_parts}
 use Rattle.parallel_dispatch.proofs.Retiring.{Leaves, back, done_is, fly_fewer, makes, may_write_there, turn_ended}
 
@@ -55,15 +59,9 @@ module _ (x : Exchange) (k : Kept) (kept : IsExchange x) (checked : IsChecked x 
   pub entry_within : (code own : Code) → length x.entries ≤ length code.entries → own ≡ code → start.job.entry < length own.entries
   entry_within code own le same = subst (λ (c : Code). start.job.entry < length c.entries) (sym same) (let entry = entry_there in omega (arith, entry, le))
 
-  module _ (n : Summary) (told : IsSummaryOf k start n) (p : Permit) (y : Exchange) (same : y ≡ x) (chains : ChainMap) (chains_are : chains ≡ books.state.chains) (reads : (v : ℕ) → (may_read p v ≡ true) ↔ MayRead y n start chains v) (writes : (v : ℕ) → (may_write p v ≡ true) ↔ MayWrite y n start chains v) where
-    reads_here : (v : ℕ) → (may_read p v ≡ true) ↔ MayRead x n start books.state.chains v
-    reads_here = subst (λ (z : Exchange × ChainMap). (v : ℕ) → (may_read p v ≡ true) ↔ MayRead z.0 n start z.1 v) (λ i. (same i, chains_are i)) reads
-
-    writes_here : (v : ℕ) → (may_write p v ≡ true) ↔ MayWrite x n start books.state.chains v
-    writes_here = subst (λ (z : Exchange × ChainMap). (v : ℕ) → (may_write p v ≡ true) ↔ MayWrite z.0 n start z.1 v) (λ i. (same i, chains_are i)) writes
-
+  module _ (n : Summary) (told : IsSummaryOf k start n) (p : Permit) (p_is : p ≡ bare (trace_of x start root.1.values)) where
     pub beside : FitsBeside root.1.loans p
-    beside = fits_beside x k kept checked true_of flying.0 books root.1 w.loans flying.1 start may.next n told may.line may.pass p reads_here writes_here
+    beside = fits_beside x k kept checked true_of flying.0 books root.1 w.loans flying.1 start may.next n told may.line (all_pass_of k start (starts_of w.loans) may.pass) p p_is
 
     pub ready : (code own : Code) (store : StoreId) (seat : JobView) (run : Private) → own ≡ code → root.0 ≡ store → seat ≡ (root.0, borrower start p root.1) → run ≡ started own start → IsReady x code store seat run
     ready code own store seat run code_is home is run_is =
@@ -71,14 +69,21 @@ module _ (x : Exchange) (k : Kept) (kept : IsExchange x) (checked : IsChecked x 
           home = home;
           untouched = refl;
           run_is = run_is ∙ ap (λ (c : Code). started c start) code_is;
-          loan = for_job x k kept checked true_of flying.0 books root.1 w.loans flying.1 start may.next n told may.line may.pass p reads_here writes_here;
+          loan = for_job x k kept checked true_of flying.0 books root.1 w.loans flying.1 start may.next n told may.line (all_pass_of k start (starts_of w.loans) may.pass) p p_is;
         })
 
     pub issued : (s : State) (next : Account) (o : Option JobStart) (now : Top) (loans : List Lent) → Fly x k s books root.1 w.loans → o ≡ upcoming books → next ≡ after_start o books → now ≡ lender start p root.1 → loans ≡ w.loans ++ lent root.1 start p ∷ [] → Fly x k s next now loans
     issued s next o now loans fly is next_is now_is loans_are =
         let books_are : next ≡ after_start (Some start) books = next_is ∙ ap (λ u. after_start u books) (is ∙ sym may.next) in
         subst (λ (z : Account × (Top × List Lent)). Fly x k s z.0 z.1.0 z.1.1) (λ i. (sym books_are i, (sym now_is i, sym loans_are i)))
-        (fly_more x k kept checked true_of s books root.1 w.loans fly start may.next n told may.line may.pass p reads_here writes_here)
+        (fly_more x k kept checked true_of s books root.1 w.loans fly start may.next n told may.line (all_pass_of k start (starts_of w.loans) may.pass) p p_is)
+
+    -- it is the event Issue
+    pub issued_event : (code : Code) (next : Account) (o : Option JobStart) (now : Top) (loans : List Lent) → o ≡ upcoming books → next ≡ after_start o books → now ≡ lender start p root.1 → loans ≡ w.loans ++ lent root.1 start p ∷ [] → IsIssued (setting x code k w.room) books root.1 w.loans next now loans
+    issued_event code next o now loans is next_is now_is loans_are =
+        let books_are : next ≡ after_start (Some start) books = next_is ∙ ap (λ u. after_start u books) (is ∙ sym may.next) in
+        subst (λ (z : Account × (Top × List Lent)). IsIssued (setting x code k w.room) books root.1 w.loans z.0 z.1.0 z.1.1) (λ i. (sym books_are i, (sym now_is i, sym loans_are i)))
+        (is_issued x code k w.room books root.1 w.loans start p flying.1.running may.next may.room may.line may.pass)
 
 -- ## The oldest retires
 
@@ -144,8 +149,16 @@ module _ (x : Exchange) (k : Kept) (kept : IsExchange x) (checked : IsChecked x 
           let limit = same_limit in
           omega (arith, ended, runs, limit)
 
-      pub turned_then : left.steps ≡ run.made → left.root.0 ≡ store → v.room ≡ w.room → v.flown ≡ w.flown → AreCounted books w → HasTurned x k code store books top w last left v
+      -- its events are those of its instructions, and Retire
+      led_then : (workers : ℕ) → IsLed (setting x code k workers) turn_of books top w.loans last left.root.1 v.loans
+      led_then workers =
+          let led = retired_led x k code workers flying.0 books top l rest (fly_here flying.0 flying.1) store seat run mid has mid_is done leaves next words (retired.state ∙ λ i. retires (same i) (start_is i) done (with_words books.state mid.values)) retired.running retired.limit left.root.1 values in
+          let is : last ≡ record next { state = arrived x next.running next.state } = last_is ∙ ap (λ e. record next { state = arrived e next.running next.state }) same in
+          subst (λ (z : List Lent × (Account × List Lent)). IsLed (setting x code k workers) turn_of books top z.0 z.1.0 left.root.1 z.1.1) (λ i. (sym loans_are i, (sym is i, sym left_is i))) led
+
+      pub turned_then : left.steps ≡ run.made → left.root.0 ≡ store → v.room ≡ w.room → v.flown ≡ w.flown → AreCounted books w → HasTurned x k code store turn_of books top w last left v
       turned_then made home room flown counted = record {
+        led = led_then w.room;
         fly = λ s fly. gone s fly left.root.1 v.loans values loans_same left_is;
         steps = λ s fly. makes_here s fly left.steps made;
         home = home;

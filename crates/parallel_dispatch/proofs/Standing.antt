@@ -1,5 +1,5 @@
 -- From the first state of the run to its end.
-use Rattle.std.proofs.Common.{◌≡◌, ⊎_elim, ℕ, zero, suc, ◌+◌, ◌%◌, ◌^◌, ◌<◌, false, List, [], ◌∷◌, length, Option, Some, None, refl, sym, ap, ◌∙◌, subst, arith}
+use Rattle.std.proofs.Common.{◌≡◌, ℕ, zero, suc, ◌+◌, ◌<◌, false, List, [], ◌∷◌, length, Option, Some, None, refl, sym, ap, ◌∙◌, subst, arith}
 use Rattle.std.proofs.lemmas.Bool.{or_parts}
 use Rattle.std.proofs.lemmas.Bool.Decides.{nat_tests}
 use Rattle.std.proofs.lemmas.Option.{none-some, slice_get_within}
@@ -11,16 +11,15 @@ use Rattle.order_laws.specs.Keeps.{NoLineBefore}
 use Rattle.parallel_dispatch.specs.Flying.{IsLent, starts_of}
 use Rattle.parallel_dispatch.specs.Moves.{HasSummary}
 use Rattle.parallel_dispatch.proofs.Issuing.{is_job}
-use Rattle.std.proofs.lemmas.Bool.{cases_eq}
 use Rattle.std.specs.Option.{option_map_or}
 use Rattle.job_types.specs.declared.job.JobStart.{JobStart}
-use Rattle.machine_code.specs.declared.code.Code.{Code}
+use Rattle.machine_code.specs.Coded.{Code}
 use Rattle.exchange_model.specs.declared.exchange.Exchange.{Exchange}
 use Rattle.exchange_model.specs.Cells.{cell_count}
 use Rattle.exchange_model.specs.Kept.{IsExchange}
 use Rattle.source_meaning.specs.Arrivals.{arrivals}
 use Rattle.source_meaning.specs.Job.{job}
-use Rattle.source_meaning.specs.SingleRun.{Ending, after, begun, ended_as, ending_at, jobs_at_end, next_start, turn}
+use Rattle.source_meaning.specs.SingleRun.{Ending, after, begun, ended_as, ending_at, jobs_at_end, next_start}
 use Rattle.source_meaning.specs.State.{State, has_stopped}
 use Rattle.source_meaning.specs.Valid.{IsValid}
 use Rattle.source_meaning.proofs.Retiring.{after_valid}
@@ -29,17 +28,16 @@ use Rattle.order_laws.specs.Keeps.{NoneDue}
 use Rattle.order_laws.proofs.Arriving.{arrivals_keep, arrivals_settle}
 use Rattle.order_laws.proofs.Wording.{arrivals_over}
 use Rattle.retire_order.specs.Accounts.{Account, upcoming, with_words}
-use Rattle.exchange_run.proofs.Ending.{ends_at}
-use Rattle.exchange_run.proofs.Turning.{goes_on, some_start, turn_ended, upcoming_is}
+use Rattle.exchange_run.proofs.Turning.{goes_on, some_start, upcoming_is}
 use Rattle.shared_store.specs.declared.view.Lent.{Lent}
 use Rattle.shared_store.specs.declared.view.Top.{Top}
 use Rattle.shared_store.specs.Loans.{unlent}
 use Rattle.parallel_dispatch.specs.Ends.{EndsAs}
-use Rattle.parallel_dispatch.specs.Flying.{Fly, Stand}
-use Rattle.parallel_dispatch.specs.Made.{AllMake, JobMakes, NoJob, OneMore}
+use Rattle.interleave_core.specs.Runs.{Runs}
+use Rattle.parallel_dispatch.specs.Events.{IsReached, first_core}
+use Rattle.parallel_dispatch.specs.Made.{NoJob}
 use Rattle.parallel_dispatch.specs.Told.{AreTrue}
 use Rattle.parallel_dispatch.proofs.Alone.{bare_of, fly_none, state_is}
-use Rattle.parallel_dispatch.proofs.Retiring.{goes_before}
 
 -- no line is due before one more job has ended
 due_before : (lines : List Coming) (s : State) → NoneDue lines s → NoLineBefore (s.ended + 1) lines
@@ -62,92 +60,38 @@ settled_after x first (suc n) going = by (next_start (after x first n)) (settled
     by None before = before
     by (Some a) before = due_none x (ended_as x a (job x a (after x first n).store) (begun (after x first n)))
 
-module _ (x : Exchange) (k : Kept) (code : Code) (kept : IsExchange x) (checked : IsChecked x k) (true_of : AreTrue x k) (limit : ℕ) where
+module _ (x : Exchange) (k : Kept) (code : Code) (kept : IsExchange x) (checked : IsChecked x k) (true_of : AreTrue x k) (workers limit : ℕ) where
   -- before the first job
   pub stand_begin : (old books : Account) (top : Top) → top ≡ unlent top.values → old.running ≡ 0 → old.limit ≡ limit → IsValid x (with_words old.state top.values)
-      → books ≡ record old { state = arrivals x old.state } → Stand x k code (with_words old.state top.values) limit books top [] 0
-  unfolding after
+      → books ≡ record old { state = arrivals x old.state } → IsReached x k code workers (with_words old.state top.values) limit books top [] 0
+  unfolding after Runs
   stand_begin old books top bare none same valid is =
       let first : State = with_words old.state top.values in
       let now : Account = record old { state = arrivals x old.state } in
-      let here : Stand x k code first limit now top [] 0 = record {
+      let here : IsReached x k code workers first limit now top [] 0 = record {
         retired = 0;
+        events = [];
+        runs = ap (λ (t : State). record { state = t; limit = old.limit; window = []; retired = 0 }) (sym (arrivals_over x old.state top.values)) ∙ ap (first_core x first) same;
         fly = fly_none x k (arrivals x first) now top (after_valid x kept first 0 valid) (sym (arrivals_over x old.state top.values)) none (ap (λ (t : Top). t.loans) bare);
         limited = same;
-        few = omega arith;
-        counted = omega arith;
-        goes_on = λ m lt. absurd (omega arith);
         made = NoJob;
       } in
-      subst (λ b. Stand x k code first limit b top [] 0) (sym is) here
+      subst (λ b. IsReached x k code workers first limit b top [] 0) (sym is) here
 
   module _ (first : State) (books : Account) (top : Top) where
-    -- one job more has had its turn
-    stand_turned : (loans left : List Lent) (next : Account) (root : Top) (steps made total : ℕ) → next.limit ≡ books.limit → ((s : State) → Fly x k s books top loans → Fly x k (turn x s) next root left)
-        → ((s : State) → Fly x k s books top loans → JobMakes code s made) → total ≡ (steps + made) % 2 ^ 64
-        → (g : Stand x k code first limit books top loans steps) → ending_at limit (after x first g.retired) ≡ None → Stand x k code first limit next root left total
-    unfolding after
-    stand_turned loans left next root steps made total same fly makes sum g before =
-        let s = after x first g.retired in
-        let one = turn_ended x s limit before in
-        let few = (goes_on limit s before).few in
-        let were = g.counted in
-        record {
-          retired = suc g.retired;
-          fly = fly s g.fly;
-          limited = same ∙ g.limited;
-          few = omega (arith, few, were);
-          counted = omega (arith, were, one);
-          goes_on = λ n lt. ⊎_elim
-              (λ here. ap (λ m. ending_at limit (after x first m)) here ∙ before)
-              (λ other. g.goes_on n (let ne = other in grind (arith, lt, ne))) (cases_eq n g.retired);
-          made = subst (AllMake x code first (suc g.retired)) (sym sum) (OneMore g.retired steps made g.made (makes s g.fly));
-        }
-
-    -- the oldest has retired
-    pub stand_retired : (loans left : List Lent) (next : Account) (root : Top) (steps made total : ℕ) → 0 < length loans → next.limit ≡ books.limit → ((s : State) → Fly x k s books top loans → Fly x k (turn x s) next root left)
-        → ((s : State) → Fly x k s books top loans → JobMakes code s made) → total ≡ (steps + made) % 2 ^ 64 → Stand x k code first limit books top loans steps → Stand x k code first limit next root left total
-    stand_retired [] left next root steps made total some same fly makes sum g = absurd (omega (arith, some))
-    stand_retired (l ∷ rest) left next root steps made total some same fly makes sum g =
-        let s = after x first g.retired in
-        stand_turned (l ∷ rest) left next root steps made total same fly makes sum g
-        (ap (λ n. ending_at n s) (sym g.limited) ∙ goes_before x k kept checked true_of s books top l rest g.fly)
-
-    -- one has run alone
-    pub stand_alone : (loans left : List Lent) (next : Account) (root : Top) (steps made total : ℕ) → loans ≡ [] → ending_at books.limit books.state ≡ None → next.limit ≡ books.limit → ((s : State) → Fly x k s books top loans → Fly x k (turn x s) next root left)
-        → ((s : State) → Fly x k s books top loans → JobMakes code s made) → total ≡ (steps + made) % 2 ^ 64 → Stand x k code first limit books top loans steps → Stand x k code first limit next root left total
-    stand_alone loans left next root steps made total none goes same fly makes sum g =
-        let s = after x first g.retired in
-        let here = state_is x k s books top (subst (Fly x k s books top) none g.fly) in
-        stand_turned loans left next root steps made total same fly makes sum g
-        (ap (ending_at limit) (sym here) ∙ ap (λ n. ending_at n books.state) (sym g.limited) ∙ goes)
-
-    -- none flies, and the run is over
-    pub stand_ended : (e : Ending) (steps : ℕ) → Some e ≡ ending_at books.limit books.state → Stand x k code first limit books top [] steps → EndsAs x code first limit books.state top.values e steps
-    stand_ended e steps is g =
-        let s = after x first g.retired in
-        let same = state_is x k s books top g.fly in
-        let over : ending_at limit s ≡ Some e = ap (ending_at limit) (sym same) ∙ ap (λ n. ending_at n books.state) (sym g.limited) ∙ sym is in
-        let at = ends_at x first limit g.retired e g.few g.goes_on over in
-        record {
-          state = same ∙ ap (after x first) (sym at);
-          ends = ap (λ n. ending_at limit (after x first n)) at ∙ over;
-          made = subst (λ n. AllMake x code first n steps) (sym at) g.made;
-        }
-
     -- none flies, and the run goes on: a job is next, and no line is due before it
-    pub stand_next : (steps : ℕ) → ending_at books.limit books.state ≡ None → Stand x k code first limit books top [] steps → (start : JobStart) × (upcoming books ≡ Some start)
+    pub stand_next : (steps : ℕ) → ending_at books.limit books.state ≡ None → IsReached x k code workers first limit books top [] steps → (start : JobStart) × (upcoming books ≡ Some start)
     stand_next steps goes g =
         let none : books.running ≡ 0 = g.fly.running in
         let some = some_start books.state books.limit goes in
         (some.0, upcoming_is books none goes ∙ some.1)
 
     -- so the window is not empty where none is next that may fly
-    pub stand_some : (loans : List Lent) (steps : ℕ) → (loans ≡ [] → ending_at books.limit books.state ≡ None) → (loans ≡ [] → None ≡ upcoming books) → Stand x k code first limit books top loans steps → 0 < length loans
+    pub stand_some : (loans : List Lent) (steps : ℕ) → (loans ≡ [] → ending_at books.limit books.state ≡ None) → (loans ≡ [] → None ≡ upcoming books) → IsReached x k code workers first limit books top loans steps → 0 < length loans
     stand_some [] steps goes none g = let some = stand_next steps (goes refl) g in absurd (none-some some.0 (none refl ∙ some.1))
     stand_some (l ∷ rest) steps goes none g = omega arith
 
-    pub stand_line : (loans : List Lent) (steps : ℕ) → (loans ≡ [] → ending_at books.limit books.state ≡ None) → Stand x k code first limit books top loans steps → loans ≡ [] → NoLineBefore (books.state.ended + 1) books.state.lines
+    pub stand_line : (loans : List Lent) (steps : ℕ) → (loans ≡ [] → ending_at books.limit books.state ≡ None) → IsReached x k code workers first limit books top loans steps → loans ≡ [] → NoLineBefore (books.state.ended + 1) books.state.lines
     stand_line [] steps goes g is =
         let s = after x first g.retired in
         let same = state_is x k s books top g.fly in
@@ -156,7 +100,7 @@ module _ (x : Exchange) (k : Kept) (code : Code) (kept : IsExchange x) (checked 
     stand_line (l ∷ rest) steps goes g is = cc
 
     -- a summary is kept of each job
-    pub next_summary : (loans : List Lent) (start : JobStart) (steps : ℕ) → Stand x k code first limit books top loans steps → Some start ≡ upcoming books → HasSummary k start
+    pub next_summary : (loans : List Lent) (start : JobStart) (steps : ℕ) → IsReached x k code workers first limit books top loans steps → Some start ≡ upcoming books → HasSummary k start
     next_summary loans start steps g is =
         let entry = (is_job x k kept checked true_of (after x first g.retired) books top loans g.fly start is).entry in
         let each = checked.by_facts.each_entry in
@@ -167,7 +111,7 @@ module _ (x : Exchange) (k : Kept) (code : Code) (kept : IsExchange x) (checked 
     all_summaries s (l ∷ rest) lent = (slice_get_within k.summaries l.start.job.entry lent.0.summary lent.0.told, all_summaries s rest lent.1)
 
     -- in the end the root has lent nothing
-    pub none_lent : (steps : ℕ) → Stand x k code first limit books top [] steps → top ≡ unlent top.values
+    pub none_lent : (steps : ℕ) → IsReached x k code workers first limit books top [] steps → top ≡ unlent top.values
     none_lent steps g = (let bare = bare_of x k (after x first g.retired) books top g.fly in λ i. record { values = top.values; loans = bare i })
 
 -- in the end there is a word for each cell

@@ -1,5 +1,10 @@
 -- What the summaries that are kept tell of two jobs in one state, and of the later one where the first has had its turn.
-use Rattle.std.proofs.Common.{◌≡◌, ℕ, zero, suc, ◌+◌, Bool, true, false, List, ◌++◌, refl, sym, ap, ◌∙◌, subst}
+use Rattle.std.proofs.Common.{◌≡◌, ℕ, zero, suc, ◌+◌, true, List, [], ◌∷◌, ◌++◌, refl, sym, ap, ◌∙◌, subst}
+use Rattle.std.proofs.lemmas.Option.{same_Some}
+use Rattle.std.specs.List.{AllByRecursion}
+use Rattle.std.proofs.lemmas.Bool.{false_from_ne_true}
+use Rattle.interleave_core.specs.Allowed.{MayFollow}
+use Rattle.pair_tests.specs.Pairs.{Passes}
 use Rattle.job_types.specs.declared.job.JobStart.{JobStart}
 use Rattle.job_types.specs.declared.outcome.JobDone.{JobDone}
 use Rattle.job_types.specs.declared.outcome.Outcome.{Outcome}
@@ -40,10 +45,17 @@ use Rattle.shared_store.specs.declared.view.Lent.{Lent}
 use Rattle.parallel_dispatch.specs.Flying.{IsLent}
 use Rattle.parallel_dispatch.specs.Told.{AreTrue, IsSummaryOf, PassBy}
 
--- what is never so
-pub never : (b : Bool) → (b ≡ true → ⊥) → b ≡ false
-never true h = absurd (h refl)
-never false h = refl
+-- two that pass by the tests pass by the summaries that are kept
+pub passes_of : (k : Kept) (a b : JobStart) → MayFollow k a b → PassBy k a b
+passes_of k a b of = record {
+  passes = λ m n one other.
+      subst (λ u. Passes u n a b) (same_Some of.one m (sym of.of_first ∙ one))
+      (subst (λ u. Passes of.one u a b) (same_Some of.other n (sym of.of_later ∙ other)) of.holds);
+}
+
+pub all_pass_of : (k : Kept) (start : JobStart) (starts : List JobStart) → AllByRecursion (λ (older : JobStart). MayFollow k older start) starts → AllByRecursion (λ (older : JobStart). PassBy k older start) starts
+all_pass_of k start [] all = tt
+all_pass_of k start (a ∷ rest) all = (passes_of k a start all.0, all_pass_of k start rest all.1)
 
 agree_then : (ts : List Touch) (r s t : List ℕ) → AgreeOn ts r s → AgreeOn ts s t → AgreeOn ts r t
 agree_then ts r s t p q = record { long = p.long ∙ q.long; same = λ w at. p.same w at ∙ q.same w at }
@@ -79,8 +91,8 @@ module _ (x : Exchange) (k : Kept) (kept : IsExchange x) (checked : IsChecked x 
       → ((w : ℕ) → may_read p w ≡ true → MayRead x n b s.chains w) → ((w : ℕ) → may_write p w ≡ true → MayWrite x n b s.chains w) → Apart l.permit p
   apart_from l n b p lent fits_l fits_b told pass reads writes w =
       let h = at_once lent.summary n l.start b fits_l fits_b lent.told told pass in (
-        λ written. never (may_read p w) (λ read. writes_apart x k.facts s lent.summary n l.start b h w (lent.writes w written) (reads w read)),
-        λ written. never (may_read l.permit w) (λ read. reads_apart x k.facts s lent.summary n l.start b h w (lent.reads w read) (writes w written)),
+        λ written. false_from_ne_true (may_read p w) (λ read. writes_apart x k.facts s lent.summary n l.start b h w (lent.writes w written) (reads w read)),
+        λ written. false_from_ne_true (may_read l.permit w) (λ read. reads_apart x k.facts s lent.summary n l.start b h w (lent.reads w read) (writes w written)),
       )
 
   -- the job of one loan has its turn: what that leaves to the loan of a later one

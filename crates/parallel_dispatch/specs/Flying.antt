@@ -1,13 +1,11 @@
 -- Jobs that fly: they were lent their words and have not retired. They stand beside a state of the single run, the one in which the
 -- oldest of them is next, and are a window of it.
-use Rattle.std.specs.Prelude.{◌≡◌, ℕ, zero, suc, ◌+◌, ◌<◌, ◌≤◌, true, List, [], ◌∷◌, length, map, None}
+use Rattle.std.specs.Prelude.{◌≡◌, ℕ, zero, suc, ◌+◌, ◌≤◌, true, List, [], ◌∷◌, length, map}
 use Rattle.std.specs.List.{AllByRecursion}
 use Rattle.job_types.specs.declared.job.JobStart.{JobStart}
-use Rattle.machine_code.specs.declared.code.Code.{Code}
 use Rattle.machine_code.specs.Permits.{may_read, may_write}
 use Rattle.exchange_model.specs.declared.exchange.Exchange.{Exchange}
 use Rattle.source_meaning.specs.Arrivals.{arrivals}
-use Rattle.source_meaning.specs.SingleRun.{after, ending_at}
 use Rattle.source_meaning.specs.State.{State}
 use Rattle.source_meaning.specs.Traces.{AgreeOn, trace_of}
 use Rattle.source_meaning.specs.Valid.{IsValid}
@@ -19,7 +17,6 @@ use Rattle.retire_order.specs.Accounts.{Account, with_words}
 use Rattle.shared_store.specs.declared.view.Lent.{Lent}
 use Rattle.shared_store.specs.declared.view.Top.{Top}
 use Rattle.shared_store.specs.Loans.{Has}
-use Rattle.parallel_dispatch.specs.Made.{AllMake}
 use Rattle.parallel_dispatch.specs.Told.{IsSummaryOf, PassBy}
 
 -- what the jobs of these loans start with
@@ -61,13 +58,3 @@ pub record Fly (x : Exchange) (k : Kept) (s : State) (books : Account) (top : To
 abbrev pub arrived : Exchange → ℕ → State → State
 arrived x zero s = arrivals x s
 arrived x (suc n) s = s
-
--- so many jobs of the single run from a first state have retired, which made so many instructions, and it was not over before
-pub record Stand (x : Exchange) (k : Kept) (code : Code) (first : State) (limit : ℕ) (books : Account) (top : Top) (loans : List Lent) (steps : ℕ) : Type 0 where
-  pub retired : ℕ
-  pub fly : Fly x k (after x first retired) books top loans
-  pub limited : books.limit ≡ limit
-  pub few : retired ≤ limit
-  pub counted : retired ≤ (after x first retired).ended
-  pub goes_on : (n : ℕ) → n < retired → ending_at limit (after x first n) ≡ None
-  pub made : AllMake x code first retired steps

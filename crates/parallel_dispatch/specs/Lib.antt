@@ -1,6 +1,11 @@
+pub mod Bare
 pub mod Made
 pub mod Flying
 pub mod Told
+pub mod Turning
+pub mod Ending
+pub mod Events
 pub mod Ends
 pub mod Windows
 pub mod Moves
+pub mod Desks

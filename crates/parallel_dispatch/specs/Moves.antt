@@ -1,9 +1,9 @@
 -- What the dispatcher's moves ask for, and what they leave.
-use Rattle.std.specs.Prelude.{◌≡◌, ℕ, ◌+◌, ◌*◌, ◌-◌, ◌<◌, ◌≤◌, [], length, Some, None}
+use Rattle.std.specs.Prelude.{◌≡◌, ℕ, ◌+◌, ◌*◌, ◌-◌, ◌<◌, ◌≤◌, List, [], length, Some, None}
 use Rattle.std.specs.List.{AllByRecursion}
 use Rattle.plex_limits.specs.declared.limits.TheConstants.{MOST_JOBS}
 use Rattle.job_types.specs.declared.job.JobStart.{JobStart}
-use Rattle.machine_code.specs.declared.code.Code.{Code}
+use Rattle.machine_code.specs.Coded.{Code}
 use Rattle.exchange_model.specs.declared.exchange.Exchange.{Exchange}
 use Rattle.exchange_model.specs.Kept.{IsExchange}
 use Rattle.store_layout.specs.declared.layout.Layout.{Layout}
@@ -18,7 +18,8 @@ use Rattle.order_laws.specs.Keeps.{NoLineBefore}
 use Rattle.register_machine.specs.Faithful.{Faithful}
 use Rattle.retire_order.specs.Accounts.{Account, upcoming, with_words}
 use Rattle.shared_store.specs.declared.view.Top.{Top}
-use Rattle.shared_store.specs.Loans.{unlent}
+use Rattle.shared_store.specs.declared.view.Lent.{Lent}
+use Rattle.shared_store.specs.Loans.{Has, unlent}
 use Rattle.shared_store.specs.Seats.{RootView, StoreId}
 use Rattle.ticket_book.specs.Pages.{BookId}
 use Rattle.parallel_dispatch.specs.declared.moves.Move.{Move}
@@ -26,9 +27,13 @@ use Rattle.parallel_dispatch.specs.declared.moves.Move.TheVariants.{Issue, Retir
 use Rattle.parallel_dispatch.specs.declared.moves.Retired.{Retired}
 use Rattle.parallel_dispatch.specs.declared.setting.Setting.{Setting}
 use Rattle.parallel_dispatch.specs.declared.threads.Beginning.{Beginning}
+use Rattle.interleave_core.specs.declared.event.CoreEvent.{CoreEvent}
+use Rattle.interleave_core.specs.Allowed.{MayFollow}
+use Rattle.interleave_core.specs.Runs.{setting}
+use Rattle.parallel_dispatch.specs.Events.{IsLed}
 use Rattle.parallel_dispatch.specs.Flying.{Fly, starts_of}
 use Rattle.parallel_dispatch.specs.Made.{JobMakes}
-use Rattle.parallel_dispatch.specs.Told.{AreTrue, PassBy}
+use Rattle.parallel_dispatch.specs.Told.{AreTrue}
 use Rattle.parallel_dispatch.specs.Windows.{View}
 
 -- the layout, the cells, the code and the summaries are of the exchange
@@ -57,12 +62,14 @@ pub record MayFly (k : Kept) (books : Account) (w : View) (start : JobStart) : T
   pub next : Some start ≡ upcoming books
   pub room : length w.loans < w.room
   pub line : NoLineBefore (books.state.ended + length w.loans + 1) books.state.lines
-  pub pass : AllByRecursion (λ (older : JobStart). PassBy k older start) (starts_of w.loans)
+  pub pass : AllByRecursion (λ (older : JobStart). MayFollow k older start) (starts_of w.loans)
 
--- the next job of the books may run on the root's own words: none flies
+-- the next job of the books may run on the root's own words: none flies, and it retires before the next line comes
 pub record MayRunAlone (books : Account) (w : View) (start : JobStart) : Type 0 where
   pub next : Some start ≡ upcoming books
   pub alone : w.loans ≡ []
+  pub room : 0 < w.room
+  pub line : NoLineBefore (books.state.ended + 1) books.state.lines
 
 -- the move may be made: a job that is next runs alone or flies, and the oldest retires where one flies or none is next
 abbrev pub MayMove : Kept → Account → View → Move → Type 0
@@ -83,22 +90,37 @@ pub record AreCounted (books : Account) (w : View) : Type 0 where
   pub flown : w.flown ≤ books.state.ended + books.running
   pub limited : books.limit ≤ MOST_JOBS
 
--- the next job has had its turn: beside whatever state books, root and window stood, what it left stands beside the one after it; it is
--- the job whose run made so many instructions
-pub record HasTurned (x : Exchange) (k : Kept) (code : Code) (store : StoreId) (books : Account) (top : Top) (w : View) (next : Account) (left : Retired) (v : View) : Type 0 where
+-- the next job has had its turn by these events: beside whatever state books, root and window stood, what it left stands beside the one
+-- after it; it is the job whose run made so many instructions
+pub record HasTurned (x : Exchange) (k : Kept) (code : Code) (store : StoreId) (events : ℕ → ℕ → List CoreEvent) (books : Account) (top : Top) (w : View) (next : Account) (left : Retired) (v : View) : Type 0 where
   pub fly : (s : State) → Fly x k s books top w.loans → Fly x k (turn x s) next left.root.1 v.loans
   pub steps : (s : State) → Fly x k s books top w.loans → JobMakes code s left.steps
+  pub led : IsLed (setting x code k w.room) events books top w.loans next left.root.1 v.loans
   pub home : left.root.0 ≡ store
   pub limit : next.limit ≡ books.limit
   pub room : v.room ≡ w.room
   pub counted : AreCounted next v
   pub fewer : to_do next < to_do books
 
--- there is room for a job, no ticket was written, no job runs in the books, the root has lent nothing, and they stand for a valid state
-pub record MayBegin (x : Exchange) (store : StoreId) (book : BookId) (b : Beginning) : Type 0 where
+-- what is left where memory was refused: the root is that of the store, and has lent to no job but those that fly
+pub record IsLeft (store : StoreId) (root : RootView) (loans : List Lent) : Type 0 where
+  pub home : root.0 ≡ store
+  pub listed : (l : Lent) → Has root.1.loans l → Has loans l
+
+-- the root is that of the store, and has lent nothing: every job to which it lent its words has come to its end and given them back
+pub record IsBare (store : StoreId) (root : RootView) : Type 0 where
+  pub home : root.0 ≡ store
+  pub bare : root.1.loans ≡ []
+
+-- there is room for a job, no ticket was written, no job runs in the books, the root has lent nothing, and they stand for this state, which
+-- is valid
+pub record MayBegin (x : Exchange) (store : StoreId) (book : BookId) (workers : ℕ) (first : State) (limit : ℕ) (b : Beginning) : Type 0 where
   pub some : 0 < b.workers
+  pub workers_are : b.workers ≡ workers
   pub pen_is : b.pen ≡ (book, 0)
   pub nobody : b.books.running ≡ 0
-  pub limit : b.books.limit ≤ MOST_JOBS
+  pub limited : b.books.limit ≤ MOST_JOBS
+  pub limit_is : b.books.limit ≡ limit
   pub root_is : b.root ≡ (store, unlent b.root.1.values)
-  pub valid : IsValid x (with_words b.books.state b.root.1.values)
+  pub first_is : with_words b.books.state b.root.1.values ≡ first
+  pub valid : IsValid x first

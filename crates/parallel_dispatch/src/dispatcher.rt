@@ -1,5 +1,5 @@
 // The public call.
-ghost use Rattle.std.specs.Prelude.{◌≡◌, ◌<◌, ◌≤◌, [], length, IfOk};
+ghost use Rattle.std.specs.Prelude.{◌≡◌, ◌<◌, ◌≤◌, [], length, IfOk, IfErr};
 ghost use Rattle.plex_limits.specs.declared.limits.TheConstants.{MOST_JOBS};
 ghost use Rattle.register_machine.specs.Faithful.{Faithful};
 ghost use Rattle.retire_order.specs.Accounts.{with_words};
@@ -8,7 +8,9 @@ ghost use Rattle.shared_store.specs.Loans.{unlent};
 ghost use Rattle.source_meaning.specs.Valid.{IsValid};
 ghost use Rattle.store_layout.specs.Laid.{IsLayout};
 ghost use Rattle.checked.specs.Kept.{IsChecked};
-ghost use Rattle.parallel_dispatch.specs.Ends.{EndsAs};
+ghost use Rattle.interleave_core.specs.Runs.{setting as core_setting};
+ghost use Rattle.parallel_dispatch.specs.Ends.{AreLedTo, EndsAs};
+ghost use Rattle.parallel_dispatch.specs.Moves.{IsBare};
 
 use crate::driving::Over;
 use crate::setting::Setting;
@@ -66,11 +68,59 @@ pub fn dispatch<R: Threads + Wait + Sync, G: Gate + Sync>(
     ensures end { IfOk result (λ end. EndsAs exchange.now code.now
         (with_words books.state root.1.values) books.limit
         end.books.state end.words (ending_of end.ending) end.steps) }
+    ensures events { IfOk result (λ end. AreLedTo
+        (core_setting exchange.now code.now checked.now workers)
+        (with_words books.state root.1.values) books.limit end.books.state end.words) }
+    ensures nobody { IfOk result (λ end. end.books.running ≡ 0) }
+{
+    let end = dispatch_or_root(
+        rt, alloc, exchange, layout, code, checked, books, store, root, workers, gate,
+    );
+    match end {
+        Ok(end) => Ok(end),
+        Err(_) => Err(Memory),
+    }
+}
+
+/// The same, and where memory is refused the root of the store comes back, which has lent nothing then: each job to which words were lent
+/// has come to its end, and its seat was taken back.
+pub fn dispatch_or_root<R: Threads + Wait + Sync, G: Gate + Sync>(
+    rt: &R,
+    alloc: Global,
+    exchange: &Exchange,
+    layout: &Layout,
+    code: &Code,
+    checked: &Checked,
+    books: Books,
+    store: SharedStore,
+    root: RootSeat,
+    workers: u32,
+    gate: &G,
+) -> Result<Ended, RootSeat>
+    requires workers { 0 < workers }
+    requires nobody { books.running ≡ 0 }
+    requires limit { books.limit ≤ MOST_JOBS }
+    requires root { root ≡ (store, unlent root.1.values) }
+    requires layout { IsLayout exchange.now.blocks layout.now }
+    requires faithful { Faithful exchange.now code.now }
+    requires checked { IsChecked exchange.now checked.now }
+    requires valid { IsValid exchange.now (with_words books.state root.1.values) }
+    ensures end { IfOk result (λ end. EndsAs exchange.now code.now
+        (with_words books.state root.1.values) books.limit
+        end.books.state end.words (ending_of end.ending) end.steps) }
+    ensures events { IfOk result (λ end. AreLedTo
+        (core_setting exchange.now code.now checked.now workers)
+        (with_words books.state root.1.values) books.limit end.books.state end.words) }
+    ensures joined { IfErr result (λ back. IsBare store back) }
     ensures nobody { IfOk result (λ end. end.books.running ≡ 0) }
 {
     exchange.kept();
-    let table = table_of(alloc, exchange)?;
-    let (book, pen) = TicketBook::new(alloc)?;
+    let Ok(table) = table_of(alloc, exchange) else {
+        return Err(root);
+    };
+    let Ok((book, pen)) = TicketBook::new(alloc) else {
+        return Err(root);
+    };
     let setting = Setting {
         alloc,
         exchange,
@@ -87,37 +137,44 @@ pub fn dispatch<R: Threads + Wait + Sync, G: Gate + Sync>(
         pen,
         workers,
     };
-    let (books, over) = run_named::<Brand, R, G>(rt, &setting, gate, beginning)?;
-    let Over {
-        root,
-        ending,
-        steps,
-    } = over;
-    let words = words_of(alloc, &store, root, layout.words())?;
-    Ok(Ended {
-        books,
-        words,
-        ending,
-        steps,
-    })
+    match run_named::<Brand, R, G>(rt, &setting, gate, beginning) {
+        Ok((books, over)) => {
+            let Over {
+                root,
+                ending,
+                steps,
+            } = over;
+            let mut root = root;
+            let Ok(words) = words_of(alloc, &store, &mut root, layout.words()) else {
+                return Err(root);
+            };
+            Ok(Ended {
+                books,
+                words,
+                ending,
+                steps,
+            })
+        }
+        Err(root) => Err(root),
+    }
 }
 
 /// The words of a store, of which this is the root, that has lent nothing.
 fn words_of(
     alloc: Global,
     store: &SharedStore,
-    root: RootSeat,
+    root: &mut RootSeat,
     cells: u32,
 ) -> Result<Seq<u32>, Memory>
-    requires store { root.0 ≡ store.now }
-    requires bare { root.1 ≡ unlent root.1.values }
-    requires cells { length root.1.values ≡ cells }
-    ensures { IfOk result (λ words. words ≡ root.1.values) }
+    requires store { root.old.0 ≡ store.now }
+    requires bare { root.old.1 ≡ unlent root.old.1.values }
+    requires cells { length root.old.1.values ≡ cells }
+    ensures words { IfOk result (λ words. words ≡ root.old.1.values) }
+    ensures root { root.new ≡ root.old }
 {
-    let mut root = root;
     let mut words = Seq::new(alloc);
     for word in 0..cells {
-        words.push(store.root_load(&mut root, word))?;
+        words.push(store.root_load(root, word))?;
     }
     Ok(words)
 }

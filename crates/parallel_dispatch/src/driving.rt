@@ -1,22 +1,21 @@
 // Jobs run alone, fly and retire until the run is over.
-ghost use Rattle.std.specs.Prelude.{◌≡◌, ◌<◌, ◌≤◌, [], Some, None, IfOk, MatchOption};
+ghost use Rattle.std.specs.Prelude.{◌≡◌, ◌<◌, ◌≤◌, [], IfOk, IfErr};
 ghost use Rattle.plex_limits.specs.declared.limits.TheConstants.{MOST_JOBS};
 ghost use Rattle.shared_store.specs.Loans.{unlent};
-ghost use Rattle.source_meaning.specs.SingleRun.{ending_at};
 ghost use Rattle.source_meaning.specs.Valid.{IsValid};
 ghost use Rattle.retire_order.specs.Accounts.{with_words};
-ghost use Rattle.retire_order.specs.Events.{ending_of};
-ghost use Rattle.parallel_dispatch.specs.Ends.{IsOver};
-ghost use Rattle.parallel_dispatch.specs.Moves.{HasNames, IsSet};
+ghost use Rattle.parallel_dispatch.specs.Ends.{IsOverFrom};
+ghost use Rattle.parallel_dispatch.specs.Moves.{HasNames, IsLeft, IsSet};
 
-use crate::moves::{Move, issue, next_move, retire, run_alone};
+use crate::course::Course;
+use crate::desk::Desk;
+use crate::moves::{Left, Move};
 use crate::pace::Pace;
 use crate::setting::Setting;
 use crate::window::Window;
 use interference_check::PairTable;
 use plex_io::Gate;
-use plex_num::Memory;
-use retire_order::{Books, Ending, let_arrive};
+use retire_order::{Books, Ending};
 use shared_store::RootSeat;
 use std::sync::Wait;
 use std::thread::{Scope, Threads};
@@ -31,11 +30,11 @@ pub(crate) struct Over {
 }
 
 /// What is due arrives, and then jobs run alone, or fly and retire, until the run is over. Workers are started for the jobs that fly
-/// beside others.
+/// beside others. Where memory is refused the root and the window are given back.
 pub(crate) fn run_jobs<
     's,
     'e: 's,
-    B: Naming + Send + Sync,
+    B: Course + Send + Sync,
     R: Threads + Wait + Sync,
     G: Gate + Sync,
 >(
@@ -45,70 +44,46 @@ pub(crate) fn run_jobs<
     shop: &'e Shop<B>,
     gate: &'e G,
     pairs: &PairTable<'_>,
-    books: &mut Books,
+    books: Books,
     root: RootSeat,
-    window: &mut Window<B>,
-) -> Result<Over, Memory>
+    window: Window<B>,
+) -> Result<(Books, Over), Left<B>>
     requires named { HasNames B.exchange B.code B.store B.book setting.now }
     requires set { IsSet B.exchange B.code setting.now }
-    requires pairs { pairs.now ≡ setting.now.checked.now }
-    requires nobody { books.old.running ≡ 0 }
-    requires limit { books.old.limit ≤ MOST_JOBS }
+    requires kept { setting.now.checked.now ≡ B.kept }
+    requires pairs { pairs.now ≡ B.kept }
+    requires first { with_words books.state root.1.values ≡ B.first }
+    requires limit { (books.limit ≡ B.limit) × (books.limit ≤ MOST_JOBS) }
+    requires nobody { books.running ≡ 0 }
     requires root { root ≡ (B.store, unlent root.1.values) }
-    requires valid { IsValid B.exchange (with_words books.old.state root.1.values) }
-    requires window { (window.old.loans ≡ []) × (window.old.flown ≡ 0) × (0 < window.old.room) }
-    ensures { IfOk result (λ over. IsOver B.exchange B.code B.store
-        (with_words books.old.state root.1.values) books.old.limit
-        books.new over.root (ending_of over.ending) over.steps) }
+    requires valid { IsValid B.exchange B.first }
+    requires window { (window.loans ≡ []) × (window.flown ≡ 0) }
+    requires room { (window.room ≡ B.workers) × (0 < window.room) }
+    ensures over { IfOk result (λ end. IsOverFrom B.exchange B.code B.kept B.workers B.store
+        B.first B.limit end.0 end.1) }
+    ensures left { IfErr result (λ left. IsLeft B.store left.root left.window.loans) }
 {
-    let_arrive(setting.exchange, books)?;
-    let mut root = root;
-    let mut steps = 0;
+    let mut desk = Desk::open(setting, books, root, window)?;
     let mut pace = Pace::new();
     'jobs: loop {
-        if let Some(ending) = ending_now(books, window) {
-            return Ok(Over {
-                root,
-                ending,
-                steps,
-            });
+        if let Some(ending) = desk.ending() {
+            return Ok(desk.finish(setting, ending));
         }
-        let worth_a_loan = may_be_worth_a_loan(&pace, shop, window);
-        match next_move(books, window, pairs, worth_a_loan) {
-            Move::RunAlone(start) => {
-                let alone = run_alone(setting, shop, gate, &mut pace, books, root, window, start)?;
-                root = alone.root;
-                steps = steps.wrapping_add(alone.steps);
-            }
+        let worth_a_loan = may_be_worth_a_loan(&pace, shop, desk.window());
+        desk = match desk.next_move(setting, pairs, worth_a_loan) {
+            Move::RunAlone(start) => desk.run_alone(setting, shop, gate, &mut pace, start)?,
             Move::Issue(start) => {
-                hire(rt, scope, setting, shop, gate, window.len());
-                issue(rt, setting, shop, books, &mut root, window, start)?;
+                hire(rt, scope, setting, shop, gate, desk.window().len());
+                desk.issue(rt, setting, shop, start)?
             }
-            Move::Retire => {
-                let oldest = retire(rt, setting, shop, gate, &mut pace, books, root, window)?;
-                root = oldest.root;
-                steps = steps.wrapping_add(oldest.steps);
-            }
-        }
+            Move::Retire => desk.retire(rt, setting, shop, gate, &mut pace)?,
+        };
     }
 }
 
 /// Whether the next job may be worth a loan: others may fly beside it, and the last jobs have been long enough.
 fn may_be_worth_a_loan<B: Naming>(pace: &Pace, shop: &Shop<B>, window: &Window<B>) -> bool {
     window.room() > 1 && pace.is_worth_a_loan(shop.mean())
-}
-
-/// How the run ends, if none flies and it does.
-fn ending_now<B: Naming>(books: &Books, window: &Window<B>) -> Option<Ending>
-    ensures { MatchOption result
-        (window.now.loans ≡ [] → ending_at books.now.limit books.now.state ≡ None)
-        (λ ending. (window.now.loans ≡ [])
-        × (Some (ending_of ending) ≡ ending_at books.now.limit books.now.state)) }
-{
-    if window.len() == 0 {
-        return books.finished();
-    }
-    None
 }
 
 /// Starts workers, so that there is one for each of so many jobs and for one more, where some fly.

@@ -6,6 +6,8 @@
 // words, one after the other, with no loan. It knows no instruction, and nothing of how threads find their jobs.
 #![tactic(auto)]
 
+mod course;
+mod desk;
 mod dispatcher;
 mod driving;
 mod moves;
@@ -14,4 +16,4 @@ mod setting;
 mod threads;
 mod window;
 
-pub use dispatcher::{Ended, dispatch};
+pub use dispatcher::{Ended, dispatch, dispatch_or_root};

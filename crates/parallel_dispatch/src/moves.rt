@@ -1,5 +1,5 @@
 // The moves of the dispatcher: the next job runs alone, or it flies, or the oldest that flies retires.
-ghost use Rattle.std.specs.Prelude.{◌≡◌, ◌+◌, ◌<◌, ◌≤◌, ◌^◌, [], length, Some, None, IsTrue, OnOk, IfOk};
+ghost use Rattle.std.specs.Prelude.{◌≡◌, ◌+◌, ◌<◌, ◌≤◌, ◌^◌, [], length, Some, None, IsTrue, OnOk, OnErr, IfOk, IfErr};
 ghost use Rattle.std.specs.List.{AllByRecursion};
 ghost use Rattle.job_types.specs.declared.job.JobStart.{JobStart as StartType};
 ghost use Rattle.exchange_run.specs.Runs.{MayRun};
@@ -9,8 +9,11 @@ ghost use Rattle.retire_order.specs.Accounts.{next_count, upcoming};
 ghost use Rattle.source_meaning.specs.SingleRun.{ending_at};
 ghost use Rattle.source_meaning.specs.State.{State, Coming};
 ghost use Rattle.parallel_dispatch.specs.Flying.{Fly, arrived, starts_of};
+ghost use Rattle.interleave_core.specs.Runs.{setting as core_setting};
+ghost use Rattle.parallel_dispatch.specs.Events.{IsIssued, whole_turn};
+ghost use Rattle.parallel_dispatch.specs.Turning.{turn_of};
 ghost use Rattle.parallel_dispatch.specs.Made.{HasRunAlone};
-ghost use Rattle.parallel_dispatch.specs.Moves.{AreCounted, Flying, HasNames, HasSummary, HasTurned, IsSet, MayFly, MayMove, MayRunAlone, to_do};
+ghost use Rattle.parallel_dispatch.specs.Moves.{AreCounted, Flying, HasNames, HasSummary, HasTurned, IsBare, IsLeft, IsSet, MayFly, MayMove, MayRunAlone, to_do};
 
 use crate::pace::Pace;
 use crate::setting::Setting;
@@ -25,7 +28,7 @@ use plex_num::Memory;
 use register_machine::{JobRun, run_to_end};
 use retire_order::{Books, let_arrive};
 use shared_store::{RootSeat, SharedStore};
-use start_permit::permit;
+use std::marker::Brand;
 use std::sync::Wait;
 use worker_pool::{Naming, Shop};
 
@@ -128,6 +131,10 @@ pub(crate) fn issue<B: Naming, R: Wait>(
     ensures fly { OnOk result ((s : State)
         → Fly B.exchange setting.now.checked.now s books.old root.old.1 window.old.loans
         → Fly B.exchange setting.now.checked.now s books.new root.new.1 window.new.loans) }
+    ensures events { OnOk result (IsIssued
+        (core_setting B.exchange B.code setting.now.checked.now window.old.room)
+        books.old root.old.1 window.old.loans books.new root.new.1 window.new.loans) }
+    ensures left { OnErr result (IsLeft B.store root.new window.new.loans) }
     ensures root { root.new.0 ≡ B.store }
     ensures limit { OnOk result (books.new.limit ≡ books.old.limit) }
     ensures room { window.new.room ≡ window.old.room }
@@ -135,20 +142,12 @@ pub(crate) fn issue<B: Naming, R: Wait>(
     ensures fewer { OnOk result (to_do books.new < to_do books.old) }
 {
     let entry = start.job.entry;
-    let granted = permit(
-        setting.alloc,
-        setting.exchange,
-        setting.table,
-        setting.checked.summary(entry),
-        setting.layout,
-        books.chains(),
-        &start,
-    )?;
+    let _told = setting.checked.summary(entry);
     let mut run = window.idle_run(setting.alloc)?;
     run.begin(setting.code, &start);
     let job = number_of_next(books);
     let _begun = books.next_job();
-    let seat = setting.store.lend(root, &start, granted);
+    let seat = setting.store.lend_as::<Brand>(root, &start);
     let task = window.push(setting.book, seat, run, start, job);
     shop.bring(rt, task);
     Ok(())
@@ -164,7 +163,7 @@ pub(crate) fn run_alone<B: Naming, G: Gate>(
     root: RootSeat,
     window: &mut Window<B>,
     start: JobStart,
-) -> Result<Retired, Memory>
+) -> Result<Retired, RootSeat>
     requires named { HasNames B.exchange B.code B.store B.book setting.now }
     requires set { IsSet B.exchange B.code setting.now }
     requires root { root.0 ≡ B.store }
@@ -172,11 +171,15 @@ pub(crate) fn run_alone<B: Naming, G: Gate>(
     requires next { MayRunAlone books.old window.old start }
     requires goes_on { ending_at books.old.limit books.old.state ≡ None }
     requires flying { Flying B.exchange setting.now.checked.now books.old root window.old }
-    ensures { IfOk result (λ left. HasTurned B.exchange setting.now.checked.now B.code B.store
-        books.old root.1 window.old books.new left window.new) }
+    ensures turned { IfOk result (λ left. HasTurned B.exchange setting.now.checked.now B.code B.store
+        whole_turn books.old root.1 window.old books.new left window.new) }
+    ensures left { IfErr result (λ back. IsLeft B.store back window.new.loans) }
 {
     let job = number_of_next(books);
-    let mut run = window.idle_run(setting.alloc)?;
+    let Ok(run) = window.idle_run(setting.alloc) else {
+        return Err(root);
+    };
+    let mut run = run;
     run.begin(setting.code, &start);
     let _begun = books.next_job();
     gate.at(job, Place::Before);
@@ -197,8 +200,12 @@ pub(crate) fn run_alone<B: Naming, G: Gate>(
     let retired = books.retire(setting.exchange, setting.layout, &start, done, &mut words);
     let root = words.into_root();
     window.keep_run(run);
-    retired?;
-    arrive(books, setting.exchange)?;
+    let Ok(()) = retired else {
+        return Err(root);
+    };
+    let Ok(()) = arrive(books, setting.exchange) else {
+        return Err(root);
+    };
     Ok(Retired { root, steps })
 }
 
@@ -236,15 +243,16 @@ pub(crate) fn retire<B: Naming, R: Wait, G: Gate>(
     books: &mut Books,
     root: RootSeat,
     window: &mut Window<B>,
-) -> Result<Retired, Memory>
+) -> Result<Retired, RootSeat>
     requires named { HasNames B.exchange B.code B.store B.book setting.now }
     requires set { IsSet B.exchange B.code setting.now }
     requires root { root.0 ≡ B.store }
     requires counted { AreCounted books.old window.old }
     requires some { 0 < length window.old.loans }
     requires flying { Flying B.exchange setting.now.checked.now books.old root window.old }
-    ensures { IfOk result (λ left. HasTurned B.exchange setting.now.checked.now B.code B.store
-        books.old root.1 window.old books.new left window.new) }
+    ensures turned { IfOk result (λ left. HasTurned B.exchange setting.now.checked.now B.code B.store
+        turn_of books.old root.1 window.old books.new left window.new) }
+    ensures left { IfErr result (λ back. IsLeft B.store back window.new.loans) }
 {
     let Some(oldest) = window.pop() else {
         unreachable!()
@@ -268,8 +276,12 @@ pub(crate) fn retire<B: Naming, R: Wait, G: Gate>(
     let retired = books.retire(setting.exchange, setting.layout, &start, done, &mut words);
     let root = words.into_root();
     window.keep_run(run);
-    retired?;
-    arrive(books, setting.exchange)?;
+    let Ok(()) = retired else {
+        return Err(root);
+    };
+    let Ok(()) = arrive(books, setting.exchange) else {
+        return Err(root);
+    };
     Ok(Retired { root, steps })
 }
 
@@ -284,21 +296,34 @@ fn arrive(books: &mut Books, exchange: &Exchange) -> Result<(), Memory>
     Ok(())
 }
 
-/// All jobs that fly come to their ends, and are given up.
+/// What is left where memory was refused: the root of the store, and the jobs that fly.
+pub(crate) struct Left<B: Naming> {
+    pub root: RootSeat,
+    pub window: Window<B>,
+}
+
+/// All jobs that fly come to their ends, and give back their words: the root, which has lent nothing then.
 pub(crate) fn drain<B: Naming, R: Wait, G: Gate>(
     rt: &R,
     setting: &Setting<'_>,
     shop: &Shop<B>,
     gate: &G,
-    window: &mut Window<B>,
-)
+    left: Left<B>,
+) -> RootSeat
     requires named { HasNames B.exchange B.code B.store B.book setting.now }
+    requires left { IsLeft B.store left.root left.window.loans }
+    ensures { IsBare B.store result }
 {
-    for _ in 0..window.len() {
+    let Left { root, window } = left;
+    let mut root = root;
+    let mut window = window;
+    'jobs: loop {
         let Some(oldest) = window.pop() else {
-            return;
+            window.close();
+            return root;
         };
-        let _given_up = oldest.flight.finish(
+        let Oldest { flight, start: _ } = oldest;
+        let (seat, _run) = flight.finish(
             rt,
             shop,
             setting.exchange,
@@ -307,5 +332,6 @@ pub(crate) fn drain<B: Naming, R: Wait, G: Gate>(
             setting.book,
             gate,
         );
+        setting.store.take_back(&mut root, seat);
     }
 }

@@ -1,8 +1,9 @@
 // The run of all jobs in a scope of threads.
-ghost use Rattle.std.specs.Prelude.{◌≡◌, IfOk};
+ghost use Rattle.std.specs.Prelude.{◌≡◌, IfOk, IfErr};
 ghost use Rattle.parallel_dispatch.specs.Ends.{IsOverFrom};
-ghost use Rattle.parallel_dispatch.specs.Moves.{AreOf, HasNames, IsSet, MayBegin};
+ghost use Rattle.parallel_dispatch.specs.Moves.{AreOf, HasNames, IsBare, IsSet, MayBegin};
 
+use crate::course::Course;
 use crate::driving::{Over, run_jobs};
 use crate::moves::drain;
 use crate::setting::Setting;
@@ -12,7 +13,6 @@ use exchange_model::Exchange;
 use interference_check::PairTable;
 use machine_code::Code;
 use plex_io::Gate;
-use plex_num::Memory;
 use retire_order::Books;
 use shared_store::{RootSeat, SharedStore};
 use start_permit::CellTable;
@@ -22,7 +22,7 @@ use std::thread;
 use std::thread::{Scope, Threads};
 use store_layout::Layout;
 use ticket_book::{Pen, TicketBook};
-use worker_pool::{Naming, Shop};
+use worker_pool::Shop;
 
 /// What a run begins with: its books, the root of the store, the pen of the tickets, and how many jobs may run at once.
 #[derive(Drop)]
@@ -34,18 +34,29 @@ pub(crate) struct Beginning {
 }
 
 /// Runs the jobs to the end of the run, with so many at once at most: the books then, and the end.
-pub(crate) fn run_named<B: Naming + Send + Sync, R: Threads + Wait + Sync, G: Gate + Sync>(
+pub(crate) fn run_named<B: Course + Send + Sync, R: Threads + Wait + Sync, G: Gate + Sync>(
     rt: &R,
     setting: &Setting<'_>,
     gate: &G,
     beginning: Beginning,
-) -> Result<(Books, Over), Memory>
+) -> Result<(Books, Over), RootSeat>
     requires named { HasNames B.exchange B.code B.store B.book setting.now }
     requires set { IsSet B.exchange B.code setting.now }
-    requires begin { MayBegin B.exchange B.store B.book beginning }
-    ensures { IfOk result (λ end. IsOverFrom B.exchange B.code B.store beginning end.0 end.1) }
+    requires kept { setting.now.checked.now ≡ B.kept }
+    requires begin { MayBegin B.exchange B.store B.book B.workers B.first B.limit beginning }
+    ensures over { IfOk result (λ end. IsOverFrom B.exchange B.code B.kept B.workers B.store
+        B.first B.limit end.0 end.1) }
+    ensures bare { IfErr result (λ root. IsBare B.store root) }
 {
-    let shop = Shop::<B>::new(setting.alloc, beginning.workers)?;
+    let Ok(shop) = Shop::<B>::new(setting.alloc, beginning.workers) else {
+        let Beginning {
+            books: _,
+            root,
+            pen: _,
+            workers: _,
+        } = beginning;
+        return Err(root);
+    };
     run_shop(
         rt,
         setting.alloc,
@@ -63,7 +74,7 @@ pub(crate) fn run_named<B: Naming + Send + Sync, R: Threads + Wait + Sync, G: Ga
 }
 
 /// The same with a place for the pool's jobs.
-fn run_shop<'x, B: Naming + Send + Sync, R: Threads + Wait + Sync, G: Gate + Sync>(
+fn run_shop<'x, B: Course + Send + Sync, R: Threads + Wait + Sync, G: Gate + Sync>(
     rt: &'x R,
     alloc: Global,
     exchange: &'x Exchange,
@@ -76,23 +87,29 @@ fn run_shop<'x, B: Naming + Send + Sync, R: Threads + Wait + Sync, G: Gate + Syn
     shop: &'x Shop<B>,
     gate: &'x G,
     beginning: Beginning,
-) -> Result<(Books, Over), Memory>
+) -> Result<(Books, Over), RootSeat>
     requires named { (exchange.now ≡ B.exchange) × (code.now ≡ B.code)
         × (store.now ≡ B.store) × (book.now ≡ B.book) }
     requires set { AreOf B.exchange layout.now table.now B.code checked.now }
-    requires begin { MayBegin B.exchange B.store B.book beginning }
-    ensures { IfOk result (λ end. IsOverFrom B.exchange B.code B.store beginning end.0 end.1) }
+    requires kept { checked.now ≡ B.kept }
+    requires begin { MayBegin B.exchange B.store B.book B.workers B.first B.limit beginning }
+    ensures over { IfOk result (λ end. IsOverFrom B.exchange B.code B.kept B.workers B.store
+        B.first B.limit end.0 end.1) }
+    ensures bare { IfErr result (λ root. IsBare B.store root) }
 {
     thread::scope(
         thread::scope_env(),
         rt,
-        |scope| -> Result<(Books, Over), Memory>
+        |scope| -> Result<(Books, Over), RootSeat>
             requires { ((exchange.now ≡ B.exchange) × (code.now ≡ B.code)
                 × (store.now ≡ B.store) × (book.now ≡ B.book))
                 × AreOf B.exchange layout.now table.now B.code checked.now
-                × MayBegin B.exchange B.store B.book beginning }
+                × (checked.now ≡ B.kept)
+                × MayBegin B.exchange B.store B.book B.workers B.first B.limit beginning }
             ensures { IfOk result
-                (λ end. IsOverFrom B.exchange B.code B.store beginning end.0 end.1) }
+                (λ end. IsOverFrom B.exchange B.code B.kept B.workers B.store
+                B.first B.limit end.0 end.1)
+                × IfErr result (λ root. IsBare B.store root) }
         {
             drive(
                 rt, scope, alloc, exchange, layout, table, code, checked, store, book, shop, gate,
@@ -103,7 +120,7 @@ fn run_shop<'x, B: Naming + Send + Sync, R: Threads + Wait + Sync, G: Gate + Syn
 }
 
 /// The same in a scope: in the end no job flies, also where memory was refused, and the workers are told that no more jobs come.
-fn drive<'s, 'e: 's, B: Naming + Send + Sync, R: Threads + Wait + Sync, G: Gate + Sync>(
+fn drive<'s, 'e: 's, B: Course + Send + Sync, R: Threads + Wait + Sync, G: Gate + Sync>(
     rt: &'e R,
     scope: &'s Scope<'s, &'e ()>,
     alloc: Global,
@@ -117,12 +134,15 @@ fn drive<'s, 'e: 's, B: Naming + Send + Sync, R: Threads + Wait + Sync, G: Gate 
     shop: &'e Shop<B>,
     gate: &'e G,
     beginning: Beginning,
-) -> Result<(Books, Over), Memory>
+) -> Result<(Books, Over), RootSeat>
     requires named { (exchange.now ≡ B.exchange) × (code.now ≡ B.code)
         × (store.now ≡ B.store) × (book.now ≡ B.book) }
     requires set { AreOf B.exchange layout.now table.now B.code checked.now }
-    requires begin { MayBegin B.exchange B.store B.book beginning }
-    ensures { IfOk result (λ end. IsOverFrom B.exchange B.code B.store beginning end.0 end.1) }
+    requires kept { checked.now ≡ B.kept }
+    requires begin { MayBegin B.exchange B.store B.book B.workers B.first B.limit beginning }
+    ensures over { IfOk result (λ end. IsOverFrom B.exchange B.code B.kept B.workers B.store
+        B.first B.limit end.0 end.1) }
+    ensures bare { IfErr result (λ root. IsBare B.store root) }
 {
     let setting = Setting {
         alloc,
@@ -140,22 +160,21 @@ fn drive<'s, 'e: 's, B: Naming + Send + Sync, R: Threads + Wait + Sync, G: Gate 
         pen,
         workers,
     } = beginning;
-    let mut books = books;
-    let pairs = PairTable::new(alloc, checked)?;
-    let mut window = Window::<B>::new(alloc, pen, workers)?;
-    let over = run_jobs(
-        rt,
-        scope,
-        &setting,
-        shop,
-        gate,
-        &pairs,
-        &mut books,
-        root,
-        &mut window,
-    );
-    drain(rt, &setting, shop, gate, &mut window);
-    shop.close();
-    let over = over?;
-    Ok((books, over))
+    let Ok(pairs) = PairTable::new(alloc, checked) else {
+        return Err(root);
+    };
+    let Ok(window) = Window::<B>::new(alloc, pen, workers) else {
+        return Err(root);
+    };
+    match run_jobs(rt, scope, &setting, shop, gate, &pairs, books, root, window) {
+        Ok(over) => {
+            shop.close();
+            Ok(over)
+        }
+        Err(left) => {
+            let root = drain(rt, &setting, shop, gate, left);
+            shop.close();
+            Err(root)
+        }
+    }
 }

@@ -6,7 +6,7 @@ ghost use Rattle.job_runner.specs.Runs.{IsReady};
 ghost use Rattle.register_machine.specs.Faithful.{Faithful};
 ghost use Rattle.parallel_dispatch.specs.Flying.{starts_of};
 ghost use Rattle.parallel_dispatch.specs.Moves.{HasSummary};
-ghost use Rattle.parallel_dispatch.specs.Told.{PassBy};
+ghost use Rattle.interleave_core.specs.Allowed.{MayFollow};
 
 use interference_check::PairTable;
 use job_types::JobStart;
@@ -20,8 +20,8 @@ use ticket_book::{Pen, TicketBook};
 use worker_pool::{Flight, Naming, Task, launch};
 
 /// The window: the jobs that have begun and not retired, the oldest first, and what writes their tickets. Runs that are over wait
-/// here for the next job. Contracts see the loans, for how many there is room, and how many jobs have flown so far.
-#[derive(Drop)]
+/// here for the next job. Contracts see the loans, for how many there is room, and how many jobs have flown so far. It cannot be dropped: it
+/// must be closed, when none flies.
 pub(crate) struct Window<B: Naming> {
     flights: VecDeque<Flight<B>>,
     starts: VecDeque<JobStart>,
@@ -42,7 +42,6 @@ impl<B: Naming> Model for Window<B> {
 }
 
 /// The oldest job of a window.
-#[derive(Drop)]
 pub(crate) struct Oldest<B: Naming> {
     pub flight: Flight<B>,
     pub start: JobStart,
@@ -54,10 +53,10 @@ impl<B: Naming> Window<B> {
         requires pen { pen.0 ≡ B.book }
         ensures { IfOk result (λ w. w ≡ record { loans = []; room = room; flown = pen.1 }) }
     {
-        let Ok(flights) = VecDeque::with_capacity(alloc, room as usize) else {
+        let Ok(starts) = VecDeque::with_capacity(alloc, room as usize) else {
             return Err(Memory);
         };
-        let Ok(starts) = VecDeque::with_capacity(alloc, room as usize) else {
+        let Ok(flights) = VecDeque::with_capacity(alloc, room as usize) else {
             return Err(Memory);
         };
         Ok(Window {
@@ -87,7 +86,7 @@ impl<B: Naming> Window<B> {
         requires window { AllByRecursion (HasSummary pairs.now) (starts_of self.now.loans) }
         requires later { HasSummary pairs.now later.now }
         ensures { IsTrue result → AllByRecursion
-            (λ (older : StartType). PassBy pairs.now older later.now) (starts_of self.now.loans) }
+            (λ (older : StartType). MayFollow pairs.now older later.now) (starts_of self.now.loans) }
     {
         passes_with_all(pairs, &self.starts, later)
     }
@@ -145,9 +144,24 @@ impl<B: Naming> Window<B> {
             (λ oldest. (self.old ≡ record self.new { loans = oldest.flight ∷ self.new.loans })
             × (oldest.start ≡ oldest.flight.start)) }
     {
-        let flight = self.flights.pop_front()?;
         let start = self.starts.pop_front()?;
+        let Some(flight) = self.flights.pop_front() else {
+            unreachable!()
+        };
         Some(Oldest { flight, start })
+    }
+
+    /// The window is given up, when none flies.
+    pub fn close(self)
+        requires { self.loans ≡ [] }
+    {
+        let Window {
+            flights,
+            starts: _,
+            idle: _,
+            pen: _,
+        } = self;
+        flights.destroy_empty();
     }
 }
 
@@ -157,7 +171,7 @@ fn passes_with_all(pairs: &PairTable<'_>, older: &VecDeque<JobStart>, later: &Jo
     requires older { AllByRecursion (HasSummary pairs.now) older.now.items }
     requires later { HasSummary pairs.now later.now }
     ensures { IsTrue result → AllByRecursion
-        (λ (start : StartType). PassBy pairs.now start later.now) older.now.items }
+        (λ (start : StartType). MayFollow pairs.now start later.now) older.now.items }
 {
     for place in 0..older.len() {
         if !passes_with(pairs, &older[place], later) {
@@ -172,7 +186,7 @@ fn passes_with_all(pairs: &PairTable<'_>, older: &VecDeque<JobStart>, later: &Jo
 fn passes_with(pairs: &PairTable<'_>, older: &JobStart, later: &JobStart) -> bool
     requires older { HasSummary pairs.now older.now }
     requires later { HasSummary pairs.now later.now }
-    ensures { IsTrue result → PassBy pairs.now older.now later.now }
+    ensures { IsTrue result → MayFollow pairs.now older.now later.now }
 {
     pairs.may_follow(older, later)
 }

@@ -1,39 +1,48 @@
 // The program `plex`: the words of its command, real files and the standard output, given to the one call that does the work.
-// Where the standard output does not tell what went wrong, a line on the standard error does.
+// What the standard output does not tell, lines on the standard error do.
 #![tactic(auto)]
 
-ghost use Rattle.std.specs.Prelude.{◌≡◌, ◌≤◌, ◌↔◌, None};
-ghost use Rattle.plex_program.specs.Program.{exit_number};
-
+mod complaint;
+mod forms;
+mod names;
 mod noting_shelf;
+mod noting_sink;
+mod progress;
+mod sentences;
+mod told;
+mod usage;
 
+use complaint::{Known, complain};
 use noting_shelf::NotingShelf;
+use noting_sink::NotingSink;
 use plex_io::{FileShelf, NoGate, OutSink, Word};
 use plex_num::{Memory, Seq};
 use plex_program::{Status, plex};
+use progress::{Progress, is_asked};
 use std::alloc::Global;
 use std::env;
 use std::io::ErrorKind;
 use std::process::ExitCode;
-use std::rt::Files;
+use std::rt::{Clock, Env, Files};
 use std::sync::Wait;
 use std::thread::Threads;
 
 fn main(rt: HostRuntime) -> ExitCode {
     let status = match words_of(&rt, rt.alloc()) {
-        Ok(words) => run(&rt, rt.alloc(), &words),
-        Err(Memory) => complain(&rt, Status::Memory, None),
+        Ok(Some(words)) => run(&rt, rt.alloc(), &words, true),
+        Ok(None) => run(&rt, rt.alloc(), &[], false),
+        Err(Memory) => no_memory(&rt),
     };
     ExitCode::from(status.number())
 }
 
 /// The words of the command; none, where they are no text.
-fn words_of(rt: &(impl std::rt::Env + AllocGlobal), alloc: Global) -> Result<Vec<Word>, Memory> {
+fn words_of(rt: &(impl Env + AllocGlobal), alloc: Global) -> Result<Option<Vec<Word>>, Memory> {
     let mut words = Vec::new(alloc);
     let args = match env::args(rt) {
         Ok(args) => args,
         Err(error) if error.kind() == ErrorKind::OutOfMemory => return Err(Memory),
-        Err(_) => return Ok(words),
+        Err(_) => return Ok(None),
     };
     for arg in args.skip(1) {
         let word = Seq::from_vec(arg.into_bytes());
@@ -41,50 +50,55 @@ fn words_of(rt: &(impl std::rt::Env + AllocGlobal), alloc: Global) -> Result<Vec
             return Err(Memory);
         }
     }
-    Ok(words)
+    Ok(Some(words))
 }
 
-/// The program over real files and the standard output.
-fn run<R: Threads + Wait + Sync + Files + Print + Eprint>(
+/// The program over real files and the standard output, and what is to be said of its end. Words that are no text are none here.
+fn run<R: Threads + Wait + Sync + Files + Print + Eprint + Clock + Env>(
     rt: &R,
     alloc: Global,
     words: &[Word],
+    are_text: bool,
 ) -> Status {
-    let mut shelf = NotingShelf::new(FileShelf::new(rt));
-    let mut sink = OutSink::new(rt);
-    let status = plex(rt, alloc, words, &mut shelf, &mut sink, &NoGate);
-    complain(rt, status, shelf.unread())
-}
-
-/// Says on the standard error what went wrong where the standard output does not tell it, and gives the status back. A line that
-/// cannot be written changes nothing.
-fn complain<R: Eprint>(rt: &R, status: Status, unread: Option<&Word>) -> Status
-    ensures { result ≡ status }
-{
-    let Some(told) = reason(status) else {
-        return status;
+    let progress = asked_progress(rt);
+    let mut shelf = NotingShelf::new(FileShelf::new(rt), words);
+    let mut sink = NotingSink::new(OutSink::new(rt), progress.as_ref());
+    let status = match &progress {
+        Some(gate) => plex(rt, alloc, words, &mut shelf, &mut sink, gate),
+        None => plex(rt, alloc, words, &mut shelf, &mut sink, &NoGate),
     };
-    let name = match unread {
-        Some(name) => str::from_utf8(name.as_slice()).ok(),
-        None => None,
-    };
-    let _ = match name {
-        Some(name) => {
-            eprintln!(rt; "plex: {told}: {name:?}; see docs/FORMATS.md, Exit statuses")
-        }
-        None => eprintln!(rt; "plex: {told}; see docs/FORMATS.md, Exit statuses"),
-    };
-    status
-}
-
-/// What went wrong, for a status with which the standard output tells nothing, or not all.
-fn reason(status: Status) -> Option<&'static str>
-    ensures { result ≡ None ↔ ¬ (6 ≤ exit_number status × exit_number status ≤ 8) }
-{
-    match status {
-        Status::Read => Some("a file that the command names could not be read"),
-        Status::Write => Some("the output could not be written whole"),
-        Status::Memory => Some("out of memory"),
-        _ => None,
+    if let Some(progress) = &progress {
+        progress.clear();
     }
+    let known = Known {
+        words,
+        are_text,
+        unread: shelf.unread(),
+        read_failure: shelf.inner().cause(),
+        write_failure: sink.inner().cause(),
+        front: sink.front(),
+    };
+    complain(rt, status, &known)
+}
+
+/// What tells how far the run has come, where the environment asks for it.
+fn asked_progress<R: Clock + Eprint + Env>(rt: &R) -> Option<Progress<'_, R>> {
+    if is_asked(rt) {
+        Progress::begin(rt)
+    } else {
+        None
+    }
+}
+
+/// The end where memory was refused for the words.
+fn no_memory<R: Eprint>(rt: &R) -> Status {
+    let known = Known {
+        words: &[],
+        are_text: true,
+        unread: None,
+        read_failure: None,
+        write_failure: None,
+        front: &[],
+    };
+    complain(rt, Status::Memory, &known)
 }

@@ -1,5 +1,6 @@
 // A shelf that tells which file could not be read.
-ghost use Rattle.std.specs.Prelude.{◌≡◌, ◌≤◌, None, Some, Err, IfOk, IfSome, MatchOption};
+ghost use Rattle.std.specs.Prelude.{◌≡◌, ◌≤◌, ◌<◌, length, position, slice_get, None, Some, Err, IfOk, IfSome, MatchOption};
+ghost use Rattle.std.specs.Str.{bytes_eq};
 ghost use Rattle.plex_io.specs.Causes.{Rose};
 ghost use Rattle.plex_io.specs.Files.{Gives, Lacks};
 
@@ -7,35 +8,51 @@ use plex_io::{Shelf, ShelfFault, Word};
 use plex_num::Seq;
 use std::alloc::Global;
 
-/// A shelf that keeps the name of the last file of which a read failed.
+/// A shelf that keeps the place among the words of a command at which the last file stands of which a read failed. So it takes no memory.
 #[derive(Drop)]
-pub struct NotingShelf<S> {
+pub struct NotingShelf<'a, S> {
     shelf: S,
-    unread: Option<Word>,
+    words: &'a [Word],
+    unread: Option<usize>,
 }
 
-impl<S: Shelf> NotingShelf<S> {
+impl<'a, S: Shelf> NotingShelf<'a, S> {
     /// A shelf that holds what the given one holds, of which no read has failed so far.
-    pub fn new(shelf: S) -> NotingShelf<S>
-        ensures { result ≡ record { shelf = shelf; unread = None } }
+    pub fn new(shelf: S, words: &'a [Word]) -> NotingShelf<'a, S>
+        ensures shelf { result.shelf ≡ shelf }
+        ensures words { result.words.now ≡ words.now }
+        ensures unread { result.unread ≡ None }
     {
         NotingShelf {
             shelf,
+            words,
             unread: None,
         }
     }
 
-    /// The name of the last file of which a read failed; none, too, where memory for the name was refused.
+    /// The name of the last file of which a read failed; none, too, where no word of the command is that name.
     pub fn unread(&self) -> Option<&Word>
-        ensures { MatchOption result
-            (self.now.unread ≡ None)
-            (λ name. self.now.unread ≡ Some name.now) }
+        ensures { MatchOption self.now.unread
+            (result ≡ None)
+            (λ i. MatchOption result
+            (length self.now.words.now ≤ i)
+            (λ name. slice_get self.now.words.now i ≡ Some name.now)) }
     {
-        self.unread.as_ref()
+        match self.unread {
+            Some(place) => self.words.get(place),
+            None => None,
+        }
+    }
+
+    /// The shelf that it reads.
+    pub fn inner(&self) -> &S
+        ensures { result.now ≡ self.now.shelf }
+    {
+        &self.shelf
     }
 }
 
-impl<S: Shelf> Shelf for NotingShelf<S> {
+impl<'a, S: Shelf> Shelf for NotingShelf<'a, S> {
     ghost held = { λ noting. S.held noting.shelf };
 
     ghost faults = { λ noting. S.faults noting.shelf };
@@ -49,13 +66,21 @@ impl<S: Shelf> Shelf for NotingShelf<S> {
         ensures kept { S.held self.new.shelf ≡ S.held self.old.shelf }
         ensures later { S.faults self.old.shelf ≤ S.faults self.new.shelf }
         ensures noted { result ≡ Err ShelfFault.Failed →
-            IfSome self.new.unread (λ unread. unread ≡ name.now) }
+            self.new.unread ≡ position (λ word. bytes_eq word name.now) self.old.words.now }
         ensures other { ¬ (result ≡ Err ShelfFault.Failed) → self.new.unread ≡ self.old.unread }
+        ensures words { self.new.words.now ≡ self.old.words.now }
     {
         let got = self.shelf.read_file(alloc, name, limit);
         if let Err(ShelfFault::Failed) = got {
-            self.unread = Seq::copied(alloc, name.as_slice()).ok();
+            self.unread = place_of(self.words, name.as_slice());
         }
         got
     }
+}
+
+/// The place of the first word that is this name.
+fn place_of(words: &[Word], name: &[u8]) -> Option<usize>
+    ensures { result ≡ position (λ word. bytes_eq word name.now) words.now }
+{
+    words.iter().position(|word| word.as_slice() == name)
 }

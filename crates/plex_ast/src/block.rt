@@ -5,7 +5,6 @@ use plex_num::Seq;
 use token_grammar::{Named, Numbered};
 
 /// `block = BLOCK name ; DECLARE ; { decl } SURVEY ; { survey } PROGRAM ; { item } END BLOCK ;`
-#[derive(Drop)]
 pub struct Block {
     pub line: u32,
     pub name: Named,
@@ -16,11 +15,29 @@ pub struct Block {
     pub end_line: u32,
 }
 
+impl Drop for Block {
+    fn drop(self) {
+        let Block {
+            line: _,
+            name: _,
+            decls: _,
+            surveys: _,
+            items: _,
+            end_line: _,
+        } = self;
+    }
+}
+
 /// `decl`: a declaration, which its alternatives tell apart.
-#[derive(Drop)]
 pub struct Decl {
     pub line: u32,
     pub kind: DeclKind,
+}
+
+impl Drop for Decl {
+    fn drop(self) {
+        let Decl { line: _, kind: _ } = self;
+    }
 }
 
 /// The alternatives of `decl`.
@@ -47,7 +64,6 @@ pub enum DeclKind {
 }
 
 /// One field of a file: `FIELD name WIDTH number [ INIT number ] ;`
-#[derive(Drop)]
 pub struct Field {
     pub line: u32,
     pub name: Named,
@@ -55,11 +71,27 @@ pub struct Field {
     pub init: Option<Numbered>,
 }
 
+impl Drop for Field {
+    fn drop(self) {
+        let Field {
+            line: _,
+            name: _,
+            width: _,
+            init: _,
+        } = self;
+    }
+}
+
 /// `survey`: a line of a survey, which its alternatives tell apart.
-#[derive(Drop)]
 pub struct Survey {
     pub line: u32,
     pub kind: SurveyKind,
+}
+
+impl Drop for Survey {
+    fn drop(self) {
+        let Survey { line: _, kind: _ } = self;
+    }
 }
 
 /// The alternatives of `survey`.
@@ -72,10 +104,15 @@ pub enum SurveyKind {
 }
 
 /// `item`: a step of a program, which its alternatives tell apart.
-#[derive(Drop)]
 pub struct Item {
     pub line: u32,
     pub kind: ItemKind,
+}
+
+impl Drop for Item {
+    fn drop(self) {
+        let Item { line: _, kind: _ } = self;
+    }
 }
 
 /// The alternatives of `item`.

@@ -6,9 +6,14 @@ use std::alloc::Global;
 use std::marker::Model;
 
 /// A value with a place of its own in memory, so that a type may hold itself; contracts see the value alone.
-#[derive(Drop)]
 pub struct Boxed<T> {
     place: Box<T>,
+}
+
+impl<T: Drop> Drop for Boxed<T> {
+    fn drop(self) {
+        let Boxed { place: _ } = self;
+    }
 }
 
 impl<T> Model for Boxed<T> {
@@ -31,7 +36,8 @@ impl<T> Boxed<T> {
     pub fn into_inner(self) -> T
         ensures { result ≡ self }
     {
-        Box::into_inner(self.place)
+        let Boxed { place } = self;
+        Box::into_inner(place)
     }
 }
 

@@ -75,28 +75,56 @@ pub enum FactorKind {
 }
 
 /// `cond = conj { OR conj }`
-#[derive(Drop)]
 pub struct Cond {
     pub line: u32,
     pub first: Conj,
     pub rest: Seq<Conj>,
 }
 
+impl Drop for Cond {
+    fn drop(self) {
+        let Cond {
+            line: _,
+            first: _,
+            rest: _,
+        } = self;
+    }
+}
+
 /// `conj = relation { AND relation }`
-#[derive(Drop)]
 pub struct Conj {
     pub line: u32,
     pub first: Relation,
     pub rest: Seq<Relation>,
 }
 
+impl Drop for Conj {
+    fn drop(self) {
+        let Conj {
+            line: _,
+            first: _,
+            rest: _,
+        } = self;
+    }
+}
+
 /// `relation = expr rel expr`
-#[derive(Drop)]
 pub struct Relation {
     pub line: u32,
     pub left: Expr,
     pub rel: Rel,
     pub right: Expr,
+}
+
+impl Drop for Relation {
+    fn drop(self) {
+        let Relation {
+            line: _,
+            left: _,
+            rel: _,
+            right: _,
+        } = self;
+    }
 }
 
 /// `rel = = | <> | < | <= | > | >=`
@@ -124,9 +152,18 @@ pub enum RelKind {
 }
 
 /// `exprs = WITH expr { , expr }`
-#[derive(Drop)]
 pub struct Exprs {
     pub line: u32,
     pub first: Expr,
     pub rest: Seq<Expr>,
+}
+
+impl Drop for Exprs {
+    fn drop(self) {
+        let Exprs {
+            line: _,
+            first: _,
+            rest: _,
+        } = self;
+    }
 }

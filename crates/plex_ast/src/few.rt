@@ -7,9 +7,14 @@ use std::alloc::Global;
 use std::marker::Model;
 
 /// A list that mostly is empty, and then takes no memory but its own two words; contracts see it as a list of its items.
-#[derive(Drop)]
 pub struct Few<T> {
     items: Option<Boxed<Seq<T>>>,
+}
+
+impl<T: Drop> Drop for Few<T> {
+    fn drop(self) {
+        let Few { items: _ } = self;
+    }
 }
 
 impl<T> Model for Few<T> {

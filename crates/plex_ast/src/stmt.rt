@@ -5,18 +5,32 @@ use plex_num::Seq;
 use token_grammar::{Named, Numbered};
 
 /// `names = WITH name { , name }`
-#[derive(Drop)]
 pub struct Names {
     pub line: u32,
     pub first: Named,
     pub rest: Seq<Named>,
 }
 
+impl Drop for Names {
+    fn drop(self) {
+        let Names {
+            line: _,
+            first: _,
+            rest: _,
+        } = self;
+    }
+}
+
 /// `ref = REFERENCE name | REFERENCE ( name )`: which of several receivers a signal goes to
-#[derive(Drop)]
 pub struct Reference {
     pub line: u32,
     pub kind: ReferenceKind,
+}
+
+impl Drop for Reference {
+    fn drop(self) {
+        let Reference { line: _, kind: _ } = self;
+    }
 }
 
 /// The alternatives of `ref`.

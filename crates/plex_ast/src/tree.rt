@@ -4,26 +4,49 @@ use plex_num::Seq;
 use token_grammar::{Leveled, Named, Numbered};
 
 /// `exchange = { signal } { block }`; its line is 1 where it is empty.
-#[derive(Drop)]
 pub struct Tree {
     pub line: u32,
     pub signals: Seq<Signal>,
     pub blocks: Seq<Block>,
 }
 
+impl Drop for Tree {
+    fn drop(self) {
+        let Tree {
+            line: _,
+            signals: _,
+            blocks: _,
+        } = self;
+    }
+}
+
 /// `signal = SIGNAL name shape ;`
-#[derive(Drop)]
 pub struct Signal {
     pub line: u32,
     pub name: Named,
     pub shape: Shape,
 }
 
+impl Drop for Signal {
+    fn drop(self) {
+        let Signal {
+            line: _,
+            name: _,
+            shape: _,
+        } = self;
+    }
+}
+
 /// `shape`: what kind of signal it is, which its alternatives tell apart.
-#[derive(Drop)]
 pub struct Shape {
     pub line: u32,
     pub kind: ShapeKind,
+}
+
+impl Drop for Shape {
+    fn drop(self) {
+        let Shape { line: _, kind: _ } = self;
+    }
 }
 
 /// The alternatives of `shape`.

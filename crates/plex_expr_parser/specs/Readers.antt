@@ -1,6 +1,6 @@
 -- The grammar of expressions, conditions and lists, read by descent with one token of sight.
 -- A reader here has the same parts in the same order as the language of its production.
-use Rattle.std.specs.Prelude.{ℕ, zero, suc, List, [], ◌++◌, Option, Some, None}
+use Rattle.std.specs.Prelude.{ℕ, zero, suc, List, [], ◌∷◌, ◌++◌, Option, Some, None}
 use Rattle.plex_lexer.specs.declared.token.Token.{Token}
 use Rattle.token_grammar.specs.declared.named.Named.{Named}
 use Rattle.token_grammar.specs.declared.named.Numbered.{Numbered}
@@ -32,14 +32,20 @@ abbrev pub with_pointer : Named → Option Named → FactorKind
 with_pointer n None = Name n
 with_pointer n (Some p) = Field n p
 
+abbrev pub in_brackets_read : Reader Named
+in_brackets_read = after OPEN (ended name_read CLOSE)
+
 unfoldable pub pointer_read : Reader (Option Named)
-pointer_read = optional OPEN (after OPEN (ended name_read CLOSE))
+pointer_read = optional OPEN in_brackets_read
 
 unfoldable pub block_read : Reader FactorKind
 block_read = lined (λ _ (m : Named). factors.Reference m) (after REFERENCE name_read)
 
+abbrev pub named_read : Reader FactorKind
+named_read = both with_pointer name_read pointer_read
+
 unfoldable pub plain_read : Reader FactorKind
-plain_read = branch NUMBER (lined (λ _ (n : Numbered). Number n) number_read) (branch REFERENCE block_read (both with_pointer name_read pointer_read))
+plain_read = branch NUMBER (lined (λ _ (n : Numbered). Number n) number_read) (branch REFERENCE block_read named_read)
 
 abbrev pub PLAIN : List ℕ
 PLAIN = NUMBER ++ (REFERENCE ++ NAME)
@@ -101,6 +107,10 @@ expr_read b = expr_by (term_read b)
 
 -- conditions
 
+-- the word of this class, which stands for this comparison
+abbrev pub sign_read : ℕ → RelKind → Reader RelKind
+sign_read c k = lined (λ _ (t : Token). k) (word_of (c ∷ []))
+
 unfoldable pub rel_kind_read : Reader RelKind
 rel_kind_read =
     branch EQUAL (lined (λ _ (t : Token). rels.Equal) (word_of EQUAL))
@@ -119,8 +129,11 @@ rel_read = lined rel_made rel_kind_read
 abbrev pub relation_made : ℕ → Expr × (Rel × Expr) → Relation
 relation_made line p = record { line = line; left = p.0; rel = p.1.0; right = p.1.1 }
 
+abbrev pub compared_read : ℕ → Reader (Rel × Expr)
+compared_read b = pair rel_read (expr_read b)
+
 unfoldable pub relation_read : ℕ → Reader Relation
-relation_read b = lined relation_made (pair (expr_read b) (pair rel_read (expr_read b)))
+relation_read b = lined relation_made (pair (expr_read b) (compared_read b))
 
 abbrev pub conj_made : ℕ → Relation × List Relation → Conj
 conj_made line p = record { line = line; first = p.0; rest = p.1 }
@@ -161,7 +174,7 @@ unfoldable pub exprs_read : ℕ → Reader Exprs
 exprs_read b = lined exprs_made (after WITH (pair (expr_read b) (many COMMA (comma_expr_read b))))
 
 unfoldable pub held_read : Reader ReferenceKind
-held_read = lined (λ _ (v : Named). references.Held v) (after OPEN (ended name_read CLOSE))
+held_read = lined (λ _ (v : Named). references.Held v) in_brackets_read
 
 unfoldable pub receiver_kind_read : Reader ReferenceKind
 receiver_kind_read = branch OPEN held_read (lined (λ _ (m : Named). references.Block m) name_read)

@@ -2,11 +2,11 @@
 ghost use Rattle.std.specs.Prelude.{◌≡◌};
 ghost use Rattle.token_grammar.specs.Gives.{Reads};
 ghost use Rattle.token_grammar.specs.Reading.{many};
-ghost use Rattle.plex_expr_parser.specs.Readers.{and_read, cond_read, conj_read, or_read, rel_kind_read, rel_read, relation_read};
+ghost use Rattle.plex_expr_parser.specs.Readers.{and_read, compared_read, cond_read, conj_read, or_read, rel_kind_read, rel_read, relation_read, sign_read};
 ghost use Rattle.plex_ast.specs.Words as classes;
 
 use crate::expression::expr;
-use plex_ast::{Cond, Conj, Rel, RelKind, Relation, words};
+use plex_ast::{Cond, Conj, Expr, Rel, RelKind, Relation, words};
 use plex_lexer::Cursor;
 use plex_num::Seq;
 use std::alloc::Global;
@@ -95,8 +95,8 @@ fn relation(alloc: Global, tokens: Cursor<'_>, room: usize) -> Result<(Relation,
 {
     let line = line_of(tokens);
     let (left, rest) = expr(alloc, tokens, room)?;
-    let (rel, rest) = rel(rest)?;
-    let (right, rest) = expr(alloc, rest, room)?;
+    let (compared, rest) = compared(alloc, rest, room)?;
+    let (rel, right) = compared;
     Ok((
         Relation {
             line,
@@ -106,6 +106,19 @@ fn relation(alloc: Global, tokens: Cursor<'_>, room: usize) -> Result<(Relation,
         },
         rest,
     ))
+}
+
+/// `rel expr`
+fn compared(
+    alloc: Global,
+    tokens: Cursor<'_>,
+    room: usize,
+) -> Result<((Rel, Expr), Cursor<'_>), Fault>
+    ensures { Reads result (compared_read room) tokens.entry }
+{
+    let (rel, left) = rel(tokens)?;
+    let (right, left) = expr(alloc, left, room)?;
+    Ok(((rel, right), left))
 }
 
 /// A comparison and the tokens after it, or where the reading stopped.
@@ -123,22 +136,24 @@ fn rel_kind(tokens: Cursor<'_>) -> Result<(RelKind, Cursor<'_>), Fault>
     ensures { Reads result rel_kind_read tokens.entry }
 {
     if starts(tokens, words::EQUAL) {
-        let (_, left) = word(tokens, words::EQUAL)?;
-        Ok((RelKind::Equal, left))
+        sign(tokens, words::EQUAL, RelKind::Equal)
     } else if starts(tokens, words::UNEQUAL) {
-        let (_, left) = word(tokens, words::UNEQUAL)?;
-        Ok((RelKind::Unequal, left))
+        sign(tokens, words::UNEQUAL, RelKind::Unequal)
     } else if starts(tokens, words::BELOW) {
-        let (_, left) = word(tokens, words::BELOW)?;
-        Ok((RelKind::Below, left))
+        sign(tokens, words::BELOW, RelKind::Below)
     } else if starts(tokens, words::AT_MOST) {
-        let (_, left) = word(tokens, words::AT_MOST)?;
-        Ok((RelKind::AtMost, left))
+        sign(tokens, words::AT_MOST, RelKind::AtMost)
     } else if starts(tokens, words::ABOVE) {
-        let (_, left) = word(tokens, words::ABOVE)?;
-        Ok((RelKind::Above, left))
+        sign(tokens, words::ABOVE, RelKind::Above)
     } else {
-        let (_, left) = word(tokens, words::AT_LEAST)?;
-        Ok((RelKind::AtLeast, left))
+        sign(tokens, words::AT_LEAST, RelKind::AtLeast)
     }
+}
+
+/// This mark, which stands for this comparison.
+fn sign(tokens: Cursor<'_>, mark: u64, kind: RelKind) -> Result<(RelKind, Cursor<'_>), Fault>
+    ensures { Reads result (sign_read mark kind) tokens.entry }
+{
+    let (_, left) = word(tokens, mark)?;
+    Ok((kind, left))
 }

@@ -1,12 +1,12 @@
 // Expressions, whose brackets nest at most `room` deep.
-ghost use Rattle.std.specs.Prelude.{◌≡◌, ◌++◌};
+ghost use Rattle.std.specs.Prelude.{◌≡◌, ◌++◌, ◌∷◌, []};
 ghost use Rattle.token_grammar.specs.Gives.{Reads};
-ghost use Rattle.token_grammar.specs.Reading.{many};
+ghost use Rattle.token_grammar.specs.Reading.{after, many};
 ghost use Rattle.plex_expr_parser.specs.Readers.{added_by, bracket_at, bracket_read, expr_read, factor_read, inside_read, kind_with, multiplied_by, term_read, ADD, MULTIPLY};
 
 use crate::boxes::{boxed, few};
 use crate::factor::plain;
-use plex_ast::{Added, Expr, Factor, FactorKind, Multiplied, Term, push_few, words};
+use plex_ast::{Added, Expr, Factor, FactorKind, Few, Multiplied, Term, push_few, words};
 use plex_lexer::Cursor;
 use plex_num::Seq;
 use std::alloc::Global;
@@ -32,7 +32,6 @@ pub fn expr(alloc: Global, tokens: Cursor<'_>, room: usize) -> Result<(Expr, Cur
     let line = line_of(tokens);
     let (first, left) = term(alloc, tokens, room)?;
     let (rest, left) = added_list(alloc, left, room)?;
-    let rest = few(alloc, rest)?;
     Ok((Expr { line, first, rest }, left))
 }
 
@@ -42,7 +41,7 @@ fn added_list(
     alloc: Global,
     tokens: Cursor<'_>,
     room: usize,
-) -> Result<(Seq<Added>, Cursor<'_>), Fault>
+) -> Result<(Few<Added>, Cursor<'_>), Fault>
     ensures { Reads result (many ADD (added_by (term_read room))) tokens.entry }
 {
     let mut left = tokens;
@@ -54,7 +53,7 @@ fn added_list(
         }
         left = after;
     }
-    Ok((list, left))
+    Ok((few(alloc, list)?, left))
 }
 
 #[cycle(reading)]
@@ -63,14 +62,26 @@ fn added(alloc: Global, tokens: Cursor<'_>, room: usize) -> Result<(Added, Curso
     ensures { Reads result (added_by (term_read room)) tokens.entry }
 {
     if starts(tokens, words::PLUS) {
-        let (_, left) = word(tokens, words::PLUS)?;
-        let (term, left) = term(alloc, left, room)?;
+        let (term, left) = term_after(alloc, tokens, words::PLUS, room)?;
         Ok((Added::Plus(term), left))
     } else {
-        let (_, left) = word(tokens, words::MINUS)?;
-        let (term, left) = term(alloc, left, room)?;
+        let (term, left) = term_after(alloc, tokens, words::MINUS, room)?;
         Ok((Added::Minus(term), left))
     }
+}
+
+/// A term behind this mark.
+#[cycle(reading)]
+fn term_after(
+    alloc: Global,
+    tokens: Cursor<'_>,
+    mark: u64,
+    room: usize,
+) -> Result<(Term, Cursor<'_>), Fault>
+    ensures { Reads result (after (mark ∷ []) (term_read room)) tokens.entry }
+{
+    let (_, left) = word(tokens, mark)?;
+    term(alloc, left, room)
 }
 
 #[cycle(reading)]
@@ -81,7 +92,6 @@ fn term(alloc: Global, tokens: Cursor<'_>, room: usize) -> Result<(Term, Cursor<
     let line = line_of(tokens);
     let (first, left) = factor(alloc, tokens, room)?;
     let (rest, left) = multiplied_list(alloc, left, room)?;
-    let rest = few(alloc, rest)?;
     Ok((Term { line, first, rest }, left))
 }
 
@@ -91,7 +101,7 @@ fn multiplied_list(
     alloc: Global,
     tokens: Cursor<'_>,
     room: usize,
-) -> Result<(Seq<Multiplied>, Cursor<'_>), Fault>
+) -> Result<(Few<Multiplied>, Cursor<'_>), Fault>
     ensures { Reads result (many MULTIPLY (multiplied_by (factor_read room))) tokens.entry }
 {
     let mut left = tokens;
@@ -103,7 +113,7 @@ fn multiplied_list(
         }
         left = after;
     }
-    Ok((list, left))
+    Ok((few(alloc, list)?, left))
 }
 
 #[cycle(reading)]
@@ -116,18 +126,29 @@ fn multiplied(
     ensures { Reads result (multiplied_by (factor_read room)) tokens.entry }
 {
     if starts(tokens, words::TIMES) {
-        let (_, left) = word(tokens, words::TIMES)?;
-        let (factor, left) = factor(alloc, left, room)?;
+        let (factor, left) = factor_after(alloc, tokens, words::TIMES, room)?;
         Ok((Multiplied::Times(factor), left))
     } else if starts(tokens, words::OVER) {
-        let (_, left) = word(tokens, words::OVER)?;
-        let (factor, left) = factor(alloc, left, room)?;
+        let (factor, left) = factor_after(alloc, tokens, words::OVER, room)?;
         Ok((Multiplied::Over(factor), left))
     } else {
-        let (_, left) = word(tokens, words::MOD)?;
-        let (factor, left) = factor(alloc, left, room)?;
+        let (factor, left) = factor_after(alloc, tokens, words::MOD, room)?;
         Ok((Multiplied::Mod(factor), left))
     }
+}
+
+/// A factor behind this word.
+#[cycle(reading)]
+fn factor_after(
+    alloc: Global,
+    tokens: Cursor<'_>,
+    mark: u64,
+    room: usize,
+) -> Result<(Factor, Cursor<'_>), Fault>
+    ensures { Reads result (after (mark ∷ []) (factor_read room)) tokens.entry }
+{
+    let (_, left) = word(tokens, mark)?;
+    factor(alloc, left, room)
 }
 
 #[cycle(reading)]

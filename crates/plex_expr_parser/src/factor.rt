@@ -1,7 +1,7 @@
 // Factors that hold no expression.
 ghost use Rattle.std.specs.Prelude.{◌≡◌, ◌++◌};
 ghost use Rattle.token_grammar.specs.Gives.{Reads};
-ghost use Rattle.plex_expr_parser.specs.Readers.{block_read, plain_read, pointer_read};
+ghost use Rattle.plex_expr_parser.specs.Readers.{block_read, in_brackets_read, named_read, plain_read, pointer_read};
 
 use crate::boxes::boxed;
 use plex_ast::{Boxed, FactorKind, Named, words};
@@ -18,13 +18,21 @@ pub fn pointer(
     ensures { Reads result pointer_read tokens.entry }
 {
     if starts(tokens, words::OPEN) {
-        let (_, rest) = word(tokens, words::OPEN)?;
-        let (pointer, rest) = name(alloc, rest)?;
-        let (_, rest) = word(rest, words::CLOSE)?;
+        let (pointer, rest) = in_brackets(alloc, tokens)?;
         Ok((Some(boxed(alloc, pointer)?), rest))
     } else {
         Ok((None, tokens))
     }
+}
+
+/// `( name )` and the tokens after it.
+pub fn in_brackets(alloc: Global, tokens: Cursor<'_>) -> Result<(Named, Cursor<'_>), Fault>
+    ensures { Reads result in_brackets_read tokens.entry }
+{
+    let (_, rest) = word(tokens, words::OPEN)?;
+    let (name, rest) = name(alloc, rest)?;
+    let (_, rest) = word(rest, words::CLOSE)?;
+    Ok((name, rest))
 }
 
 /// `REFERENCE name` and the tokens after it.
@@ -48,17 +56,24 @@ pub fn plain(alloc: Global, tokens: Cursor<'_>) -> Result<(FactorKind, Cursor<'_
     } else if starts(tokens, words::REFERENCE) {
         block(alloc, tokens)
     } else {
-        let (first, rest) = name(alloc, tokens)?;
-        let (second, rest) = pointer(alloc, rest)?;
-        match second {
-            None => Ok((FactorKind::Name(first), rest)),
-            Some(pointer) => Ok((
-                FactorKind::Field {
-                    name: boxed(alloc, first)?,
-                    pointer,
-                },
-                rest,
-            )),
-        }
+        named(alloc, tokens)
+    }
+}
+
+/// `name | name ( name )`
+fn named(alloc: Global, tokens: Cursor<'_>) -> Result<(FactorKind, Cursor<'_>), Fault>
+    ensures { Reads result named_read tokens.entry }
+{
+    let (first, rest) = name(alloc, tokens)?;
+    let (second, rest) = pointer(alloc, rest)?;
+    match second {
+        None => Ok((FactorKind::Name(first), rest)),
+        Some(pointer) => Ok((
+            FactorKind::Field {
+                name: boxed(alloc, first)?,
+                pointer,
+            },
+            rest,
+        )),
     }
 }

@@ -6,6 +6,7 @@ ghost use Rattle.plex_expr_parser.specs.Readers.{comma_expr_read, comma_name_rea
 ghost use Rattle.plex_ast.specs.Words as classes;
 
 use crate::expression::expr;
+use crate::factor::in_brackets;
 use plex_ast::{Expr, Exprs, Named, Names, Reference, ReferenceKind, words};
 use plex_lexer::Cursor;
 use plex_num::Seq;
@@ -117,8 +118,6 @@ fn receiver_kind(alloc: Global, tokens: Cursor<'_>) -> Result<(ReferenceKind, Cu
 fn held(alloc: Global, tokens: Cursor<'_>) -> Result<(ReferenceKind, Cursor<'_>), Fault>
     ensures { Reads result held_read tokens.entry }
 {
-    let (_, left) = word(tokens, words::OPEN)?;
-    let (holder, left) = name(alloc, left)?;
-    let (_, left) = word(left, words::CLOSE)?;
+    let (holder, left) = in_brackets(alloc, tokens)?;
     Ok((ReferenceKind::Held { name: holder }, left))
 }

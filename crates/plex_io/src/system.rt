@@ -1,6 +1,6 @@
 // Real files and the standard output. No contract can say what the system holds or takes, so this
 // file is trusted to pass it on: it is a few lines over the runtime, and tests show what it does.
-ghost use Rattle.std.specs.Prelude.{◌≡◌, ◌≤◌, ◌+◌, [], None, Ok, Err, length, IfOk, MatchResult, IsUtf8};
+ghost use Rattle.std.specs.Prelude.{◌≡◌, ◌≤◌, ◌+◌, [], None, Some, Ok, Err, length, IfOk, OnErr, IsSome, MatchResult, IsUtf8};
 ghost use Rattle.plex_io.specs.Causes.{risen};
 ghost use Rattle.plex_io.specs.Written.{TakesSome};
 
@@ -14,36 +14,51 @@ use std::rt::Files;
 use std::{fs, io};
 
 /// The files of the system, by their paths. It does not tell what they hold. A missing file, a folder,
-/// a name that is no UTF-8 and a read that fails are `Failed`; contracts see the count of these.
+/// a name that is no UTF-8 and a read that fails are `Failed`; contracts see the count of these, and that the
+/// kind of the last one is kept.
 #[derive(Drop)]
 pub struct FileShelf<'a, R> {
     rt: &'a R,
     faults: u64,
+    cause: Option<ErrorKind>,
 }
 
 impl<'a, R> Model for FileShelf<'a, R> {
-    ghost use Rattle.std.specs.Prelude.{ℕ};
+    ghost use Rattle.plex_io.specs.Causes.{Failures};
 
-    ghost Value = { ℕ };
+    ghost Value = { Failures };
 
-    ghost view = { λ s. s.faults };
+    ghost view = { λ s. record { faults = s.faults; cause = s.cause } };
 }
 
 impl<'a, R: Files> FileShelf<'a, R> {
     /// A shelf over this runtime's files, with no fault so far.
     pub fn new(rt: &'a R) -> FileShelf<'a, R>
-        ensures { result ≡ 0 }
+        ensures { result ≡ record { faults = 0; cause = None } }
     {
-        FileShelf { rt, faults: 0 }
+        FileShelf {
+            rt,
+            faults: 0,
+            cause: None,
+        }
     }
 
-    /// Counts a fault.
-    fn failed(&mut self) -> ShelfFault
+    /// Of what kind the last read that failed was; `InvalidInput` for a name that is no UTF-8.
+    pub fn cause(&self) -> Option<ErrorKind>
+        ensures { result ≡ self.now.cause }
+    {
+        self.cause
+    }
+
+    /// Counts a fault of this kind.
+    fn failed(&mut self, kind: ErrorKind) -> ShelfFault
         ensures answer { result ≡ ShelfFault.Failed }
-        ensures count { self.new ≡ risen self.old }
-        ensures later { self.old ≤ self.new }
+        ensures count { self.new.faults ≡ risen self.old.faults }
+        ensures told { self.new.cause ≡ Some kind }
+        ensures later { self.old.faults ≤ self.new.faults }
     {
         self.faults = self.faults.saturating_add(1);
+        self.cause = Some(kind);
         ShelfFault::Failed
     }
 }
@@ -51,23 +66,24 @@ impl<'a, R: Files> FileShelf<'a, R> {
 impl<'a, R: Files> Shelf for FileShelf<'a, R> {
     ghost held = { λ _. None };
 
-    ghost faults = { λ s. s };
+    ghost faults = { λ s. s.faults };
 
     fn read_file(&mut self, alloc: Global, name: &Word, limit: u64) -> Result<Seq<u8>, ShelfFault>
         ensures limit { IfOk result (λ got. length got ≤ limit + 1) }
         ensures absent { ¬ (result ≡ Err ShelfFault.Absent) }
         ensures name { ¬ IsUtf8 name.now → result ≡ Err ShelfFault.Failed }
-        ensures failed { result ≡ Err ShelfFault.Failed → self.new ≡ risen self.old }
+        ensures failed { result ≡ Err ShelfFault.Failed → self.new.faults ≡ risen self.old.faults }
+        ensures told { result ≡ Err ShelfFault.Failed → IsSome self.new.cause }
         ensures same { ¬ (result ≡ Err ShelfFault.Failed) → self.new ≡ self.old }
-        ensures later { self.old ≤ self.new }
+        ensures later { self.old.faults ≤ self.new.faults }
     {
         let Ok(path) = str::from_utf8(name.as_slice()) else {
-            return Err(self.failed());
+            return Err(self.failed(ErrorKind::InvalidInput));
         };
         match first_bytes(self.rt, alloc, path, limit.saturating_add(1)) {
             Ok(bytes) => Ok(Seq::from_vec(bytes)),
             Err(error) if error.kind() == ErrorKind::OutOfMemory => Err(ShelfFault::Memory),
-            Err(_) => Err(self.failed()),
+            Err(error) => Err(self.failed(error.kind())),
         }
     }
 }
@@ -84,27 +100,51 @@ fn first_bytes<R: Files>(rt: &R, alloc: Global, path: &str, most: u64) -> io::Re
     Ok(bytes)
 }
 
-/// The standard output. It does not tell what was written, nor a size; contracts see its count of faults.
+/// The standard output. It does not tell what was written, nor a size; contracts see its count of faults, and
+/// that the kind of the last one is kept.
 #[derive(Drop)]
 pub struct OutSink<'a, R> {
     rt: &'a R,
     faults: u64,
+    cause: Option<ErrorKind>,
 }
 
 impl<'a, R> Model for OutSink<'a, R> {
-    ghost use Rattle.std.specs.Prelude.{ℕ};
+    ghost use Rattle.plex_io.specs.Causes.{Failures};
 
-    ghost Value = { ℕ };
+    ghost Value = { Failures };
 
-    ghost view = { λ s. s.faults };
+    ghost view = { λ s. record { faults = s.faults; cause = s.cause } };
 }
 
 impl<'a, R: Print> OutSink<'a, R> {
     /// A sink over this runtime's standard output, with no fault so far.
     pub fn new(rt: &'a R) -> OutSink<'a, R>
-        ensures { result ≡ 0 }
+        ensures { result ≡ record { faults = 0; cause = None } }
     {
-        OutSink { rt, faults: 0 }
+        OutSink {
+            rt,
+            faults: 0,
+            cause: None,
+        }
+    }
+
+    /// Of what kind the last write that failed was; `WriteZero` for one that took nothing.
+    pub fn cause(&self) -> Option<ErrorKind>
+        ensures { result ≡ self.now.cause }
+    {
+        self.cause
+    }
+
+    /// Counts a fault of this kind.
+    fn failed(&mut self, kind: ErrorKind) -> SinkFailed
+        ensures count { self.new.faults ≡ risen self.old.faults }
+        ensures told { self.new.cause ≡ Some kind }
+        ensures later { self.old.faults ≤ self.new.faults }
+    {
+        self.faults = self.faults.saturating_add(1);
+        self.cause = Some(kind);
+        SinkFailed
     }
 }
 
@@ -113,25 +153,24 @@ impl<'a, R: Print> Sink for OutSink<'a, R> {
 
     ghost size = { λ _. None };
 
-    ghost faults = { λ s. s };
+    ghost faults = { λ s. s.faults };
 
     fn write(&mut self, piece: &[u8]) -> Result<usize, SinkFailed>
         ensures count { IfOk result (λ n. TakesSome (length piece.now) n) }
         ensures empty { piece.now ≡ [] → result ≡ Ok 0 }
         ensures after { MatchResult result
             (λ _. self.new ≡ self.old)
-            (λ _. self.new ≡ risen self.old) }
-        ensures later { self.old ≤ self.new }
+            (λ _. self.new.faults ≡ risen self.old.faults) }
+        ensures told { OnErr result (IsSome self.new.cause) }
+        ensures later { self.old.faults ≤ self.new.faults }
     {
         if piece.is_empty() {
             return Ok(0);
         }
         match self.rt.write_some(piece) {
-            Ok(count) if count > 0 => Ok(count),
-            _ => {
-                self.faults = self.faults.saturating_add(1);
-                Err(SinkFailed)
-            }
+            Ok(0) => Err(self.failed(ErrorKind::WriteZero)),
+            Ok(count) => Ok(count),
+            Err(refused) => Err(self.failed(refused.kind())),
         }
     }
 }

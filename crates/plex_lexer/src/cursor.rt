@@ -8,7 +8,7 @@ ghost use Rattle.plex_lexer.specs.Spots.{name_in, number_in, all_shown, offset_o
 use crate::runs::{at_most, digit_run, from_any, word_run};
 use crate::sort::Sort;
 use crate::spot::Spot;
-use crate::words::{name_of, value};
+use crate::words::value;
 use plex_num::Name;
 
 /// One token of a text.
@@ -60,7 +60,7 @@ impl<'t> Found<'t> {
     pub fn name(self) -> Name
         ensures { result ≡ name_in (token self.entry).kind }
     {
-        name_of(self.spelled())
+        Name::of(self.spelled())
     }
 
     /// The number that it is; 0 where it is none.

@@ -15,8 +15,6 @@ mod marks;
 mod runs;
 mod sort;
 mod spot;
-#[cfg(test)]
-mod tests;
 mod token;
 mod tokens;
 mod words;

@@ -1,5 +1,5 @@
 // Keywords, names and numbers: what a run of letters and digits says.
-ghost use Rattle.std.specs.Prelude.{◌≡◌, ◌<◌, ◌≤◌, length, take_while, IfOk, IfSome};
+ghost use Rattle.std.specs.Prelude.{◌≡◌, ◌<◌, length, take_while, IfOk, IfSome};
 ghost use Rattle.std.specs.Char.{is_ascii_digit};
 ghost use Rattle.case_table.specs.Names.{keyword_names};
 ghost use Rattle.case_table.specs.Rows.{names_of};
@@ -12,7 +12,7 @@ use crate::fault::LexFault;
 use crate::runs::{digit_run, word_run};
 use crate::sort::Sort;
 use case_table::{Row, find};
-use plex_num::{Name, read_number};
+use plex_num::read_number;
 
 /// The number of bytes of the longest keyword.
 const LONGEST_KEYWORD: usize = 9;
@@ -31,18 +31,6 @@ fn keyword(run: &[u8], keywords: &[Row; 56]) -> Option<u8>
         Some(place) => Some(place as u8),
         None => None,
     }
-}
-
-/// The name of these bytes.
-pub fn name_of(run: &[u8]) -> Name
-    requires { length run.now ≤ 31 }
-    ensures { result ≡ run.now }
-{
-    let mut made = Name::new();
-    for byte in run {
-        made.push(*byte);
-    }
-    made
 }
 
 /// What the run of letters and digits is with which these bytes begin: a keyword or a name of at most 31 bytes.

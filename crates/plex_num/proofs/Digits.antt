@@ -1,7 +1,9 @@
 -- Reading digits from the front.
-use Rattle.std.proofs.Common.{◌≡◌, ℕ, true, false, ◌+◌, ◌*◌, ◌-◌, ◌^◌, ◌<◌, ◌≤◌, List, ◌∷◌, length, drop, get_or, Option, Some, None, refl, sym, ◌∙◌, arith, add-one, if◌then◌else◌}
+use Rattle.std.proofs.Common.{◌≡◌, ℕ, Bool, true, false, ◌&&◌, ◌+◌, ◌*◌, ◌-◌, ◌^◌, ◌<◌, ◌≤◌, List, ◌∷◌, length, drop, get_or, Option, Some, None, refl, sym, ◌∙◌, arith, add-one, if◌then◌else◌}
 use Rattle.std.proofs.lemmas.List.{drop_more, drop_all}
-use Rattle.std.proofs.lemmas.Bool.{lt-ltb, lt-leb, le-leb}
+use Rattle.std.proofs.lemmas.Bool.{lt-ltb, lt-leb, le-leb, ltb-true}
+use Rattle.std.proofs.lemmas.Option.{none-some, same_Some}
+use Rattle.std.specs.Prelude.{nat_le, nat_lt}
 use Rattle.std.proofs.Math.Nat.{pow-suc}
 use Rattle.std.proofs.Math.Nat.{pow-le-pow_right}
 use Rattle.std.specs.Char.{is_ascii_digit}
@@ -48,6 +50,24 @@ number_of_empty text e = rw e refl
 pub number_of_long : (text : List ℕ) → 10 < length text → number_of text ≡ None
 unfolding number_of
 number_of_long text e = let some : 0 < length text = omega arith in rw (lt-ltb 0 (length text) some, lt-leb (length text) 10 e) refl
+
+-- what a text says is a number of 32 bits
+
+below : (b : Bool) (k n : ℕ) → nat_lt k (2 ^ 32) ≡ b → (if b then Some k else None) ≡ Some n → n < 2 ^ 32
+below true k n lt e = let same : k ≡ n = same_Some k n e in let under = ltb-true k (2 ^ 32) lt in omega (arith, same, under)
+below false k n lt e = absurd (none-some n e)
+
+pub below_small : (o : Option ℕ) (n : ℕ) → below_2_32 o ≡ Some n → n < 2 ^ 32
+below_small None n e = absurd (none-some n e)
+below_small (Some k) n e = below (nat_lt k (2 ^ 32)) k n refl e
+
+tested : (b : Bool) (o : Option ℕ) (n : ℕ) → (if b then below_2_32 o else None) ≡ Some n → n < 2 ^ 32
+tested true o n e = below_small o n e
+tested false o n e = absurd (none-some n e)
+
+pub number_small : (text : List ℕ) (n : ℕ) → number_of text ≡ Some n → n < 2 ^ 32
+unfolding number_of
+number_small text n e = tested (nat_lt 0 (length text) && nat_le (length text) 10) (digits_from 0 text) n e
 
 -- what a loop over the digits uses, and what a choice by the length does
 pub ruleset digits_read = (digits_step, digits_stop, digits_end, small_step)

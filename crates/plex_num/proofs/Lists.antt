@@ -1,7 +1,9 @@
--- Small facts of lists: what stands at a place, and what holds of all.
-use Rattle.std.proofs.Common.{◌≡◌, ℕ, zero, suc, ◌-◌, ◌<◌, ◌≤◌, List, [], ◌∷◌, ◌++◌, length, drop, Some, slice_get, refl, subst, ap, ◌∙◌, arith}
-use Rattle.std.proofs.lemmas.Option.{none-some, same_Some}
-use Rattle.std.specs.List.{AllByRecursion}
+-- Small facts of lists: what stands at a place, what holds of all, and how they are put together.
+use Rattle.std.proofs.Common.{◌≡◌, ◌⊎◌, inl, inr, ⊎_elim, ℕ, zero, suc, ◌+◌, ◌-◌, ◌<◌, ◌≤◌, Bool, ◌||◌, not, cond, List, [], ◌∷◌, ◌++◌, length, drop, map, replicate, get_or, position, Some, slice_get, refl, sym, subst, ap, ◌∙◌, arith, add-one, drop-cons}
+use Rattle.std.proofs.lemmas.List.{append_assoc, length-map}
+use Rattle.std.proofs.lemmas.Option.{none-some, same_Some, slice_get-map, slice_get_past}
+use Rattle.std.specs.List.{AllByRecursion, list_any, position_or_len, slice_index}
+use Rattle.std.specs.Option.{option_map, option_map_or}
 
 -- what stands at a place
 
@@ -20,6 +22,43 @@ pub slice_get-append_seam : {A : Type 0} (xs : List A) (y : A) (ys : List A) →
 slice_get-append_seam [] y ys = refl
 slice_get-append_seam (x ∷ xs) y ys = slice_get-append_seam xs y ys
 
+-- what stands in a list stands there in a longer one too
+pub got_more : {A : Type 0} (xs ys : List A) (i : ℕ) (x : A) → slice_get xs i ≡ Some x → slice_get (xs ++ ys) i ≡ Some x
+got_more [] ys i x is = absurd (none-some x is)
+got_more (y ∷ xs) ys zero x is = is
+got_more (y ∷ xs) ys (suc i) x is = got_more xs ys i x is
+
+-- so far behind the end of a list
+pub get_after : {A : Type 0} (xs ys : List A) (i : ℕ) → slice_get (xs ++ ys) (length xs + i) ≡ slice_get ys i
+get_after [] ys i = ap (slice_get ys) (let z : 0 + i ≡ i = omega arith in z)
+get_after (x ∷ xs) ys i = ap (slice_get (x ∷ xs ++ ys)) (let n : length (x ∷ xs) + i ≡ suc (length xs + i) = omega arith in n) ∙ get_after xs ys i
+
+-- after a push stands what stood there, or the new item
+pub get_push : {A : Type 0} (xs : List A) (x y : A) (m : ℕ) → slice_get (xs ++ x ∷ []) m ≡ Some y → (slice_get xs m ≡ Some y) ⊎ ((m ≡ length xs) × (x ≡ y))
+get_push [] x y zero there = inr (refl, same_Some x y there)
+get_push [] x y (suc m) there = absurd (none-some y there)
+get_push (z ∷ xs) x y zero there = inl there
+get_push (z ∷ xs) x y (suc m) there = ⊎_elim inl (λ h. inr (let e = h.0 in omega arith, h.1)) (get_push xs x y m there)
+
+pub got_map : {A B : Type 0} (f : A → B) (xs : List A) (i : ℕ) (x : A) → slice_get xs i ≡ Some x → slice_get (map f xs) i ≡ Some (f x)
+got_map f xs i x there = slice_get-map f xs i ∙ ap (option_map f) there
+
+-- what is found at a place, or a default past the end
+pub found_at : {A B : Type 0} (xs : List A) (i : ℕ) (x : A) (b : B) (f : A → B) → slice_get xs i ≡ Some x → option_map_or f (slice_get xs i) b ≡ f x
+found_at xs i x b f there = ap (λ o. option_map_or f o b) there
+
+pub found_past : {A B : Type 0} (xs : List A) (i : ℕ) (b : B) (f : A → B) → length xs ≤ i → option_map_or f (slice_get xs i) b ≡ b
+found_past xs i b f past = ap (λ o. option_map_or f o b) (slice_get_past xs i past)
+
+pub index_zeros : (n k : ℕ) → slice_index (replicate n 0) k ≡ 0
+index_zeros zero k = refl
+index_zeros (suc n) zero = refl
+index_zeros (suc n) (suc k) = index_zeros n k
+
+-- the rest of a list begins with the item at its place
+pub opens : {X : Type 0} (xs : List X) (i : ℕ) (x : X) → i < length xs → x ≡ get_or xs i x → drop i xs ≡ x ∷ drop (i + 1) xs
+opens xs i x lt is = drop-cons xs i x lt ∙ ap (λ y. y ∷ drop (suc i) xs) (sym is) ∙ ap (λ n. x ∷ drop n xs) (sym (add-one i))
+
 -- something stands at each place
 pub some_at : {A : Type 0} (xs : List A) (i : ℕ) → i < length xs → (x : A) × (slice_get xs i ≡ Some x)
 some_at [] i lt = absurd (omega arith)
@@ -32,6 +71,11 @@ pub all_at : {A : Type 0} (P : A → Type 0) (xs : List A) (i : ℕ) (x : A) →
 all_at P [] i x all h = absurd (none-some x h)
 all_at P (y ∷ ys) zero x all h = subst P (same_Some y x h) all.0
 all_at P (y ∷ ys) (suc i) x all h = all_at P ys i x all.1 h
+
+pub all_here : {X : Type 0} (P : X → Type 0) (xs : List X) (i : ℕ) (x : X) → AllByRecursion P xs → i < length xs → x ≡ get_or xs i x → P x
+all_here P [] i x all inside is = absurd (omega arith)
+all_here P (y ∷ ys) zero x all inside is = subst P (sym is) all.0
+all_here P (y ∷ ys) (suc i) x all inside is = all_here P ys i x all.1 (omega (arith, inside)) is
 
 pub all_from : {A : Type 0} (P : A → Type 0) (xs : List A) → ((i : ℕ) (x : A) → slice_get xs i ≡ Some x → P x) → AllByRecursion P xs
 all_from P [] h = tt
@@ -57,3 +101,36 @@ pub all_drop : {A : Type 0} (P : A → Type 0) (n : ℕ) (xs : List A) → AllBy
 all_drop P zero xs all = all
 all_drop P (suc n) [] all = all
 all_drop P (suc n) (x ∷ xs) all = all_drop P n xs all.1
+
+pub all_weaker : {A : Type 0} (P Q : A → Type 0) (xs : List A) → ((x : A) → P x → Q x) → AllByRecursion P xs → AllByRecursion Q xs
+all_weaker P Q [] f all = tt
+all_weaker P Q (x ∷ xs) f all = (f x all.0, all_weaker P Q xs f all.1)
+
+pub all_push : {A : Type 0} (P : A → Type 0) (xs : List A) (y : A) → AllByRecursion P xs → P y → AllByRecursion P (xs ++ y ∷ [])
+all_push P [] y all here = (here, tt)
+all_push P (x ∷ xs) y all here = (all.0, all_push P xs y all.1 here)
+
+pub all_last : {A : Type 0} (P : A → Type 0) (xs : List A) (y : A) → AllByRecursion P (xs ++ y ∷ []) → P y
+all_last P [] y all = all.0
+all_last P (x ∷ xs) y all = all_last P xs y all.1
+
+-- what a mapped list tells
+
+pub any_map : {A B : Type 0} (f : A → B) (p : B → Bool) (xs : List A) → list_any p (map f xs) ≡ list_any (λ x. p (f x)) xs
+any_map f p [] = refl
+any_map f p (x ∷ xs) = ap (λ b. p (f x) || b) (any_map f p xs)
+
+position_or_len-map : {A B : Type 0} (f : A → B) (p : B → Bool) (xs : List A) → position_or_len p (map f xs) ≡ position_or_len (λ x. p (f x)) xs
+position_or_len-map f p [] = refl
+position_or_len-map f p (x ∷ xs) = ap (λ n. cond (not (p (f x))) (1 + n) 0) (position_or_len-map f p xs)
+
+pub position_map : {A B : Type 0} (f : A → B) (p : B → Bool) (xs : List A) → position p (map f xs) ≡ position (λ x. p (f x)) xs
+position_map f p xs = rw (position_or_len-map f p xs, length-map xs f) refl
+
+-- lists that are put together in two steps
+
+pub append_two : {A : Type 0} (old middle new first second : List A) → middle ≡ old ++ first → new ≡ middle ++ second → new ≡ old ++ (first ++ second)
+append_two old middle new first second one two = two ∙ ap (λ list. list ++ second) one ∙ append_assoc old first second
+
+pub append_one : {A : Type 0} (xs : List A) (x : A) (ys : List A) → (xs ++ x ∷ []) ++ ys ≡ xs ++ x ∷ ys
+append_one xs x ys = append_assoc xs (x ∷ []) ys

@@ -1,5 +1,5 @@
 // The arithmetic of the language: unsigned numbers of 32 bits, modulo 2^32.
-ghost use Rattle.std.specs.Prelude.{◌≡◌, ◌+◌, ◌-◌, ◌*◌, ◌/◌, ◌%◌, ◌^◌, ◌<◌, ◌↔◌, IsTrue, MatchOption};
+ghost use Rattle.std.specs.Prelude.{◌≡◌, ◌+◌, ◌-◌, ◌*◌, ◌/◌, ◌%◌, ◌^◌, ◌<◌, ◌↔◌, IsTrue, MatchOption, slice_index};
 
 /// The sum, modulo 2^32.
 pub fn add(a: u32, b: u32) -> u32
@@ -44,4 +44,11 @@ pub fn fits(value: u32, width: u8) -> bool
         return true;
     }
     value < 1 << width
+}
+
+/// The number at a place of a list, counted from 0; 0 past its end.
+pub fn value_at(numbers: &[u32], place: usize) -> u32
+    ensures { result ≡ slice_index numbers.now place }
+{
+    numbers.get(place).copied().unwrap_or(0)
 }

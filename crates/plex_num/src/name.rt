@@ -32,6 +32,17 @@ impl Name {
         }
     }
 
+    /// The name of these bytes, of which there must be at most 31.
+    pub fn of(bytes: &[u8]) -> Name
+        requires { length bytes.now ≤ 31 }
+        ensures { result ≡ bytes.now }
+    {
+        match ArrayVec::try_from(bytes) {
+            Ok(bytes) => Name { bytes },
+            Err(_) => Name::new(),
+        }
+    }
+
     /// Appends a byte; there must be room for it.
     pub fn push(&mut self, item: u8)
         requires { length self.old < 31 }
@@ -61,10 +72,6 @@ impl Name {
     pub fn copy(&self) -> Name
         ensures { result ≡ self.now }
     {
-        let mut made = Name::new();
-        for byte in self.bytes.as_slice() {
-            made.push(*byte);
-        }
-        made
+        Name::of(self.as_slice())
     }
 }

@@ -1,5 +1,5 @@
 // Numbers as text: decimal digits without a sign.
-ghost use Rattle.std.specs.Prelude.{◌≡◌, ◌≤◌, ◌++◌, length, MatchResult};
+ghost use Rattle.std.specs.Prelude.{◌≡◌, ◌≤◌, ◌++◌, length, MatchResult, OnOk};
 ghost use Rattle.std.specs.Fmt.{decimal};
 ghost use Rattle.plex_num.specs.Number.{digits_from, number_of};
 
@@ -48,4 +48,12 @@ pub fn print_number(value: u64, text: &mut Seq<u8>) -> Result<(), Memory>
 {
     let mut buffer = Buffer::new();
     text.append(buffer.format(value).as_bytes())
+}
+
+/// Appends these bytes and then the number in decimal digits.
+pub fn add_number(text: &mut Seq<u8>, before: &[u8], value: u64) -> Result<(), Memory>
+    ensures { OnOk result (text.new ≡ text.old ++ before.now ++ decimal value) }
+{
+    text.append(before)?;
+    print_number(value, text)
 }

@@ -9,9 +9,14 @@ use std::marker::Model;
 pub struct Memory;
 
 /// A list, which contracts see as a list of its items. Its length has no limit but memory.
-#[derive(Drop)]
 pub struct Seq<T> {
     items: Vec<T>,
+}
+
+impl<T: Drop> Drop for Seq<T> {
+    fn drop(self) {
+        let Seq { items: _ } = self;
+    }
 }
 
 impl<T> Model for Seq<T> {
@@ -35,6 +40,16 @@ impl<T> Seq<T> {
         }
     }
 
+    /// The empty list, with room for so many items: appending these takes no more memory.
+    pub fn with_capacity(alloc: Global, items: usize) -> Result<Seq<T>, Memory>
+        ensures { IfOk result (λ list. list ≡ []) }
+    {
+        match Vec::with_capacity(alloc, items) {
+            Ok(items) => Ok(Seq { items }),
+            Err(_) => Err(Memory),
+        }
+    }
+
     /// The list of these items, in their order.
     pub fn from_vec(items: Vec<T>) -> Seq<T>
         ensures { result ≡ items.items }
@@ -46,7 +61,8 @@ impl<T> Seq<T> {
     pub fn into_vec(self) -> Vec<T>
         ensures { result.items ≡ self }
     {
-        self.items
+        let Seq { items } = self;
+        items
     }
 
     /// The item at a place, counted from 0; `None` exactly where the list ends before it.
@@ -92,6 +108,20 @@ impl<T: Drop> Seq<T> {
         ensures { self.new ≡ slice_set self.old i value }
     {
         self.items[i] = value;
+    }
+}
+
+impl<T: Copy> Seq<T> {
+    /// Appends these items, in their order; where memory is refused, the list stays as it was.
+    pub fn push_all(&mut self, more: &[T]) -> Result<(), Memory>
+        ensures { MatchResult result
+            (λ _. self.new ≡ self.old ++ more.now)
+            (λ _. self.new ≡ self.old) }
+    {
+        match self.items.extend_from_slice(more) {
+            Ok(()) => Ok(()),
+            Err(_) => Err(Memory),
+        }
     }
 }
 

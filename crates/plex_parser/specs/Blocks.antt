@@ -84,8 +84,11 @@ init_read = optional INIT (after INIT number_read)
 abbrev pub Width : Type 0
 Width = Named × (Numbered × Option Numbered)
 
+abbrev pub opened_read : Reader (Numbered × Option Numbered)
+opened_read = after WIDTH (pair number_read (ended init_read SEMI))
+
 unfoldable pub width_read : Reader Width
-width_read = pair name_read (after WIDTH (pair number_read (ended init_read SEMI)))
+width_read = pair name_read opened_read
 
 abbrev pub field_made : ℕ → Width → Field
 field_made line p = record { line = line; name = p.0; width = p.1.0; init = p.1.1 }
@@ -99,8 +102,11 @@ clear_read = flag_read CLEAR (word_of CLEAR)
 abbrev pub variable_made : ℕ → Named × (Numbered × (Option Numbered × Bool)) → DeclKind
 variable_made _ p = decls.Variable p.0 p.1.0 p.1.1.0 p.1.1.1
 
+abbrev pub stored_read : Reader (Numbered × (Option Numbered × Bool))
+stored_read = after WIDTH (pair number_read (pair init_read (ended clear_read SEMI)))
+
 unfoldable pub variable_read : Reader DeclKind
-variable_read = lined variable_made (after VARIABLE (pair name_read (after WIDTH (pair number_read (pair init_read (ended clear_read SEMI))))))
+variable_read = lined variable_made (after VARIABLE (pair name_read stored_read))
 
 unfoldable pub temporary_read : Reader DeclKind
 temporary_read = lined (λ _ (n : Named). decls.Temporary n) (after TEMPORARY (ended name_read SEMI))
@@ -111,8 +117,11 @@ forlopp_read = flag_read FORLOPP (word_of FORLOPP)
 abbrev pub file_made : ℕ → Bool × (Named × (Numbered × List Field)) → DeclKind
 file_made _ p = decls.File p.0 p.1.0 p.1.1.0 p.1.1.1
 
+abbrev pub records_read : Reader (Numbered × List Field)
+records_read = after SIZE (pair number_read (after SEMI (many FIELD field_read)))
+
 unfoldable pub file_read : Reader DeclKind
-file_read = lined file_made (pair forlopp_read (after FILE (pair name_read (after SIZE (pair number_read (after SEMI (many FIELD field_read)))))))
+file_read = lined file_made (pair forlopp_read (after FILE (pair name_read records_read)))
 
 unfoldable pub decl_kind_read : Reader DeclKind
 decl_kind_read = branch VARIABLE variable_read (branch TEMPORARY temporary_read file_read)
@@ -146,8 +155,11 @@ Parts = Named × (List Decl × (List Survey × (List Item × ℕ)))
 abbrev pub block_made : ℕ → Parts → Block
 block_made line p = record { line = line; name = p.0; decls = p.1.0; surveys = p.1.1.0; items = p.1.1.1.0; end_line = p.1.1.1.1 }
 
+abbrev pub parts_read : ℕ → ℕ → Reader (List Decl × (List Survey × (List Item × ℕ)))
+parts_read b n = pair decls_read (pair surveys_read (program_read b n))
+
 unfoldable pub block_read : ℕ → ℕ → Reader Block
-block_read b n = lined block_made (after BLOCK (pair name_read (after SEMI (pair decls_read (pair surveys_read (program_read b n))))))
+block_read b n = lined block_made (after BLOCK (pair name_read (after SEMI (parts_read b n))))
 
 -- signals
 

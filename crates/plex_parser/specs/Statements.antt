@@ -20,8 +20,11 @@ use Rattle.plex_expr_parser.specs.Readers.{pointer_read, expr_read, rel_read, co
 
 -- assignments: what follows the name, and the whole
 
+abbrev pub value_read : ℕ → Reader Expr
+value_read b = after EQUAL (ended (expr_read b) SEMI)
+
 unfoldable pub assigned_read : ℕ → Reader (Option Named × Expr)
-assigned_read b = pair pointer_read (after EQUAL (ended (expr_read b) SEMI))
+assigned_read b = pair pointer_read (value_read b)
 
 abbrev pub assign_made : Named → Option Named × Expr → StmtKind
 assign_made n (None, e) = Assign n e
@@ -41,8 +44,12 @@ Search = Named × (Named × (Named × (Rel × (Expr × Named))))
 abbrev pub first_made : ℕ → Search → StmtKind
 first_made _ p = ForFirst p.0 p.1.0 p.1.1.0 p.1.1.1.0 p.1.1.1.1.0 p.1.1.1.1.1
 
+-- what the record is that is sought
+abbrev pub sought_read : ℕ → Reader (Named × (Rel × (Expr × Named)))
+sought_read b = after WHERE (pair name_read (pair rel_read (pair (expr_read b) to_label_read)))
+
 unfoldable pub first_read : ℕ → Reader StmtKind
-first_read b = lined first_made (after FOR (after FIRST (pair name_read (after IN (pair name_read (after WHERE (pair name_read (pair rel_read (pair (expr_read b) to_label_read)))))))))
+first_read b = lined first_made (after FOR (after FIRST (pair name_read (after IN (pair name_read (sought_read b))))))
 
 unfoldable pub receiver_read : Reader (Option Reference)
 receiver_read = optional REFERENCE reference_read
@@ -59,8 +66,14 @@ fresh_read = flag_read NEW (after NEW (word_of FORLOPP))
 abbrev pub send_made : ℕ → Named × (Option Reference × (Option Exprs × Bool)) → StmtKind
 send_made _ p = Send p.0 p.1.0 p.1.1.0 p.1.1.1
 
+abbrev pub load_read : ℕ → Reader (Option Exprs × Bool)
+load_read b = pair (values_read b) (ended fresh_read SEMI)
+
+abbrev pub sent_read : ℕ → Reader (Option Reference × (Option Exprs × Bool))
+sent_read b = pair receiver_read (load_read b)
+
 unfoldable pub send_read : ℕ → Reader StmtKind
-send_read b = lined send_made (after SEND (pair name_read (pair receiver_read (pair (values_read b) (ended fresh_read SEMI)))))
+send_read b = lined send_made (after SEND (pair name_read (sent_read b)))
 
 unfoldable pub retrieve_read : Reader StmtKind
 retrieve_read = lined (λ _ (p : Named × Option Names). Retrieve p.0 p.1) (after RETRIEVE (pair name_read (ended taken_read SEMI)))
@@ -71,11 +84,17 @@ return_read b = lined (λ _ (p : Named × Option Exprs). Return p.0 p.1) (after 
 unfoldable pub transfer_read : Reader StmtKind
 transfer_read = lined (λ _ (p : Named × Option Reference). Transfer p.0 p.1) (after TRANSFER (pair name_read (ended receiver_read SEMI)))
 
+abbrev pub seized_read : Reader (Named × Named)
+seized_read = after IN (pair name_read (after ELSE to_label_read))
+
 unfoldable pub seize_read : Reader StmtKind
-seize_read = lined (λ _ (p : Named × (Named × Named)). Seize p.0 p.1.0 p.1.1) (after SEIZE (pair name_read (after IN (pair name_read (after ELSE to_label_read)))))
+seize_read = lined (λ _ (p : Named × (Named × Named)). Seize p.0 p.1.0 p.1.1) (after SEIZE (pair name_read seized_read))
+
+abbrev pub freed_read : Reader Named
+freed_read = after IN (ended name_read SEMI)
 
 unfoldable pub free_read : Reader StmtKind
-free_read = lined (λ _ (p : Named × Named). Free p.0 p.1) (after FREE (pair name_read (after IN (ended name_read SEMI))))
+free_read = lined (λ _ (p : Named × Named). Free p.0 p.1) (after FREE (pair name_read freed_read))
 
 unfoldable pub exit_read : Reader StmtKind
 exit_read = lined (λ _ (t : Token). Exit) (after EXIT (word_of SEMI))
@@ -117,11 +136,17 @@ gone_read = lined (λ _ (l : Named). Goes l) to_label_read
 unfoldable pub else_by : Reader (List Stmt) → Reader (Option (List Stmt))
 else_by body = optional ELSE (after ELSE body)
 
+abbrev pub else_to_fi_read : Reader (List Stmt) → Reader (Option (List Stmt))
+else_to_fi_read body = closed (else_by body) FI SEMI
+
 abbrev pub then_rest : Reader (List Stmt) → Reader (List Stmt × Option (List Stmt))
-then_rest body = pair body (closed (else_by body) FI SEMI)
+then_rest body = pair body (else_to_fi_read body)
+
+abbrev pub branches_read : Reader (List Stmt) → Reader (List Stmt × Option (List Stmt))
+branches_read body = after THEN (then_rest body)
 
 unfoldable pub then_by : Reader (List Stmt) → Reader IfTail
-then_by body = lined (λ _ (p : List Stmt × Option (List Stmt)). Does p.0 p.1) (after THEN (then_rest body))
+then_by body = lined (λ _ (p : List Stmt × Option (List Stmt)). Does p.0 p.1) (branches_read body)
 
 -- where statements that hold statements may nest n deep
 abbrev pub then_at : ℕ → Reader (List Stmt) → Reader IfTail
@@ -145,14 +170,30 @@ when_by body = lined when_made (after WHEN (pair number_read (after DO body)))
 abbrev pub case_made : ℕ → Expr × (List When × List Stmt) → StmtKind
 case_made _ p = Case p.0 p.1.0 p.1.1
 
+-- what is done, up to this last word
+abbrev pub do_read : List ℕ → Reader (List Stmt) → Reader (List Stmt)
+do_read last body = after DO (closed body last SEMI)
+
+abbrev pub otherwise_read : Reader (List Stmt) → Reader (List Stmt)
+otherwise_read body = after OTHERWISE (do_read ESAC body)
+
+abbrev pub arms_read : Reader (List Stmt) → Reader (List When × List Stmt)
+arms_read body = pair (many WHEN (when_by body)) (otherwise_read body)
+
 unfoldable pub case_by : ℕ → Reader (List Stmt) → Reader StmtKind
-case_by b body = lined case_made (after CASE (pair (expr_read b) (after IS (pair (many WHEN (when_by body)) (after OTHERWISE (after DO (closed body ESAC SEMI)))))))
+case_by b body = lined case_made (after CASE (pair (expr_read b) (after IS (arms_read body))))
 
 abbrev pub on_made : ℕ → Named × (Expr × (Expr × List Stmt)) → StmtKind
 on_made _ p = On p.0 p.1.0 p.1.1.0 p.1.1.1
 
+abbrev pub upto_read : ℕ → Reader (List Stmt) → Reader (Expr × List Stmt)
+upto_read b body = after UPTO (pair (expr_read b) (do_read NO body))
+
+abbrev pub span_read : ℕ → Reader (List Stmt) → Reader (Expr × (Expr × List Stmt))
+span_read b body = after FROM (pair (expr_read b) (upto_read b body))
+
 abbrev pub on_rest : ℕ → Reader (List Stmt) → Reader (Named × (Expr × (Expr × List Stmt)))
-on_rest b body = pair name_read (after FROM (pair (expr_read b) (after UPTO (pair (expr_read b) (after DO (closed body NO SEMI))))))
+on_rest b body = pair name_read (span_read b body)
 
 unfoldable pub on_by : ℕ → Reader (List Stmt) → Reader StmtKind
 on_by b body = lined on_made (after ON (on_rest b body))

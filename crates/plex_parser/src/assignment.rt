@@ -1,10 +1,11 @@
 // Assignments.
 ghost use Rattle.std.specs.Prelude.{◌≡◌};
 ghost use Rattle.token_grammar.specs.Gives.{Reads};
-ghost use Rattle.plex_parser.specs.Statements.{assigned_read, assign_made};
+ghost use Rattle.plex_parser.specs.Statements.{assigned_read, assign_made, value_read};
 
+use crate::plain::boxed_expr;
 use plex_ast::{Boxed, Expr, Named, StmtKind, words};
-use plex_expr_parser::{boxed, expr, pointer};
+use plex_expr_parser::pointer;
 use plex_lexer::Cursor;
 use std::alloc::Global;
 use token_grammar::{Fault, word};
@@ -19,10 +20,22 @@ pub fn assigned(
     ensures { Reads result (assigned_read room) tokens.entry }
 {
     let (pointer, left) = pointer(alloc, tokens)?;
-    let (_, left) = word(left, words::EQUAL)?;
-    let (value, left) = expr(alloc, left, room)?;
+    let (value, left) = new_value(alloc, left, room)?;
+    Ok(((pointer, value), left))
+}
+
+/// `= expr ;`
+fn new_value(
+    alloc: Global,
+    tokens: Cursor<'_>,
+    room: usize,
+) -> Result<(Boxed<Expr>, Cursor<'_>), Fault>
+    ensures { Reads result (value_read room) tokens.entry }
+{
+    let (_, left) = word(tokens, words::EQUAL)?;
+    let (value, left) = boxed_expr(alloc, left, room)?;
     let (_, left) = word(left, words::SEMI)?;
-    Ok(((pointer, boxed(alloc, value)?), left))
+    Ok((value, left))
 }
 
 /// The assignment to this variable or, with a pointer, to this field.

@@ -3,12 +3,12 @@ ghost use Rattle.std.specs.Prelude.{◌≡◌, ◌++◌};
 ghost use Rattle.plex_lexer.specs.Cursors.{ahead};
 ghost use Rattle.token_grammar.specs.Gives.{Reads};
 ghost use Rattle.token_grammar.specs.Reading.{at, many};
-ghost use Rattle.plex_parser.specs.Blocks.{block_read, end_read, program_read, survey_kind_read, survey_read, surveys_read};
+ghost use Rattle.plex_parser.specs.Blocks.{block_read, end_read, parts_read, program_read, survey_kind_read, survey_read, surveys_read};
 ghost use Rattle.plex_ast.specs.Words as classes;
 
 use crate::declaration::declarations;
 use crate::item::items;
-use plex_ast::{Block, Item, Survey, SurveyKind, words};
+use plex_ast::{Block, Decl, Item, Survey, SurveyKind, words};
 use plex_lexer::Cursor;
 use plex_num::Seq;
 use std::alloc::Global;
@@ -49,10 +49,8 @@ fn one_block(
     let (_, left) = word(tokens, words::BLOCK)?;
     let (block, left) = name(alloc, left)?;
     let (_, left) = word(left, words::SEMI)?;
-    let (decls, left) = declarations(alloc, left)?;
-    let (surveys, left) = survey(alloc, left)?;
-    let (program, left) = program(alloc, left, room, deep)?;
-    let (items, end_line) = program;
+    let (parts, left) = parts(alloc, left, room, deep)?;
+    let (decls, (surveys, (items, end_line))) = parts;
     Ok((
         Block {
             line,
@@ -64,6 +62,23 @@ fn one_block(
         },
         left,
     ))
+}
+
+/// What stands in a block behind its name: declarations, surveys, and the items with the line of END.
+type Parts = (Seq<Decl>, (Seq<Survey>, (Seq<Item>, u32)));
+
+fn parts(
+    alloc: Global,
+    tokens: Cursor<'_>,
+    room: usize,
+    deep: usize,
+) -> Result<(Parts, Cursor<'_>), Fault>
+    ensures { Reads result (parts_read room deep) tokens.entry }
+{
+    let (decls, left) = declarations(alloc, tokens)?;
+    let (surveys, left) = survey(alloc, left)?;
+    let (program, left) = program(alloc, left, room, deep)?;
+    Ok(((decls, (surveys, program)), left))
 }
 
 /// `SURVEY ; { survey }`

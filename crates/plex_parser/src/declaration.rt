@@ -3,7 +3,7 @@ ghost use Rattle.std.specs.Prelude.{◌≡◌, ◌++◌};
 ghost use Rattle.plex_lexer.specs.Cursors.{ahead};
 ghost use Rattle.token_grammar.specs.Gives.{Reads};
 ghost use Rattle.token_grammar.specs.Reading.{at, many};
-ghost use Rattle.plex_parser.specs.Blocks.{clear_read, decl_kind_read, decl_read, decls_read, field_read, file_read, forlopp_read, init_read, temporary_read, variable_read, width_read, DECL};
+ghost use Rattle.plex_parser.specs.Blocks.{clear_read, decl_kind_read, decl_read, decls_read, field_read, file_read, forlopp_read, init_read, opened_read, records_read, stored_read, temporary_read, variable_read, width_read, DECL};
 ghost use Rattle.plex_ast.specs.Words as classes;
 
 use plex_ast::{Decl, DeclKind, Field, Numbered, words};
@@ -81,11 +81,8 @@ fn variable(alloc: Global, tokens: Cursor<'_>) -> Result<(DeclKind, Cursor<'_>),
 {
     let (_, left) = word(tokens, words::VARIABLE)?;
     let (variable, left) = name(alloc, left)?;
-    let (_, left) = word(left, words::WIDTH)?;
-    let (width, left) = number(left)?;
-    let (init, left) = init(left)?;
-    let (clear, left) = clear(left)?;
-    let (_, left) = word(left, words::SEMI)?;
+    let (stored, left) = stored(left)?;
+    let (width, (init, clear)) = stored;
     Ok((
         DeclKind::Variable {
             name: variable,
@@ -95,6 +92,21 @@ fn variable(alloc: Global, tokens: Cursor<'_>) -> Result<(DeclKind, Cursor<'_>),
         },
         left,
     ))
+}
+
+/// How a variable is stored: its width, its first value, and whether a restart clears it.
+type Stored = (Numbered, (Option<Numbered>, bool));
+
+/// `WIDTH number [ INIT number ] [ CLEAR ] ;`
+fn stored(tokens: Cursor<'_>) -> Result<(Stored, Cursor<'_>), Fault>
+    ensures { Reads result stored_read tokens.entry }
+{
+    let (_, left) = word(tokens, words::WIDTH)?;
+    let (width, left) = number(left)?;
+    let (init, left) = init(left)?;
+    let (clear, left) = clear(left)?;
+    let (_, left) = word(left, words::SEMI)?;
+    Ok(((width, (init, clear)), left))
 }
 
 /// `[ INIT number ]`
@@ -143,10 +155,8 @@ fn file(alloc: Global, tokens: Cursor<'_>) -> Result<(DeclKind, Cursor<'_>), Fau
     let (forlopp, left) = forlopp(tokens)?;
     let (_, left) = word(left, words::FILE)?;
     let (file, left) = name(alloc, left)?;
-    let (_, left) = word(left, words::SIZE)?;
-    let (size, left) = number(left)?;
-    let (_, left) = word(left, words::SEMI)?;
-    let (fields, left) = fields(alloc, left)?;
+    let (records, left) = records(alloc, left)?;
+    let (size, fields) = records;
     Ok((
         DeclKind::File {
             forlopp,
@@ -156,6 +166,17 @@ fn file(alloc: Global, tokens: Cursor<'_>) -> Result<(DeclKind, Cursor<'_>), Fau
         },
         left,
     ))
+}
+
+/// `SIZE number ;` and the fields.
+fn records(alloc: Global, tokens: Cursor<'_>) -> Result<((Numbered, Seq<Field>), Cursor<'_>), Fault>
+    ensures { Reads result records_read tokens.entry }
+{
+    let (_, left) = word(tokens, words::SIZE)?;
+    let (size, left) = number(left)?;
+    let (_, left) = word(left, words::SEMI)?;
+    let (fields, left) = fields(alloc, left)?;
+    Ok(((size, fields), left))
 }
 
 /// Whether FORLOPP stands there.
@@ -195,10 +216,8 @@ fn field(alloc: Global, tokens: Cursor<'_>) -> Result<(Field, Cursor<'_>), Fault
     let line = line_of(tokens);
     let (_, left) = word(tokens, words::FIELD)?;
     let (field, left) = name(alloc, left)?;
-    let (_, left) = word(left, words::WIDTH)?;
-    let (width, left) = number(left)?;
-    let (init, left) = init(left)?;
-    let (_, left) = word(left, words::SEMI)?;
+    let (opened, left) = opened(left)?;
+    let (width, init) = opened;
     Ok((
         Field {
             line,
@@ -208,4 +227,15 @@ fn field(alloc: Global, tokens: Cursor<'_>) -> Result<(Field, Cursor<'_>), Fault
         },
         left,
     ))
+}
+
+/// `WIDTH number [ INIT number ] ;`
+fn opened(tokens: Cursor<'_>) -> Result<((Numbered, Option<Numbered>), Cursor<'_>), Fault>
+    ensures { Reads result opened_read tokens.entry }
+{
+    let (_, left) = word(tokens, words::WIDTH)?;
+    let (width, left) = number(left)?;
+    let (init, left) = init(left)?;
+    let (_, left) = word(left, words::SEMI)?;
+    Ok(((width, init), left))
 }

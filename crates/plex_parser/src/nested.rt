@@ -1,15 +1,15 @@
 // Statements, whose brackets nest at most `room` deep and which hold statements at most `deep` deep.
-ghost use Rattle.std.specs.Prelude.{◌≡◌, ◌++◌};
+ghost use Rattle.std.specs.Prelude.{◌≡◌, ◌++◌, ◌∷◌, []};
 ghost use Rattle.plex_lexer.specs.Cursors.{ahead};
 ghost use Rattle.token_grammar.specs.Gives.{Reads};
 ghost use Rattle.token_grammar.specs.Reading.{at, many};
-ghost use Rattle.plex_parser.specs.Statements.{body_read, case_by, else_by, gone_read, held_at, if_at, if_tail_at, if_with, kind_at, nest_by, on_by, other_at, stmt_read, stmts_read, then_by, when_by, STMT};
+ghost use Rattle.plex_parser.specs.Statements.{body_read, arms_read, branches_read, case_by, do_read, else_by, else_to_fi_read, gone_read, held_at, if_at, if_tail_at, if_with, kind_at, nest_by, on_by, other_at, otherwise_read, span_read, stmt_read, stmts_read, then_by, upto_read, when_by, STMT};
 ghost use Rattle.plex_ast.specs.Words as classes;
 
 use crate::assignment::{assign, assigned};
-use crate::plain::{plain, to_label};
-use plex_ast::{Boxed, Cond, Stmt, StmtKind, When, push_few, words};
-use plex_expr_parser::{boxed, cond, expr};
+use crate::plain::{boxed_expr, boxed_name, plain, to_label};
+use plex_ast::{Boxed, Cond, Expr, Stmt, StmtKind, When, push_few, words};
+use plex_expr_parser::{boxed, cond};
 use plex_lexer::Cursor;
 use plex_num::Seq;
 use std::alloc::Global;
@@ -215,12 +215,44 @@ fn then_of(
 ) -> Result<(StmtKind, Cursor<'_>), Fault>
     ensures { Reads result (if_with cond (then_by (stmts_read room deep))) tokens.entry }
 {
+    let (branches, left) = branches(alloc, tokens, room, deep)?;
+    let (first, other) = branches;
+    Ok((StmtKind::If { cond, first, other }, left))
+}
+
+/// The statements of an IF: those of THEN, and those of ELSE.
+type Branches = (Seq<Stmt>, Option<Boxed<Seq<Stmt>>>);
+
+/// `THEN { stmt } [ ELSE { stmt } ] FI ;`
+#[cycle(statements)]
+fn branches(
+    alloc: Global,
+    tokens: Cursor<'_>,
+    room: usize,
+    deep: usize,
+) -> Result<(Branches, Cursor<'_>), Fault>
+    ensures { Reads result (branches_read (stmts_read room deep)) tokens.entry }
+{
     let (_, left) = word(tokens, words::THEN)?;
     let (first, left) = stmts(alloc, left, room, deep)?;
-    let (other, left) = else_of(alloc, left, room, deep)?;
+    let (other, left) = else_to_fi(alloc, left, room, deep)?;
+    Ok(((first, other), left))
+}
+
+/// `[ ELSE { stmt } ] FI ;`
+#[cycle(statements)]
+fn else_to_fi(
+    alloc: Global,
+    tokens: Cursor<'_>,
+    room: usize,
+    deep: usize,
+) -> Result<(Option<Boxed<Seq<Stmt>>>, Cursor<'_>), Fault>
+    ensures { Reads result (else_to_fi_read (stmts_read room deep)) tokens.entry }
+{
+    let (other, left) = else_of(alloc, tokens, room, deep)?;
     let (_, left) = word(left, words::FI)?;
     let (_, left) = word(left, words::SEMI)?;
-    Ok((StmtKind::If { cond, first, other }, left))
+    Ok((other, left))
 }
 
 #[cycle(statements)]
@@ -272,22 +304,66 @@ fn case(
     ensures { Reads result (case_by room (stmts_read room deep)) tokens.entry }
 {
     let (_, left) = word(tokens, words::CASE)?;
-    let (value, left) = expr(alloc, left, room)?;
+    let (value, left) = boxed_expr(alloc, left, room)?;
     let (_, left) = word(left, words::IS)?;
-    let (whens, left) = whens(alloc, left, room, deep)?;
-    let (_, left) = word(left, words::OTHERWISE)?;
-    let (_, left) = word(left, words::DO)?;
-    let (otherwise, left) = stmts(alloc, left, room, deep)?;
-    let (_, left) = word(left, words::ESAC)?;
-    let (_, left) = word(left, words::SEMI)?;
+    let (arms, left) = arms(alloc, left, room, deep)?;
+    let (whens, otherwise) = arms;
     Ok((
         StmtKind::Case {
-            value: boxed(alloc, value)?,
+            value,
             whens,
-            otherwise: boxed(alloc, otherwise)?,
+            otherwise,
         },
         left,
     ))
+}
+
+/// `{ WHEN number DO { stmt } } OTHERWISE DO { stmt } ESAC ;`
+#[cycle(statements)]
+fn arms(
+    alloc: Global,
+    tokens: Cursor<'_>,
+    room: usize,
+    deep: usize,
+) -> Result<((Seq<When>, Boxed<Seq<Stmt>>), Cursor<'_>), Fault>
+    ensures { Reads result (arms_read (stmts_read room deep)) tokens.entry }
+{
+    let (whens, left) = whens(alloc, tokens, room, deep)?;
+    let (otherwise, left) = otherwise(alloc, left, room, deep)?;
+    Ok(((whens, otherwise), left))
+}
+
+/// `OTHERWISE DO { stmt } ESAC ;`
+#[cycle(statements)]
+fn otherwise(
+    alloc: Global,
+    tokens: Cursor<'_>,
+    room: usize,
+    deep: usize,
+) -> Result<(Boxed<Seq<Stmt>>, Cursor<'_>), Fault>
+    ensures { Reads result (otherwise_read (stmts_read room deep)) tokens.entry }
+{
+    let (_, left) = word(tokens, words::OTHERWISE)?;
+    let (body, left) = do_until(alloc, left, words::ESAC, room, deep)?;
+    Ok((boxed(alloc, body)?, left))
+}
+
+/// DO, statements, this last word, and `;`
+#[cycle(statements)]
+fn do_until(
+    alloc: Global,
+    tokens: Cursor<'_>,
+    last: u64,
+    room: usize,
+    deep: usize,
+) -> Result<(Seq<Stmt>, Cursor<'_>), Fault>
+    ensures { Reads result (do_read (last ∷ []) (stmts_read room deep)) tokens.entry }
+{
+    let (_, left) = word(tokens, words::DO)?;
+    let (body, left) = stmts(alloc, left, room, deep)?;
+    let (_, left) = word(left, last)?;
+    let (_, left) = word(left, words::SEMI)?;
+    Ok((body, left))
 }
 
 #[cycle(statements)]
@@ -331,6 +407,9 @@ fn when(
     Ok((When { line, number, body }, left))
 }
 
+/// The bounds of an ON, and its statements.
+type Span = (Boxed<Expr>, (Boxed<Expr>, Seq<Stmt>));
+
 /// `ON name FROM expr UPTO expr DO { stmt } NO ;`
 #[cycle(statements)]
 #[tactic(auto, unfolding(crate::specs::Statements::on_by))]
@@ -343,22 +422,48 @@ fn on(
     ensures { Reads result (on_by room (stmts_read room deep)) tokens.entry }
 {
     let (_, left) = word(tokens, words::ON)?;
-    let (counter, left) = name(alloc, left)?;
-    let (_, left) = word(left, words::FROM)?;
-    let (from, left) = expr(alloc, left, room)?;
-    let (_, left) = word(left, words::UPTO)?;
-    let (upto, left) = expr(alloc, left, room)?;
-    let (_, left) = word(left, words::DO)?;
-    let (body, left) = stmts(alloc, left, room, deep)?;
-    let (_, left) = word(left, words::NO)?;
-    let (_, left) = word(left, words::SEMI)?;
+    let (name, left) = boxed_name(alloc, left)?;
+    let (span, left) = span(alloc, left, room, deep)?;
+    let (from, (upto, body)) = span;
     Ok((
         StmtKind::On {
-            name: boxed(alloc, counter)?,
-            from: boxed(alloc, from)?,
-            upto: boxed(alloc, upto)?,
+            name,
+            from,
+            upto,
             body,
         },
         left,
     ))
+}
+
+/// `FROM expr UPTO expr DO { stmt } NO ;`
+#[cycle(statements)]
+fn span(
+    alloc: Global,
+    tokens: Cursor<'_>,
+    room: usize,
+    deep: usize,
+) -> Result<(Span, Cursor<'_>), Fault>
+    ensures { Reads result (span_read room (stmts_read room deep)) tokens.entry }
+{
+    let (_, left) = word(tokens, words::FROM)?;
+    let (from, left) = boxed_expr(alloc, left, room)?;
+    let (rest, left) = upto(alloc, left, room, deep)?;
+    Ok(((from, rest), left))
+}
+
+/// `UPTO expr DO { stmt } NO ;`
+#[cycle(statements)]
+fn upto(
+    alloc: Global,
+    tokens: Cursor<'_>,
+    room: usize,
+    deep: usize,
+) -> Result<((Boxed<Expr>, Seq<Stmt>), Cursor<'_>), Fault>
+    ensures { Reads result (upto_read room (stmts_read room deep)) tokens.entry }
+{
+    let (_, left) = word(tokens, words::UPTO)?;
+    let (upto, left) = boxed_expr(alloc, left, room)?;
+    let (body, left) = do_until(alloc, left, words::NO, room, deep)?;
+    Ok(((upto, body), left))
 }

@@ -1,10 +1,12 @@
 // Statements that begin with a word and hold no statement.
 ghost use Rattle.std.specs.Prelude.{◌≡◌};
 ghost use Rattle.token_grammar.specs.Gives.{Reads};
-ghost use Rattle.plex_parser.specs.Statements.{exit_read, first_read, free_read, goto_read, plain_read, seize_read, to_label_read};
+ghost use Rattle.plex_parser.specs.Statements.{exit_read, first_read, free_read, freed_read, goto_read, plain_read, seize_read, seized_read, sought_read, to_label_read};
+ghost use Rattle.token_grammar.specs.Reading.{name_read};
+ghost use Rattle.plex_expr_parser.specs.Readers.{expr_read};
 
 use crate::signalling::signalling;
-use plex_ast::{Named, StmtKind, words};
+use plex_ast::{Boxed, Expr, Named, Rel, StmtKind, words};
 use plex_expr_parser::{boxed, expr, rel};
 use plex_lexer::Cursor;
 use std::alloc::Global;
@@ -55,6 +57,9 @@ fn goto(alloc: Global, tokens: Cursor<'_>) -> Result<(StmtKind, Cursor<'_>), Fau
     Ok((StmtKind::Goto { label }, left))
 }
 
+/// What the record is that a FOR FIRST seeks: the field, the relation, the value, and the label where there is none.
+type Sought = (Boxed<Named>, (Rel, (Boxed<Expr>, Boxed<Named>)));
+
 /// `FOR FIRST name IN name WHERE name rel expr GOTO name ;`
 #[tactic(auto, unfolding(crate::specs::Statements::first_read))]
 fn for_first(
@@ -66,25 +71,63 @@ fn for_first(
 {
     let (_, left) = word(tokens, words::FOR)?;
     let (_, left) = word(left, words::FIRST)?;
-    let (pointer, left) = name(alloc, left)?;
+    let (pointer, left) = boxed_name(alloc, left)?;
     let (_, left) = word(left, words::IN)?;
-    let (file, left) = name(alloc, left)?;
-    let (_, left) = word(left, words::WHERE)?;
-    let (field, left) = name(alloc, left)?;
-    let (rel, left) = rel(left)?;
-    let (value, left) = expr(alloc, left, room)?;
-    let (label, left) = to_label(alloc, left)?;
+    let (file, left) = boxed_name(alloc, left)?;
+    let (sought, left) = sought(alloc, left, room)?;
+    let (field, (rel, (value, label))) = sought;
     Ok((
         StmtKind::ForFirst {
-            name: boxed(alloc, pointer)?,
-            file: boxed(alloc, file)?,
-            field: boxed(alloc, field)?,
+            name: pointer,
+            file,
+            field,
             rel,
-            value: boxed(alloc, value)?,
-            label: boxed(alloc, label)?,
+            value,
+            label,
         },
         left,
     ))
+}
+
+/// `WHERE name rel expr GOTO name ;`
+#[tactic(auto)]
+fn sought(alloc: Global, tokens: Cursor<'_>, room: usize) -> Result<(Sought, Cursor<'_>), Fault>
+    ensures { Reads result (sought_read room) tokens.entry }
+{
+    let (_, left) = word(tokens, words::WHERE)?;
+    let (field, left) = boxed_name(alloc, left)?;
+    let (rel, left) = rel(left)?;
+    let (value, left) = boxed_expr(alloc, left, room)?;
+    let (label, left) = boxed_label(alloc, left)?;
+    Ok(((field, (rel, (value, label))), left))
+}
+
+/// A name, in a box.
+pub fn boxed_name(alloc: Global, tokens: Cursor<'_>) -> Result<(Boxed<Named>, Cursor<'_>), Fault>
+    ensures { Reads result name_read tokens.entry }
+{
+    let (name, left) = name(alloc, tokens)?;
+    Ok((boxed(alloc, name)?, left))
+}
+
+/// An expression, in a box.
+pub fn boxed_expr(
+    alloc: Global,
+    tokens: Cursor<'_>,
+    room: usize,
+) -> Result<(Boxed<Expr>, Cursor<'_>), Fault>
+    ensures { Reads result (expr_read room) tokens.entry }
+{
+    let (value, left) = expr(alloc, tokens, room)?;
+    Ok((boxed(alloc, value)?, left))
+}
+
+/// A label to jump to, in a box.
+fn boxed_label(alloc: Global, tokens: Cursor<'_>) -> Result<(Boxed<Named>, Cursor<'_>), Fault>
+    ensures { Reads result to_label_read tokens.entry }
+{
+    let (label, left) = to_label(alloc, tokens)?;
+    Ok((boxed(alloc, label)?, left))
 }
 
 /// `SEIZE name IN name ELSE GOTO name ;`
@@ -93,19 +136,24 @@ fn seize(alloc: Global, tokens: Cursor<'_>) -> Result<(StmtKind, Cursor<'_>), Fa
     ensures { Reads result seize_read tokens.entry }
 {
     let (_, left) = word(tokens, words::SEIZE)?;
-    let (pointer, left) = name(alloc, left)?;
-    let (_, left) = word(left, words::IN)?;
-    let (file, left) = name(alloc, left)?;
+    let (name, left) = boxed_name(alloc, left)?;
+    let (place, left) = seized(alloc, left)?;
+    let (file, label) = place;
+    Ok((StmtKind::Seize { name, file, label }, left))
+}
+
+/// `IN name ELSE GOTO name ;`: the file and the label.
+fn seized(
+    alloc: Global,
+    tokens: Cursor<'_>,
+) -> Result<((Boxed<Named>, Boxed<Named>), Cursor<'_>), Fault>
+    ensures { Reads result seized_read tokens.entry }
+{
+    let (_, left) = word(tokens, words::IN)?;
+    let (file, left) = boxed_name(alloc, left)?;
     let (_, left) = word(left, words::ELSE)?;
-    let (label, left) = to_label(alloc, left)?;
-    Ok((
-        StmtKind::Seize {
-            name: boxed(alloc, pointer)?,
-            file: boxed(alloc, file)?,
-            label: boxed(alloc, label)?,
-        },
-        left,
-    ))
+    let (label, left) = boxed_label(alloc, left)?;
+    Ok(((file, label), left))
 }
 
 /// `FREE name IN name ;`
@@ -114,17 +162,19 @@ fn free(alloc: Global, tokens: Cursor<'_>) -> Result<(StmtKind, Cursor<'_>), Fau
     ensures { Reads result free_read tokens.entry }
 {
     let (_, left) = word(tokens, words::FREE)?;
-    let (pointer, left) = name(alloc, left)?;
-    let (_, left) = word(left, words::IN)?;
-    let (file, left) = name(alloc, left)?;
+    let (name, left) = boxed_name(alloc, left)?;
+    let (file, left) = freed(alloc, left)?;
+    Ok((StmtKind::Free { name, file }, left))
+}
+
+/// `IN name ;`: the file.
+fn freed(alloc: Global, tokens: Cursor<'_>) -> Result<(Boxed<Named>, Cursor<'_>), Fault>
+    ensures { Reads result freed_read tokens.entry }
+{
+    let (_, left) = word(tokens, words::IN)?;
+    let (file, left) = boxed_name(alloc, left)?;
     let (_, left) = word(left, words::SEMI)?;
-    Ok((
-        StmtKind::Free {
-            name: boxed(alloc, pointer)?,
-            file: boxed(alloc, file)?,
-        },
-        left,
-    ))
+    Ok((file, left))
 }
 
 /// `EXIT ;`

@@ -1,8 +1,9 @@
 // Statements that send, take and answer signals.
 ghost use Rattle.std.specs.Prelude.{◌≡◌};
 ghost use Rattle.token_grammar.specs.Gives.{Reads};
-ghost use Rattle.plex_parser.specs.Statements.{fresh_read, receiver_read, retrieve_read, return_read, send_read, signal_read, taken_read, transfer_read, values_read};
+ghost use Rattle.plex_parser.specs.Statements.{fresh_read, load_read, receiver_read, retrieve_read, return_read, send_read, sent_read, signal_read, taken_read, transfer_read, values_read};
 
+use crate::plain::boxed_name;
 use plex_ast::{Boxed, Exprs, Names, Reference, StmtKind, words};
 use plex_expr_parser::{boxed, exprs, names, reference};
 use plex_lexer::Cursor;
@@ -35,20 +36,44 @@ fn send(alloc: Global, tokens: Cursor<'_>, room: usize) -> Result<(StmtKind, Cur
     ensures { Reads result (send_read room) tokens.entry }
 {
     let (_, left) = word(tokens, words::SEND)?;
-    let (signal, left) = name(alloc, left)?;
-    let (reference, left) = receiver(alloc, left)?;
-    let (values, left) = values(alloc, left, room)?;
-    let (fresh, left) = fresh(left)?;
-    let (_, left) = word(left, words::SEMI)?;
+    let (signal, left) = boxed_name(alloc, left)?;
+    let (sent, left) = sent(alloc, left, room)?;
+    let (reference, (values, fresh)) = sent;
     Ok((
         StmtKind::Send {
-            signal: boxed(alloc, signal)?,
+            signal,
             reference,
             values,
             fresh,
         },
         left,
     ))
+}
+
+/// What a signal takes along, and whether it begins a forlopp.
+type Load = (Option<Boxed<Exprs>>, bool);
+
+/// `[ ref ] [ exprs ] [ NEW FORLOPP ] ;`
+fn sent(
+    alloc: Global,
+    tokens: Cursor<'_>,
+    room: usize,
+) -> Result<((Option<Boxed<Reference>>, Load), Cursor<'_>), Fault>
+    ensures { Reads result (sent_read room) tokens.entry }
+{
+    let (reference, left) = receiver(alloc, tokens)?;
+    let (load, left) = load(alloc, left, room)?;
+    Ok(((reference, load), left))
+}
+
+/// `[ exprs ] [ NEW FORLOPP ] ;`
+fn load(alloc: Global, tokens: Cursor<'_>, room: usize) -> Result<(Load, Cursor<'_>), Fault>
+    ensures { Reads result (load_read room) tokens.entry }
+{
+    let (values, left) = values(alloc, tokens, room)?;
+    let (fresh, left) = fresh(left)?;
+    let (_, left) = word(left, words::SEMI)?;
+    Ok(((values, fresh), left))
 }
 
 /// `RETRIEVE name [ names ] ;`

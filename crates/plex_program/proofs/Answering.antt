@@ -10,7 +10,7 @@ use Rattle.retire_order.specs.Lines.{coming_of}
 use Rattle.exchange_run.specs.Runs.{ComesTo}
 use Rattle.report_text.specs.Load.{load_text}
 use Rattle.report_text.specs.Report.{report_text}
-use Rattle.machine_code.specs.declared.code.Code.{Code}
+use Rattle.machine_code.specs.Coded.{Code}
 use Rattle.stmt_code.specs.Whole.{entry_addresses, whole_code}
 use Rattle.listing.specs.Listing.{IsListing, code_text}
 use Rattle.plex_program.specs.declared.program.Status.TheVariants as status

@@ -18,7 +18,7 @@ use Rattle.exchange_model.specs.declared.block.Block.{Block}
 use Rattle.exchange_model.specs.declared.signal.SignalKind.{SignalKind}
 use Rattle.exchange_model.specs.Kept.{signal_name}
 use Rattle.signal_types.specs.Signals.{kinds_of, shape_kinds, signals_from, signals_of}
-use Rattle.signal_file.specs.Form.{is_some_byte}
+use Rattle.text_lines.specs.Words.{is_some_byte}
 use Rattle.resolved_block.specs.Blocks.{typed_of}
 use Rattle.resolved_block.specs.declared.parts.First.{First}
 use Rattle.resolved_block.specs.Texts.{exchange_of, exchange_of_tree, none_before, typed_from}

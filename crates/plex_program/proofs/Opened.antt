@@ -5,7 +5,7 @@ use Rattle.exchange_model.specs.declared.exchange.Exchange.{Exchange}
 use Rattle.exchange_model.specs.Kept.{IsExchange}
 use Rattle.exchange_model.specs.Opening.{opening_store}
 use Rattle.signal_file.specs.declared.line.Line.{Line}
-use Rattle.machine_code.specs.declared.code.Code.{Code}
+use Rattle.machine_code.specs.Coded.{Code}
 use Rattle.source_meaning.specs.SingleRun.{Ending, opening}
 use Rattle.source_meaning.specs.State.{Coming, State}
 use Rattle.source_meaning.specs.Valid.{IsValid}

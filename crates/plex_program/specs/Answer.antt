@@ -30,7 +30,7 @@ use Rattle.signal_trace.specs.Text.{trace_text}
 use Rattle.signal_trace.specs.Trace.{trace}
 use Rattle.load_maker.specs.Exchange.{exchange_text}
 use Rattle.load_maker.specs.Signals.{signals_text}
-use Rattle.machine_code.specs.declared.code.Code.{Code}
+use Rattle.machine_code.specs.Coded.{Code}
 use Rattle.stmt_code.specs.Whole.{entry_addresses, whole_code}
 use Rattle.listing.specs.Listing.{code_text}
 use Rattle.entry_summary.specs.declared.summary.Summary.{Summary}
@@ -295,12 +295,14 @@ abbrev pub IsAnAnswer : (Answer → Type 0) → Out Answer → Type 0
 IsAnAnswer Is (Ok a) = Is a
 IsAnAnswer Is (Err r) = ⊥
 
-abbrev pub ChangeComes : ChangeWords → Files → Out Answer → Type 0
-ChangeComes w files =
-    GoesOn (exchange_at w.run.exchange files) (λ old.
+abbrev pub ChangeFrom : ChangeWords → Exchange → Files → Out Answer → Type 0
+ChangeFrom w old files =
     GoesOn (lines_at old w.run.signals files) (λ lines.
     GoesOn (new_exchange_at w.new files) (λ new.
-    IsAnAnswer (ChangeAnswers old new lines w.run.bounds.jobs w.at))))
+    IsAnAnswer (ChangeAnswers old new lines w.run.bounds.jobs w.at)))
+
+abbrev pub ChangeComes : ChangeWords → Files → Out Answer → Type 0
+ChangeComes w files = GoesOn (exchange_at w.run.exchange files) (λ old. ChangeFrom w old files)
 
 -- the compiled code of an exchange, which leaves what the source means
 abbrev pub code_of : Exchange → Code

@@ -5,8 +5,7 @@ use Rattle.std.specs.List.{flat_map}
 use Rattle.std.specs.Option.{option_map_or}
 use Rattle.exchange_model.specs.declared.exchange.Exchange.{Exchange}
 use Rattle.exchange_model.specs.Cells.{Placed, placed_files}
-use Rattle.report_text.specs.Names.{name_of_block}
-use Rattle.signal_trace.specs.Text.{entry_words}
+use Rattle.exchange_model.specs.Names.{name_of_block, name_of_entry}
 use Rattle.block_change.specs.declared.misfit.Misfit.{Misfit}
 use Rattle.block_change.specs.declared.misfit.Misfit.TheVariants.{Entry as EntryMisfit, File as FileMisfit}
 use Rattle.flow_points.specs.declared.fact.Fact.{Fact}
@@ -145,7 +144,7 @@ file_words x n = option_map_or (λ (p : Placed). name_of_block x.blocks p.block 
 
 -- `CHANGE ENTRY SIG BLOCK` or `CHANGE FILE BLOCK.FILE`, what an exchange has and another one has not
 abbrev pub misfit_text : Exchange → Misfit → List ℕ
-misfit_text x (EntryMisfit e) = codes "CHANGE ENTRY " ++ entry_words x e ++ LF
+misfit_text x (EntryMisfit e) = codes "CHANGE ENTRY " ++ name_of_entry x e ++ LF
 misfit_text x (FileMisfit f) = codes "CHANGE FILE " ++ file_words x f ++ LF
 
 -- `CHANGE job K`

@@ -7,9 +7,8 @@ ghost use Rattle.retire_order.specs.Accounts.{with_words};
 ghost use Rattle.retire_order.specs.Events.{ending_of};
 ghost use Rattle.retire_order.specs.Parts.{AreParts, account_of};
 ghost use Rattle.report_text.specs.Report.{event_lines, text_of};
-ghost use Rattle.signal_trace.specs.Text.{entry_words};
 ghost use Rattle.source_meaning.specs.Valid.{IsValid};
-ghost use Rattle.plex_program.specs.Answer.{ChangeAnswers, ChangeComes, ChangesOrNot, Comes, IsAnAnswer, IsChanged, Performs, Tells, ends_before, is_changed, misfit_answer, new_exchange_at, new_refusal, new_stop};
+ghost use Rattle.plex_program.specs.Answer.{ChangeAnswers, ChangeComes, ChangeFrom, ChangesOrNot, Comes, IsAnAnswer, IsChanged, Performs, Tells, ends_before, is_changed, misfit_answer, new_exchange_at, new_refusal, new_stop};
 ghost use Rattle.plex_program.specs.Program.{IsEnding};
 ghost use Rattle.plex_program.specs.Runs.{AreRead};
 ghost use Rattle.command_words.specs.Bounded.{AreWithin, HasBounds};
@@ -25,7 +24,7 @@ use exchange_model::Exchange;
 use exchange_run::Ended;
 use plex_io::{Gate, Shelf, Word};
 use plex_num::{Memory, Seq, print_number};
-use report_text::{block_name, event_lines, signal_name};
+use report_text::event_lines;
 use retire_order::{BookParts, Books, Ending};
 use signal_file::Line;
 use std::alloc::Global;
@@ -56,10 +55,28 @@ pub fn perform_change<R: Threads + Wait + Sync, S: Shelf, G: Gate + Sync>(
     ensures ending { IfOk result (λ a. IsEnding a.status) }
 {
     let old = exchange_in(alloc, shelf, &words.run.exchange)?;
-    let lines = lines_in(alloc, shelf, &old, &words.run.signals)?;
+    change_from(rt, alloc, shelf, words, &old, gate)
+}
+
+/// The same, of the exchange that the run begins with.
+#[tactic(auto, using(crate::proofs::Stages::performs_go, crate::proofs::Stages::performs_halt, crate::proofs::Stages::performs_told))]
+fn change_from<R: Threads + Wait + Sync, S: Shelf, G: Gate + Sync>(
+    rt: &R,
+    alloc: Global,
+    shelf: &mut S,
+    words: &ChangeWords,
+    old: &Exchange,
+    gate: &G,
+) -> Result<Answer, Stop>
+    requires { HasBounds words.now.run }
+    ensures comes { Performs (S.held shelf.old) (ChangeFrom words.now old.now)
+        (S.faults shelf.old) (S.faults shelf.new) result }
+    ensures ending { IfOk result (λ a. IsEnding a.status) }
+{
+    let lines = lines_in(alloc, shelf, old, &words.run.signals)?;
     let new = new_exchange_in(alloc, shelf, &words.new)?;
     let change = Change {
-        old: &old,
+        old,
         new: &new,
         at: words.at,
     };
@@ -175,7 +192,7 @@ fn entry_text(alloc: Global, old: &Exchange, entry: u32) -> Result<Seq<u8>, Memo
     ensures { IfOk result (λ text. text ≡ misfit_text old.now (Misfit.Entry entry)) }
 {
     let mut text = Seq::copied(alloc, b"CHANGE ENTRY ")?;
-    add_entry(&mut text, old, entry)?;
+    old.add_entry(&mut text, entry as usize)?;
     text.append(b"\n")?;
     Ok(text)
 }
@@ -189,18 +206,6 @@ fn file_text(alloc: Global, old: &Exchange, file: u32) -> Result<Seq<u8>, Memory
     Ok(text)
 }
 
-/// `SIG BLOCK` of an entry; no bytes where there is none of this number.
-fn add_entry(text: &mut Seq<u8>, exchange: &Exchange, entry: u32) -> Result<(), Memory>
-    ensures { OnOk result (text.new ≡ text.old ++ entry_words exchange.now entry) }
-{
-    let Some(entry) = exchange.entries.get(entry as usize) else {
-        return Ok(());
-    };
-    text.append(signal_name(exchange, entry.signal))?;
-    text.append(b" ")?;
-    text.append(block_name(exchange, entry.block))
-}
-
 /// `BLOCK.FILE` of a file; no bytes where there is none of this number.
 fn add_file(text: &mut Seq<u8>, exchange: &Exchange, file: u32) -> Result<(), Memory>
     ensures { OnOk result (text.new ≡ text.old ++ file_words exchange.now file) }
@@ -208,7 +213,7 @@ fn add_file(text: &mut Seq<u8>, exchange: &Exchange, file: u32) -> Result<(), Me
     let Some(place) = exchange.file(file) else {
         return Ok(());
     };
-    text.append(block_name(exchange, place.block))?;
+    text.append(exchange.block_name(place.block))?;
     text.append(b".")?;
     text.append(place.file.name.as_slice())
 }

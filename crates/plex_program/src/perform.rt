@@ -55,10 +55,15 @@ pub enum Refused {
 }
 
 /// What the program writes and ends with.
-#[derive(Drop)]
 pub struct Answer {
     pub status: Status,
     pub text: Seq<u8>,
+}
+
+impl Drop for Answer {
+    fn drop(self) {
+        let Answer { status: _, text: _ } = self;
+    }
 }
 
 /// Why the work stops.

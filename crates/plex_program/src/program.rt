@@ -1,12 +1,13 @@
 // The program as one call.
-ghost use Rattle.std.specs.Prelude.{◌≡◌, IfSome, None, ◌⊎◌};
+ghost use Rattle.std.specs.Prelude.{◌≡◌, IfSome, None, Some, ◌⊎◌};
 ghost use Rattle.plex_program.specs.Answer.{IsAnswer, refused_answer, refused_status, usage_answer};
 ghost use Rattle.plex_program.specs.Program.{Answers, Ends, EndsAs, IsComplete, IsPlain, Makes, ReadCause, WriteCause, exit_number};
+ghost use Rattle.command_words.specs.Bounded.{IsBounded};
 ghost use Rattle.command_words.specs.Words.{shape};
 
 use crate::perform::{Answer, Refused, Stop, perform};
 use crate::text::{refusal_line, usage_line};
-use command_words::read_command;
+use command_words::{Command, read_command};
 use plex_io::{Gate, Shelf, Sink, Word, write_all};
 use plex_num::Seq;
 use std::alloc::Global;
@@ -123,12 +124,30 @@ fn answered<R: Threads + Wait + Sync, S: Shelf, G: Gate + Sync>(
     ensures answers { Answers (S.held shelf.old) words.now (S.faults shelf.old)
         (S.faults shelf.new) result }
 {
-    let command = match read_command(alloc, words) {
-        Ok(Some(command)) => command,
-        Ok(None) => return usage_answer(alloc),
-        Err(_) => return Err(Quit::Memory),
-    };
-    match perform(rt, alloc, shelf, &command, gate) {
+    match read_command(alloc, words) {
+        Ok(Some(command)) => commanded(rt, alloc, words, &command, shelf, gate),
+        Ok(None) => usage_answer(alloc),
+        Err(_) => Err(Quit::Memory),
+    }
+}
+
+/// The answer to the command that these words are.
+#[tactic(auto, using(crate::proofs::Endings::answering))]
+fn commanded<R: Threads + Wait + Sync, S: Shelf, G: Gate + Sync>(
+    rt: &R,
+    alloc: Global,
+    words: &[Word],
+    command: &Command,
+    shelf: &mut S,
+    gate: &G,
+) -> Result<Answer, Quit>
+    requires bounded { IsBounded command.now }
+    requires is { Some command.now ≡ shape words.now }
+    ensures answers { Answers (S.held shelf.old) words.now (S.faults shelf.old)
+        (S.faults shelf.new) result }
+{
+    let _ = words;
+    match perform(rt, alloc, shelf, command, gate) {
         Ok(answer) => Ok(answer),
         Err(Stop::NotHeld) => Err(Quit::Read),
         Err(Stop::Refused(refused)) => refused_answer(alloc, refused),

@@ -23,7 +23,7 @@ pub fn step<W: Words>(run: &mut JobRun, code: &Code, words: &mut W)
     ensures allowed { (W.may_read words.new ≡ W.may_read words.old) × (W.may_write words.new ≡ W.may_write words.old) }
     ensures like { W.like words.old words.new }
 {
-    let ops = code.ops.as_slice();
+    let ops = code.ops();
     let at = run.address();
     let from = spot_at(ops, at, run.steps());
     let way = run.act(instruction(ops, at), from, words);

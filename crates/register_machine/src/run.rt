@@ -112,7 +112,7 @@ impl JobRun {
         ensures { self.new ≡ fresh (slice_index code.now.entries start.now.job.entry) start.now }
     {
         self.over = false;
-        self.address = code.entries.as_slice()[start.job.entry as usize] as usize;
+        self.address = code.entries()[start.job.entry as usize] as usize;
         self.registers = [0; 16];
         self.locals = [0; 50];
         self.outgoing = Values::new();

@@ -7,9 +7,8 @@ use Rattle.exchange_model.specs.declared.block.Block.{Block}
 use Rattle.exchange_model.specs.declared.block.FilePlace.{FilePlace}
 use Rattle.exchange_model.specs.declared.entry.PointInfo.{PointInfo}
 use Rattle.exchange_model.specs.declared.exchange.Exchange.{Exchange}
-use Rattle.exchange_model.specs.declared.signal.SignalKind.{SignalKind}
 use Rattle.exchange_model.specs.Cells.{Placed, placed_files}
-use Rattle.exchange_model.specs.Kept.{signal_name}
+use Rattle.exchange_model.specs.Names.{name_of_block}
 use Rattle.job_types.specs.declared.chain.Held.{Held}
 use Rattle.job_types.specs.declared.fault.Fault.{Fault}
 use Rattle.job_types.specs.declared.fault.Fault.TheVariants.{Pointer, Range, Divide, NotOwn, NoForlopp, Chain, BadEnd, Depth, Sends, Budget}
@@ -26,14 +25,6 @@ fault_word BadEnd = codes "BADEND"
 fault_word Depth = codes "DEPTH"
 fault_word Sends = codes "SENDS"
 fault_word Budget = codes "BUDGET"
-
--- the name of the signal of this number
-abbrev pub name_of_signal : List SignalKind → ℕ → List ℕ
-name_of_signal signals n = option_map_or signal_name (slice_get signals n) []
-
--- the name of the block of this number
-abbrev pub name_of_block : List Block → ℕ → List ℕ
-name_of_block blocks n = option_map_or (λ (b : Block). b.name) (slice_get blocks n) []
 
 -- `BLOCK:line`, where a statement stands
 abbrev pub place_name : List Block → PointInfo → List ℕ

@@ -17,7 +17,8 @@ use Rattle.job_types.specs.declared.fault.Fault.{Fault}
 use Rattle.job_types.specs.Forlopps.{ChainMap, chain_at}
 use Rattle.source_meaning.specs.SingleRun.{Ending, Finished, Limited, Restarted}
 use Rattle.source_meaning.specs.State.{Event, Lost, Out, Release, Restart, State}
-use Rattle.report_text.specs.Names.{fault_word, name_of_block, name_of_held, name_of_point, name_of_signal, record_name}
+use Rattle.report_text.specs.Names.{fault_word, name_of_held, name_of_point, record_name}
+use Rattle.exchange_model.specs.Names.{name_of_signal}
 
 -- a line as it is written, with its end
 abbrev pub written : List ℕ → List ℕ

@@ -3,10 +3,10 @@ ghost use Rattle.std.specs.Prelude.{◌≡◌, ◌++◌, IfOk, OnOk, map};
 ghost use Rattle.retire_order.specs.Events.{event_of};
 ghost use Rattle.report_text.specs.Report.{event_line, event_lines, fault_words, out_line, text_of, value_words};
 
-use crate::names::{add_number, add_point, fault_word, signal_name};
+use crate::names::{add_point, fault_word};
 use exchange_model::Exchange;
 use job_types::Fault;
-use plex_num::{Memory, Seq};
+use plex_num::{Memory, Seq, add_number};
 use retire_order::Event;
 use std::alloc::Global;
 
@@ -86,7 +86,7 @@ fn add_out(
 {
     add_number(text, b"OUT ", job)?;
     text.append(b" ")?;
-    text.append(signal_name(exchange, signal))?;
+    text.append(exchange.signal_name(signal))?;
     add_values(text, values)?;
     add_number(text, b" F", forlopp)
 }

@@ -2,11 +2,11 @@
 ghost use Rattle.std.specs.Prelude.{◌≡◌, ◌++◌, OnOk, map};
 ghost use Rattle.report_text.specs.Report.{held_line, held_lines, text_of, written};
 
-use crate::names::{add_held_name, add_number};
+use crate::names::add_held_name;
 use exchange_model::Exchange;
 use forlopp_chain::Chains;
 use job_types::Held;
-use plex_num::{Memory, Seq};
+use plex_num::{Memory, Seq, add_number};
 
 /// The line of each record that a forlopp holds, by the numbers of the forlopps.
 pub fn add_holders(text: &mut Seq<u8>, exchange: &Exchange, chains: &Chains) -> Result<(), Memory>

@@ -10,11 +10,9 @@ mod forlopps;
 mod load;
 mod names;
 mod stored;
-#[cfg(test)]
-mod tests;
 mod whole;
 
 pub use events::{add_values, event_lines};
 pub use load::load_summary;
-pub use names::{add_number, block_name, fault_word, signal_name};
+pub use names::fault_word;
 pub use whole::report;

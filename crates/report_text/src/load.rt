@@ -6,9 +6,8 @@ ghost use Rattle.retire_order.specs.Events.{ending_of, event_of};
 ghost use Rattle.report_text.specs.Load.{is_lost, is_out, is_release, load_text};
 ghost use Rattle.report_text.specs.Report.{written};
 
-use crate::names::add_number;
 use crate::whole::add_ending;
-use plex_num::{Memory, Seq};
+use plex_num::{Memory, Seq, add_number};
 use retire_order::{Books, Ending, Event};
 use std::alloc::Global;
 

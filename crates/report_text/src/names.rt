@@ -1,19 +1,10 @@
 // What has a number is told by its name.
 ghost use Rattle.std.specs.Prelude.{◌≡◌, ◌++◌, OnOk};
-ghost use Rattle.std.specs.Fmt.{decimal};
-ghost use Rattle.report_text.specs.Names.{fault_word, name_of_block, name_of_held, name_of_point, name_of_signal, placed, record_name};
+ghost use Rattle.report_text.specs.Names.{fault_word, name_of_held, name_of_point, placed, record_name};
 
 use exchange_model::{Exchange, FilePlace};
 use job_types::{Fault, Held};
-use plex_num::{Memory, Seq, print_number};
-
-/// Appends these bytes and this number.
-pub fn add_number(text: &mut Seq<u8>, before: &[u8], value: u64) -> Result<(), Memory>
-    ensures { OnOk result (text.new ≡ text.old ++ before.now ++ decimal value) }
-{
-    text.append(before)?;
-    print_number(value, text)
-}
+use plex_num::{Memory, Seq, add_number};
 
 /// The word of a fault.
 pub fn fault_word(fault: Fault) -> &'static [u8]
@@ -33,26 +24,6 @@ pub fn fault_word(fault: Fault) -> &'static [u8]
     }
 }
 
-/// The name of a signal; no bytes where there is none of this number.
-pub fn signal_name(exchange: &Exchange, number: u32) -> &[u8]
-    ensures { result.now ≡ name_of_signal exchange.now.signals number }
-{
-    match exchange.signals.get(number as usize) {
-        Some(signal) => signal.name().as_slice(),
-        None => &[],
-    }
-}
-
-/// The name of a block; no bytes where there is none of this number.
-pub fn block_name(exchange: &Exchange, number: u32) -> &[u8]
-    ensures { result.now ≡ name_of_block exchange.now.blocks number }
-{
-    match exchange.blocks.get(number as usize) {
-        Some(block) => block.name.as_slice(),
-        None => &[],
-    }
-}
-
 /// `BLOCK:line` of a point.
 pub fn add_point(text: &mut Seq<u8>, exchange: &Exchange, point: u32) -> Result<(), Memory>
     ensures { OnOk result (text.new ≡ text.old ++ name_of_point exchange.now point) }
@@ -60,7 +31,7 @@ pub fn add_point(text: &mut Seq<u8>, exchange: &Exchange, point: u32) -> Result<
     let Some(info) = exchange.points.get(point as usize) else {
         return Ok(());
     };
-    text.append(block_name(exchange, info.block))?;
+    text.append(exchange.block_name(info.block))?;
     add_number(text, b":", u64::from(info.line))
 }
 
@@ -74,7 +45,7 @@ pub fn add_record_name(
     ensures { OnOk result
         (text.new ≡ text.old ++ record_name exchange.now.blocks (placed place.now) number) }
 {
-    text.append(block_name(exchange, place.block))?;
+    text.append(exchange.block_name(place.block))?;
     text.append(b".")?;
     text.append(place.file.name.as_slice())?;
     add_number(text, b"(", u64::from(number))?;

@@ -1,21 +1,14 @@
 // The lines of the stored words: variables, and fields that have another value than before the first job.
-ghost use Rattle.std.specs.Prelude.{◌≡◌, ◌+◌, ◌*◌, ◌<◌, ◌^◌, ◌++◌, OnOk, flat_map, length, slice_index, sum_by};
+ghost use Rattle.std.specs.Prelude.{◌≡◌, ◌+◌, ◌*◌, ◌<◌, ◌^◌, ◌++◌, OnOk, flat_map, length, sum_by};
 ghost use Rattle.std.specs.List.{AllByRecursion};
 ghost use Rattle.exchange_model.specs.Cells.{file_cells, placed_in, record_cells};
 ghost use Rattle.exchange_model.specs.Kept.{FileFits};
 ghost use Rattle.report_text.specs.Names.{placed, record_name};
 ghost use Rattle.report_text.specs.Report.{block_lines, field_line, field_lines, file_lines, line_of_field, named_value, record_lines, text_of, variable_line, variable_lines, written};
 
-use crate::names::{add_number, add_record_name};
+use crate::names::add_record_name;
 use exchange_model::{Block, Exchange, File, FilePlace, Variable};
-use plex_num::{Memory, Seq};
-
-/// The value of a cell; 0 past the last one.
-fn value_at(store: &[u32], cell: usize) -> u32
-    ensures { result ≡ slice_index store.now cell }
-{
-    if cell < store.len() { store[cell] } else { 0 }
-}
+use plex_num::{Memory, Seq, add_number, value_at};
 
 /// The line of each variable.
 pub fn add_variables(text: &mut Seq<u8>, exchange: &Exchange, store: &[u32]) -> Result<(), Memory>

@@ -5,10 +5,9 @@ ghost use Rattle.report_text.specs.Report.{end_line, jobs_line, report_text, wri
 
 use crate::events::add_events;
 use crate::forlopps::add_holders;
-use crate::names::add_number;
 use crate::stored::{add_fields, add_variables};
 use exchange_model::Exchange;
-use plex_num::{Memory, Seq};
+use plex_num::{Memory, Seq, add_number};
 use retire_order::{Books, Ending};
 use std::alloc::Global;
 

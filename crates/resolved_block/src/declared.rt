@@ -7,14 +7,14 @@ ghost use Rattle.resolved_block.specs.Tables.{meanings_in};
 
 use crate::numbers::sum;
 use indexmap::IndexMap;
-use plex_num::{Memory, Name};
+use plex_num::{Memory, Name, Seed};
 use std::alloc::Global;
 use text_events::{Event, Meaning, Place};
 use token_grammar::KeptName;
 
 /// The names that a block declares. Of a name that stands twice the last counts.
 pub struct Declared {
-    pub(crate) names: IndexMap<Name, Meaning>,
+    pub(crate) names: IndexMap<Name, Meaning, Seed>,
 }
 
 impl Drop for Declared {
@@ -49,21 +49,22 @@ impl Declared {
         alloc: Global,
         events: &[Event<'_>],
         first_file: u32,
+        seed: Seed,
     ) -> Result<Declared, Memory>
         ensures { IfOk result (λ d. meanings_in d ≡ meanings_of first_file events.now) }
     {
-        let mut declared = Declared::new(alloc);
+        let mut declared = Declared::new(alloc, seed);
         for event in events {
             declared.see(event.place(), first_file)?;
         }
         Ok(declared)
     }
 
-    fn new(alloc: Global) -> Declared
+    fn new(alloc: Global, seed: Seed) -> Declared
         ensures { (n : List ℕ) → meanings_in result n ≡ Option.None }
     {
         Declared {
-            names: IndexMap::new(alloc),
+            names: IndexMap::with_hasher(alloc, seed),
         }
     }
 

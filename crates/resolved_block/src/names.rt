@@ -69,7 +69,7 @@ impl<'a> Names<'a> {
         ensures signals { IfOk result (λ n. n.signals.now ≡ signals.now) }
         ensures blocks { IfOk result (λ n. n.blocks.now ≡ blocks.now) }
     {
-        let declared = Declared::of(alloc, events, first_file)?;
+        let declared = Declared::of(alloc, events, first_file, signals.seed)?;
         Ok(Names {
             declared,
             signals,

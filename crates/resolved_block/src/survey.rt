@@ -6,7 +6,7 @@ ghost use Rattle.resolved_block.specs.Tables.{env_in};
 use crate::names::Names;
 use indexmap::IndexSet;
 use plex_ast::{Block, Survey, SurveyKind};
-use plex_num::{Memory, Seq};
+use plex_num::{Memory, Seed, Seq};
 use std::alloc::Global;
 
 /// The signal that a line sends.
@@ -35,7 +35,7 @@ fn mentions_of(alloc: Global, names: &Names<'_>, surveys: &[Survey]) -> Result<S
 }
 
 /// Adds a number to the list of those that were seen, where it is new.
-fn mention(seen: &mut IndexSet<u32>, list: &mut Seq<u32>, number: u32) -> Result<(), Memory>
+fn mention(seen: &mut IndexSet<u32, Seed>, list: &mut Seq<u32>, number: u32) -> Result<(), Memory>
     requires { seen.old.keys ≡ list.old }
     ensures list { OnOk result (list.new ≡ joined_once list.old number) }
     ensures seen { OnOk result (seen.new.keys ≡ list.new) }
@@ -51,10 +51,10 @@ fn mention(seen: &mut IndexSet<u32>, list: &mut Seq<u32>, number: u32) -> Result
 
 /// Each number once, in the order of their first mentions.
 #[tactic(auto, using(crate::proofs::Mentioned::numbers_mentioned))]
-fn first_mentions(alloc: Global, numbers: &[u32]) -> Result<Seq<u32>, Memory>
+fn first_mentions(alloc: Global, numbers: &[u32], seed: Seed) -> Result<Seq<u32>, Memory>
     ensures { IfOk result (λ list. list ≡ first_mentions numbers.now) }
 {
-    let mut seen = IndexSet::new(alloc);
+    let mut seen = IndexSet::with_hasher(alloc, seed);
     let mut list = Seq::new(alloc);
     for number in numbers {
         mention(&mut seen, &mut list, *number)?;
@@ -67,6 +67,6 @@ pub(crate) fn sends_of(alloc: Global, names: &Names<'_>, block: &Block) -> Resul
     ensures { IfOk result (λ list. list ≡ sends_of (env_in names.now) block.now) }
 {
     let mentions = mentions_of(alloc, names, block.surveys.as_slice())?;
-    let sends = first_mentions(alloc, mentions.as_slice())?;
+    let sends = first_mentions(alloc, mentions.as_slice(), names.signals.seed)?;
     Ok(sends)
 }

@@ -4,7 +4,7 @@ use Rattle.std.specs.Prelude.{unwrap_or}
 use Rattle.job_types.specs.Forlopps.{is_dead}
 use Rattle.exchange_model.specs.declared.exchange.Exchange.{Exchange}
 use Rattle.source_meaning.specs.Arrivals.{arrivals, arrivals_of, arrives, comes, forlopp_for, is_due, next_after}
-use Rattle.source_meaning.specs.State.{Arrived, Bare, Coming, Fresh, Lost, Origin, Same, State, has_stopped}
+use Rattle.source_meaning.specs.State.{Bare, Coming, Fresh, Origin, Same, State, has_stopped}
 use Rattle.retire_order.specs.Accounts.{Account, after_arrival, is_next_due, line_arrives, with_words}
 
 -- ## The words are of no account

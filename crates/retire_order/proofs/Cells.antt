@@ -1,15 +1,10 @@
 -- The retirement of a job stores to cells of the exchange alone.
-use Rattle.std.proofs.Common.{◌≡◌, ℕ, zero, suc, ◌+◌, ◌<◌, ◌≤◌, ◌^◌, Bool, true, false, List, [], ◌∷◌, ◌++◌, length, Some, refl, sym, ap, ◌∙◌, subst, slice_get, sum_by, arith, if◌then◌else◌}
+use Rattle.std.proofs.Common.{◌≡◌, ℕ, zero, suc, ◌+◌, ◌<◌, ◌≤◌, Bool, true, false, List, [], ◌∷◌, length, sym, ◌∙◌, subst, sum_by, arith, if◌then◌else◌}
 use Rattle.std.proofs.lemmas.List.Sums.{sum_by-cons}
 use Rattle.std.proofs.lemmas.Option.{slice_get_within}
-use Rattle.std.proofs.lemmas.Bool.Decides.{nat_tests}
-use Rattle.std.specs.Prelude.{nat_lt, ◌&&◌}
 use Rattle.std.specs.List.{AllByRecursion}
 use Rattle.job_types.specs.declared.chain.Held.{Held}
 use Rattle.job_types.specs.declared.job.JobStart.{JobStart}
-use Rattle.job_types.specs.declared.outbox.Sent.{Sent}
-use Rattle.job_types.specs.declared.outbox.SendTo.{SendTo}
-use Rattle.job_types.specs.declared.outbox.SendTo.TheVariants.{Queue, Outside}
 use Rattle.job_types.specs.declared.outcome.Outcome.{Outcome}
 use Rattle.job_types.specs.declared.outcome.Outcome.TheVariants.{Ended, Faulted}
 use Rattle.job_types.specs.declared.touch.Touch.{Touch}
@@ -20,33 +15,25 @@ use Rattle.machine_code.specs.Listed.{is_word_of}
 use Rattle.exchange_model.specs.declared.block.Block.{Block}
 use Rattle.exchange_model.specs.declared.block.Variable.{Variable}
 use Rattle.exchange_model.specs.declared.exchange.Exchange.{Exchange}
-use Rattle.exchange_model.specs.Cells.{block_cells, file_cells}
+use Rattle.exchange_model.specs.Cells.{block_cells}
 use Rattle.exchange_model.specs.Kept.{IsExchange}
 use Rattle.source_meaning.specs.Config.{files_of}
-use Rattle.source_meaning.specs.Job.{begins, job}
-use Rattle.source_meaning.specs.Retirement.{all_cleared, all_delivered, all_opened, cleared, delivered, delivered_to, keeps_chain, opened, with_sends}
+use Rattle.source_meaning.specs.Job.{job}
+use Rattle.source_meaning.specs.Retirement.{all_cleared, all_delivered, all_opened, cleared, keeps_chain, opened, with_sends}
 use Rattle.source_meaning.specs.State.{State}
 use Rattle.source_meaning.specs.Traces.{AreOfCells, touched_word}
 use Rattle.source_meaning.specs.Valid.{IsFitting, IsRecord, IsValid}
-use Rattle.source_meaning.proofs.Chains.{chain_same}
 use Rattle.source_meaning.proofs.Freeing.{opened_is}
 use Rattle.source_meaning.proofs.Maps.{all_records_fit}
 use Rattle.source_meaning.proofs.Retiring.{running_fits}
 use Rattle.source_meaning.proofs.Touching.{field_inside, mark_inside, record_all}
 use Rattle.plex_num.proofs.Lists.{all_append}
+use Rattle.machine_code.proofs.Listed.{word_of}
+use Rattle.source_meaning.proofs.Delivering.{all_delivered_chains}
 use Rattle.retire_order.specs.Retired.{outcome_world, retired_world}
 use Rattle.retire_order.specs.Stores.{MayStore}
 
 -- ## Chains
-
-delivered_chains : (to : SendTo) (f : ℕ) (vs : List ℕ) (s : State) → (delivered_to to f vs s).chains ≡ s.chains
-delivered_chains (Outside signal) f vs s = refl
-delivered_chains (Queue entry level true) f vs s = refl
-delivered_chains (Queue entry level false) f vs s = refl
-
-sends_chains : (f : ℕ) (ms : List Sent) (s : State) → (all_delivered f ms s).chains ≡ s.chains
-sends_chains f [] s = refl
-sends_chains f (m ∷ rest) s = sends_chains f rest (delivered f m s) ∙ delivered_chains m.to f m.values s
 
 -- ## Stores
 
@@ -94,19 +81,13 @@ module _ (x : Exchange) (kept : IsExchange x) where
       let f = start.job.forlopp in
       let done = done_of (job x start s.store).own (job x start s.store).over in
       let runs = running_fits x kept s valid start fits (budget + 1) in
-      outcome_inside f done.outcome (with_sends start done t) words (by f done.chain (all_delivered f done.sends (record t { ended = t.ended + 1 })) (sends_chains f done.sends (record t { ended = t.ended + 1 }) ∙ same) (job x start s.store).world.store runs.chains.records)
+      outcome_inside f done.outcome (with_sends start done t) words (by f done.chain (all_delivered f done.sends (record t { ended = t.ended + 1 })) (all_delivered_chains f done.sends (record t { ended = t.ended + 1 }) ∙ same) (job x start s.store).world.store runs.chains.records)
     where
       by : (f : ℕ) (chain : List Held) (u : State) → u.chains ≡ s.chains → (words : List ℕ) → ((n : ℕ) → AllByRecursion (IsRecord x) (chain_at (keeps_chain f chain (record s { store = words })).chains n)) → (n : ℕ) → AllByRecursion (IsRecord x) (chain_at (keeps_chain f chain u).chains n)
       by zero chain u is ws records n = subst (λ m. AllByRecursion (IsRecord x) (chain_at m n)) (sym is) (records n)
       by (suc k) chain u is ws records n = subst (λ m. AllByRecursion (IsRecord x) (chain_at (with_chain m (suc k) chain) n)) (sym is) (records n)
 
 -- ## Words that may be written
-
-pub word_of : (words : List ℕ) (cells w : ℕ) → length words ≡ cells → cells ≤ 1000000 → w < cells → is_word_of words w ≡ true
-word_of words cells w whole few lt = both (nat_lt w (length words)) (nat_lt w (2 ^ 32)) (grind (arith, nat_tests, whole, lt)) (grind (arith, nat_tests, few, lt))
-  where
-    both : (a b : Bool) → a ≡ true → b ≡ true → (a && b) ≡ true
-    both a b e f = ap (λ t. t && b) e ∙ f
 
 -- stores to cells may be made
 pub may_store : (x : Exchange) (words : List ℕ) (ts : List Touch) → length words ≡ x.cells → x.cells ≤ 1000000 → AreOfCells x ts → MayStore (is_word_of words) ts

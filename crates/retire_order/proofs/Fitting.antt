@@ -11,7 +11,7 @@ use Rattle.std.proofs.lemmas.List.Quantifiers.{position-Some}
 use Rattle.std.proofs.lemmas.List.Splits.{length-slice_split}
 use Rattle.std.proofs.lemmas.List.Sums.{count_by-le-length, fold-append}
 use Rattle.std.proofs.lemmas.Option.{none-some, same_Some, slice_get-get_or}
-use Rattle.plex_num.proofs.Lists.{all_append, slice_get-append_seam}
+use Rattle.plex_num.proofs.Lists.{all_append, slice_get-append_seam, got_more, all_weaker}
 use Rattle.plex_num.specs.Number.{below_2_32, digits_from, number_of}
 use Rattle.exchange_model.specs.declared.exchange.Exchange.{Exchange}
 use Rattle.exchange_model.specs.declared.entry.Entry.{Entry}
@@ -26,16 +26,19 @@ use Rattle.signal_file.specs.declared.fault.SignalFault.TheVariants.{BadAs, Fall
 use Rattle.signal_file.specs.declared.line.Line.{Line}
 use Rattle.signal_file.specs.declared.line.LineKind.{LineKind}
 use Rattle.signal_file.specs.declared.line.LineKind.TheVariants.{Bare, Fresh, Same}
-use Rattle.signal_file.specs.Form.{Closing, Saying, closing, end_or_value, ending, is_skipped, one_more, said_in, with, words}
+use Rattle.signal_file.specs.Form.{Closing, Saying, closing, end_or_value, ending, one_more, said_in, with}
+use Rattle.text_lines.specs.Words.{is_skipped, words}
 use Rattle.signal_file.specs.Lines.{lines_behind, signal_lines}
-use Rattle.signal_file.specs.Rules.{added, and_then, before_of, block_names, count_or, entry_of, gives, gives_forlopp, has_origin, if_buffered, is_origin, is_true, last_count, meaning, need, need_that, next_number, says, signal_names, signal_of, told}
+use Rattle.signal_file.specs.Rules.{added, and_then, before_of, count_or, entry_of, gives, gives_forlopp, has_origin, if_buffered, is_origin, is_true, last_count, meaning, need, need_that, next_number, says, signal_of, told}
+use Rattle.exchange_model.specs.Names.{names_of_blocks, names_of_signals}
+use Rattle.signal_file.proofs.Behind.{ok_first}
 use Rattle.source_meaning.specs.State.{Coming}
 use Rattle.source_meaning.specs.Valid.{HasOrigin, IsWord, LineFits, LinesFit, NamesEarlier, entry_count}
 use Rattle.retire_order.specs.Lines.{coming_of, origin_of}
 
 -- ---- values are words
 
-below : (m : ℕ) (b : Bool) (k n : ℕ) → nat_lt k m ≡ b → (if b then Some k else None) ≡ Some n → n < m
+pub below : (m : ℕ) (b : Bool) (k n : ℕ) → nat_lt k m ≡ b → (if b then Some k else None) ≡ Some n → n < m
 below m true k n lt e = let same : k ≡ n = cc in let under = ltb-true k m lt in omega (arith, same, under)
 below m false k n lt e = absurd (cc)
 
@@ -109,13 +112,13 @@ buffered number (Some (Outside name count)) signal e = absurd (cc)
 
 signal_counted : (x : Exchange) (name : List ℕ) (signal : Signal) → signal_of x name ≡ Some signal → option_map_or signal_count (slice_get x.signals signal.number) 0 ≡ signal.count
 signal_counted x name signal is =
-    let at = went_signal (position (bytes_eq name) (signal_names x)) (λ number. if_buffered number (slice_get x.signals number)) signal is in
+    let at = went_signal (position (bytes_eq name) (names_of_signals x.signals)) (λ number. if_buffered number (slice_get x.signals number)) signal is in
     let here = buffered at.0 (slice_get x.signals at.0) signal at.1 in
     ap (λ n. option_map_or signal_count (slice_get x.signals n) 0) (sym here.0) ∙ here.1
 
 pub entry_there : (x : Exchange) (signal : Signal) (name block : List ℕ) (entry : ℕ) → signal_of x name ≡ Some signal → entry_of x signal.number block ≡ Some entry → (entry < length x.entries) × (entry_count x entry ≡ signal.count)
 entry_there x signal name block entry is at =
-    let in_block = went (position (bytes_eq block) (block_names x)) (λ b. position (is_entry b signal.number) x.entries) entry at in
+    let in_block = went (position (bytes_eq block) (names_of_blocks x.blocks)) (λ b. position (is_entry b signal.number) x.entries) entry at in
     let there = found (is_entry in_block.0 signal.number) x.entries entry in_block.1 in
     let e : Entry = there.0 in
     let parts = and_parts (nat_eq e.block in_block.0) (nat_eq e.signal signal.number) there.3 in
@@ -127,7 +130,7 @@ entry_there x signal name block entry is at =
 
 -- ---- what a signal line means
 
-needed : {A B : Type 0} (f : SignalFault) (o : Option A) (go : A → Result B SignalFault) (b : B) → need f o go ≡ Ok b → (a : A) × (o ≡ Some a) × (go a ≡ Ok b)
+pub needed : {A B : Type 0} (f : SignalFault) (o : Option A) (go : A → Result B SignalFault) (b : B) → need f o go ≡ Ok b → (a : A) × (o ≡ Some a) × (go a ≡ Ok b)
 needed f None go b e = absurd (cc)
 needed f (Some a) go b e = (a, refl, e)
 
@@ -190,18 +193,13 @@ adds x b line r e = adds_that x b (is_skipped line) (said_in (words line)) r e
 
 -- ---- what counts of the lines before
 
-counts_more : (before : List (List ℕ)) (line : List ℕ) → last_count (before ++ line ∷ []) ≡ count_or (last_count before) (says line)
+pub counts_more : (before : List (List ℕ)) (line : List ℕ) → last_count (before ++ line ∷ []) ≡ count_or (last_count before) (says line)
 unfolding last_count
 counts_more before line = fold-append (λ n l. count_or n (says l)) 0 before (line ∷ [])
 
-before_is : (before : List (List ℕ)) → before_of before ≡ record { last = last_count before; origins = map is_origin before }
+pub before_is : (before : List (List ℕ)) → before_of before ≡ record { last = last_count before; origins = map is_origin before }
 unfolding before_of
 before_is before = refl
-
-got_more : {A : Type 0} (xs ys : List A) (i : ℕ) (x : A) → slice_get xs i ≡ Some x → slice_get (xs ++ ys) i ≡ Some x
-got_more [] ys i x is = absurd (none-some x is)
-got_more (y ∷ xs) ys zero x is = is
-got_more (y ∷ xs) ys (suc i) x is = got_more xs ys i x is
 
 before_or_last : (xs : List Bool) (y : Bool) (i : ℕ) → slice_get (xs ++ y ∷ []) i ≡ Some true → (slice_get xs i ≡ Some true) ⊎ ((i ≡ length xs) × (y ≡ true))
 before_or_last [] y zero is = inr (refl, same_Some y true is)
@@ -223,10 +221,6 @@ record Tells (before : List (List ℕ)) (done : List Line) : Type 0 where
   pub counts : AllByRecursion (λ (l : Line). l.after ≤ last_count before) done
   pub origins : (i : ℕ) → slice_get (map is_origin before) i ≡ Some true → HasGiver done (i + 1)
 
-pub weaker : {A : Type 0} (P Q : A → Type 0) (xs : List A) → ((x : A) → P x → Q x) → AllByRecursion P xs → AllByRecursion Q xs
-weaker P Q [] step all = tt
-weaker P Q (x ∷ xs) step all = (step x all.0, weaker P Q xs step all.1)
-
 giver_more : (done more : List Line) (number : ℕ) → HasGiver done number → HasGiver (done ++ more) number
 giver_more done more number g = (g.0, g.1, got_more done more g.0 g.1 g.2, g.3, g.4)
 
@@ -245,8 +239,8 @@ tells_skip before line done none t =
     let longer : length (before ++ line ∷ []) ≡ length before + 1 = length-append before (line ∷ []) in
     let same : last_count (before ++ line ∷ []) ≡ last_count before = counts_more before line ∙ ap (count_or (last_count before)) none in
     record {
-      numbers = weaker (λ (l : Line). l.number ≤ length before) (λ (l : Line). l.number ≤ length (before ++ line ∷ [])) done (λ l le. omega (arith, le, longer)) t.numbers;
-      counts = weaker (λ (l : Line). l.after ≤ last_count before) (λ (l : Line). l.after ≤ last_count (before ++ line ∷ [])) done (λ l le. omega (arith, le, same)) t.counts;
+      numbers = all_weaker (λ (l : Line). l.number ≤ length before) (λ (l : Line). l.number ≤ length (before ++ line ∷ [])) done (λ l le. omega (arith, le, longer)) t.numbers;
+      counts = all_weaker (λ (l : Line). l.after ≤ last_count before) (λ (l : Line). l.after ≤ last_count (before ++ line ∷ [])) done (λ l le. omega (arith, le, same)) t.counts;
       origins = λ i is. still i (origin_more before line i is);
     }
   where
@@ -261,10 +255,10 @@ tells_more before line done s l is number after kind up t =
     let counted : last_count (before ++ line ∷ []) ≡ s.after = counts_more before line ∙ ap (count_or (last_count before)) is in
     record {
       numbers = all_append (λ (k : Line). k.number ≤ length (before ++ line ∷ [])) done (l ∷ [])
-          (weaker (λ (k : Line). k.number ≤ length before) (λ (k : Line). k.number ≤ length (before ++ line ∷ [])) done (λ k le. omega (arith, le, longer)) t.numbers)
+          (all_weaker (λ (k : Line). k.number ≤ length before) (λ (k : Line). k.number ≤ length (before ++ line ∷ [])) done (λ k le. omega (arith, le, longer)) t.numbers)
           (omega (arith, number, longer), tt);
       counts = all_append (λ (k : Line). k.after ≤ last_count (before ++ line ∷ [])) done (l ∷ [])
-          (weaker (λ (k : Line). k.after ≤ last_count before) (λ (k : Line). k.after ≤ last_count (before ++ line ∷ [])) done (λ k le. omega (arith, le, up, counted)) t.counts)
+          (all_weaker (λ (k : Line). k.after ≤ last_count before) (λ (k : Line). k.after ≤ last_count (before ++ line ∷ [])) done (λ k le. omega (arith, le, up, counted)) t.counts)
           (omega (arith, after, counted), tt);
       origins = λ i was. still i (origin_more before line i was);
     }
@@ -316,8 +310,8 @@ line_fits x before line done s l t is m =
     let number : l.number ≡ length before + 1 = m.number ∙ ap next_number b ∙ ap (λ n. n + 1) (length-map before is_origin) in
     let no_less : last_count before ≤ s.after = subst (λ (k : Before). k.last ≤ s.after) b m.no_less in
     record {
-      number = all_coming (λ (e : Coming). e.number < l.number) done (weaker (λ (k : Line). k.number ≤ length before) (λ (k : Line). k.number < l.number) done (λ k le. omega (arith, le, number)) t.numbers);
-      after = all_coming (λ (e : Coming). e.after ≤ l.after) done (weaker (λ (k : Line). k.after ≤ last_count before) (λ (k : Line). k.after ≤ l.after) done (λ k le. omega (arith, le, no_less, m.after)) t.counts);
+      number = all_coming (λ (e : Coming). e.number < l.number) done (all_weaker (λ (k : Line). k.number ≤ length before) (λ (k : Line). k.number < l.number) done (λ k le. omega (arith, le, number)) t.numbers);
+      after = all_coming (λ (e : Coming). e.after ≤ l.after) done (all_weaker (λ (k : Line). k.after ≤ last_count before) (λ (k : Line). k.after ≤ l.after) done (λ k le. omega (arith, le, no_less, m.after)) t.counts);
       entry = m.entry;
       values = m.many;
       words = subst (AllByRecursion IsWord) (sym m.values) (line_words line s is);
@@ -325,10 +319,6 @@ line_fits x before line done s l t is m =
     }
 
 -- ---- all lines
-
-gone : {A B : Type 0} (r : Result A SignalFault) (go : A → Result B SignalFault) (b : B) → and_then r go ≡ Ok b → (a : A) × (r ≡ Ok a) × (go a ≡ Ok b)
-gone (Ok a) go b e = (a, refl, e)
-gone (Err f) go b e = absurd (cc)
 
 -- from a line on
 fits_from : (x : Exchange) (before : List (List ℕ)) (line : List ℕ) (done : List Line) (o : Option Saying) (first : Option Line) (ls : List Line) → says line ≡ o → Adds x (before_of before) o first → Tells before done
@@ -351,8 +341,8 @@ lines_fit : (x : Exchange) (before : List (List ℕ)) (done : List Line) (rest :
 unfolding lines_behind
 lines_fit x before done [] list t e = let same : [] ≡ list = cc in subst (λ ls. LinesFit x (map coming_of done) (map coming_of ls)) same tt
 lines_fit x before done (line ∷ rest) list t e =
-    let here = gone (added x (before_of before) line) (λ first. and_then (lines_behind x (before ++ line ∷ []) rest) (λ ls. Ok (cons_option first ls))) list e in
-    let more = gone (lines_behind x (before ++ line ∷ []) rest) (λ ls. Ok (cons_option here.0 ls)) list here.2 in
+    let here = ok_first (added x (before_of before) line) (λ first. and_then (lines_behind x (before ++ line ∷ []) rest) (λ ls. Ok (cons_option first ls))) list e in
+    let more = ok_first (lines_behind x (before ++ line ∷ []) rest) (λ ls. Ok (cons_option here.0 ls)) list here.2 in
     let told_all : Ok (cons_option here.0 more.0) ≡ Ok list = more.2 in
     let same : cons_option here.0 more.0 ≡ list = cc in
     subst (λ ls. LinesFit x (map coming_of done) (map coming_of ls)) same
@@ -381,8 +371,8 @@ lines_few : (x : Exchange) (before rest : List (List ℕ)) (list : List Line) �
 unfolding lines_behind
 lines_few x before [] list e = let same : [] ≡ list = cc in omega (arith, ap length same)
 lines_few x before (line ∷ rest) list e =
-    let here = gone (added x (before_of before) line) (λ first. and_then (lines_behind x (before ++ line ∷ []) rest) (λ ls. Ok (cons_option first ls))) list e in
-    let more = gone (lines_behind x (before ++ line ∷ []) rest) (λ ls. Ok (cons_option here.0 ls)) list here.2 in
+    let here = ok_first (added x (before_of before) line) (λ first. and_then (lines_behind x (before ++ line ∷ []) rest) (λ ls. Ok (cons_option first ls))) list e in
+    let more = ok_first (lines_behind x (before ++ line ∷ []) rest) (λ ls. Ok (cons_option here.0 ls)) list here.2 in
     let told_all : Ok (cons_option here.0 more.0) ≡ Ok list = more.2 in
     let same : cons_option here.0 more.0 ≡ list = cc in
     subst (λ (ls : List Line). length ls ≤ suc (length rest)) same (added_few here.0 more.0 (length rest) (lines_few x (before ++ line ∷ []) rest more.0 more.1))

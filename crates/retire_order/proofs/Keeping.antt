@@ -12,10 +12,11 @@ use Rattle.forlopp_chain.specs.Chains.{AreBelow}
 use Rattle.forlopp_chain.proofs.Sound.{below_empty, below_with}
 use Rattle.source_meaning.specs.State.{Event}
 use Rattle.source_meaning.specs.Valid.{MayBe}
+use Rattle.source_meaning.proofs.States.{live_of}
 use Rattle.retire_order.specs.Accounts.{Account, IsKept, account}
 use Rattle.retire_order.specs.Retired.{chain_kept}
 use Rattle.retire_order.proofs.Counted.{len-kept, len-without}
-use Rattle.retire_order.proofs.Settled.{may_live, moved}
+use Rattle.retire_order.proofs.Settled.{moved}
 use Rattle.retire_order.specs.Lines.{Timetable, coming_of}
 
 -- before the first line has arrived
@@ -61,7 +62,7 @@ chains_kept old f chain m0 m n kept may same is up =
     let own : m ≡ chain_kept f chain old.state.chains = is ∙ ap (chain_kept f chain) same in
     let short = len-kept f chain old.state.chains in
     let few = kept.chains in (
-      subst (λ k. AreBelow k n) (sym own) (below_kept f chain old.state.chains old.state.next n kept.below (λ some. (may_live old.state f may some).before) up),
+      subst (λ k. AreBelow k n) (sym own) (below_kept f chain old.state.chains old.state.next n kept.below (λ some. (live_of old.state f some may).before) up),
       omega (arith, short, few, ap fin.len own),
     )
 
@@ -72,7 +73,7 @@ chains_gone m n e empty = (subst (λ k. AreBelow k n) (sym empty) (below_empty n
 -- that of a released forlopp is not
 pub chains_released : (old : Account) (f : ℕ) (m m2 : ChainMap) (n e : ℕ) → MayBe old.state f → f ≢ 0 → old.state.next ≤ n → m2 ≡ with_chain m f [] → AreBelow m n × (fin.len m ≤ e) → AreBelow m2 n × (fin.len m2 ≤ e)
 chains_released old f m m2 n e may some up is held =
-    let before = (may_live old.state f may some).before in
+    let before = (live_of old.state f some may).before in
     let less = len-without m f in
     let few = held.1 in
     (subst (λ k. AreBelow k n) (sym is) (below_with m f [] n held.0 (omega (arith, before, up))), omega (arith, less, few, ap fin.len is))

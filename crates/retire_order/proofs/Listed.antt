@@ -1,7 +1,6 @@
 -- Stores that are listed one after the other.
 use Rattle.std.proofs.Common.{◌≡◌, ℕ, ◌+◌, ◌*◌, ◌<◌, ◌≤◌, List, [], ◌∷◌, ◌++◌, take, length, get_or, refl, sym, ap, ◌∙◌, arith, append_assoc, Some, None, slice_get}
 use Rattle.std.proofs.lemmas.List.{append-nil, length-take-le, take_more, take_all}
-use Rattle.std.proofs.lemmas.Option.{slice_get-map}
 use Rattle.std.proofs.lemmas.List.Sums.{sum_by-cons, sum_by_more}
 use Rattle.exchange_model.specs.declared.block.Block.{Block}
 use Rattle.exchange_model.specs.declared.block.Variable.{Variable}
@@ -10,7 +9,8 @@ use Rattle.job_types.specs.declared.chain.Held.{Held}
 use Rattle.store_layout.specs.declared.row.FileRow.{FileRow}
 use Rattle.store_layout.specs.Laid.{IsLayout, file_row}
 use Rattle.store_layout.specs.Rows.{Rows}
-use Rattle.std.specs.Option.{option_map, option_map_or}
+use Rattle.std.specs.Option.{option_map_or}
+use Rattle.store_layout.proofs.Looking.{file_row_at}
 use Rattle.retire_order.specs.Stores.{all_clear_stores, clear_of, clear_stores, field_stores, held_stores, record_stores}
 use Rattle.retire_order.specs.declared.stores.Write.{Write}
 
@@ -112,15 +112,11 @@ blocked_more old new next word cells bs items index k vs same within read listed
 pub blocked_end : (old new : List Write) (word : ℕ) (bs items : List Block) (index : ℕ) → items ≡ bs → length items ≤ index → Blocked old new word bs index → new ≡ old ++ all_clear_stores 0 bs
 blocked_end old new word bs items index same past l = l.so_far ∙ ap (λ ys. old ++ all_clear_stores 0 ys) (take_all index bs (omega (arith, past, ap length same)))
 
--- the row of a file that is there
-pub row_there : (bs : List Block) (rows : Rows) (n : ℕ) (p : Placed) → IsLayout bs rows → slice_get (placed_files bs) n ≡ Some p → slice_get rows.files n ≡ Some (file_row p)
-row_there bs rows n p layout there = ap (λ fs. slice_get fs n) layout.files ∙ slice_get-map file_row (placed_files bs) n ∙ ap (option_map file_row) there
-
 pub row_is : (bs : List Block) (rows : Rows) (n : ℕ) (p : Placed) (row : FileRow) → IsLayout bs rows → slice_get (placed_files bs) n ≡ Some p → slice_get rows.files n ≡ Some row → row ≡ file_row p
-row_is bs rows n p row layout there found = let same : Some row ≡ Some (file_row p) = sym found ∙ row_there bs rows n p layout there in cc
+row_is bs rows n p row layout there found = let same : Some row ≡ Some (file_row p) = sym found ∙ file_row_at bs rows n p layout there in cc
 
 pub row_missing : (bs : List Block) (rows : Rows) (n : ℕ) (p : Placed) → IsLayout bs rows → slice_get (placed_files bs) n ≡ Some p → slice_get rows.files n ≡ None → ⊥
-row_missing bs rows n p layout there none = let same : None ≡ Some (file_row p) = sym none ∙ row_there bs rows n p layout there in cc
+row_missing bs rows n p layout there none = let same : None ≡ Some (file_row p) = sym none ∙ file_row_at bs rows n p layout there in cc
 
 -- the stores of a record, by the row of its file
 pub record_listed : (bs : List Block) (h : Held) (p : Placed) (row : FileRow) (old mid new : List Write) → slice_get (placed_files bs) h.file ≡ Some p → row ≡ file_row p

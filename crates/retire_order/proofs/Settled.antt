@@ -21,7 +21,6 @@ use Rattle.machine_code.specs.Told.{told_all}
 use Rattle.source_meaning.specs.Config.{files_of}
 use Rattle.source_meaning.specs.Retirement.{all_cleared, all_delivered, begins_anew, keeps_chain, release_world, releases, restart_world, with_outcome, with_sends}
 use Rattle.source_meaning.specs.State.{Event, Release, Restart, State}
-use Rattle.source_meaning.specs.Valid.{IsLive, MayBe}
 use Rattle.retire_order.specs.Accounts.{Account, with_words}
 use Rattle.retire_order.specs.Retired.{HasRetired, HasSettled, chain_kept, outcome_world}
 use Rattle.retire_order.specs.Stores.{IsAftermath, all_clear_stores, all_stores, restart_stores, touch_of}
@@ -46,12 +45,6 @@ pub aftermath_released : (x : Exchange) (f : ℕ) (o : Outcome) (fault : Fault) 
 aftermath_released x zero o fault p chain chains (Ok a) some is listed = absurd (some refl)
 aftermath_released x (suc n) o fault p chain chains (Ok a) some is listed = subst (λ (q : Outcome). IsAftermath x (suc n) q chain chains a) (sym is) listed
 aftermath_released x f o fault p chain chains (Err e) some is listed = tt
-
--- the forlopp of a start
-
-pub may_live : (s : State) (f : ℕ) → MayBe s f → f ≢ 0 → IsLive s f
-may_live s zero may some = absurd (some refl)
-may_live s (suc n) may some = may
 
 -- the chain
 

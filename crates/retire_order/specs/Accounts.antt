@@ -9,7 +9,8 @@ use Rattle.job_types.specs.declared.job.JobStart.{JobStart}
 use Rattle.exchange_model.specs.declared.exchange.Exchange.{Exchange}
 use Rattle.forlopp_chain.specs.Chains.{AreBelow}
 use Rattle.source_meaning.specs.State.{Coming, Event, Origin, State}
-use Rattle.source_meaning.specs.Arrivals.{arrives, forlopp_for, is_due, level_of}
+use Rattle.source_meaning.specs.Arrivals.{arrives, forlopp_for, is_due}
+use Rattle.exchange_model.specs.Names.{level_of}
 use Rattle.source_meaning.specs.SingleRun.{begun, next_start}
 use Rattle.retire_order.specs.Lines.{Timetable}
 

@@ -4,18 +4,19 @@ ghost use Rattle.exchange_model.specs.declared.exchange.Exchange.{Exchange};
 ghost use Rattle.job_buffers.specs.Room.{room_at};
 ghost use Rattle.job_types.specs.Forlopps.{is_dead};
 ghost use Rattle.job_types.specs.Waiting.{joins};
-ghost use Rattle.source_meaning.specs.Arrivals.{arrivals, arrives, forlopp_for, is_due, level_of, next_after};
+ghost use Rattle.source_meaning.specs.Arrivals.{arrivals, arrives, forlopp_for, is_due, next_after};
+ghost use Rattle.exchange_model.specs.Names.{level_of};
 ghost use Rattle.source_meaning.specs.State.{Coming, Lost, has_stopped};
 ghost use Rattle.retire_order.specs.Accounts.{IsLine, after_arrival, is_next_due};
 ghost use Rattle.retire_order.specs.Lines.{coming_of, origin_of};
 
 use crate::books::Books;
 use crate::event::{Event, EventLog};
-use exchange_model::{Exchange, SignalKind};
+use exchange_model::Exchange;
 use forlopp_chain::Chains;
 use job_buffers::Buffers;
 use job_types::Job;
-use plex_num::{Level, Memory};
+use plex_num::Memory;
 use signal_file::{Line, LineKind};
 
 impl Books {
@@ -93,7 +94,7 @@ impl Books {
     {
         Job {
             entry: line.entry,
-            level: level_of(exchange, line.entry),
+            level: exchange.level_of(line.entry),
             values: line.values.copy(),
             forlopp: self.forlopp_for(line.kind),
         }
@@ -113,19 +114,6 @@ pub fn let_arrive(exchange: &Exchange, books: &mut Books) -> Result<(), Memory>
         if !books.arrive(exchange)? {
             return Ok(());
         }
-    }
-}
-
-/// The level at which a job of an entry waits.
-fn level_of(exchange: &Exchange, entry: u32) -> Level
-    ensures { result ≡ level_of exchange.now entry }
-{
-    let Some(start) = exchange.entries.get(entry as usize) else {
-        return Level::B;
-    };
-    match exchange.signals.get(start.signal as usize) {
-        Some(SignalKind::Buffered { level, .. }) => *level,
-        _ => Level::B,
     }
 }
 

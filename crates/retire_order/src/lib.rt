@@ -18,8 +18,6 @@ mod parts;
 mod retire;
 mod schedule;
 mod stores;
-#[cfg(test)]
-mod tests;
 
 pub use arrivals::let_arrive;
 pub use books::Books;

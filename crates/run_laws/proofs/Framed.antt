@@ -9,18 +9,11 @@ use Rattle.job_types.specs.Touches.{stored}
 use Rattle.job_types.proofs.Touched.{stored-append}
 use Rattle.machine_code.specs.declared.op.Op.{Op}
 use Rattle.source_meaning.specs.Traces.{Answers}
+use Rattle.source_meaning.proofs.Framed.{answers_split}
 use Rattle.register_machine.specs.Private.{Private}
 use Rattle.register_machine.specs.Machine.{Apart, Loads, Machine, Reach, Stores, act, loaded, machine_step, op_at, reach, touched}
 use Rattle.run_laws.specs.Alone.{alone, goes_on, makes_unless, on_words}
-use Rattle.run_laws.proofs.Told.{IsTouch, is_touch, touch_of}
-
--- the front of what is answered is answered, and the rest by what the front leaves
-pub answers_front : (a b : List Touch) (vs : List ℕ) → Answers vs (a ++ b) → Answers vs a × Answers (stored vs a) b
-answers_front [] b vs h = (tt, h)
-answers_front (Load w v ∷ a) b vs h =
-    let r = answers_front a b vs h.1 in
-    ((h.0, r.0), r.1)
-answers_front (Store w v ∷ a) b vs h = answers_front a b _ h
+use Rattle.run_laws.proofs.Told.{is_touch, touch_of}
 
 -- the world after these stores
 abbrev over : List ℕ → List Touch → World
@@ -48,7 +41,7 @@ pub step_framed : (words : List ℕ) (op : Op) (m : Machine) → Answers words (
 step_framed words op m told =
     let r = reach op m.run in
     let t = is_touch m.world r in
-    let a = reaches_alike words m.world r (answers_front m.world.trace (touch_of r m.world.store) words (subst (Answers words) t.trace told)).1 in
+    let a = reaches_alike words m.world r (answers_split m.world.trace (touch_of r m.world.store) words (subst (Answers words) t.trace told)).1 in
     ap (λ v. record { run = act op v m.run; world = touched r (over words m.world.trace) }) a.given
     ∙ ap (λ (w : World). record { run = act op (loaded r m.world.store) m.run; world = w }) a.world
 
@@ -67,7 +60,7 @@ answered_before words code m told = by m.run.over told
     by (Some o) told = told
     by None told =
         let r = reach (op_at code m.run.pc) m.run in
-        (answers_front m.world.trace (touch_of r m.world.store) words (subst (Answers words) (is_touch m.world r).trace told)).0
+        (answers_split m.world.trace (touch_of r m.world.store) words (subst (Answers words) (is_touch m.world r).trace told)).0
 
 pub run_framed : (n : ℕ) (code : List Op) (p : Private) (store words : List ℕ) → Answers words (alone n code p store).world.trace → alone n code p words ≡ on_words words (alone n code p store)
 unfolding alone

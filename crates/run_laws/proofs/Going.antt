@@ -1,25 +1,21 @@
 -- A run that comes to an end is on its way there after any number of instructions, and comes to the same end over other words that
 -- answer its trace.
-use Rattle.std.proofs.Common.{◌≡◌, ℕ, zero, suc, ◌<◌, List, [], ◌∷◌, ◌++◌, length, Option, Some, None, refl, sym, ap, ◌∙◌, subst, append_assoc}
+use Rattle.std.proofs.Common.{◌≡◌, ℕ, zero, suc, List, [], ◌++◌, Option, Some, None, refl, sym, ap, ◌∙◌, subst, append_assoc}
 use Rattle.std.proofs.lemmas.List.{append-nil}
 use Rattle.std.proofs.lemmas.Option.{get_or_from_slice_get, slice_get_within}
 use Rattle.std.specs.Prelude.{IsSome, slice_get}
+use Rattle.plex_num.proofs.Options.{none_is_none}
 use Rattle.job_types.specs.declared.outcome.Outcome.{Outcome}
 use Rattle.machine_code.specs.declared.op.Op.{Op}
 use Rattle.machine_code.specs.declared.op.Op.TheVariants.{End}
 use Rattle.source_meaning.specs.Traces.{Answers}
+use Rattle.source_meaning.proofs.Framed.{answers_split}
 use Rattle.register_machine.specs.Private.{Private}
 use Rattle.register_machine.specs.Machine.{Allowed, Goes, Machine, by_op, here, machine_step, op_at, reach}
 use Rattle.register_machine.specs.Faithful.{Ends, begun}
 use Rattle.run_laws.specs.Alone.{CanGoOn, TraceGrows, alone, goes_on, makes, makes_unless, on_words}
-use Rattle.run_laws.proofs.Framed.{answers_front, step_framed}
+use Rattle.run_laws.proofs.Framed.{step_framed}
 use Rattle.run_laws.proofs.Told.{is_touch, touch_of}
-
--- over, and not over
-not_both : (o : Option Outcome) → o ≡ None → IsSome o → ⊥
-not_both o none some =
-    let f : IsSome {T = Outcome} None = subst (λ u. IsSome u) none some in
-    cc
 
 pub trace_grows : (code : List Op) (m n : Machine) → Goes code m n → TraceGrows m n
 trace_grows code m n here = record { touches = []; is = sym (append-nil m.world.trace) }
@@ -32,7 +28,7 @@ trace_grows code m n (by_op op runs at allowed more) =
 -- a run that is over is at the end
 at_end : (code : List Op) (m end : Machine) → IsSome m.run.over → Goes code m end → m ≡ end
 at_end code m end over here = refl
-at_end code m end over (by_op op runs at allowed more) = absurd (not_both m.run.over runs over)
+at_end code m end over (by_op op runs at allowed more) = absurd (none_is_none m.run.over runs over)
 
 -- one that is not makes its next instruction first
 pub record StepsTo (code : List Op) (m end : Machine) : Type 0 where
@@ -42,7 +38,7 @@ pub record StepsTo (code : List Op) (m end : Machine) : Type 0 where
   pub more : Goes code (machine_step op m) end
 
 steps_first : (code : List Op) (m end : Machine) → IsSome end.run.over → m.run.over ≡ None → Goes code m end → StepsTo code m end
-steps_first code m end over runs here = absurd (not_both m.run.over runs over)
+steps_first code m end over runs here = absurd (none_is_none m.run.over runs over)
 steps_first code m end over runs (by_op op going at allowed more) = record { op = op; at = at; allowed = allowed; more = more }
 
 op_is : (code : List Op) (a : ℕ) (op : Op) → slice_get code a ≡ Some op → op_at code a ≡ op
@@ -88,7 +84,7 @@ goes_framed : (words : List ℕ) (code : List Op) (m end : Machine) → Goes cod
 goes_framed words code m n here told = here
 goes_framed words code m end (by_op op runs at allowed more) told =
     let grown = trace_grows code (machine_step op m) end more in
-    let front = (answers_front (machine_step op m).world.trace grown.touches words (subst (Answers words) grown.is told)).0 in
+    let front = (answers_split (machine_step op m).world.trace grown.touches words (subst (Answers words) grown.is told)).0 in
     by_op op runs at allowed (subst (λ k. Goes code k (on_words words end)) (sym (step_framed words op m front)) (goes_framed words code (machine_step op m) end more told))
 
 pub end_framed : (code : List Op) (p : Private) (store words : List ℕ) (end : Machine) → Ends code (begun p store) end → Answers words end.world.trace → Ends code (begun p words) (on_words words end)

@@ -1,6 +1,6 @@
 -- A new loan, and one that comes back, keep the rule.
 use Rattle.std.proofs.Common.{◌≡◌, ◌≢◌, ℕ, ◌<◌, ◌^◌, true, false, [], ◌∷◌, ◌++◌, length, get_or, set, sym, refl, ap, ◌∙◌, subst, ⊎_elim, arith}
-use Rattle.std.proofs.lemmas.Bool.{cases_Bool, or_parts}
+use Rattle.std.proofs.lemmas.Bool.{cases_Bool, or_parts, both_ways}
 use mathlib.Core.Logic.{dite}
 use mathlib.Core.Option.{some}
 use native.Mathlib.Decide.{ℕ_discrete}
@@ -17,7 +17,7 @@ use Rattle.shared_store.specs.declared.view.View.TheVariants.{Root, Loan, Spent}
 use Rattle.shared_store.specs.Loans.{Has, lent_out, without, lent, lender, borrower, current, taken_back, FitsBeside}
 use Rattle.shared_store.specs.Rule.{Holds, Listing, Seats, Words, Lending, cut_left, cut_right, both}
 use Rattle.job_types.proofs.Touched.{length-stored}
-use Rattle.shared_store.proofs.Touched.{not_both, written_touched, stored_agree, stored_else, stored_small}
+use Rattle.shared_store.proofs.Touched.{written_touched, stored_agree, stored_else, stored_small}
 use Rattle.shared_store.proofs.Loaned.{lent_out_none, lent_out_all, fresh_above, kept_out, kept_in, Differ-without, Apart-sym}
 use Rattle.shared_store.specs.Places.{place}
 use Rattle.shared_store.proofs.Views.{same_root}
@@ -56,7 +56,7 @@ cuts id t v start permit is fits s r at =
         mine = λ j i e u uw lt. ⊎_elim (λ (c : Holds s.views j i). k.mine j i c u uw lt)
             (λ (c : (j ≡ length (set s.views id (Root t'))) × (h ≡ i)). subst (λ (z : Hold). get_or s.words (place (length s.homes) u) 0 ≡ get_or (current z) u 0) c.1
             (k.others u (lent_out_all t.loans u (λ a s. ⊎_elim
-            (λ (wr : may_write a.permit u ≡ true). absurd (not_both (may_read permit u) (written_touched permit u (subst (λ (z : Hold). may_write z.lent.permit u ≡ true) (sym c.1) uw)) ((fits a s u).0 wr)))
+            (λ (wr : may_write a.permit u ≡ true). absurd (both_ways (may_read permit u) ((fits a s u).0 wr) (written_touched permit u (subst (λ (z : Hold). may_write z.lent.permit u ≡ true) (sym c.1) uw))))
             (λ (f : may_write a.permit u ≡ false). f) (cases_Bool (may_write a.permit u)))) lt))
             (lent_was s.views id t t' q here h refl above tt j i e);
         others = λ u out lt. k.others u (or_parts (may_write permit u) (lent_out t.loans u) out).1 lt;
@@ -76,7 +76,7 @@ rejoins id t v other h u is is' s r at ne at' =
     let before : Holds s.views other h = held_before s.views id t t' q here h other ne held refl in
     let has' : Has t.loans h.lent = q.listed other h before in let sound' = q.sound other h before in let p : Permit = h.lent.permit in
     let apart : (a : Lent) (w : ℕ) → Has t.loans a → a.number ≢ n → may_read a.permit w ≡ true → may_write p w ≡ false = λ a w s d touch.
-    ⊎_elim (λ (wr : may_write p w ≡ true). absurd (not_both (may_read a.permit w) touch ((g.apart a h.lent s has' d w).1 wr))) (λ (f : may_write p w ≡ false). f) (cases_Bool (may_write p w)) in
+    ⊎_elim (λ (wr : may_write p w ≡ true). absurd (both_ways (may_read a.permit w) ((g.apart a h.lent s has' d w).1 wr) touch)) (λ (f : may_write p w ≡ false). f) (cases_Bool (may_write p w)) in
     subst (λ (z : View). Lending record { words = s.words; homes = s.homes; views = set (set s.views id z) other Spent }) (sym goes) record {
       top = t';
       listing = record {

@@ -1,6 +1,6 @@
 -- What the seat of one loan may rely on, and what its step leaves behind.
 use Rattle.std.proofs.Common.{◌≡◌, ◌≢◌, ℕ, ◌<◌, ◌^◌, true, false, List, [], ◌∷◌, ◌++◌, length, get_or, set, sym, refl, ap, ◌∙◌, subst, ⊎_elim, arith, length-set, get_or-set_same, get_or-set_other}
-use Rattle.std.proofs.lemmas.Bool.{cases_Bool}
+use Rattle.std.proofs.lemmas.Bool.{cases_Bool, both_ways}
 use mathlib.Core.Logic.{dite}
 use mathlib.Core.Option.{some}
 use native.Mathlib.Decide.{ℕ_discrete}
@@ -18,7 +18,7 @@ use Rattle.shared_store.specs.Loans.{Has, lent_out, current, touched}
 use Rattle.shared_store.specs.Seats.{hold_of}
 use Rattle.shared_store.specs.Rule.{Holds, Listing, Seats, Words}
 use Rattle.job_types.proofs.Touched.{length-stored}
-use Rattle.shared_store.proofs.Touched.{not_both, written_touched, set_small, stored-snoc, stored_else, Sound-snoc}
+use Rattle.shared_store.proofs.Touched.{written_touched, set_small, stored-snoc, stored_else, Sound-snoc}
 use Rattle.shared_store.proofs.Loaned.{lent_out_none, lent_out_all}
 use Rattle.shared_store.proofs.Views.{same_loan, loan-not-root, set_at}
 use Rattle.shared_store.specs.Places.{place}
@@ -60,12 +60,12 @@ module _ (free : ℕ) (t : Top) (views : List View) (words : List ℕ) (r : List
 
   pub no_other : (j : ℕ) (i : Hold) (w : ℕ) → Holds views j i → j ≢ id → may_write i.lent.permit w ≡ true → may_read h.lent.permit w ≡ true → ⊥
   no_other j i w there other wr touch =
-      not_both (may_read h.lent.permit w) touch ((r.apart i.lent h.lent (q.listed j i there) has (λ e. other (q.alone j id i h there at e)) w).0 wr)
+      both_ways (may_read h.lent.permit w) ((r.apart i.lent h.lent (q.listed j i there) has (λ e. other (q.alone j id i h there at e)) w).0 wr) touch
 
   pub only_read : (w : ℕ) → may_read h.lent.permit w ≡ true → may_write h.lent.permit w ≡ false → lent_out t.loans w ≡ false
   only_read w touch out = lent_out_all t.loans w (λ l s. dite (ℕ_discrete l.number h.lent.number)
       (λ (e : l.number ≡ h.lent.number). subst (λ (z : Lent). may_write z.permit w ≡ false) (sym (r.distinct l h.lent s has e)) out)
-      (λ (ne : l.number ≢ h.lent.number). ⊎_elim (λ (wr : may_write l.permit w ≡ true). absurd (not_both (may_read h.lent.permit w) touch ((r.apart l h.lent s has ne w).0 wr)))
+      (λ (ne : l.number ≢ h.lent.number). ⊎_elim (λ (wr : may_write l.permit w ≡ true). absurd (both_ways (may_read h.lent.permit w) ((r.apart l h.lent s has ne w).0 wr) touch))
       (λ (f : may_write l.permit w ≡ false). f) (cases_Bool (may_write l.permit w))))
 
   pub long : length (current h) ≡ length t.values
@@ -114,5 +114,5 @@ module _ (free : ℕ) (t : Top) (views : List View) (words : List ℕ) (r : List
         no_other j i w c.1 c.0 (subst (λ (n : ℕ). may_write i.lent.permit n ≡ true) d uw) (written_touched h.lent.permit w wr)) ∙ k.mine j i c.1 u uw lt')
         (at_set views id j (Loan h') (Loan i) e);
     others = λ u out lt'. get_or-set_other words (place free w) (place free u) x 0 (λ e'. let d : u ≡ w = place_same free u w e' in
-        not_both (may_write h.lent.permit w) wr (subst (λ (n : ℕ). may_write h.lent.permit n ≡ false) d (lent_out_none t.loans h.lent u has out))) ∙ k.others u out lt';
+        both_ways (may_write h.lent.permit w) (subst (λ (n : ℕ). may_write h.lent.permit n ≡ false) d (lent_out_none t.loans h.lent u has out)) wr) ∙ k.others u out lt';
   }

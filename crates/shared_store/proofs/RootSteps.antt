@@ -5,6 +5,7 @@ use mathlib.Core.Option.{none, some}
 use native.Mathlib.Decide.{ℕ_discrete}
 use lib.ListN.{get_elem?}
 use lib.Seq.{set-get_or}
+use Rattle.std.proofs.lemmas.Bool.{both_ways}
 use Rattle.atomic_table.specs.Table.{step, keeps, Allows}
 use Rattle.atomic_table.proofs.Lists.{set_again}
 use Rattle.machine_code.specs.Permits.{may_read}
@@ -14,7 +15,7 @@ use Rattle.shared_store.specs.declared.view.View.{View}
 use Rattle.shared_store.specs.declared.view.View.TheVariants.{Root}
 use Rattle.shared_store.specs.Loans.{Has, lent_out, seen_by}
 use Rattle.shared_store.specs.Rule.{Sat, Listing, Seats, Words, Lending, root_looked, root_put}
-use Rattle.shared_store.proofs.Touched.{not_both, written_touched, set_small}
+use Rattle.shared_store.proofs.Touched.{written_touched, set_small}
 use Rattle.shared_store.proofs.Loaned.{seen_by_none}
 use Rattle.shared_store.specs.Places.{place}
 use Rattle.shared_store.proofs.Places.{place_later, place_same, place_within}
@@ -46,7 +47,7 @@ root_puts slots id me t w x is out lt fits s r homes at _ =
     let g : Listing t = subst Listing top r.listing in let q : Seats t s.views = subst (λ (z : Top). Seats z s.views) top r.seats in
     let t' : Top = record t { values = set t.values w x } in let inside = place_within slots w (length t.values) (length s.words) (sym k.wide) lt in let later = place_later slots w in
     let apart : (a : Lent) (u : ℕ) → Has t.loans a → may_read a.permit u ≡ true → u ≢ w = λ a u s touch d.
-    not_both (may_read a.permit w) (subst (λ (n : ℕ). may_read a.permit n ≡ true) d touch) (seen_by_none t.loans a w s out) in (
+    both_ways (may_read a.permit w) (seen_by_none t.loans a w s out) (subst (λ (n : ℕ). may_read a.permit n ≡ true) d touch) in (
       Root t',
       keeps,
       tt,

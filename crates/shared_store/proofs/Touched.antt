@@ -1,6 +1,6 @@
 -- What a list of touches leaves in the words.
-use Rattle.std.proofs.Common.{◌≡◌, ℕ, zero, suc, ◌<◌, ◌^◌, Bool, true, false, List, [], ◌∷◌, ◌++◌, length, get_or, set, sym, refl, ◌∙◌, subst, arith, length-set, get_or-set_other}
-use Rattle.std.proofs.lemmas.Bool.{or_right, true≢false}
+use Rattle.std.proofs.Common.{◌≡◌, ℕ, zero, suc, ◌<◌, ◌^◌, true, false, List, [], ◌∷◌, ◌++◌, length, get_or, set, sym, refl, ◌∙◌, subst, arith, length-set, get_or-set_other}
+use Rattle.std.proofs.lemmas.Bool.{or_right, both_ways}
 use Rattle.machine_code.specs.declared.permit.Permit.{Permit}
 use Rattle.job_types.specs.declared.touch.Touch.{Touch}
 use Rattle.job_types.specs.declared.touch.Touch.TheVariants.{Load, Store}
@@ -8,10 +8,6 @@ use Rattle.machine_code.specs.Permits.{may_write, may_read}
 use Rattle.shared_store.specs.Sound.{Sound}
 use Rattle.job_types.specs.Touches.{stored}
 use Rattle.job_types.proofs.Touched.{stored-append}
-
--- a test does not answer both
-pub not_both : (b : Bool) → b ≡ true → b ≡ false → ⊥
-not_both b t f = true≢false (sym t ∙ f)
 
 pub written_touched : (p : Permit) (w : ℕ) → may_write p w ≡ true → may_read p w ≡ true
 written_touched p w e = or_right _ (may_write p w) e
@@ -47,7 +43,7 @@ pub stored_else : (p : Permit) (ts : List Touch) (vs a : List ℕ) (w : ℕ) →
 stored_else p [] vs a w s out = refl
 stored_else p (Load u x ∷ ts) vs a w s out = stored_else p ts vs a w s.3 out
 stored_else p (Store u x ∷ ts) vs a w s out =
-    stored_else p ts (set vs u x) (set a u x) w s.3 out ∙ get_or-set_other a u w x 0 (λ e. not_both (may_write p u) s.0 (subst (λ (k : ℕ). may_write p k ≡ false) e out))
+    stored_else p ts (set vs u x) (set a u x) w s.3 out ∙ get_or-set_other a u w x 0 (λ e. both_ways (may_write p u) (subst (λ (k : ℕ). may_write p k ≡ false) e out) s.0)
 
 pub stored_small : (p : Permit) (ts : List Touch) (vs a : List ℕ) → Sound p vs ts → ((w : ℕ) → get_or a w 0 < 2 ^ 32) → (w : ℕ) → get_or (stored a ts) w 0 < 2 ^ 32
 stored_small p [] vs a s h = h

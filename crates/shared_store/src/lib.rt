@@ -21,6 +21,7 @@ pub use crossing::{job_seat_crosses, root_seat_crosses, store_crosses};
 pub use laws::{
     a_new_loan_has_a_number_of_its_own, one_loan_ends_alone, the_root_may_touch_what_no_loan_may,
 };
+pub use rule::Terms;
 pub use seat::{JobSeat, RootSeat};
 pub use store::SharedStore;
 pub use view::{Hold, Lent, Top, View};

@@ -49,7 +49,7 @@ impl Play<(), View> for RootPut {
 }
 
 /// What is lent. A call at `Brand` picks it from its arguments.
-pub(crate) trait Terms {
+pub trait Terms {
     ghost use Rattle.job_types.specs.declared.job.JobStart.{JobStart};
     ghost use Rattle.machine_code.specs.declared.permit.Permit.{Permit};
 

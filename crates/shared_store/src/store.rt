@@ -56,19 +56,32 @@ impl SharedStore {
         ensures seat { result ≡ (root.old.0, borrower start.now permit root.old.1) }
         ensures root { root.new ≡ (root.old.0, lender start.now permit root.old.1) }
     {
-        self.lend_as::<Brand>(root, start, &permit)
+        self.lend_of::<Brand>(root, start, &permit)
     }
 
-    /// The loan itself, of the start and permit that the terms name.
-    fn lend_as<T: Terms>(&self, root: &mut RootSeat, start: &JobStart, permit: &Permit) -> JobSeat
+    /// The loan of the start and permit that the terms name: the caller holds no permit, and picks one in its proof.
+    pub fn lend_as<T: Terms>(&self, root: &mut RootSeat, start: &JobStart) -> JobSeat
+        requires terms { T.start ≡ start.now }
+        requires store { root.old.0 ≡ self.now }
+        requires permit { FitsBeside root.old.1.loans T.permit }
+        ensures seat { result ≡ (root.old.0, borrower start.now T.permit root.old.1) }
+        ensures root { root.new ≡ (root.old.0, lender start.now T.permit root.old.1) }
+    {
+        let _ = start;
+        let seat = self.table.shared.split_seat::<Cut<T>>(&mut root.seat);
+        JobSeat { seat }
+    }
+
+    /// The same where the terms name a permit that is at hand.
+    fn lend_of<T: Terms>(&self, root: &mut RootSeat, start: &JobStart, permit: &Permit) -> JobSeat
         requires terms { (T.start ≡ start.now) × (T.permit ≡ permit.now) }
         requires store { root.old.0 ≡ self.now }
         requires permit { FitsBeside root.old.1.loans permit.now }
         ensures seat { result ≡ (root.old.0, borrower start.now permit.now root.old.1) }
         ensures root { root.new ≡ (root.old.0, lender start.now permit.now root.old.1) }
     {
-        let seat = self.table.shared.split_seat::<Cut<T>>(&mut root.seat);
-        JobSeat { seat }
+        let _ = permit;
+        self.lend_as::<T>(root, start)
     }
 
     /// Ends a loan: the root has the seat's last stored values, and lists that loan no more.

@@ -158,16 +158,3 @@ fn eight_loans_read_one_word(rt: HostRuntime) -> Result<(), Fail> {
     assert!(rt; found);
     Ok(())
 }
-
-#[test]
-fn a_store_may_have_no_cells(rt: HostRuntime) -> Result<(), Fail> {
-    let words = Seq::new(rt.alloc());
-    let (store, mut root) = SharedStore::new(rt.alloc(), &words)?;
-    let nothing = Permit {
-        reads: Seq::new(rt.alloc()),
-        writes: Seq::new(rt.alloc()),
-    };
-    let seat = store.lend(&mut root, &any_start(), nothing);
-    store.take_back(&mut root, seat);
-    Ok(())
-}

@@ -12,7 +12,8 @@ use Rattle.signal_file.specs.declared.directory.Signal.{Signal}
 use Rattle.signal_file.specs.declared.fault.SignalFault.{SignalFault}
 use Rattle.signal_file.specs.declared.fault.SignalFault.TheVariants.{BadAs, BadLine, FallingCount, Memory, UnknownBlock, UnknownSignal, WrongData}
 use Rattle.signal_file.specs.declared.line.Line.{Line}
-use Rattle.signal_file.specs.Form.{Saying, is_skipped, said_in, words}
+use Rattle.signal_file.specs.Form.{Saying, said_in}
+use Rattle.text_lines.specs.Words.{is_skipped, words}
 use Rattle.signal_file.specs.Lines.{IsUnlessMemory, lines_behind, signal_lines}
 use Rattle.signal_file.specs.Rules.{added, and_then, before_of, count_or, entry_of, gives, gives_forlopp, has_origin, is_origin, last_count, meaning, need, need_that, next_number, says, signal_of, told}
 
@@ -186,7 +187,7 @@ read_few x text rest after b list r shorter small = let few = r.few in omega (ar
 
 -- the first faulty line decides
 
-ok_first : {A B : Type 0} (r : Result A SignalFault) (go : A → Result B SignalFault) (b : B) → and_then r go ≡ Ok b → (a : A) × (r ≡ Ok a) × (go a ≡ Ok b)
+pub ok_first : {A B : Type 0} (r : Result A SignalFault) (go : A → Result B SignalFault) (b : B) → and_then r go ≡ Ok b → (a : A) × (r ≡ Ok a) × (go a ≡ Ok b)
 ok_first (Ok a) go b e = (a, refl, e)
 ok_first (Err f) go b e = cc
 

@@ -12,7 +12,8 @@ use Rattle.exchange_model.specs.declared.signal.SignalKind.TheVariants.{Answer, 
 use Rattle.exchange_model.specs.Kept.{IsExchange, signal_count, signal_name}
 use Rattle.signal_file.specs.declared.directory.Signal.{Signal}
 use Rattle.signal_file.specs.Form.{with}
-use Rattle.signal_file.specs.Rules.{IsDirectory, block_names, if_buffered, signal_names}
+use Rattle.signal_file.specs.Rules.{IsDirectory, if_buffered}
+use Rattle.exchange_model.specs.Names.{names_of_blocks, names_of_signals}
 
 few_values : (xs : List SignalKind) (number : ℕ) (found : Option SignalKind) (signal : Signal) → AllByRecursion (λ s. signal_count s ≤ MOST_VALUES) xs → slice_get xs number ≡ found → if_buffered number found ≡ Some signal → signal.count ≤ MOST_VALUES
 few_values xs number None signal few at is = cc
@@ -31,11 +32,11 @@ few_of : (xs : List SignalKind) (place : Option ℕ) (signal : Signal) → AllBy
 few_of xs None signal few is = cc
 few_of xs (Some number) signal few is = few_values xs number (slice_get xs number) signal few refl is
 
-pub directory : (x : Exchange) (signal_list block_list : List (List ℕ)) → IsExchange x → signal_list ≡ signal_names x → block_list ≡ block_names x → IsDirectory x (record { signals = signal_list; blocks = block_list })
+pub directory : (x : Exchange) (signal_list block_list : List (List ℕ)) → IsExchange x → signal_list ≡ names_of_signals x.signals → block_list ≡ names_of_blocks x.blocks → IsDirectory x (record { signals = signal_list; blocks = block_list })
 directory x signal_list block_list kept signals blocks = record {
   signals = signals;
   blocks = blocks;
-  few = λ name signal is. few_of x.signals (position (bytes_eq name) (signal_names x)) signal kept.signals.values is;
+  few = λ name signal is. few_of x.signals (position (bytes_eq name) (names_of_signals x.signals)) signal kept.signals.values is;
   few_signals = omega (arith, ap length signals, length-map x.signals signal_name, kept.signals.few);
   few_blocks = omega (arith, ap length blocks, length-map x.blocks (λ (k : Block). k.name), kept.blocks.few);
 }

@@ -1,8 +1,5 @@
-mod Behind
+pub mod Behind
 mod Found
-mod Lined
 mod Meant
 mod Named
-mod Splits
 mod Tails
-mod Worded

@@ -3,6 +3,7 @@ use Rattle.std.proofs.Common.{◌≡◌, ◌≢◌, ℕ, ◌<◌, ◌≤◌, nat
 use Rattle.std.specs.Prelude.{nat_le}
 use Rattle.std.proofs.lemmas.List.{take_all}
 use Rattle.std.proofs.lemmas.Bool.Decides.{nat_tests}
+use Rattle.std.proofs.lemmas.Bool.{eq-eqb, le-leb, lt-leb}
 use Rattle.plex_limits.specs.declared.limits.TheConstants.{MOST_VALUES}
 use Rattle.exchange_model.specs.declared.exchange.Exchange.{Exchange}
 use Rattle.signal_file.specs.declared.before.Before.{Before}
@@ -55,15 +56,6 @@ with_block x b said s signal entry r some there =
 no_equal : (a b : ℕ) → a ≢ b → nat_eq a b ≡ false
 no_equal a b other = grind (arith, nat_tests)
 
-equal : (a b : ℕ) → a ≡ b → nat_eq a b ≡ true
-equal a b same = grind (arith, nat_tests)
-
-below : (a b : ℕ) → b < a → nat_le a b ≡ false
-below a b less = grind (arith, nat_tests)
-
-up_to : (a b : ℕ) → a ≤ b → nat_le a b ≡ true
-up_to a b less = grind (arith, nat_tests)
-
 -- it has another number of values
 pub wrong_data : (x : Exchange) (b : Before) (said : Said) (s : Saying) (signal : Signal) (entry number : ℕ) → IsRead s said → number ≡ next_number b → Some signal ≡ signal_of x said.signal.now → Some entry ≡ entry_of x signal.number said.block.now → said.count ≢ signal.count → Err (WrongData number) ≡ meaning x b s
 wrong_data x b said s signal entry number r n some there other =
@@ -72,19 +64,19 @@ wrong_data x b said s signal entry number r n some there other =
 
 with_data : (x : Exchange) (b : Before) (said : Said) (s : Saying) (signal : Signal) (entry : ℕ) → IsRead s said → Some signal ≡ signal_of x said.signal.now → Some entry ≡ entry_of x signal.number said.block.now → said.count ≡ signal.count → meaning x b s ≡ after_data x b s entry
 with_data x b said s signal entry r some there same =
-    with_block x b said s signal entry r some there ∙ ap (λ t. need_that (WrongData (next_number b)) t (after_data x b s entry)) (equal (length s.values) signal.count (sym r.values.counted ∙ same))
+    with_block x b said s signal entry r some there ∙ ap (λ t. need_that (WrongData (next_number b)) t (after_data x b s entry)) (eq-eqb (length s.values) signal.count (sym r.values.counted ∙ same))
 
 -- the count falls
 pub falling : (x : Exchange) (b : Before) (said : Said) (s : Saying) (signal : Signal) (entry number : ℕ) → IsRead s said → number ≡ next_number b → Some signal ≡ signal_of x said.signal.now → Some entry ≡ entry_of x signal.number said.block.now → said.count ≡ signal.count → said.after < b.last → Err (FallingCount number) ≡ meaning x b s
 falling x b said s signal entry number r n some there same less =
     let a = r.after in
     ap (λ m. Err (FallingCount m)) n
-    ∙ sym (with_data x b said s signal entry r some there same ∙ ap (λ t. need_that (FallingCount (next_number b)) t (after_count x b s entry)) (below b.last s.after (omega (arith, a, less))))
+    ∙ sym (with_data x b said s signal entry r some there same ∙ ap (λ t. need_that (FallingCount (next_number b)) t (after_count x b s entry)) (lt-leb b.last s.after (omega (arith, a, less))))
 
 with_count : (x : Exchange) (b : Before) (said : Said) (s : Saying) (signal : Signal) (entry : ℕ) → IsRead s said → Some signal ≡ signal_of x said.signal.now → Some entry ≡ entry_of x signal.number said.block.now → said.count ≡ signal.count → b.last ≤ said.after → meaning x b s ≡ after_count x b s entry
 with_count x b said s signal entry r some there same less =
     let a = r.after in
-    with_data x b said s signal entry r some there same ∙ ap (λ t. need_that (FallingCount (next_number b)) t (after_count x b s entry)) (up_to b.last s.after (omega (arith, a, less)))
+    with_data x b said s signal entry r some there same ∙ ap (λ t. need_that (FallingCount (next_number b)) t (after_count x b s entry)) (le-leb b.last s.after (omega (arith, a, less)))
 
 -- there is no line whose forlopp it could take
 pub no_origin : (x : Exchange) (b : Before) (said : Said) (s : Saying) (signal : Signal) (entry number : ℕ) → IsRead s said → number ≡ next_number b → Some signal ≡ signal_of x said.signal.now → Some entry ≡ entry_of x signal.number said.block.now → said.count ≡ signal.count → b.last ≤ said.after → false ≡ has_origin b said.kind → Err (BadAs number) ≡ meaning x b s

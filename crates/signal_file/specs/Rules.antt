@@ -5,11 +5,10 @@ use Rattle.std.specs.Prelude.{◌≡◌, ℕ, ◌+◌, ◌-◌, ◌≤◌, nat_e
 use Rattle.std.specs.Str.{bytes_eq}
 use Rattle.plex_limits.specs.declared.limits.TheConstants.{MOST_VALUES, MOST_SIGNALS, MOST_BLOCKS}
 use Rattle.exchange_model.specs.declared.exchange.Exchange.{Exchange}
-use Rattle.exchange_model.specs.declared.block.Block.{Block}
 use Rattle.exchange_model.specs.declared.signal.SignalKind.{SignalKind}
 use Rattle.exchange_model.specs.declared.signal.SignalKind.TheVariants.{Buffered}
 use Rattle.exchange_model.specs.Index.{is_entry}
-use Rattle.exchange_model.specs.Kept.{signal_name}
+use Rattle.exchange_model.specs.Names.{names_of_blocks, names_of_signals}
 use Rattle.signal_file.specs.declared.before.Before.{Before}
 use Rattle.signal_file.specs.declared.directory.Directory.{Directory}
 use Rattle.signal_file.specs.declared.directory.Signal.{Signal}
@@ -18,15 +17,8 @@ use Rattle.signal_file.specs.declared.fault.SignalFault.TheVariants.{BadLine, Un
 use Rattle.signal_file.specs.declared.line.Line.{Line}
 use Rattle.signal_file.specs.declared.line.LineKind.{LineKind}
 use Rattle.signal_file.specs.declared.line.LineKind.TheVariants.{Fresh, Bare, Same}
-use Rattle.signal_file.specs.Form.{Saying, is_skipped, words, said_in, with}
-
--- names
-
-abbrev pub signal_names : Exchange → List (List ℕ)
-signal_names x = map signal_name x.signals
-
-abbrev pub block_names : Exchange → List (List ℕ)
-block_names x = map (λ (k : Block). k.name) x.blocks
+use Rattle.signal_file.specs.Form.{Saying, said_in, with}
+use Rattle.text_lines.specs.Words.{is_skipped, words}
 
 -- a signal, where it is single and buffered: its number, and how many values it has
 abbrev pub if_buffered : ℕ → Option SignalKind → Option Signal
@@ -35,11 +27,11 @@ if_buffered number _ = None
 
 -- the single buffered signal of this name
 abbrev pub signal_of : Exchange → List ℕ → Option Signal
-signal_of x name = with (position (bytes_eq name) (signal_names x)) (λ number. if_buffered number (slice_get x.signals number))
+signal_of x name = with (position (bytes_eq name) (names_of_signals x.signals)) (λ number. if_buffered number (slice_get x.signals number))
 
 -- the entry of a signal at the block of this name, which is there exactly where the block receives the signal
 abbrev pub entry_of : Exchange → ℕ → List ℕ → Option ℕ
-entry_of x signal name = with (position (bytes_eq name) (block_names x)) (λ block. position (is_entry block signal) x.entries)
+entry_of x signal name = with (position (bytes_eq name) (names_of_blocks x.blocks)) (λ block. position (is_entry block signal) x.entries)
 
 -- the lines before
 
@@ -123,8 +115,8 @@ added x b line = (if is_skipped line then Ok None else told x b (said_in (words 
 
 -- the names of an exchange, in the order of their numbers
 pub record IsDirectory (x : Exchange) (d : Directory) : Type 0 where
-  pub signals : d.signals ≡ signal_names x
-  pub blocks : d.blocks ≡ block_names x
+  pub signals : d.signals ≡ names_of_signals x.signals
+  pub blocks : d.blocks ≡ names_of_blocks x.blocks
   pub few : (name : List ℕ) (signal : Signal) → signal_of x name ≡ Some signal → signal.count ≤ MOST_VALUES
   pub few_signals : length d.signals ≤ MOST_SIGNALS
   pub few_blocks : length d.blocks ≤ MOST_BLOCKS

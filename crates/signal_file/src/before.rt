@@ -7,10 +7,18 @@ use plex_num::{Memory, Seq};
 
 /// What counts of the lines before a line: the count of the last signal line, 0 where there is none; and of each line, whether
 /// a later one may take its forlopp.
-#[derive(Drop)]
 pub struct Before {
     pub last: u32,
     pub origins: Seq<bool>,
+}
+
+impl Drop for Before {
+    fn drop(self) {
+        let Before {
+            last: _,
+            origins: _,
+        } = self;
+    }
 }
 
 impl Before {

@@ -2,7 +2,8 @@
 ghost use Rattle.std.specs.Prelude.{◌≡◌, IfOk};
 ghost use Rattle.std.specs.Str.{bytes_eq};
 ghost use Rattle.std.specs.List.{IsDistinct};
-ghost use Rattle.signal_file.specs.Rules.{IsDirectory, block_names, entry_of, signal_names, signal_of};
+ghost use Rattle.signal_file.specs.Rules.{IsDirectory, entry_of, signal_of};
+ghost use Rattle.exchange_model.specs.Names.{names_of_blocks, names_of_signals};
 
 use crate::names::Names;
 use exchange_model::{Exchange, SignalKind};
@@ -10,10 +11,18 @@ use plex_num::Memory;
 use std::alloc::Global;
 
 /// The names of an exchange's signals and blocks, in the order of their numbers.
-#[derive(Drop)]
 pub struct Directory {
     pub signals: Names,
     pub blocks: Names,
+}
+
+impl Drop for Directory {
+    fn drop(self) {
+        let Directory {
+            signals: _,
+            blocks: _,
+        } = self;
+    }
 }
 
 /// A single buffered signal: its number, and how many values it has.
@@ -34,10 +43,10 @@ pub fn directory_of(alloc: Global, exchange: &Exchange) -> Result<Directory, Mem
     Ok(Directory { signals, blocks })
 }
 
-#[tactic(auto, using(crate::proofs::Named::new_name))]
+#[tactic(auto, using(plex_num::proofs::Names::new_name))]
 fn signal_names(alloc: Global, exchange: &Exchange) -> Result<Names, Memory>
-    requires { IsDistinct bytes_eq (signal_names exchange.now) }
-    ensures { IfOk result (λ names. names ≡ signal_names exchange.now) }
+    requires { IsDistinct bytes_eq (names_of_signals exchange.now.signals) }
+    ensures { IfOk result (λ names. names ≡ names_of_signals exchange.now.signals) }
 {
     let mut names = Names::new(alloc);
     for signal in exchange.signals.as_slice() {
@@ -46,10 +55,10 @@ fn signal_names(alloc: Global, exchange: &Exchange) -> Result<Names, Memory>
     Ok(names)
 }
 
-#[tactic(auto, using(crate::proofs::Named::new_name))]
+#[tactic(auto, using(plex_num::proofs::Names::new_name))]
 fn block_names(alloc: Global, exchange: &Exchange) -> Result<Names, Memory>
-    requires { IsDistinct bytes_eq (block_names exchange.now) }
-    ensures { IfOk result (λ names. names ≡ block_names exchange.now) }
+    requires { IsDistinct bytes_eq (names_of_blocks exchange.now.blocks) }
+    ensures { IfOk result (λ names. names ≡ names_of_blocks exchange.now.blocks) }
 {
     let mut names = Names::new(alloc);
     for block in exchange.blocks.as_slice() {

@@ -1,12 +1,13 @@
 // The form of a line: what its words say, whatever their names mean.
 ghost use Rattle.std.specs.Prelude.{◌≡◌, ◌+◌, ◌<◌, ◌∷◌, ◌++◌, [], List, ℕ, MatchOption, None, length};
 ghost use Rattle.plex_limits.specs.declared.limits.TheConstants.{MOST_VALUES};
-ghost use Rattle.signal_file.specs.Form.{IsSaid, IsTail, Keeps, bare_ending, closing, ending, is_comment, is_skipped, said_in, same_ending, words};
+ghost use Rattle.signal_file.specs.Form.{IsSaid, IsTail, Keeps, bare_ending, closing, ending, said_in, same_ending};
+ghost use Rattle.text_lines.specs.Words.{is_comment, is_skipped, words};
 
 use crate::line::LineKind;
-use crate::words::{is_word, next_word};
 use plex_limits::MOST_VALUES;
 use plex_num::{Values, read_number};
+use text_lines::{is_word, next_word};
 
 /// What a signal line says, with the names of its signal and its block. The first eight values are kept, and all are counted.
 #[derive(Drop)]
@@ -25,25 +26,6 @@ pub struct Tail {
     pub values: Values,
     pub count: usize,
     pub kind: LineKind,
-}
-
-/// Whether a line is empty, blank or a comment.
-pub fn is_skipped(line: &[u8]) -> bool
-    ensures { result ≡ is_skipped line.now }
-{
-    match next_word(line) {
-        None => true,
-        Some(_) => is_comment(line),
-    }
-}
-
-fn is_comment(line: &[u8]) -> bool
-    ensures { result ≡ is_comment line.now }
-{
-    match line.split_first() {
-        Some((byte, _)) => *byte == b'!',
-        None => false,
-    }
 }
 
 /// What a line says; `None` where it is no signal line.

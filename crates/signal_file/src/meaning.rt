@@ -6,9 +6,10 @@ ghost use Rattle.signal_file.specs.Rules.{IsDirectory, added, meaning};
 use crate::before::Before;
 use crate::directory::{Directory, entry_of, signal_of};
 use crate::fault::SignalFault;
-use crate::form::{Said, is_skipped, said_of};
+use crate::form::{Said, said_of};
 use crate::line::Line;
 use exchange_model::Exchange;
+use text_lines::is_skipped;
 
 /// What a line adds behind those before, `None` where it is skipped; or its first fault.
 #[tactic(auto, unfolding(crate::specs::Rules::added))]

@@ -56,7 +56,7 @@ impl Names {
     }
 
     /// The place of a name.
-    #[tactic(auto, using(crate::proofs::Named::position_map))]
+    #[tactic(auto, using(plex_num::proofs::Lists::position_map))]
     pub fn place(&self, name: &[u8]) -> Option<usize>
         ensures place { result ≡ position (bytes_eq name.now) self.now }
         ensures within { IfSome result (λ place. place < length self.now) }

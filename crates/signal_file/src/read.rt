@@ -7,10 +7,10 @@ use crate::directory::directory_of;
 use crate::fault::SignalFault;
 use crate::line::Line;
 use crate::meaning::added;
-use crate::words::next_line;
 use exchange_model::Exchange;
 use plex_num::Seq;
 use std::alloc::Global;
+use text_lines::next_line;
 
 /// The signal lines of a text of at most 16 MiB, in order; or the first fault of its first faulty line.
 #[tactic(auto, using(crate::proofs::Behind::file_read))]

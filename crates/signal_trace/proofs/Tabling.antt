@@ -7,7 +7,7 @@ use Rattle.std.specs.Ordering.{is_eq, is_gt, is_le, is_lt, nat_cmp, ordering_rev
 use Rattle.std.specs.Prelude.{if◌then◌else◌, max, nat_le, slice_get, unwrap_or}
 use Rattle.std.specs.List.{list_any}
 use Rattle.std.specs.List.Sorted.{IsPartitionedBy}
-use Rattle.std.proofs.lemmas.Bool.{cases_lt, eqb-true}
+use Rattle.std.proofs.lemmas.Bool.{cases_lt, eqb-true, and_from, and_parts, le-leb, leb-true, both_ways}
 use Rattle.std.proofs.lemmas.Bool.Decides.{nat_tests}
 use Rattle.std.proofs.lemmas.Cmp.{tied_itself, upto}
 use Rattle.std.proofs.lemmas.Grind.{common_steps}
@@ -15,6 +15,7 @@ use Rattle.std.proofs.lemmas.List.{get_or_push, length-append}
 use Rattle.std.proofs.lemmas.List.Folds.{Any-from_list_any, list_any_at}
 use Rattle.std.proofs.lemmas.List.Sorted.{list_any-IsPermutation, ranks_by, sorted_far}
 use Rattle.std.proofs.lemmas.Option.{get_or_from_slice_get}
+use Rattle.std.proofs.lemmas.Map.Keys.{le_from_is_le}
 use Rattle.exchange_model.specs.declared.entry.Entry.{Entry}
 use Rattle.job_types.specs.declared.outcome.Outcome.{Outcome}
 use Rattle.signal_trace.specs.declared.show.Show.{Show}
@@ -30,32 +31,14 @@ use Rattle.signal_trace.specs.Trace.{agrees, is_fault, is_from, is_upto, shows}
 
 -- truths
 
-both_true : (a b : Bool) → (a && b) ≡ true → (a ≡ true) × (b ≡ true)
-both_true true b e = (refl, e)
-both_true false b e = cc
-
-all_true : (a b : Bool) → a ≡ true → b ≡ true → (a && b) ≡ true
-all_true true b e f = f
-all_true false b e f = cc
-
 one_truth : (a b : Bool) → (a ≡ true → b ≡ true) → (b ≡ true → a ≡ true) → a ≡ b
 one_truth true b f g = sym (f refl)
 one_truth false true f g = g refl
 one_truth false false f g = refl
 
-never : (a : Bool) → a ≡ true → a ≡ false → ⊥
-never true e f = cc
-never false e f = cc
-
 or_false : (a : Bool) → (a || false) ≡ a
 or_false true = refl
 or_false false = refl
-
-is_at_most : (m n : ℕ) → nat_le m n ≡ true → m ≤ n
-is_at_most m n e = grind (arith, nat_tests)
-
-at_most : (m n : ℕ) → m ≤ n → nat_le m n ≡ true
-at_most m n le = grind (arith, nat_tests)
 
 -- the order of keys, and of starts
 
@@ -120,14 +103,11 @@ squeezed x y z low high same = between y.key x.key (subst (λ k. is_le (key_orde
 by_number : (x y : Start) → x.key ≡ y.key → start_order x y ≡ nat_cmp x.from y.from
 by_number x y same = second_by (key_order x.key y.key) (nat_cmp x.from y.from) (ap (key_order x.key) (sym same) ∙ tied_itself keys_total x.key)
 
-number_at_most : (m n : ℕ) → is_le (nat_cmp m n) ≡ true → m ≤ n
-number_at_most m n e = grind (arith, nat_tests)
-
 at_most_number : (m n : ℕ) → m ≤ n → is_le (nat_cmp m n) ≡ true
 at_most_number m n le = grind (arith, nat_tests)
 
 begun : (x y : Start) → x.key ≡ y.key → is_le (start_order x y) ≡ true → x.from ≤ y.from
-begun x y same le = number_at_most x.from y.from (ap is_le (sym (by_number x y same)) ∙ le)
+begun x y same le = le_from_is_le x.from y.from (ap is_le (sym (by_number x y same)) ∙ le)
 
 begins : (x y : Start) → x.key ≡ y.key → x.from ≤ y.from → is_le (start_order x y) ≡ true
 begins x y same le = ap is_le (by_number x y same) ∙ at_most_number x.from y.from le
@@ -203,7 +183,7 @@ module _ (rows : List Row) (lasts : List ℕ) (place last result : ℕ) (before 
       let below : place - 1 ≤ place = omega arith in
       let y_is = squeezed x y z (rises rows up k (place - 1) d le within_y) (rises rows up (place - 1) place d below within) (same ∙ sym (here_key d)) in
       let keys : before.start.key ≡ row.start.key = sym (prior_key d) ∙ y_is ∙ same in
-      absurd (never (same_key before.start.key row.start.key) (ap (same_key before.start.key) (sym keys) ∙ same_self before.start.key) differs)
+      absurd (both_ways (same_key before.start.key row.start.key) differs (ap (same_key before.start.key) (sym keys) ∙ same_self before.start.key))
 
   last_by : (b : Bool) → same_key before.start.key row.start.key ≡ b → result ≡ (if b then max last row.upto else row.upto) → IsLast rows place result
   last_by false differs end = record {
@@ -267,9 +247,9 @@ lasts_more rows lasts new place last so_far here is =
 
 reaches_so : (key : Key) (number : ℕ) (r : Row) → r.start.key ≡ key → r.start.from ≤ number → number ≤ r.upto → reaches key number r ≡ true
 reaches_so key number r same low high =
-    all_true (same_key r.start.key key) (nat_le r.start.from number && nat_le number r.upto)
+    and_from (same_key r.start.key key) (nat_le r.start.from number && nat_le number r.upto)
     (ap (same_key r.start.key) (sym same) ∙ same_self r.start.key)
-    (all_true (nat_le r.start.from number) (nat_le number r.upto) (at_most r.start.from number low) (at_most number r.upto high))
+    (and_from (nat_le r.start.from number) (nat_le number r.upto) (le-leb r.start.from number low) (le-leb number r.upto high))
 
 record Reaches (key : Key) (number : ℕ) (r : Row) : Type 0 where
   same : r.start.key ≡ key
@@ -278,12 +258,12 @@ record Reaches (key : Key) (number : ℕ) (r : Row) : Type 0 where
 
 so_reaches : (key : Key) (number : ℕ) (r : Row) → reaches key number r ≡ true → Reaches key number r
 so_reaches key number r e =
-    let parts = both_true (same_key r.start.key key) (nat_le r.start.from number && nat_le number r.upto) e in
-    let span = both_true (nat_le r.start.from number) (nat_le number r.upto) parts.1 in
+    let parts = and_parts (same_key r.start.key key) (nat_le r.start.from number && nat_le number r.upto) e in
+    let span = and_parts (nat_le r.start.from number) (nat_le number r.upto) parts.1 in
     record {
       same = same_is r.start.key key parts.0;
-      low = is_at_most r.start.from number span.0;
-      high = is_at_most number r.upto span.1;
+      low = leb-true r.start.from number span.0;
+      high = leb-true number r.upto span.1;
     }
 
 module _ (rows : List Row) (lasts : List ℕ) (key : Key) (number count : ℕ) (up : AreRising rows) (counted : AreCounted (record { key = key; from = number }) rows count) where
@@ -296,7 +276,7 @@ module _ (rows : List Row) (lasts : List ℕ) (key : Key) (number count : ℕ) (
       ⊎_elim
       (λ before. before)
       (λ past. (let behind : is_le (start_order x.start start) ≡ false = ap (λ (y : Row). is_le (start_order y.start start)) (sym at) ∙ counted.parts.1 k x past lt in
-      absurd (never (is_le (start_order x.start start)) (begins x.start start r.same r.low) behind)))
+      absurd (both_ways (is_le (start_order x.start start)) behind (begins x.start start r.same r.low))))
       (cases_lt k count)
 
   pub none_reaches : count ≡ 0 → false ≡ list_any (reaches key number) rows
@@ -320,13 +300,13 @@ module _ (rows : List Row) (lasts : List ℕ) (key : Key) (number count : ℕ) (
 
     tells_some : (same_key row.start.key key && nat_le number last) ≡ true → list_any (reaches key number) rows ≡ true
     tells_some e =
-        let parts = both_true (same_key row.start.key key) (nat_le number last) e in
+        let parts = and_parts (same_key row.start.key key) (nat_le number last) e in
         let x = get_or rows its_last.found row in
         let same : x.start.key ≡ key = its_last.same row ∙ ap (λ (r : Row). r.start.key) (row_is row) ∙ same_is row.start.key key parts.0 in
         let below = its_last.there in
         let before : its_last.found < count = omega (arith, below, some) in
         let low : x.start.from ≤ number = begun x.start start same (counted.parts.0 its_last.found row (omega arith) before) in
-        let high : number ≤ x.upto = (let reached = its_last.reached row in let le = is_at_most number last parts.1 in omega (arith, reached, le)) in
+        let high : number ≤ x.upto = (let reached = its_last.reached row in let le = leb-true number last parts.1 in omega (arith, reached, le)) in
         list_any_at (reaches key number) rows its_last.found row (omega (arith, below, in_rows)) (reaches_so key number x same low high)
 
     tells_all : list_any (reaches key number) rows ≡ true → (same_key row.start.key key && nat_le number last) ≡ true
@@ -343,9 +323,9 @@ module _ (rows : List Row) (lasts : List ℕ) (key : Key) (number count : ℕ) (
         let most = its_last.most k x (omega (arith, before)) (sym y_key) in
         let reached = ap (λ (q : Row). q.upto) at in
         let end = r.high in
-        all_true (same_key row.start.key key) (nat_le number last)
+        and_from (same_key row.start.key key) (nat_le number last)
         (ap (same_key row.start.key) (sym row_key) ∙ same_self row.start.key)
-        (at_most number last (omega (arith, most, reached, end)))
+        (le-leb number last (omega (arith, most, reached, end)))
 
     pub one_tells : (same_key row.start.key key && nat_le number last) ≡ list_any (reaches key number) rows
     one_tells = one_truth ((same_key row.start.key key && nat_le number last)) (list_any (reaches key number) rows) tells_some tells_all
@@ -353,11 +333,11 @@ module _ (rows : List Row) (lasts : List ℕ) (key : Key) (number count : ℕ) (
 -- the rows tell of the lines
 
 span_from : (o : Option ℕ) (number : ℕ) → nat_le (unwrap_or o 0) number ≡ is_from o number
-span_from None number = at_most 0 number (omega arith)
+span_from None number = le-leb 0 number (omega arith)
 span_from (Some first) number = refl
 
 span_upto : (o : Option ℕ) (number most : ℕ) → number ≤ most → nat_le number (unwrap_or o most) ≡ is_upto o number
-span_upto None number most le = at_most number most le
+span_upto None number most le = le-leb number most le
 span_upto (Some last) number most le = refl
 
 any_mapped : (p : Row → Bool) (f : Show → Row) (ls : List Show) → list_any p (map f ls) ≡ list_any (λ l. p (f l)) ls
@@ -460,18 +440,18 @@ key_parts j k = one_truth (same_key j k) (is_named j.block k.block && (is_named 
   where
     self : (i : Key) → (is_named i.block i.block && (is_named i.signal i.signal && (is_named i.forlopp i.forlopp && is_flag i.faults i.faults))) ≡ true
     self i =
-        all_true (is_named i.block i.block) (is_named i.signal i.signal && (is_named i.forlopp i.forlopp && is_flag i.faults i.faults)) (named_self i.block)
-        (all_true (is_named i.signal i.signal) (is_named i.forlopp i.forlopp && is_flag i.faults i.faults) (named_self i.signal)
-        (all_true (is_named i.forlopp i.forlopp) (is_flag i.faults i.faults) (named_self i.forlopp) (flag_self i.faults)))
+        and_from (is_named i.block i.block) (is_named i.signal i.signal && (is_named i.forlopp i.forlopp && is_flag i.faults i.faults)) (named_self i.block)
+        (and_from (is_named i.signal i.signal) (is_named i.forlopp i.forlopp && is_flag i.faults i.faults) (named_self i.signal)
+        (and_from (is_named i.forlopp i.forlopp) (is_flag i.faults i.faults) (named_self i.forlopp) (flag_self i.faults)))
 
     parts : same_key j k ≡ true → (is_named j.block k.block && (is_named j.signal k.signal && (is_named j.forlopp k.forlopp && is_flag j.faults k.faults))) ≡ true
     parts e = subst (λ (i : Key). (is_named j.block i.block && (is_named j.signal i.signal && (is_named j.forlopp i.forlopp && is_flag j.faults i.faults))) ≡ true) (same_is j k e) (self j)
 
     whole : (is_named j.block k.block && (is_named j.signal k.signal && (is_named j.forlopp k.forlopp && is_flag j.faults k.faults))) ≡ true → same_key j k ≡ true
     whole e =
-        let one = both_true (is_named j.block k.block) (is_named j.signal k.signal && (is_named j.forlopp k.forlopp && is_flag j.faults k.faults)) e in
-        let two = both_true (is_named j.signal k.signal) (is_named j.forlopp k.forlopp && is_flag j.faults k.faults) one.1 in
-        let three = both_true (is_named j.forlopp k.forlopp) (is_flag j.faults k.faults) two.1 in
+        let one = and_parts (is_named j.block k.block) (is_named j.signal k.signal && (is_named j.forlopp k.forlopp && is_flag j.faults k.faults)) e in
+        let two = and_parts (is_named j.signal k.signal) (is_named j.forlopp k.forlopp && is_flag j.faults k.faults) one.1 in
+        let three = and_parts (is_named j.forlopp k.forlopp) (is_flag j.faults k.faults) two.1 in
         let same : j ≡ k = (λ i. record { block = named_is j.block k.block one.0 i; signal = named_is j.signal k.signal two.0 i; forlopp = named_is j.forlopp k.forlopp three.0 i; faults = flag_is j.faults k.faults three.1 i }) in
         ap (same_key j) (sym same) ∙ same_self j
 

@@ -8,8 +8,9 @@ use Rattle.std.specs.List.{cons_option}
 use Rattle.std.specs.Option.{option_to_list}
 use Rattle.exchange_model.specs.declared.exchange.Exchange.{Exchange}
 use Rattle.signal_file.specs.declared.directory.Directory.{Directory}
-use Rattle.signal_file.specs.Form.{is_skipped, with, words}
-use Rattle.signal_file.specs.Rules.{block_names, signal_names}
+use Rattle.signal_file.specs.Form.{with}
+use Rattle.text_lines.specs.Words.{is_skipped, words}
+use Rattle.exchange_model.specs.Names.{names_of_blocks, names_of_signals}
 use Rattle.signal_trace.specs.declared.fault.FilterFault.{FilterFault}
 use Rattle.signal_trace.specs.declared.fault.FilterFault.TheVariants.{BadLine, Memory, UnknownBlock, UnknownSignal}
 use Rattle.signal_trace.specs.declared.show.Show.{Show}
@@ -51,7 +52,7 @@ lines_from d number (line ∷ rest) =
 
 -- the names of an exchange, in the order of their numbers
 abbrev pub names_of : Exchange → Directory
-names_of x = record { signals = signal_names x; blocks = block_names x }
+names_of x = record { signals = names_of_signals x.signals; blocks = names_of_blocks x.blocks }
 
 -- the lines of a filter, or its first fault
 abbrev pub filter_of : Exchange → List ℕ → Result (List Show) FilterFault

@@ -1,23 +1,18 @@
 -- The text of traced jobs: for each of them its line, and then a line for each signal that it sent.
 --
 -- What an exchange does not have is named by no bytes, as in a report.
-use Rattle.std.specs.Prelude.{ℕ, true, List, [], ◌++◌, codes, flat_map, slice_get}
-use Rattle.std.specs.Option.{option_map_or}
+use Rattle.std.specs.Prelude.{ℕ, true, List, ◌++◌, codes, flat_map}
 use Rattle.std.specs.Fmt.{decimal}
-use Rattle.exchange_model.specs.declared.entry.Entry.{Entry}
 use Rattle.exchange_model.specs.declared.exchange.Exchange.{Exchange}
 use Rattle.job_types.specs.declared.outbox.SendTo.{SendTo}
 use Rattle.job_types.specs.declared.outbox.SendTo.TheVariants.{Outside, Queue}
 use Rattle.job_types.specs.declared.outbox.Sent.{Sent}
 use Rattle.job_types.specs.declared.outcome.Outcome.{Outcome}
 use Rattle.job_types.specs.declared.outcome.Outcome.TheVariants.{Ended, Faulted}
-use Rattle.report_text.specs.Names.{fault_word, name_of_block, name_of_signal}
+use Rattle.report_text.specs.Names.{fault_word}
+use Rattle.exchange_model.specs.Names.{name_of_entry, name_of_signal}
 use Rattle.report_text.specs.Report.{value_words, written}
 use Rattle.signal_trace.specs.declared.tracer.TracedJob.{TracedJob}
-
--- `SIG BLOCK`, the signal and the block of an entry
-abbrev pub entry_words : Exchange → ℕ → List ℕ
-entry_words x n = option_map_or (λ (e : Entry). name_of_signal x.signals e.signal ++ codes " " ++ name_of_block x.blocks e.block) (slice_get x.entries n) []
 
 -- `ENDED`, or the word of the fault
 abbrev pub outcome_word : Outcome → List ℕ
@@ -27,11 +22,11 @@ outcome_word (Faulted fault point) = fault_word fault
 -- `JOB j SIG BLOCK v1 v2 Fn ENDED`: the job's number, its entry, its values, its forlopp and how it ended
 abbrev pub job_line : Exchange → TracedJob → List ℕ
 job_line x t =
-    codes "JOB " ++ decimal t.number ++ codes " " ++ entry_words x t.start.job.entry ++ value_words t.start.job.values ++ codes " F" ++ decimal t.start.job.forlopp ++ codes " " ++ outcome_word t.outcome
+    codes "JOB " ++ decimal t.number ++ codes " " ++ name_of_entry x t.start.job.entry ++ value_words t.start.job.values ++ codes " F" ++ decimal t.start.job.forlopp ++ codes " " ++ outcome_word t.outcome
 
 -- where a signal goes: to an entry, or out of the exchange
 abbrev pub place_words : Exchange → SendTo → List ℕ
-place_words x (Queue entry level fresh) = entry_words x entry
+place_words x (Queue entry level fresh) = name_of_entry x entry
 place_words x (Outside signal) = name_of_signal x.signals signal ++ codes " OUTSIDE"
 
 -- the forlopp of a signal: that of its job, or a new one

@@ -2,11 +2,11 @@
 ghost use Rattle.std.specs.Prelude.{◌≡◌, ◌∷◌, [], None, Some, MatchOption};
 ghost use Rattle.std.specs.Option.{option_map};
 ghost use Rattle.plex_num.specs.Number.{number_of};
-ghost use Rattle.signal_file.specs.Form.{words};
+ghost use Rattle.text_lines.specs.Words.{words};
 ghost use Rattle.signal_trace.specs.Form.{asked_in, asking_of, ending, named, part};
 
 use plex_num::read_number;
-use signal_file::{is_word, next_word};
+use text_lines::{is_word, next_word};
 
 /// What a line asks for, with the names of its block and its signal.
 #[derive(Drop)]

@@ -8,7 +8,8 @@ use crate::fault::FilterFault;
 use crate::form::{Asked, asked_of};
 use crate::show::Show;
 use plex_num::Seq;
-use signal_file::{Directory, Names, is_skipped};
+use signal_file::{Directory, Names};
+use text_lines::is_skipped;
 
 /// Adds what a line of this number shows, nothing where it is skipped; or tells its first fault.
 pub fn add_line(

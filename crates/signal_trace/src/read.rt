@@ -7,8 +7,9 @@ use crate::meaning::add_line;
 use crate::show::Show;
 use exchange_model::Exchange;
 use plex_num::Seq;
-use signal_file::{directory_of, next_line};
+use signal_file::directory_of;
 use std::alloc::Global;
+use text_lines::next_line;
 
 /// The lines of a filter of at most 16 MiB, in order, without those that are skipped; or the first fault of its first faulty
 /// line.

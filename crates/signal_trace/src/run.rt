@@ -24,12 +24,22 @@ use store_layout::Layout;
 
 /// The end of a run that was traced: the jobs that the filter shows, the books, the stored words, one for each cell, and how it
 /// ended.
-#[derive(Drop)]
 pub struct Traced {
     pub jobs: Seq<TracedJob>,
     pub books: Books,
     pub words: Seq<u32>,
     pub ending: Ending,
+}
+
+impl Drop for Traced {
+    fn drop(self) {
+        let Traced {
+            jobs: _,
+            books: _,
+            words: _,
+            ending: _,
+        } = self;
+    }
 }
 
 /// Runs the jobs of an exchange to the end of the single run, one at a time, and keeps those that a filter shows. No job may

@@ -163,11 +163,20 @@ fn some_reaches(rows: &[Row], lasts: &[u64], key: Key, number: u64) -> bool
 }
 
 /// The lines of a filter, in a table, whose memory is linear in them. A job takes a look-up for each key that agrees with it.
-#[derive(Drop)]
 pub struct ShowTable<'a> {
     shows: &'a Seq<Show>,
     rows: Seq<Row>,
     lasts: Seq<u64>,
+}
+
+impl Drop for ShowTable<'_> {
+    fn drop(self) {
+        let ShowTable {
+            shows: _,
+            rows: _,
+            lasts: _,
+        } = self;
+    }
 }
 
 impl<'a> Model for ShowTable<'a> {

@@ -1,13 +1,13 @@
 // The text of the jobs that a filter shows.
 ghost use Rattle.std.specs.Prelude.{◌≡◌, ◌++◌, IfOk, OnOk};
 ghost use Rattle.report_text.specs.Report.{written};
-ghost use Rattle.signal_trace.specs.Text.{entry_words, forlopp_word, job_line, job_text, outcome_word, place_words, send_text, sends_text, trace_text};
+ghost use Rattle.signal_trace.specs.Text.{forlopp_word, job_line, job_text, outcome_word, place_words, send_text, sends_text, trace_text};
 
 use crate::tracer::TracedJob;
 use exchange_model::Exchange;
 use job_types::{Outcome, SendTo, Sent};
-use plex_num::{Memory, Seq};
-use report_text::{add_number, add_values, block_name, fault_word, signal_name};
+use plex_num::{Memory, Seq, add_number};
+use report_text::{add_values, fault_word};
 use std::alloc::Global;
 
 /// The text of these jobs of an exchange: for each of them its line, and then a line for each signal that it sent. Memory is the
@@ -41,7 +41,7 @@ fn add_start(text: &mut Seq<u8>, exchange: &Exchange, job: &TracedJob) -> Result
 {
     add_number(text, b"JOB ", job.number)?;
     text.append(b" ")?;
-    add_entry(text, exchange, job.start.job.entry)?;
+    exchange.add_entry(text, job.start.job.entry as usize)?;
     add_values(text, job.start.job.values.as_slice())?;
     add_number(text, b" F", job.start.job.forlopp)?;
     text.append(b" ")?;
@@ -86,9 +86,9 @@ fn add_place(text: &mut Seq<u8>, exchange: &Exchange, to: SendTo) -> Result<(), 
     ensures { OnOk result (text.new ≡ text.old ++ place_words exchange.now to) }
 {
     match to {
-        SendTo::Queue { entry, .. } => add_entry(text, exchange, entry),
+        SendTo::Queue { entry, .. } => exchange.add_entry(text, entry as usize),
         SendTo::Outside { signal } => {
-            text.append(signal_name(exchange, signal))?;
+            text.append(exchange.signal_name(signal))?;
             text.append(b" OUTSIDE")
         }
     }
@@ -102,18 +102,6 @@ fn add_forlopp(text: &mut Seq<u8>, forlopp: u64, to: SendTo) -> Result<(), Memor
         SendTo::Queue { fresh: true, .. } => text.append(b"NEW"),
         _ => add_number(text, b"F", forlopp),
     }
-}
-
-/// `SIG BLOCK` of an entry; no bytes where there is none of this number.
-fn add_entry(text: &mut Seq<u8>, exchange: &Exchange, entry: u32) -> Result<(), Memory>
-    ensures { OnOk result (text.new ≡ text.old ++ entry_words exchange.now entry) }
-{
-    let Some(entry) = exchange.entries.get(entry as usize) else {
-        return Ok(());
-    };
-    text.append(signal_name(exchange, entry.signal))?;
-    text.append(b" ")?;
-    text.append(block_name(exchange, entry.block))
 }
 
 /// `ENDED`, or the word of the fault.

@@ -11,12 +11,22 @@ use std::alloc::Global;
 
 /// A job of a run: its number, from 1, in the order in which the jobs ended; how it started; the signals that it sent, in order;
 /// and how it ended.
-#[derive(Drop)]
 pub struct TracedJob {
     pub number: u64,
     pub start: JobStart,
     pub sends: Seq<Sent>,
     pub outcome: Outcome,
+}
+
+impl Drop for TracedJob {
+    fn drop(self) {
+        let TracedJob {
+            number: _,
+            start: _,
+            sends: _,
+            outcome: _,
+        } = self;
+    }
 }
 
 /// The lines of a filter, and the jobs so far that they show.

@@ -8,14 +8,16 @@ ghost use Rattle.signal_types.specs.Found.{number_in, kind_at, kind_in};
 
 use exchange_model::SignalKind;
 use indexmap::IndexMap;
-use plex_num::{Memory, Name};
+use plex_num::{Memory, Name, Seed};
 use std::alloc::Global;
 use token_grammar::KeptName;
 
 /// Signals, each found by its name. Of two signals of one name the first counts.
 pub struct SignalTable<'a> {
-    pub(crate) numbers: IndexMap<Name, u32>,
+    pub(crate) numbers: IndexMap<Name, u32, Seed>,
     pub kinds: &'a [SignalKind],
+    /// The seed of this table, and of others over names of the same text.
+    pub seed: Seed,
     pub ghost known: { (n : List ℕ) → get bytes_eq numbers n ≡ number_in kinds.now n },
 }
 
@@ -24,6 +26,7 @@ impl Drop for SignalTable<'_> {
         let SignalTable {
             numbers: _,
             kinds: _,
+            seed: _,
         } = self;
     }
 }
@@ -55,15 +58,15 @@ pub fn count_of_signal(signal: &SignalKind) -> u8
 }
 
 /// No name; it takes no memory.
-fn no_numbers(alloc: Global) -> IndexMap<Name, u32>
+fn no_numbers(alloc: Global, seed: Seed) -> IndexMap<Name, u32, Seed>
     ensures { (n : List ℕ) → get bytes_eq result n ≡ Option.None }
 {
-    IndexMap::new(alloc)
+    IndexMap::with_hasher(alloc, seed)
 }
 
 /// Takes in a signal's name with its number; a name that is there keeps its number.
 #[tactic(auto, using(crate::proofs::Found::note_kept, crate::proofs::Found::note_new))]
-fn note(numbers: &mut IndexMap<Name, u32>, name: &Name, number: u32) -> Result<(), Memory>
+fn note(numbers: &mut IndexMap<Name, u32, Seed>, name: &Name, number: u32) -> Result<(), Memory>
     ensures { OnOk result ((n : List ℕ) → get bytes_eq numbers.new n ≡ or_else (get bytes_eq numbers.old n) (if bytes_eq name.now n then Option.Some number else Option.None)) }
 {
     if numbers.get(name).is_some() {
@@ -76,13 +79,14 @@ fn note(numbers: &mut IndexMap<Name, u32>, name: &Name, number: u32) -> Result<(
 }
 
 impl<'a> SignalTable<'a> {
-    /// The table of these signals. Memory is refused also where there are 2^32 of them or more.
+    /// The table of these signals, with a seed that hangs on their names. Memory is refused also where there are 2^32 of
+    /// them or more.
     #[tactic(auto, using(crate::proofs::Found::table_begin, crate::proofs::Found::table_more, crate::proofs::Found::table_end))]
-    pub fn of(alloc: Global, kinds: &'a [SignalKind]) -> Result<SignalTable<'a>, Memory>
+    pub fn of(alloc: Global, kinds: &'a [SignalKind], seed: Seed) -> Result<SignalTable<'a>, Memory>
         ensures kinds { IfOk result (λ s. s.kinds.now ≡ kinds.now) }
         ensures numbers { IfOk result (λ s. (n : List ℕ) → get bytes_eq s.numbers n ≡ number_in kinds.now n) }
     {
-        let mut numbers = no_numbers(alloc);
+        let mut numbers = no_numbers(alloc, seed);
         let mut number = 0;
         for kind in kinds {
             note(&mut numbers, name_of(kind), number)?;
@@ -91,7 +95,11 @@ impl<'a> SignalTable<'a> {
             };
             number = next;
         }
-        Ok(SignalTable { numbers, kinds })
+        Ok(SignalTable {
+            numbers,
+            kinds,
+            seed,
+        })
     }
 
     /// The number of the first signal of this name.

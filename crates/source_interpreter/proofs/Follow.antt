@@ -7,7 +7,8 @@ use Rattle.job_types.specs.declared.outcome.Outcome.TheVariants.{Faulted}
 use Rattle.job_types.specs.declared.touch.Touch.{Touch}
 use Rattle.exchange_model.specs.declared.exchange.Exchange.{Exchange}
 use Rattle.exchange_model.specs.declared.expr.Expr.{Expr}
-use Rattle.source_meaning.specs.Value.{Got, Gives, Fails, answer_of, expr_value, unless, range_check, values_of, and_then}
+use Rattle.source_meaning.specs.Value.{Got, Gives, Fails, answer_of, expr_value, values_of, and_then}
+use Rattle.source_interpreter.specs.Checks.{unless, range_check}
 use Rattle.source_meaning.specs.Config.{Config, Item}
 use Rattle.source_meaning.specs.Changes.{on_value, on_values, unless_fault, where_fits, fails}
 use Rattle.source_interpreter.specs.Running.{Running, config_of, sight_of}

@@ -6,7 +6,8 @@ use Rattle.job_types.specs.declared.touch.Touch.{Touch}
 use Rattle.exchange_model.specs.declared.expr.Expr.{Expr}
 use Rattle.exchange_model.specs.declared.stmt.StmtKind.TheOpen as stmt
 use Rattle.exchange_model.specs.Cells.{Placed, field_cell}
-use Rattle.source_meaning.specs.Value.{answer_of, expr_value, pointer_fault, unless, range_check}
+use Rattle.source_meaning.specs.Value.{answer_of, expr_value, pointer_fault}
+use Rattle.source_interpreter.specs.Checks.{unless, range_check}
 use Rattle.source_meaning.specs.Config.{Config, Item, base_of, files_of}
 use Rattle.source_meaning.specs.Step.{does}
 use Rattle.source_meaning.specs.Changes.{where_fits, goes, sets_temp, sets_cell, at_record, sets_field, variable_width, field_width}

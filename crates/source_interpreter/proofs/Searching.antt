@@ -16,7 +16,8 @@ use Rattle.exchange_model.specs.declared.expr.Rel.{Rel}
 use Rattle.exchange_model.specs.declared.stmt.StmtKind.TheOpen as stmt
 use Rattle.exchange_model.specs.Cells.{Placed, field_cell, mark_cell}
 use Rattle.job_types.specs.Own.{World}
-use Rattle.source_meaning.specs.Value.{answer_of, expr_value, stands as stand, pointer_fault, unless}
+use Rattle.source_meaning.specs.Value.{answer_of, expr_value, stands as stand, pointer_fault}
+use Rattle.source_interpreter.specs.Checks.{unless}
 use Rattle.source_meaning.specs.Config.{Config, Item, files_of}
 use Rattle.source_meaning.specs.Step.{does}
 use Rattle.source_meaning.specs.Changes.{goes, fails, least_record, looked_at, record_loads, on_record, at_found, for_first, at_free, joins_chain, seizes, at_record, frees, opens_fields, opens_record, sets_temp, sets_cell}

@@ -5,7 +5,8 @@ use Rattle.std.proofs.lemmas.List.{append-nil}
 use Rattle.std.proofs.lemmas.Bool.Decides.{nat_tests}
 use Rattle.plex_num.proofs.Lists.{all_append, all_left, all_right}
 use Rattle.exchange_model.specs.declared.stmt.StmtKind.{out-StmtKind}
-use Rattle.source_meaning.specs.Config.{Item, Do, Turns, is_enter, next_counted}
+use Rattle.source_meaning.specs.Config.{Item, Do, Turns, next_counted}
+use Rattle.exchange_model.specs.Kept.{is_enter}
 use Rattle.std.specs.Option.{option_to_list}
 use Rattle.exchange_model.specs.declared.stmt.Stmt.{Stmt}
 use Rattle.source_interpreter.specs.Work.{items_of, taken_items, todo_of}

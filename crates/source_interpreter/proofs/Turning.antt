@@ -12,7 +12,8 @@ use Rattle.exchange_model.specs.declared.stmt.StmtKind.TheOpen as stmt
 use Rattle.exchange_model.specs.declared.stmt.StmtKind.TheVariants as kind
 use Rattle.source_meaning.specs.Value.{answer_of, expr_value, cond_value}
 use Rattle.job_types.specs.Truth.{one_if, at_zero}
-use Rattle.source_meaning.specs.Config.{Config, Item, Do, Turns, Caller, is_enter, sight}
+use Rattle.source_meaning.specs.Config.{Config, Item, Do, Turns, Caller, sight}
+use Rattle.exchange_model.specs.Kept.{is_enter}
 use Rattle.source_meaning.specs.Step.{does, starts}
 use Rattle.source_meaning.specs.Changes.{on_value, goes, to_label, chosen, ends}
 use Rattle.source_interpreter.specs.Running.{Running, sight_of, with_temp, with_temps, with_turns, before_rest, at_label}

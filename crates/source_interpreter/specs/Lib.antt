@@ -1,3 +1,4 @@
+pub mod Checks
 pub mod Kept
 pub mod Opened
 pub mod Running

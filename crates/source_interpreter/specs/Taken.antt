@@ -1,7 +1,8 @@
 -- The item that is taken from what remains.
 use Rattle.std.specs.Prelude.{nat_le, not, Bool, true, List, [], ◌∷◌, Option, Some, None}
 use Rattle.exchange_model.specs.declared.stmt.StmtKind.{out-StmtKind}
-use Rattle.source_meaning.specs.Config.{Item, Do, Start, Turns, is_enter}
+use Rattle.source_meaning.specs.Config.{Item, Do, Start, Turns}
+use Rattle.exchange_model.specs.Kept.{is_enter}
 use Rattle.source_interpreter.specs.declared.work.Next.{Next}
 use Rattle.source_interpreter.specs.declared.work.Next.TheVariants as next
 

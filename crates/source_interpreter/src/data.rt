@@ -1,7 +1,7 @@
 // Statements that give a temporary or a stored word a value.
 ghost use Rattle.std.specs.Prelude.{◌≡◌};
 ghost use Rattle.exchange_model.specs.declared.stmt.StmtKind.TheOpen as stmt;
-ghost use Rattle.source_meaning.specs.Value.{range_check};
+ghost use Rattle.source_interpreter.specs.Checks.{range_check};
 ghost use Rattle.source_interpreter.specs.Kept.{IsExprOfText};
 ghost use Rattle.source_interpreter.specs.Leaves.{Does};
 

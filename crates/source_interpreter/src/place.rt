@@ -1,7 +1,8 @@
 // The files of an exchange, and the cells of their records.
 ghost use Rattle.std.specs.Prelude.{◌≡◌, ◌+◌, ◌*◌, ◌<◌, ◌≤◌, length, nat_eq, IfSome, slice_get, slice_index};
 ghost use Rattle.exchange_model.specs.Cells.{record_cells, field_cell, mark_cell};
-ghost use Rattle.source_meaning.specs.Value.{pointer_fault, unless, stands as stand};
+ghost use Rattle.source_meaning.specs.Value.{pointer_fault, stands as stand};
+ghost use Rattle.source_interpreter.specs.Checks.{unless};
 ghost use Rattle.job_types.specs.Chain.{holds as has_record};
 ghost use Rattle.source_meaning.specs.Config.{files_of};
 ghost use Rattle.source_meaning.specs.Changes.{field_width, least_record};

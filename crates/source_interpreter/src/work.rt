@@ -1,7 +1,8 @@
 // What remains to be done, as places in the exchange's own lists: no statement is copied.
 ghost use Rattle.std.specs.Prelude.{◌≡◌, ◌∷◌, ◌++◌, [], List, map, true, OnOk, IfOk, IfSome, IfNone};
 ghost use Rattle.exchange_model.specs.declared.stmt.StmtKind.{out-StmtKind};
-ghost use Rattle.source_meaning.specs.Config.{Item, Do, Start, Turns, starting, is_enter as enters, next_counted};
+ghost use Rattle.source_meaning.specs.Config.{Item, Do, Start, Turns, starting, next_counted};
+ghost use Rattle.exchange_model.specs.Kept.{is_enter as enters};
 ghost use Rattle.source_interpreter.specs.Work.{items_of, taken_items, todo_of};
 ghost use Rattle.source_interpreter.specs.Kept.{AreOfText, AreKept, IsKept};
 ghost use Rattle.source_interpreter.specs.Taken.{item_of, before, is_counted};

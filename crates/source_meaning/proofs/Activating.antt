@@ -19,7 +19,8 @@ use Rattle.std.proofs.Math.Seq.{drop-nil}
 use Rattle.exchange_model.specs.Kept.IsText.{ends, goes}
 use Rattle.exchange_model.specs.Kept.{IsText, IsExchange, entered, row_at, enters_from, entry_of, entry_at, entries_in, entries_from}
 use Rattle.plex_num.proofs.Lists.{slice_get-append_left, slice_get-append_right}
-use Rattle.source_meaning.specs.Config.{Do, Start, body_of, row_place, enter_place, is_receiver, is_enter, starting}
+use Rattle.source_meaning.specs.Config.{Do, Start, body_of, row_place, enter_place, is_receiver, starting}
+use Rattle.exchange_model.specs.Kept.{is_enter}
 use Rattle.source_meaning.specs.Named.{Layer}
 use Rattle.source_meaning.specs.Rests.{IsRow, whole, BeginsAt, BeginsAs}
 use Rattle.source_meaning.proofs.Booleans.{true_not_false, or_left, or_right}

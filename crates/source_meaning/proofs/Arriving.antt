@@ -7,7 +7,8 @@ use Rattle.job_types.specs.declared.job.Job.{Job}
 use Rattle.job_types.specs.Forlopps.{is_dead}
 use Rattle.job_types.specs.Waiting.{joins}
 use Rattle.exchange_model.specs.declared.exchange.Exchange.{Exchange}
-use Rattle.source_meaning.specs.Arrivals.{level_of, given_to, forlopp_for, next_after, arrives, is_due, arrivals_of, arrivals}
+use Rattle.source_meaning.specs.Arrivals.{given_to, forlopp_for, next_after, arrives, is_due, arrivals_of, arrivals}
+use Rattle.exchange_model.specs.Names.{level_of}
 use Rattle.source_meaning.specs.State.{State, Coming, Origin, Fresh, Bare, Same, Arrived, Lost, has_stopped}
 use Rattle.source_meaning.specs.Valid.{MayBe, IsJob, LineFits, LinesFit, EventFits, IsValid}
 use Rattle.plex_num.proofs.Lists.{all_append}

@@ -23,6 +23,17 @@ pub record IsDelivered (s t : State) : Type 0 where
   pub store : t.store ≡ s.store
   pub chains : t.chains ≡ s.chains
 
+-- what is sent changes no chain
+
+pub delivered_chains : (to : SendTo) (forlopp : ℕ) (values : List ℕ) (s : State) → (delivered_to to forlopp values s).chains ≡ s.chains
+delivered_chains (Outside signal) forlopp values s = refl
+delivered_chains (Queue entry level true) forlopp values s = refl
+delivered_chains (Queue entry level false) forlopp values s = refl
+
+pub all_delivered_chains : (forlopp : ℕ) (sends : List Sent) (s : State) → (all_delivered forlopp sends s).chains ≡ s.chains
+all_delivered_chains forlopp [] s = refl
+all_delivered_chains forlopp (m ∷ rest) s = all_delivered_chains forlopp rest (delivered forlopp m s) ∙ delivered_chains m.to forlopp m.values s
+
 -- the next number is no dead one
 pub next_alive : (x : Exchange) (s : State) (room : ℕ) → Orderly x s room → is_dead s.dead s.next ≡ false
 next_alive x s room o = ⊎_elim (λ dead. let past = o.dead s.next dead in absurd (let below = past.1 in omega arith)) (λ alive. alive) (bool_cases (is_dead s.dead s.next))

@@ -16,7 +16,8 @@ use Rattle.exchange_model.specs.Fits.{Scope, KindNames, IsLabel, retrieved}
 use Rattle.exchange_model.specs.Kept.{IsExchange, IsFinish, IsLabelAt, IsText, entered, scope_of}
 use Rattle.exchange_model.specs.Kept.IsText.{ends, goes}
 use Rattle.exchange_model.proofs.Numbers.{there_from}
-use Rattle.source_meaning.specs.Config.{Item, Do, Start, Turns, Caller, Config, body_of, is_enter, label_of, from_place, from_signal, next_counted}
+use Rattle.source_meaning.specs.Config.{Item, Do, Start, Turns, Caller, Config, body_of, label_of, from_place, from_signal, next_counted}
+use Rattle.exchange_model.specs.Kept.{is_enter}
 use Rattle.source_meaning.specs.Changes.{ends as ends_at}
 use Rattle.source_meaning.specs.Deeds.{Deed, Doing, deed_of, label_in, IsBranch, MayGoOn, GoesOn, to_next, with_value, to_label, to_branch, to_loop, to_turn, with_found, with_seized, with_answers, with_given, from_no_enter, IsAsking, by_combined}
 use Rattle.source_meaning.specs.Effects.{Effect, Looks, Goes, Leave, Begins, Asks, Returns, Ends, Faults}

@@ -11,7 +11,7 @@ use Rattle.source_meaning.specs.Config.{row_place, enter_place, is_receiver}
 abbrev of_signal : ℕ → Row → Bool
 of_signal signal r = nat_eq r.signal signal
 
-row_place_is : (rows : List Row) (signal : ℕ) → unwrap_or (place_in rows signal) 0 ≡ row_place rows signal
+pub row_place_is : (rows : List Row) (signal : ℕ) → unwrap_or (place_in rows signal) 0 ≡ row_place rows signal
 row_place_is [] signal = refl
 row_place_is (r ∷ rows) signal = by_test (of_signal signal r) (row_place_is rows signal)
   where

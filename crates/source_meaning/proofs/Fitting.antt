@@ -1,6 +1,7 @@
 -- What stands in the text of a block of an exchange is of that block.
-use Rattle.std.proofs.Common.{◌≡◌, inl, inr, ℕ, List, [], ◌∷◌, map, Option, Some, None, refl, sym, subst, slice_get}
+use Rattle.std.proofs.Common.{◌≡◌, inl, inr, ℕ, ◌≤◌, List, [], ◌∷◌, length, map, Option, Some, None, refl, sym, subst, slice_get}
 use Rattle.std.specs.List.{AllByRecursion}
+use Rattle.std.proofs.lemmas.Option.{none-some, same_Some, slice_get_past}
 use Rattle.exchange_model.specs.declared.exchange.Exchange.{Exchange}
 use Rattle.exchange_model.specs.declared.block.Block.{Block}
 use Rattle.exchange_model.specs.declared.expr.Expr.{Expr, out-Expr}
@@ -8,11 +9,12 @@ use Rattle.exchange_model.specs.declared.expr.Term.{Term, out-Term}
 use Rattle.exchange_model.specs.declared.expr.Joined.{Joined}
 use Rattle.exchange_model.specs.declared.expr.Factor.{Factor}
 use Rattle.exchange_model.specs.declared.expr.Factor.TheVariants as factor
+use Rattle.exchange_model.specs.declared.signal.SignalKind.{SignalKind}
 use Rattle.exchange_model.specs.declared.stmt.Stmt.{Stmt}
 use Rattle.exchange_model.specs.declared.stmt.When.{When, out-When}
 use Rattle.exchange_model.specs.declared.stmt.StmtKind.{out-StmtKind}
 use Rattle.exchange_model.specs.declared.stmt.StmtKind.TheOpen as stmt
-use Rattle.exchange_model.specs.Fits.{Scope, ArePaired, InnerFits, ListsFit, awaited, IsTemporary, IsVariable, IsField, ExprFits, FactorFits}
+use Rattle.exchange_model.specs.Fits.{AnswerFits, retrieved, Scope, ArePaired, InnerFits, ListsFit, awaited, IsTemporary, IsVariable, IsField, ExprFits, FactorFits}
 use Rattle.exchange_model.specs.Inside.{joined}
 use Rattle.exchange_model.specs.Kept.{IsExchange, scope_of}
 use Rattle.exchange_model.proofs.Layers.{stmt_fits-out, stmt_fits-parts, expr_fits-out, term_fits-out, joined_fits-out, factor_fits-out}
@@ -139,3 +141,12 @@ module _ (s : Scope) where
 
   pub names_fit : (e : Expr) → ExprFits s e → AllByRecursion (NamedFits s) (named_in e)
   names_fit e = every_expr name_parts e
+
+-- a RETRIEVE is of an answer of the exchange
+
+fits_none : (signals : List SignalKind) (answer n : ℕ) → length signals ≤ answer → AnswerFits (slice_get signals answer) n → ⊥
+fits_none signals answer n past fits = subst (λ o. AnswerFits o n) (slice_get_past signals answer past) fits
+
+pub answer_below : (x : Exchange) (b : ℕ) (l : Layer) (answer : ℕ) → length x.signals ≤ answer → IsOfBlock x b l → retrieved l ≡ Some answer → ⊥
+answer_below x b (stmt.Retrieve m temps) answer past fits is = fits_none x.signals m (length temps) (subst (λ n. length x.signals ≤ n) (sym (same_Some m answer is)) past) fits.fits.names.0
+answer_below x b _ answer past fits is = none-some answer is

@@ -2,6 +2,7 @@ pub mod Layers
 pub mod Parts
 pub mod Naming
 pub mod Lists
+pub mod Lookups
 pub mod Booleans
 pub mod Loads
 pub mod Searched

@@ -2,7 +2,7 @@
 use Rattle.std.proofs.Common.{◌≡◌, ◌⊎◌, inl, inr, ℕ, Bool, true, false, cond, List, [], ◌∷◌, ◌++◌, map, Some, None, refl, sym, ap, ◌∙◌, subst}
 use Rattle.std.proofs.lemmas.Bool.{eq-eqb, eqb-true}
 use lib.Dec.{T}
-use Rattle.std.specs.Prelude.{◌&&◌, ◌||◌, flat_map, unwrap_or}
+use Rattle.std.specs.Prelude.{◌||◌, flat_map, unwrap_or}
 use Rattle.std.specs.List.{AllByRecursion}
 use Rattle.std.specs.Cmp.{unsigned_tied}
 use Rattle.std.specs.Ordering.{nat_cmp, eq_by_cmp, is_eq, is_lt}
@@ -15,10 +15,7 @@ use Rattle.job_types.specs.Chain.{holds}
 use Rattle.job_types.specs.Forlopps.{ChainMap, all_records, chain_at}
 use Rattle.source_meaning.proofs.Booleans.{bool_cases}
 use Rattle.plex_num.proofs.Lists.{all_append}
-
-split : (a b : Bool) → T (a && b) → T a × T b
-split true b p = (tt, p)
-split false b p = absurd p
+use Rattle.plex_num.proofs.Options.{split}
 
 not_tied : (r : Ordering) → T (is_lt r) → (q k : ℕ) → nat_cmp q k ≡ r → eq_by_cmp nat_cmp q k ≡ false
 not_tied Less p q k is = ap is_eq is

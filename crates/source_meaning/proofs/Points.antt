@@ -5,6 +5,7 @@ use Rattle.std.proofs.lemmas.List.Elements.{Contains-append_left, Contains-appen
 use Rattle.std.proofs.lemmas.List.FromFn.{length-range_with_len, get_or-range_with_len}
 use Rattle.std.proofs.lemmas.Option.{none-some, same_Some}
 use Rattle.std.specs.List.{Contains, range_with_len}
+use Rattle.plex_num.proofs.Members.{in_map}
 use Rattle.exchange_model.specs.declared.exchange.Exchange.{Exchange}
 use Rattle.exchange_model.specs.declared.block.Block.{Block}
 use Rattle.exchange_model.specs.declared.entry.PointInfo.{PointInfo}
@@ -21,11 +22,6 @@ use Rattle.source_meaning.specs.Deeds.{Deed, Doing, Starting, Turning, deed_poin
 use Rattle.source_meaning.specs.Named.{Layer}
 use Rattle.source_meaning.specs.Rests.{IsRow, whole, later, branch, turn, Stands, DeedStands}
 use Rattle.source_meaning.proofs.Lists.{Within, first_is, later_is}
-
-contains_map : {A B : Type 0} (f : A → B) (xs : List A) (x : A) → Contains xs x → Contains (map f xs) (f x)
-contains_map f [] x h = absurd (let lt = h.1 in omega arith)
-contains_map f (y ∷ xs) x (zero, lt, is) = subst (λ z. Contains (map f (y ∷ xs)) z) (ap f is) (first_is (f y) (map f xs))
-contains_map f (y ∷ xs) x (suc i, lt, is) = later_is (f y) (f x) (map f xs) (contains_map f xs x (i, (let h = lt in omega arith), is))
 
 within_joined : {A B : Type 0} (f : A → List B) (xs : List A) (i : ℕ) (x : A) → slice_get xs i ≡ Some x → Within (f x) (joined (map f xs))
 within_joined f [] i x there = absurd (none-some x there)
@@ -87,7 +83,7 @@ module _ (x : Exchange) (kept : IsExchange x) where
   spot_below : (p line : ℕ) → Contains (all_spots x.blocks) (record { point = p; line = line }) → p < length x.points
   spot_below p line h =
       let point : Spot → ℕ = λ s. s.point in
-      let at : Contains (range_with_len 0 (length (all_spots x.blocks))) p = subst (λ l. Contains l p) kept.numbered.statements (contains_map point (all_spots x.blocks) (record { point = p; line = line }) h) in
+      let at : Contains (range_with_len 0 (length (all_spots x.blocks))) p = subst (λ l. Contains l p) kept.numbered.statements (in_map point (all_spots x.blocks) (record { point = p; line = line }) h) in
       let below = range_below (length (all_spots x.blocks)) p at in
       let many : length x.points ≡ length (all_spots x.blocks) = ap length kept.numbered.points ∙ points_many 0 x.blocks in
       omega arith

@@ -16,7 +16,8 @@ use Rattle.exchange_model.specs.declared.stmt.StmtKind.TheOpen as stmt
 use Rattle.exchange_model.specs.Cells.{Placed}
 use Rattle.exchange_model.specs.Kept.{IsExchange}
 use Rattle.exchange_model.proofs.Facts.{file_kept}
-use Rattle.source_meaning.specs.Config.{Item, Do, Start, Turns, Config, body_of, enter_place, is_enter, label_of, from_place, from_signal, starting, base_of, files_of, sight, blank, next_counted}
+use Rattle.source_meaning.specs.Config.{Item, Do, Start, Turns, Config, body_of, enter_place, label_of, from_place, from_signal, starting, base_of, files_of, sight, blank, next_counted}
+use Rattle.exchange_model.specs.Kept.{is_enter}
 use Rattle.source_meaning.specs.Changes.{takes, variable_width, field_width, value_count}
 use Rattle.source_meaning.specs.Deeds.{Deed, Doing, deed_of, IsExprOf, IsValueOf, IsRecordOf, GoesOn, with_value, to_label, to_branch, to_loop, to_turn, with_found, with_seized, with_answers, with_given, IsPosting, to_queue, to_outside, IsBeginning, by_send, by_transfer, IsAsking, by_combined}
 use Rattle.source_meaning.specs.Effects.{Effect, Looks, PutsVariable, PutsField, Seizes, Frees, Goes, Posts}

@@ -1,14 +1,12 @@
 -- A release and a restart keep a state valid.
 use Rattle.std.proofs.Common.{◌≡◌, ◌⊎◌, inl, inr, ⊎_elim, ℕ, zero, suc, ◌+◌, ◌<◌, ◌≤◌, Bool, true, false, List, [], ◌∷◌, ◌++◌, take, length, get_or, sum_by, Some, refl, sym, ap, ◌∙◌, subst, slice_get, arith}
-use Rattle.std.proofs.lemmas.Bool.{eqb-true, eq-eqb, cases_eq, ltb-true, ltb-false, lt-ltb}
-use Rattle.std.proofs.lemmas.Cmp.{nat_cmp_total}
+use Rattle.std.proofs.lemmas.Bool.{eq-eqb, cases_eq, ltb-true, ltb-false, lt-ltb}
 use Rattle.std.proofs.lemmas.List.{take_more}
 use Rattle.std.proofs.lemmas.List.Sums.{sum_by-append}
 use Rattle.std.proofs.lemmas.Option.{slice_get_within, get_or_from_slice_get}
 use Rattle.std.specs.Prelude.{max, nat_lt, not, ◌&&◌, ◌||◌, ◌==◌, ◌≢◌, slice_index, unwrap_or, if◌then◌else◌}
 use Rattle.std.specs.List.{AllByRecursion}
-use Rattle.std.specs.Cmp.{unsigned_tied}
-use Rattle.std.specs.Ordering.{nat_cmp, eq_by_cmp}
+use Rattle.std.specs.Ordering.{nat_cmp}
 use Rattle.std.specs.FinMap as fin
 use Rattle.std.specs.FinSet as set
 use Rattle.plex_num.specs.declared.level.Level.{Level}
@@ -17,7 +15,7 @@ use Rattle.job_types.specs.declared.chain.Held.{Held}
 use Rattle.job_types.specs.declared.fault.Fault.{Fault}
 use Rattle.job_types.specs.declared.job.Job.{Job}
 use Rattle.job_types.specs.Chain.{holds}
-use Rattle.job_types.specs.Forlopps.{Dead, all_records, chain_at, dead_below, is_dead, with_dead}
+use Rattle.job_types.specs.Forlopps.{Dead, all_records, chain_at, dead_below, is_dead}
 use Rattle.job_types.specs.Own.{World, untouched, writes}
 use Rattle.job_types.specs.Waiting.{others_in}
 use Rattle.exchange_model.specs.declared.exchange.Exchange.{Exchange}
@@ -35,38 +33,13 @@ use Rattle.source_meaning.proofs.Booleans.{and_true, or_cases, or_right, bool_ca
 use Rattle.source_meaning.proofs.Chains.{chain_same, chain_other}
 use Rattle.source_meaning.proofs.Freeing.{put_chain, put_same, put_other, books_release, openings_fit, openings_clear}
 use Rattle.plex_num.proofs.Lists.{all_append}
+use Rattle.job_types.proofs.Died.{dead_cases, alive_still}
 use Rattle.source_meaning.proofs.Maps.{all_records_fit, held_among_all}
 use Rattle.source_meaning.proofs.Marks.{HasMark, variable_put}
 use Rattle.source_meaning.proofs.States.{books_as, books_still, Orderly, valid_of}
 use Rattle.source_meaning.proofs.Stores.{put_variable}
 
--- dead numbers
-
-dead_is : (d : Dead) (n k : ℕ) → is_dead (with_dead d n) k ≡ ((nat_lt 0 k && nat_lt k d.below) || (eq_by_cmp nat_cmp k n || set.contains d.others k))
-dead_is d n k = ap (λ b. (nat_lt 0 k && nat_lt k d.below) || b) (set.contains-insert nat_cmp_total d.others n k)
-
-either : (a b c : Bool) → (a || (b || c)) ≡ true → (b ≡ true) ⊎ ((a || c) ≡ true)
-either true b c h = inr refl
-either false true c h = inl refl
-either false false c h = inr h
-
-neither : (a b c : Bool) → (a || c) ≡ false → b ≡ false → (a || (b || c)) ≡ false
-neither true b c h k = h
-neither false true c h k = k
-neither false false c h k = h
-
--- one more is dead, and the others are as they were
-dead_cases : (d : Dead) (n k : ℕ) → is_dead (with_dead d n) k ≡ true → (k ≡ n) ⊎ (is_dead d k ≡ true)
-dead_cases d n k h = ⊎_elim
-    (λ same. inl (eqb-true k n (sym (unsigned_tied k n) ∙ same))) (λ old. inr old)
-    (either (nat_lt 0 k && nat_lt k d.below) (eq_by_cmp nat_cmp k n) (set.contains d.others k) (sym (dead_is d n k) ∙ h))
-
-alive_still : (d : Dead) (n k : ℕ) → k ≢ n → is_dead d k ≡ false → is_dead (with_dead d n) k ≡ false
-alive_still d n k other alive =
-    dead_is d n k ∙ neither (nat_lt 0 k && nat_lt k d.below) (eq_by_cmp nat_cmp k n) (set.contains d.others k) alive
-    (⊎_elim (λ t. absurd (other (eqb-true k n (sym (unsigned_tied k n) ∙ t)))) (λ f. f) (bool_cases (eq_by_cmp nat_cmp k n)))
-
--- of the numbers below a bound too
+-- the numbers below a bound are dead too
 below_cases : (d : Dead) (next k : ℕ) → is_dead (dead_below d next) k ≡ true → ((1 ≤ k) × (k < next)) ⊎ (is_dead d k ≡ true)
 below_cases d next k h = ⊎_elim
     (λ both. let parts = and_true (nat_lt 0 k) (nat_lt k (max d.below next)) both in

@@ -12,7 +12,8 @@ use Rattle.exchange_model.specs.declared.block.Block.{Block}
 use Rattle.exchange_model.specs.declared.entry.Entry.{Entry}
 use Rattle.exchange_model.specs.declared.stmt.Stmt.{Stmt}
 use Rattle.exchange_model.specs.declared.stmt.StmtKind.{out-StmtKind}
-use Rattle.source_meaning.specs.Config.{Item, Do, Start, Turns, Caller, Config, body_of, is_enter, label_of, enter_place, from_place, starting, from_signal, next_counted}
+use Rattle.source_meaning.specs.Config.{Item, Do, Start, Turns, Caller, Config, body_of, label_of, enter_place, from_place, starting, from_signal, next_counted}
+use Rattle.exchange_model.specs.Kept.{is_enter}
 use Rattle.source_meaning.specs.Changes.{ends}
 use Rattle.source_meaning.specs.Deeds.{Deed, deed_of, IsBranch, GoesOn, to_next, with_value, to_label, to_branch, to_loop, to_turn, with_found, with_seized, with_answers, with_given, from_no_enter}
 use Rattle.source_meaning.specs.Effects.{Effect, Looks, Goes, Leave, Begins, Asks, Returns, Ends, Faults}

@@ -1,11 +1,10 @@
 -- What a job sends fits: it goes to an entry of a block that receives it, with as many values as its signal has.
 use Rattle.std.proofs.Common.{◌≡◌, ℕ, zero, suc, ◌+◌, Bool, true, false, List, [], ◌∷◌, ◌++◌, length, Option, Some, None, refl, sym, ap, ◌∙◌, subst, slice_get, arith, length-append}
-use Rattle.std.specs.Prelude.{Result, Ok, if◌then◌else◌}
+use Rattle.std.specs.Prelude.{Ok, if◌then◌else◌}
 use Rattle.std.specs.List.{AllByRecursion, Contains}
 use Rattle.std.specs.Option.{option_map_or}
 use Rattle.plex_num.specs.declared.level.Level.{Level}
 use Rattle.plex_num.specs.declared.level.Level.TheVariants.{B}
-use Rattle.job_types.specs.declared.fault.Fault.{Fault}
 use Rattle.job_types.specs.declared.outbox.SendTo.{SendTo}
 use Rattle.exchange_model.specs.declared.exchange.Exchange.{Exchange}
 use Rattle.exchange_model.specs.declared.block.Block.{Block}
@@ -17,7 +16,7 @@ use Rattle.exchange_model.specs.declared.stmt.Receiver.{Receiver}
 use Rattle.exchange_model.specs.declared.stmt.StmtKind.TheOpen as stmt
 use Rattle.exchange_model.specs.Fits.{Scope, Reaches, SendFits}
 use Rattle.exchange_model.specs.Kept.{IsExchange, scope_of, signal_count}
-use Rattle.source_meaning.specs.Arrivals.{level_of, signal_level}
+use Rattle.exchange_model.specs.Names.{level_of, signal_level}
 use Rattle.source_meaning.specs.Config.{Item, Config, is_receiver, receiver_of, sight, entry_number}
 use Rattle.source_meaning.specs.Deeds.{Deed, GoesTo, out, named, held, IsPosting, to_queue, to_outside}
 use Rattle.source_meaning.specs.Rests.{DeedStands}
@@ -27,16 +26,14 @@ use Rattle.source_meaning.specs.Value.{Got, Gives, Fails, Sight, expr_value, ans
 use Rattle.source_meaning.proofs.Entries.{entry_found, receives_test}
 use Rattle.source_meaning.proofs.Fitting.{deed_fits_in}
 use Rattle.plex_num.proofs.Lists.{all_append}
+use Rattle.plex_num.proofs.Options.{same_Ok}
 use Rattle.source_meaning.proofs.Lists.{first_is, later_is}
 use Rattle.source_meaning.proofs.WordValues.{GotWord}
 
 -- values
 
-ok_is : (a b : List ℕ) → ◌≡◌ {A = Result (List ℕ) Fault} (Ok a) (Ok b) → a ≡ b
-ok_is a b e = cc
-
 pub values_words : (es : List Expr) (vs ws : List ℕ) (s : Sight) → ((e : Expr) → Contains es e → GotWord (expr_value e s)) → AllByRecursion IsWord vs → values_of es vs s ≡ Ok ws → AllByRecursion IsWord ws
-values_words [] vs ws s words before is = subst (AllByRecursion IsWord) (ok_is vs ws is) before
+values_words [] vs ws s words before is = subst (AllByRecursion IsWord) (same_Ok vs ws is) before
 values_words (e ∷ es) vs ws s words before is = by (expr_value e s) (words e (first_is e es)) is (λ v small. values_words es (vs ++ v ∷ []) ws s (λ f at. words f (later_is e f es at)) (all_append IsWord vs (v ∷ []) before (small, tt)))
   where
     by : (got : Got) → GotWord got → and_then (answer_of got) (λ v. values_of es (vs ++ v ∷ []) s) ≡ Ok ws → ((v : ℕ) → IsWord v → values_of es (vs ++ v ∷ []) s ≡ Ok ws → AllByRecursion IsWord ws) → AllByRecursion IsWord ws
@@ -44,7 +41,7 @@ values_words (e ∷ es) vs ws s words before is = by (expr_value e s) (words e (
     by (Fails loads f) small at more = cc
 
 pub values_long : (es : List Expr) (vs ws : List ℕ) (s : Sight) → values_of es vs s ≡ Ok ws → length ws ≡ length vs + length es
-values_long [] vs ws s is = let same = ok_is vs ws is in let long : length vs ≡ length ws = ap length same in omega arith
+values_long [] vs ws s is = let same = same_Ok vs ws is in let long : length vs ≡ length ws = ap length same in omega arith
 values_long (e ∷ es) vs ws s is = by (expr_value e s) is (λ v. values_long es (vs ++ v ∷ []) ws s)
   where
     by : (got : Got) → and_then (answer_of got) (λ v. values_of es (vs ++ v ∷ []) s) ≡ Ok ws → ((v : ℕ) → values_of es (vs ++ v ∷ []) s ≡ Ok ws → length ws ≡ length (vs ++ v ∷ []) + length es) → length ws ≡ length vs + length (e ∷ es)

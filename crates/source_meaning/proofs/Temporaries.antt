@@ -3,13 +3,13 @@ use Rattle.std.proofs.Common.{◌≡◌, ℕ, zero, suc, ◌+◌, ◌<◌, List,
 use Rattle.std.proofs.Math.ListN.{length-set}
 use Rattle.std.proofs.lemmas.List.{get_or-set_same, get_or-set_other, length-replicate}
 use Rattle.std.proofs.lemmas.Option.{none-some, same_Some, slice_get_within}
-use Rattle.std.specs.Prelude.{slice_index, slice_set, Result, Ok, ◌≢◌}
+use Rattle.std.specs.Prelude.{slice_index, slice_set, Ok, ◌≢◌}
 use Rattle.std.specs.List.{AllByRecursion}
 use Rattle.plex_limits.specs.declared.limits.TheConstants.{MOST_TEMPORARIES}
-use Rattle.job_types.specs.declared.fault.Fault.{Fault}
 use Rattle.job_types.specs.declared.job.JobStart.{JobStart}
 use Rattle.job_types.specs.declared.touch.Touch.{Touch}
 use Rattle.plex_num.proofs.Lists.{slice_get-append_left, slice_get-append_seam}
+use Rattle.plex_num.proofs.Options.{same_Ok}
 use Rattle.exchange_model.specs.declared.exchange.Exchange.{Exchange}
 use Rattle.exchange_model.specs.declared.expr.Expr.{Expr}
 use Rattle.source_meaning.specs.Changes.{ends, takes}
@@ -87,12 +87,9 @@ takes_last k (u ∷ before) t after values temps lt none =
 
 -- the value of each expression of a list
 
-ok_is : (a b : List ℕ) → ◌≡◌ {A = Result (List ℕ) Fault} (Ok a) (Ok b) → a ≡ b
-ok_is a b e = cc
-
 -- the values found before stay in front
 pub values_before : (es : List Expr) (vs ws : List ℕ) (s : Sight) → values_of es vs s ≡ Ok ws → (i : ℕ) (v : ℕ) → slice_get vs i ≡ Some v → slice_get ws i ≡ Some v
-values_before [] vs ws s is i v there = ap (λ l. slice_get l i) (sym (ok_is vs ws is)) ∙ there
+values_before [] vs ws s is i v there = ap (λ l. slice_get l i) (sym (same_Ok vs ws is)) ∙ there
 values_before (e ∷ es) vs ws s is i v there = by (expr_value e s) is (λ w more. values_before es (vs ++ w ∷ []) ws s more i v (slice_get-append_left vs (w ∷ []) i (slice_get_within vs i v there) ∙ there))
   where
     by : (got : Got) → and_then (answer_of got) (λ w. values_of es (vs ++ w ∷ []) s) ≡ Ok ws → ((w : ℕ) → values_of es (vs ++ w ∷ []) s ≡ Ok ws → slice_get ws i ≡ Some v) → slice_get ws i ≡ Some v

@@ -1,23 +1,10 @@
 -- Arrivals: which lines of the signal file are due, and what each of them brings.
-use Rattle.std.specs.Prelude.{ℕ, ◌+◌, nat_le, nat_eq, Bool, ◌||◌, is_none, List, [], ◌∷◌, ◌++◌, slice_get, Option, Some, if◌then◌else◌}
-use Rattle.std.specs.Option.{option_map_or}
-use Rattle.plex_num.specs.declared.level.Level.{Level}
-use Rattle.plex_num.specs.declared.level.Level.TheVariants.{B}
+use Rattle.std.specs.Prelude.{ℕ, ◌+◌, nat_le, nat_eq, Bool, ◌||◌, is_none, List, [], ◌∷◌, ◌++◌, if◌then◌else◌}
 use Rattle.job_types.specs.Forlopps.{is_dead}
 use Rattle.job_types.specs.Waiting.{Waiting, joins, pick}
 use Rattle.exchange_model.specs.declared.exchange.Exchange.{Exchange}
-use Rattle.exchange_model.specs.declared.signal.SignalKind.{SignalKind}
-use Rattle.exchange_model.specs.declared.signal.SignalKind.TheVariants.{Buffered}
-use Rattle.exchange_model.specs.declared.entry.Entry.{Entry}
+use Rattle.exchange_model.specs.Names.{level_of}
 use Rattle.source_meaning.specs.State.{State, Coming, Origin, Fresh, Bare, Same, Arrived, Lost, has_stopped}
-
--- the level of a signal, and of an entry's
-abbrev pub signal_level : Option SignalKind → Level
-signal_level (Some (Buffered name level count)) = level
-signal_level _ = B
-
-abbrev pub level_of : Exchange → ℕ → Level
-level_of x entry = option_map_or (λ (e : Entry). signal_level (slice_get x.signals e.signal)) (slice_get x.entries entry) B
 
 -- the forlopp that a line got
 abbrev pub given_to : List Arrived → ℕ → ℕ

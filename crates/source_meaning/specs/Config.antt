@@ -2,7 +2,7 @@
 --
 -- What remains to be done is one flat list of items: a branch puts its statements before what follows it, and a jump
 -- replaces the list, which drops all loops that the job was in. A turn of a loop is an item, so that each step counts one.
-use Rattle.std.specs.Prelude.{ℕ, zero, suc, Bool, true, false, nat_lt, nat_eq, ◌&&◌, List, [], ◌∷◌, map, drop, replicate, position, slice_get, Option, Some, None, unwrap_or, if◌then◌else◌}
+use Rattle.std.specs.Prelude.{ℕ, zero, suc, Bool, false, nat_lt, nat_eq, ◌&&◌, List, [], ◌∷◌, map, drop, replicate, position, slice_get, Option, Some, None, unwrap_or, if◌then◌else◌}
 use Rattle.std.specs.List.{list_any}
 use Rattle.std.specs.Option.{option_map_or}
 use Rattle.plex_limits.specs.declared.limits.TheConstants.{MOST_TEMPORARIES}
@@ -13,9 +13,9 @@ use Rattle.exchange_model.specs.declared.block.Block.{Block}
 use Rattle.exchange_model.specs.declared.block.Enter.{Enter as Row}
 use Rattle.exchange_model.specs.declared.block.Label.{Label}
 use Rattle.exchange_model.specs.declared.stmt.Stmt.{Stmt}
-use Rattle.exchange_model.specs.declared.stmt.StmtKind.{StmtKind-F, out-StmtKind}
-use Rattle.exchange_model.specs.declared.stmt.StmtKind.TheOpen.{Enter}
+use Rattle.exchange_model.specs.declared.stmt.StmtKind.{out-StmtKind}
 use Rattle.exchange_model.specs.Cells.{Placed, placed_files, first_cell}
+use Rattle.exchange_model.specs.Kept.{is_enter}
 use Rattle.job_types.specs.Own.{Own, World}
 use Rattle.source_meaning.specs.Value.{Sight}
 
@@ -90,10 +90,6 @@ sight x c = record { temps = c.temps; store = c.world.store; chain = c.own.chain
 -- the temporaries of a new activation
 abbrev pub blank : List ℕ
 blank = replicate MOST_TEMPORARIES 0
-
-abbrev pub is_enter : {K S W : Type 0} → StmtKind-F K S W → Bool
-is_enter (Enter signal temps) = true
-is_enter _ = false
 
 -- what the statements from a place of a text on do
 abbrev pub from_place : Exchange → ℕ → ℕ → List Item

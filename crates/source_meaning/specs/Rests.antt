@@ -13,7 +13,8 @@ use Rattle.exchange_model.specs.declared.stmt.StmtKind.{out-StmtKind}
 use Rattle.exchange_model.specs.declared.stmt.StmtKind.TheOpen.{On}
 use Rattle.exchange_model.specs.Fits.{LayerFits, retrieved}
 use Rattle.exchange_model.specs.Kept.{IsFinish, IsText, entered, scope_of}
-use Rattle.source_meaning.specs.Config.{Item, Do, Start, Turns, Caller, Config, from_place, from_signal, is_enter, label_of, next_counted}
+use Rattle.source_meaning.specs.Config.{Item, Do, Start, Turns, Caller, Config, from_place, from_signal, label_of, next_counted}
+use Rattle.exchange_model.specs.Kept.{is_enter}
 use Rattle.source_meaning.specs.Named.{Layer}
 use Rattle.source_meaning.specs.Deeds.{Deed, Doing, Starting, Turning, deed_of, deed_point, IsBranch}
 

@@ -20,7 +20,7 @@ use Rattle.exchange_model.specs.Kept.{signal_count}
 use Rattle.job_types.specs.Chain.{holds}
 use Rattle.source_meaning.specs.Config.{files_of}
 use Rattle.source_meaning.specs.State.{State, Coming, Origin, Bare, Same, Arrived, Event, Out, Release, Lost, Restart, chain_in}
-use Rattle.source_meaning.specs.Arrivals.{level_of}
+use Rattle.exchange_model.specs.Names.{level_of}
 
 -- a number of 32 bits
 abbrev pub IsWord : ℕ → Type 0

@@ -71,11 +71,6 @@ abbrev pub pointer_fault : List Held → ℕ → Placed → ℕ → Option Fault
 pointer_fault chain file p number =
     (if nat_lt number p.file.size then (if may_use chain file p number then None else Some fault.NotOwn) else Some fault.Pointer)
 
--- done, unless there is a fault
-abbrev pub unless : Option Fault → Result (Unit {0}) Fault
-unless None = Ok tt
-unless (Some f) = Err f
-
 -- a field of a record is loaded, where nothing is wrong with the pointer
 abbrev pub load_or_fault : Option Fault → ℕ → Sight → Got
 load_or_fault None cell s = cell_value cell s
@@ -161,10 +156,6 @@ abbrev pub holder_value : Holder → Eval
 holder_value (holder.Temporary t) s = Gives [] (slice_index s.temps t)
 holder_value (holder.Variable v) s = cell_value (s.first + v) s
 
--- done where the value fits so many bits
-abbrev pub range_check : ℕ → ℕ → Result (Unit {0}) Fault
-range_check v width = (if nat_lt v (2 ^ width) then Ok tt else Err fault.Range)
-
 -- the values of these expressions, after those found before, or the first fault
 abbrev pub and_then : Result ℕ Fault → (ℕ → Result (List ℕ) Fault) → Result (List ℕ) Fault
 and_then (Ok v) go = go v
@@ -173,11 +164,6 @@ and_then (Err f) go = Err f
 abbrev pub values_of : List Expr → List ℕ → Sight → Result (List ℕ) Fault
 values_of [] vs s = Ok vs
 values_of (e ∷ es) vs s = and_then (answer_of (expr_value e s)) (λ v. values_of es (vs ++ v ∷ []) s)
-
--- a test as a number, or the fault
-abbrev pub bit_of : Result Bool Fault → Result ℕ Fault
-bit_of (Ok b) = Ok (one_if b)
-bit_of (Err f) = Err f
 
 -- 1 where the relation holds, else 0
 abbrev pub relation_value : Relation → Eval

@@ -1,13 +1,14 @@
 -- The records that are chosen, told as runs of numbers.
-use Rattle.std.proofs.Common.{◌≡◌, ◌⊎◌, inl, inr, ⊎_elim, ℕ, zero, suc, ◌+◌, ◌-◌, ◌^◌, ◌<◌, ◌≤◌, Bool, true, false, cond, ◌||◌, ◌&&◌, List, [], ◌∷◌, ◌++◌, length, take, get_or, map, filter, nat_eq, nat_lt, refl, sym, ap, ◌∙◌, subst, arith}
+use Rattle.std.proofs.Common.{◌≡◌, ◌⊎◌, inl, inr, ⊎_elim, ℕ, ◌+◌, ◌-◌, ◌^◌, ◌<◌, ◌≤◌, Bool, true, false, cond, List, [], ◌∷◌, ◌++◌, length, take, get_or, map, filter, nat_eq, nat_lt, refl, sym, ap, ◌∙◌, subst, arith}
 use Rattle.std.specs.Prelude.{◌↔◌, IsTrue}
 use Rattle.std.specs.List.{AllByRecursion, Contains}
 use Rattle.std.specs.List.Sorted.{IsNonDecreasingBy, IsPermutation, IsSorted}
-use Rattle.std.proofs.lemmas.List.{get_or-take, length-take-le, take_all, take_more}
+use Rattle.std.proofs.lemmas.List.{get_or-take, length-take-le, take_all, take_more, get_or_default}
 use Rattle.std.specs.Ordering.{nat_cmp}
 use Rattle.std.proofs.lemmas.List.Sorted.{Contains-permutation, IsNonDecreasingBy-from_sort, IsPermutation-sym}
-use Rattle.std.proofs.lemmas.Bool.{eq-eqb, eqb-true, lt-ltb, ltb-true, or_left, or_right}
+use Rattle.std.proofs.lemmas.Bool.{eq-eqb, eqb-true, lt-ltb, ltb-true, or_left, or_right, and_from, and_parts, cases_lt, or_cases, false_from_ne_true, both_ways}
 use Rattle.std.proofs.lemmas.List.Elements.{Contains-append_cases, Contains-append_left, Contains-append_right, Contains-push, Contains-push_cases, Contains-get_or}
+use Rattle.plex_num.proofs.Members.{none_in, later_is, first_is, first_or_later}
 use Rattle.job_types.specs.declared.chain.Held.{Held}
 use Rattle.job_types.specs.Chain.{holds, is_record}
 use Rattle.job_types.specs.Forlopps.{ChainMap, all_records, chain_at}
@@ -17,7 +18,6 @@ use Rattle.entry_summary.specs.declared.summary.Access.TheVariants.{Seizes}
 use Rattle.start_permit.specs.declared.runs.Run.{Run}
 use Rattle.start_permit.specs.Granted.{IsFree, MayHold, OneOf}
 use Rattle.start_permit.specs.Recorded.{AreBelow, AreRuns, InRun, IsRunOf, one_run, is_of, numbers_of}
-use Rattle.start_permit.proofs.Gaining.{none_in}
 
 -- one run
 
@@ -43,21 +43,6 @@ pub low_is : (from until n : ℕ) → from ≤ n → n < until → n < from + (u
 low_is from until n low high = omega (arith, low, high)
 
 -- the members of a list
-
-first_or_later : {A : Type 0} (x y : A) (xs : List A) → Contains (x ∷ xs) y → (x ≡ y) ⊎ Contains xs y
-first_or_later x y xs (zero, lt, e) = inl e
-first_or_later x y xs (suc i, lt, e) = inr (i, omega (arith, lt), e)
-
-here : {A : Type 0} (x : A) (xs : List A) → Contains (x ∷ xs) x
-here x xs = (0, omega arith, refl)
-
-later : {A : Type 0} (x y : A) (xs : List A) → Contains xs y → Contains (x ∷ xs) y
-later x y xs (i, lt, e) = (suc i, omega (arith, lt), e)
-
-item_is : {A : Type 0} (xs : List A) (i : ℕ) (d e : A) → i < length xs → get_or xs i d ≡ get_or xs i e
-item_is [] i d e lt = absurd (omega arith)
-item_is (x ∷ xs) zero d e lt = refl
-item_is (x ∷ xs) (suc i) d e lt = item_is xs i d e (omega (arith, lt))
 
 -- runs between rising numbers
 
@@ -87,12 +72,6 @@ was_run old new run n is o = record { item = o.item; there = subst (λ l. Contai
 now_run : (old new : List Run) (run : Run) (n : ℕ) → new ≡ old ++ run ∷ [] → InRun run n → OneOf InRun new n
 now_run old new run n is h = record { item = run; there = subst (λ l. Contains l run) (sym is) (Contains-push old run); gives = h }
 
--- a number before another, or not
-pub before_or_not : (m n : ℕ) → (m < n) ⊎ (n ≤ m)
-before_or_not m zero = inr (omega arith)
-before_or_not zero (suc n) = inl (omega arith)
-before_or_not (suc m) (suc n) = ⊎_elim (λ lt. inl (omega (arith, lt))) (λ le. inr (omega (arith, le))) (before_or_not m n)
-
 pub gaps_more : (numbers : List ℕ) (i d next number after : ℕ) (run : Run) (old new : List Run) → IsNonDecreasingBy (λ (n : ℕ). n) numbers → i < length numbers → number ≡ get_or numbers i d
     → ((n : ℕ) → InRun run n → (next ≤ n) × (n < number)) → ((n : ℕ) → next ≤ n → n < number → InRun run n) → after ≡ number + 1 → new ≡ old ++ run ∷ []
     → GapsGo numbers i next old → GapsGo numbers (i + 1) after new
@@ -103,8 +82,8 @@ gaps_more numbers i d next number after run old new rising lt is low back step m
       (omega (arith, hi, step), λ c. ⊎_elim (λ e. (let under = g.taken n e in absurd (omega (arith, under, lo)))) (λ same. absurd (omega (arith, same, hi))) (split n c)))
       (more_runs old new run n made o);
   back = λ n under none. ⊎_elim (λ lt_next. was_run old new run n made (g.back n lt_next (λ c. none (earlier n c))))
-      (λ ge. now_run old new run n made (back n ge (⊎_elim (λ l. l) (λ m. absurd (none (subst (Contains (take (i + 1) numbers)) (let same : number ≡ n = omega (arith, under, m, step) in same) last))) (before_or_not n number))))
-      (before_or_not n next);
+      (λ ge. now_run old new run n made (back n ge (⊎_elim (λ l. l) (λ m. absurd (none (subst (Contains (take (i + 1) numbers)) (let same : number ≡ n = omega (arith, under, m, step) in same) last))) (cases_lt n number))))
+      (cases_lt n next);
   taken = λ n c. ⊎_elim (λ e. (let le = ahead n e in omega (arith, le, step))) (λ same. omega (arith, same, step)) (split n c);
   top = inr (number, last, step);
 }
@@ -130,7 +109,7 @@ gaps_more numbers i d next number after run old new rising lt is low back step m
             let early : k < i = omega (arith, within, long) in
             let at : get_or numbers k n ≡ n = sym (get_or-take i numbers k n early) ∙ e in
             let up : get_or numbers k n ≤ get_or numbers i n = rising k i n (omega (arith, early)) lt in
-            let same : number ≡ get_or numbers i n = is ∙ item_is numbers i d n lt in
+            let same : number ≡ get_or numbers i n = is ∙ get_or_default numbers i d n lt in
             omega (arith, at, up, same)
 
     reach : next ≤ number + 1
@@ -147,7 +126,7 @@ gaps_end numbers i size next run old new past below low back made g = record {
       (λ k. let lo = (low n k).0 in ((low n k).1, λ c. (let under = g.taken n (subst (λ l. Contains l n) (sym all) c) in absurd (omega (arith, under, lo)))))
       (more_runs old new run n made o);
   back = λ n under none. ⊎_elim (λ lt_next. was_run old new run n made (g.back n lt_next (λ c. none (subst (λ l. Contains l n) all c))))
-      (λ ge. now_run old new run n made (back n ge under)) (before_or_not n next);
+      (λ ge. now_run old new run n made (back n ge under)) (cases_lt n next);
 }
   where
     all : take i numbers ≡ numbers
@@ -162,20 +141,6 @@ number_fits numbers i d size lt below small = (let under = below (get_or numbers
 
 -- numbers of records that stand in a chain
 
-both_true : (a b : Bool) → (a && b) ≡ true → (a ≡ true) × (b ≡ true)
-both_true true true h = (refl, refl)
-both_true true false h = cc
-both_true false b h = cc
-
-true_both : (a b : Bool) → a ≡ true → b ≡ true → (a && b) ≡ true
-true_both true true p q = refl
-true_both true false p q = q
-true_both false b p q = p
-
-or_true : (a b : Bool) → (a || b) ≡ true → (a ≡ true) ⊎ (b ≡ true)
-or_true true b h = inl refl
-or_true false b h = inr h
-
 in_numbers : (file size n : ℕ) (held : List Held) → Contains (numbers_of file size held) n → (n < size) × (holds held file n ≡ true)
 in_numbers file size n [] c = absurd (none_in n c)
 in_numbers file size n (h ∷ rest) c = by (is_of file size h) (λ d. in_numbers file size n rest d) refl c
@@ -185,8 +150,8 @@ in_numbers file size n (h ∷ rest) c = by (is_of file size h) (λ d. in_numbers
 
     first : is_of file size h ≡ true → h.number ≡ n → (n < size) × (holds (h ∷ rest) file n ≡ true)
     first is same =
-        let parts = both_true (nat_eq h.file file) (nat_lt h.number size) is in
-        (subst (λ m. m < size) same (ltb-true h.number size parts.1), or_left (is_record file n h) (holds rest file n) (true_both (nat_eq h.file file) (nat_eq h.number n) parts.0 (eq-eqb h.number n same)))
+        let parts = and_parts (nat_eq h.file file) (nat_lt h.number size) is in
+        (subst (λ m. m < size) same (ltb-true h.number size parts.1), or_left (is_record file n h) (holds rest file n) (and_from (nat_eq h.file file) (nat_eq h.number n) parts.0 (eq-eqb h.number n same)))
 
     by : (b : Bool) → (Contains (numbers_of file size rest) n → (n < size) × (holds rest file n ≡ true)) → is_of file size h ≡ b → Contains (map (λ (g : Held). g.number) (cond b (h ∷ filter (is_of file size) rest) (filter (is_of file size) rest))) n → (n < size) × (holds (h ∷ rest) file n ≡ true)
     by true go is c = ⊎_elim (λ same. first is same) (λ l. more (go l)) (first_or_later h.number n (numbers_of file size rest) c)
@@ -194,17 +159,17 @@ in_numbers file size n (h ∷ rest) c = by (is_of file size h) (λ d. in_numbers
 
 to_numbers : (file size n : ℕ) (held : List Held) → n < size → holds held file n ≡ true → Contains (numbers_of file size held) n
 to_numbers file size n [] lt h = absurd (let no_such : false ≡ true = h in cc)
-to_numbers file size n (h ∷ rest) lt has = by (is_of file size h) (λ other. to_numbers file size n rest lt other) refl (or_true (is_record file n h) (holds rest file n) has)
+to_numbers file size n (h ∷ rest) lt has = by (is_of file size h) (λ other. to_numbers file size n rest lt other) refl (or_cases (is_record file n h) (holds rest file n) has)
   where
     is_one : is_record file n h ≡ true → (is_of file size h ≡ true) × (h.number ≡ n)
     is_one is =
-        let parts = both_true (nat_eq h.file file) (nat_eq h.number n) is in
+        let parts = and_parts (nat_eq h.file file) (nat_eq h.number n) is in
         let same : h.number ≡ n = eqb-true h.number n parts.1 in
-        (true_both (nat_eq h.file file) (nat_lt h.number size) parts.0 (lt-ltb h.number size (subst (λ m. m < size) (sym same) lt)), same)
+        (and_from (nat_eq h.file file) (nat_lt h.number size) parts.0 (lt-ltb h.number size (subst (λ m. m < size) (sym same) lt)), same)
 
     by : (b : Bool) → (holds rest file n ≡ true → Contains (numbers_of file size rest) n) → is_of file size h ≡ b → (is_record file n h ≡ true) ⊎ (holds rest file n ≡ true) → Contains (map (λ (g : Held). g.number) (cond b (h ∷ filter (is_of file size) rest) (filter (is_of file size) rest))) n
-    by true go is (inl one) = subst (Contains (h.number ∷ numbers_of file size rest)) (is_one one).1 (here h.number (numbers_of file size rest))
-    by true go is (inr other) = later h.number n (numbers_of file size rest) (go other)
+    by true go is (inl one) = subst (Contains (h.number ∷ numbers_of file size rest)) (is_one one).1 (first_is h.number (numbers_of file size rest))
+    by true go is (inr other) = later_is h.number n (numbers_of file size rest) (go other)
     by false go is (inl one) = (let yes_is = (is_one one).0 in cc)
     by false go is (inr other) = go other
 
@@ -215,18 +180,18 @@ holds_some m h = (k : ℕ) × (holds (chain_at m k) h.file h.number ≡ true)
 
 each_held : (m : ChainMap) (k : ℕ) (chain : List Held) → ((h : Held) → Contains chain h → holds (chain_at m k) h.file h.number ≡ true) → AllByRecursion (holds_some m) chain
 each_held m k [] all = tt
-each_held m k (h ∷ rest) all = ((k, all h (here h rest)), each_held m k rest (λ g c. all g (later h g rest c)))
+each_held m k (h ∷ rest) all = ((k, all h (first_is h rest)), each_held m k rest (λ g c. all g (later_is h g rest c)))
 
 holds_itself : (chain : List Held) (h : Held) → Contains chain h → holds chain h.file h.number ≡ true
 holds_itself [] h c = absurd (none_in h c)
 holds_itself (g ∷ rest) h c = ⊎_elim
-    (λ same. subst (λ (k : Held). holds (k ∷ rest) h.file h.number ≡ true) (sym same) (or_left (is_record h.file h.number h) (holds rest h.file h.number) (true_both (nat_eq h.file h.file) (nat_eq h.number h.number) (eq-eqb h.file h.file refl) (eq-eqb h.number h.number refl))))
+    (λ same. subst (λ (k : Held). holds (k ∷ rest) h.file h.number ≡ true) (sym same) (or_left (is_record h.file h.number h) (holds rest h.file h.number) (and_from (nat_eq h.file h.file) (nat_eq h.number h.number) (eq-eqb h.file h.file refl) (eq-eqb h.number h.number refl))))
     (λ l. or_right (is_record h.file h.number g) (holds rest h.file h.number) (holds_itself rest h l))
     (first_or_later g h rest c)
 
 some_chain : (m : ChainMap) (held : List Held) (file n : ℕ) → AllByRecursion (holds_some m) held → holds held file n ≡ true → (k : ℕ) × (holds (chain_at m k) file n ≡ true)
 some_chain m [] file n all h = absurd (let no_such : false ≡ true = h in cc)
-some_chain m (g ∷ rest) file n all h = ⊎_elim (λ one. of_one (both_true (nat_eq g.file file) (nat_eq g.number n) one)) (λ other. some_chain m rest file n all.1 other) (or_true (is_record file n g) (holds rest file n) h)
+some_chain m (g ∷ rest) file n all h = ⊎_elim (λ one. of_one (and_parts (nat_eq g.file file) (nat_eq g.number n) one)) (λ other. some_chain m rest file n all.1 other) (or_cases (is_record file n g) (holds rest file n) h)
   where
     of_one : (nat_eq g.file file ≡ true) × (nat_eq g.number n ≡ true) → (k : ℕ) × (holds (chain_at m k) file n ≡ true)
     of_one parts =
@@ -237,19 +202,11 @@ some_chain m (g ∷ rest) file n all h = ⊎_elim (λ one. of_one (both_true (na
 held_by_one : (m : ChainMap) (file n : ℕ) → holds (all_records m) file n ≡ true → (k : ℕ) × (holds (chain_at m k) file n ≡ true)
 held_by_one m file n h = some_chain m (all_records m) file n (all_records_fit (holds_some m) m (λ k. each_held m k (chain_at m k) (λ g c. holds_itself (chain_at m k) g c))) h
 
-not_both : (b : Bool) → b ≡ true → b ≡ false → ⊥
-not_both true h k = cc
-not_both false h k = cc
-
-is_false : (b : Bool) → (b ≡ true → ⊥) → b ≡ false
-is_false true no_such = absurd (no_such refl)
-is_false false no_such = refl
-
 -- the free records of a file are those whose numbers are not among the held ones
 pub free_are : (m : ChainMap) (held : List Held) (file size : ℕ) (numbers list : List ℕ) (runs : List Run) → held ≡ all_records m → ((n : ℕ) → Contains numbers n ↔ Contains (numbers_of file size held) n) → list ≡ numbers
     → AreRuns size (λ n. Contains list n → ⊥) runs → AreRuns size (IsFree m file) runs
 free_are m held file size numbers list runs all same read are = record {
-  each = λ n o. (let k = are.each n o in (k.0, λ i. is_false (holds (chain_at m i) file n) (λ h. k.1 (among n (to_numbers file size n held k.0 (in_all n i h))))));
+  each = λ n o. (let k = are.each n o in (k.0, λ i. false_from_ne_true (holds (chain_at m i) file n) (λ h. k.1 (among n (to_numbers file size n held k.0 (in_all n i h))))));
   back = λ n lt free. are.back n lt (λ c. of_held n free (in_numbers file size n held (from_list n c)).1);
 }
   where
@@ -263,7 +220,7 @@ free_are m held file size numbers list runs all same read are = record {
     from_list n c = (same n).0 (subst (λ l. Contains l n) read c)
 
     of_held : (n : ℕ) → IsFree m file n → holds held file n ≡ true → ⊥
-    of_held n free h = (let one = held_by_one m file n (subst (λ l. holds l file n ≡ true) all h) in not_both (holds (chain_at m one.0) file n) one.1 (free one.0))
+    of_held n free h = (let one = held_by_one m file n (subst (λ l. holds l file n ≡ true) all h) in both_ways (holds (chain_at m one.0) file n) (free one.0) one.1)
 
 -- the numbers are below the size
 pub numbers_below : (held : List Held) (file size : ℕ) (numbers list : List ℕ) → ((n : ℕ) → Contains numbers n ↔ Contains (numbers_of file size held) n) → list ≡ numbers → (n : ℕ) → Contains list n → n < size
@@ -274,17 +231,17 @@ numbers_below held file size numbers list same read n c = (in_numbers file size 
 ones_in : (numbers : List ℕ) (run : Run) (n : ℕ) → Contains (map one_run numbers) run → InRun run n → Contains numbers n
 ones_in [] run n c h = absurd (none_in run c)
 ones_in (m ∷ ms) run n c h = ⊎_elim
-    (λ same. (let k : InRun (one_run m) n = subst (λ r. InRun r n) (sym same) h in let low = k.0 in let high = k.1 in let e : m ≡ n = omega (arith, low, high) in subst (Contains (m ∷ ms)) e (here m ms)))
-    (λ l. later m n ms (ones_in ms run n l h)) (first_or_later (one_run m) run (map one_run ms) c)
+    (λ same. (let k : InRun (one_run m) n = subst (λ r. InRun r n) (sym same) h in let low = k.0 in let high = k.1 in let e : m ≡ n = omega (arith, low, high) in subst (Contains (m ∷ ms)) e (first_is m ms)))
+    (λ l. later_is m n ms (ones_in ms run n l h)) (first_or_later (one_run m) run (map one_run ms) c)
 
 to_ones : (numbers : List ℕ) (n : ℕ) → Contains numbers n → Contains (map one_run numbers) (one_run n)
 to_ones [] n c = absurd (none_in n c)
-to_ones (m ∷ ms) n c = ⊎_elim (λ same. subst (λ k. Contains (one_run m ∷ map one_run ms) (one_run k)) same (here (one_run m) (map one_run ms))) (λ l. later (one_run m) (one_run n) (map one_run ms) (to_ones ms n l)) (first_or_later m n ms c)
+to_ones (m ∷ ms) n c = ⊎_elim (λ same. subst (λ k. Contains (one_run m ∷ map one_run ms) (one_run k)) same (first_is (one_run m) (map one_run ms))) (λ l. later_is (one_run m) (one_run n) (map one_run ms) (to_ones ms n l)) (first_or_later m n ms c)
 
 pub seized_none : (accesses : List Access) (m : ChainMap) (file size : ℕ) (runs : List Run) (r : Bool) → r ≡ false → IsTrue r ↔ Contains accesses (Seizes file) → runs ≡ [] → AreRuns size (λ n. Contains accesses (Seizes file) × IsFree m file n) runs
 seized_none accesses m file size runs r fails is none = record {
   each = λ n o. absurd (none_in o.item (subst (λ l. Contains l o.item) none o.there));
-  back = λ n lt s. absurd (not_both r (is.1 s.0) fails);
+  back = λ n lt s. absurd (both_ways r fails (is.1 s.0));
 }
 
 pub seized_free : (accesses : List Access) (m : ChainMap) (file size : ℕ) (runs : List Run) (r : Bool) → r ≡ true → IsTrue r ↔ Contains accesses (Seizes file) → AreRuns size (IsFree m file) runs → AreRuns size (λ n. Contains accesses (Seizes file) × IsFree m file n) runs

@@ -7,6 +7,7 @@ use Rattle.std.proofs.lemmas.Nat.{mul-le}
 use Rattle.std.proofs.lemmas.List.{take_all, take_more}
 use Rattle.std.proofs.lemmas.List.Elements.{Contains-append_left, Contains-push, Contains-push_cases}
 use Rattle.std.proofs.lemmas.List.Folds.{list_any-append}
+use Rattle.plex_num.proofs.Members.{none_in}
 use Rattle.machine_code.specs.declared.permit.Span.{Span}
 use Rattle.machine_code.specs.Permits.{spans}
 use Rattle.machine_code.proofs.Spanned.{spans_in, spans_out}
@@ -14,9 +15,6 @@ use Rattle.store_layout.specs.declared.row.FileRow.{FileRow}
 use Rattle.start_permit.specs.declared.runs.Run.{Run}
 use Rattle.start_permit.specs.Granted.{OneOf}
 use Rattle.start_permit.specs.Recorded.{Gains, InRow, InRun, IsBelow, RowFits, spanned}
-
-pub none_in : {A : Type 0} (x : A) → Contains [] x → ⊥
-none_in x c = (let lt = c.1 in omega arith)
 
 -- spans
 

@@ -1,14 +1,15 @@
 -- The words of variables and the places of fields, in the order of their numbers.
-use Rattle.std.proofs.Common.{◌≡◌, ⊎_elim, ℕ, zero, suc, ◌+◌, ◌-◌, ◌*◌, ◌^◌, ◌<◌, ◌≤◌, List, [], ◌∷◌, ◌++◌, length, take, drop, map, get_or, sum_by, Some, slice_get, refl, sym, ap, ◌∙◌, subst, arith, add-one, drop-cons, append_assoc, append-nil}
+use Rattle.std.proofs.Common.{◌≡◌, ⊎_elim, ℕ, zero, suc, ◌+◌, ◌-◌, ◌*◌, ◌^◌, ◌<◌, ◌≤◌, List, [], ◌∷◌, ◌++◌, length, take, drop, map, get_or, sum_by, Some, slice_get, refl, sym, ap, ◌∙◌, subst, arith, append_assoc, append-nil}
 use Rattle.std.specs.Prelude.{◌↔◌}
-use Rattle.std.specs.List.{AllByRecursion, range_with_len}
+use Rattle.std.specs.List.{range_with_len}
 use Rattle.std.proofs.Math.ListN.{drop_of_length-le}
 use Rattle.std.proofs.lemmas.List.{map-append, take_all, take_more}
 use Rattle.std.proofs.lemmas.List.FromFn.{get_or-map-range_with_len, length-map-range_with_len, map-range_with_len_more}
 use Rattle.std.proofs.lemmas.List.Sums.{sum_by-cons}
 use Rattle.std.proofs.lemmas.Nat.{mul-le}
 use Rattle.std.proofs.lemmas.Option.{none-some, same_Some, slice_get-get_or, slice_get_read}
-use Rattle.plex_num.proofs.Lists.{slice_get-append_left, slice_get-append_right}
+use Rattle.std.proofs.lemmas.Bool.{cases_lt}
+use Rattle.plex_num.proofs.Lists.{slice_get-append_left, slice_get-append_right, opens, all_at}
 use Rattle.exchange_model.specs.declared.exchange.Exchange.{Exchange}
 use Rattle.exchange_model.specs.declared.block.Block.{Block}
 use Rattle.exchange_model.specs.declared.block.File.{File}
@@ -16,14 +17,13 @@ use Rattle.exchange_model.specs.Cells.{Placed, block_cells, cell_count, file_cel
 use Rattle.exchange_model.specs.Inside.{joined}
 use Rattle.exchange_model.specs.Kept.{FileFits, IsExchange}
 use Rattle.exchange_model.proofs.Facts.{cells_few, file_number}
-use Rattle.exchange_model.proofs.Lists.{slice_get-joined-map}
+use Rattle.exchange_model.proofs.Lists.{slice_get-joined-map, joined_push, joined_append}
 use Rattle.exchange_model.proofs.Places.{block_below, sum_by_within}
 use Rattle.source_meaning.specs.Config.{files_of}
 use Rattle.start_permit.specs.declared.table.CellTable.{CellTable}
 use Rattle.start_permit.specs.declared.table.FieldPlace.{FieldPlace}
 use Rattle.start_permit.specs.Granted.{IsField, IsTable, IsVariable}
 use Rattle.start_permit.specs.Listed.{AllSmall, AreSmall, block_places, field_places, file_places, place_at, variable_words, words_from}
-use Rattle.start_permit.proofs.Choosing.{before_or_not}
 
 -- one item more
 pub range_more : {T : Type 0} (old now new : List T) (f : ℕ → T) (n : ℕ) → new ≡ now ++ f n ∷ [] → now ≡ old ++ map f (range_with_len 0 n) → new ≡ old ++ map f (range_with_len 0 (n + 1))
@@ -31,10 +31,6 @@ range_more old now new f n made so_far =
     made ∙ ap (λ l. l ++ f n ∷ []) so_far ∙ append_assoc old (map f (range_with_len 0 n)) (f n ∷ []) ∙ ap (λ l. old ++ l) (sym (map-range_with_len_more f 0 n n (omega arith)))
 
 -- lists that are filled list by list
-
-joined-push : {T : Type 0} (xss : List (List T)) (xs : List T) → joined (xss ++ xs ∷ []) ≡ joined xss ++ xs
-joined-push [] xs = append-nil xs
-joined-push (ys ∷ yss) xs = ap (λ zs. ys ++ zs) (joined-push yss xs) ∙ sym (append_assoc ys (joined yss) xs)
 
 pub record Filled {X T : Type 0} (f : X → List T) (old new : List T) (xs : List X) (index : ℕ) : Type 0 where
   pub so_far : new ≡ old ++ joined (map f (take index xs))
@@ -46,7 +42,7 @@ filled_more : {X T : Type 0} (f : X → List T) (old new next : List T) (xs : Li
 filled_more {X} {T} f old new next xs index x within read pushed l =
     let front : List (List T) = map f (take index xs) in
     let longer : map f (take (index + 1) xs) ≡ front ++ f x ∷ [] = ap (map f) (take_more xs index x within ∙ ap (λ y. take index xs ++ y ∷ []) (sym read)) ∙ map-append f (take index xs) (x ∷ []) in
-    record { so_far = pushed ∙ ap (λ ys. ys ++ f x) l.so_far ∙ append_assoc old (joined front) (f x) ∙ ap (λ ys. old ++ ys) (sym (joined-push front (f x)) ∙ ap joined (sym longer)) }
+    record { so_far = pushed ∙ ap (λ ys. ys ++ f x) l.so_far ∙ append_assoc old (joined front) (f x) ∙ ap (λ ys. old ++ ys) (sym (joined_push front (f x)) ∙ ap joined (sym longer)) }
 
 pub filled_end : {X T : Type 0} (f : X → List T) (old new : List T) (xs : List X) (index : ℕ) → length xs ≤ index → Filled f old new xs index → new ≡ old ++ joined (map f xs)
 filled_end f old new xs index past l = l.so_far ∙ ap (λ ys. old ++ joined (map f ys)) (take_all index xs past)
@@ -70,11 +66,6 @@ file_small files i f count small lt is many = (let few = small.small i f (slice_
 pub files_small : (blocks : List Block) (i : ℕ) (k : Block) (files : List File) → AllSmall blocks → i < length blocks → k ≡ get_or blocks i k → files ≡ k.files → AreSmall files
 files_small blocks i k files small lt is read = subst AreSmall (sym read) (small.small i k (slice_get_read blocks (length blocks) i k refl lt is))
 
-all_at : {X : Type 0} (P : X → Type 0) (xs : List X) (i : ℕ) (x : X) → AllByRecursion P xs → slice_get xs i ≡ Some x → P x
-all_at P [] i x all there = absurd (none-some x there)
-all_at P (y ∷ ys) zero x all there = subst P (same_Some y x there) all.0
-all_at P (y ∷ ys) (suc i) x all there = all_at P ys i x all.1 there
-
 few_fields : (x : Exchange) → IsExchange x → (b i : ℕ) (k : Block) (f : File) → slice_get x.blocks b ≡ Some k → slice_get k.files i ≡ Some f → length f.fields < 2 ^ 32
 few_fields x kept b i k f at there =
     let fit : FileFits f = all_at FileFits k.files i f (kept.blocks.each b k at).files there in
@@ -93,9 +84,6 @@ pub cells_small : (x : Exchange) (blocks : List Block) → IsExchange x → bloc
 cells_small x blocks kept same = (let few = cells_few x kept in let all : cell_count blocks ≡ cell_count x.blocks = ap cell_count same in omega (arith, few, all))
 
 -- the words of variables, block by block
-
-opens : {X : Type 0} (xs : List X) (i : ℕ) (x : X) → i < length xs → x ≡ get_or xs i x → drop i xs ≡ x ∷ drop (i + 1) xs
-opens xs i x lt is = drop-cons xs i x lt ∙ ap (λ y. y ∷ drop (suc i) xs) (sym is) ∙ ap (λ n. x ∷ drop n xs) (sym (add-one i))
 
 pub record WordsGo (blocks : List Block) (i cell : ℕ) (now : List ℕ) : Type 0 where
   pub all : now ++ variable_words cell (drop i blocks) ≡ variable_words 0 blocks
@@ -194,7 +182,7 @@ word_out cell (b ∷ bs) n w there =
     let number = r.number in
     let is = r.is in
     record { i = suc r.i; v = r.v; k = r.k; there = r.there; within = r.within; number = omega (arith, number, more, long, ge); is = omega (arith, is, cells) }))
-    (before_or_not n (length b.variables))
+    (cases_lt n (length b.variables))
 
 variables_are : (x : Exchange) (n w : ℕ) → (slice_get (variable_words 0 x.blocks) n ≡ Some w) ↔ IsVariable x n w
 variables_are x n w = (
@@ -209,10 +197,6 @@ placed_places p = file_places p.file
 
 abbrev placed_count : Placed → ℕ
 placed_count p = length p.file.fields
-
-joined_append : {T : Type 0} (xss yss : List (List T)) → joined (xss ++ yss) ≡ joined xss ++ joined yss
-joined_append [] yss = refl
-joined_append (xs ∷ xss) yss = ap (λ l. xs ++ l) (joined_append xss yss) ∙ sym (append_assoc xs (joined xss) (joined yss))
 
 places_in : (b cell : ℕ) (fs : List File) → joined (map placed_places (placed_in b cell fs)) ≡ joined (map file_places fs)
 places_in b cell [] = refl
@@ -251,7 +235,7 @@ spread_out f (x ∷ xs) n y there = ⊎_elim
     let more : sum_by (λ z. length (f z)) (x ∷ take r.i xs) ≡ length (f x) + sum_by (λ z. length (f z)) (take r.i xs) = sum_by-cons (λ z. length (f z)) x (take r.i xs) in
     let number = r.number in
     record { i = suc r.i; j = r.j; x = r.x; there = r.there; within = r.within; number = omega (arith, number, more, ge); is = r.is }))
-    (before_or_not n (length (f x)))
+    (cases_lt n (length (f x)))
 
 count_is : (p : Placed) → length (placed_places p) ≡ length p.file.fields
 count_is p = length-map-range_with_len (place_at p.file.number) 0 (length p.file.fields)

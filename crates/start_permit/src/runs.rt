@@ -1,5 +1,5 @@
 // The records of a file that a job may reach, told as runs of numbers.
-ghost use Rattle.std.specs.Prelude.{◌≡◌, ◌⊎◌, ◌↔◌, ◌++◌, ◌<◌, ◌≤◌, ◌^◌, ℕ, slice_index, map, IfOk, OnOk, IsTrue};
+ghost use Rattle.std.specs.Prelude.{◌≡◌, ◌⊎◌, ◌↔◌, ◌++◌, ◌<◌, ◌≤◌, ◌^◌, ℕ, map, IfOk, OnOk, IsTrue};
 ghost use Rattle.std.specs.List.{Contains};
 ghost use Rattle.std.specs.List.Sorted.{IsNonDecreasingBy};
 ghost use Rattle.job_types.specs.Chain.{holds};
@@ -11,7 +11,7 @@ ghost use Rattle.start_permit.specs.Recorded.{AreBelow, AreRuns, InRun, IsRunOf,
 use entry_summary::Access;
 use flow_points::Value;
 use job_types::Held;
-use plex_num::{Memory, Seq};
+use plex_num::{Memory, Seq, value_at};
 use std::alloc::{AllocError, Global};
 
 /// So many records of a file, from a number on.
@@ -19,16 +19,6 @@ use std::alloc::{AllocError, Global};
 pub struct Run {
     pub first: u32,
     pub count: u32,
-}
-
-/// The value at a place, 0 where there is none.
-fn value_at(values: &[u32], place: u8) -> u32
-    ensures { result ≡ slice_index values.now place }
-{
-    match values.get(place as usize) {
-        Some(value) => *value,
-        None => 0,
-    }
 }
 
 /// The record of this number, where it is below the size.
@@ -61,7 +51,7 @@ pub fn selected(selector: Value, values: &[u32], size: u32) -> Run
     ensures { IsRunOf size (Selects values.now selector) result }
 {
     match selector {
-        Value::Arg(place) => one_below(value_at(values, place), size),
+        Value::Arg(place) => one_below(value_at(values, place as usize), size),
         Value::Const(number) => one_below(number, size),
         Value::Any => all_below(size),
     }

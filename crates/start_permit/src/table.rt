@@ -18,10 +18,18 @@ pub struct FieldPlace {
 }
 
 /// The word of each variable of an exchange, and the place of each field, by their numbers through it.
-#[derive(Drop)]
 pub struct CellTable {
     pub variables: Seq<u32>,
     pub fields: Seq<FieldPlace>,
+}
+
+impl Drop for CellTable {
+    fn drop(self) {
+        let CellTable {
+            variables: _,
+            fields: _,
+        } = self;
+    }
 }
 
 /// The table of an exchange, which is made once. Memory is the only reason for an error.

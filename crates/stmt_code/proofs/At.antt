@@ -12,7 +12,8 @@ use Rattle.exchange_model.specs.declared.stmt.Stmt.{Stmt}
 use Rattle.exchange_model.specs.declared.stmt.When.{When}
 use Rattle.exchange_model.specs.declared.stmt.StmtKind.{StmtKind, StmtKind-F, out-StmtKind}
 use Rattle.exchange_model.specs.declared.stmt.StmtKind.TheOpen as stmt
-use Rattle.source_meaning.specs.Config.{Item, Do, Start, Turns, is_enter}
+use Rattle.source_meaning.specs.Config.{Item, Do, Start, Turns}
+use Rattle.exchange_model.specs.Kept.{is_enter}
 use Rattle.expr_code.specs.Runs.{HasOp, HasAt}
 use Rattle.expr_code.proofs.Places.{has_front, has_back}
 use Rattle.stmt_code.specs.declared.lengths.TheConstants.{TURN_LENGTH, NEXT_LENGTH}

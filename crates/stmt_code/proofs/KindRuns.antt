@@ -4,7 +4,7 @@ use Rattle.exchange_model.specs.declared.stmt.Stmt.{Stmt}
 use Rattle.exchange_model.specs.declared.stmt.When.{When}
 use Rattle.exchange_model.specs.declared.stmt.StmtKind.{StmtKind, StmtKind-F}
 use Rattle.exchange_model.specs.declared.stmt.StmtKind.TheOpen as stmt
-use Rattle.source_meaning.specs.Config.{is_enter}
+use Rattle.exchange_model.specs.Kept.{is_enter}
 use Rattle.stmt_code.proofs.Setting.{Setting}
 use Rattle.stmt_code.proofs.Values.{Laid}
 use Rattle.stmt_code.proofs.Kind.{Case, exit}

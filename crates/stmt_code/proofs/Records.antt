@@ -1,9 +1,10 @@
 -- Files of an exchange keep their limits, and a search is told record by record.
-use Rattle.std.proofs.Common.{◌≡◌, ℕ, zero, suc, ◌+◌, Bool, true, false, not, List, [], ◌∷◌, length, map, Option, Some, None, refl, sym, ap, ◌∙◌, arith, cond, if◌then◌else◌}
+use Rattle.std.proofs.Common.{◌≡◌, ℕ, zero, suc, ◌+◌, Bool, true, false, not, List, [], ◌∷◌, map, Option, Some, None, refl, sym, ap, ◌∙◌, arith, cond, if◌then◌else◌}
 use Rattle.std.specs.Prelude.{slice_get, nat_lt}
 use Rattle.std.specs.List.{prefix_len, range_with_len}
 use Rattle.std.proofs.Math.Dec.{leb-suc-suc}
 use Rattle.std.proofs.lemmas.Bool.{lt-ltb}
+use Rattle.std.proofs.lemmas.List.FromFn.{length-range_with_len}
 use Rattle.job_types.specs.declared.touch.Touch.{Touch}
 use Rattle.exchange_model.specs.declared.exchange.Exchange.{Exchange}
 use Rattle.exchange_model.specs.Cells.{Placed}
@@ -35,10 +36,6 @@ fails_at test i = not (test i)
 abbrev before : (ℕ → Bool) → ℕ → ℕ → ℕ
 before test i k = prefix_len (fails_at test) (range_with_len i k)
 
-range_length : (i k : ℕ) → length (range_with_len i k) ≡ k
-range_length i zero = refl
-range_length i (suc k) = ap suc (range_length (i + 1) k)
-
 one_lower : (n k : ℕ) → nat_lt (1 + n) (suc k) ≡ nat_lt n k
 one_lower n k = let e : 1 + n ≡ suc n = omega arith in ap (λ m. nat_lt m (suc k)) e ∙ leb-suc-suc (suc n) k
 
@@ -62,7 +59,7 @@ pub least_is : (test : ℕ → Bool) (size : ℕ) → least_record test size ≡
 least_is test size =
     let n = before test 0 size in
     let e : n ≡ 0 + n = omega arith in
-    ap (λ k. cond (nat_lt n k) (Some n) None) (range_length 0 size) ∙ ap (λ j. cond (nat_lt n size) (Some j) None) e ∙ sym (found_is test 0 size)
+    ap (λ k. cond (nat_lt n k) (Some n) None) (length-range_with_len 0 size) ∙ ap (λ j. cond (nat_lt n size) (Some j) None) e ∙ sym (found_is test 0 size)
 
 looked_is : (b : Bool) (n size : ℕ) → looked_at (cond b (Some n) None) size ≡ cond b (n + 1) size
 looked_is true n size = refl
@@ -88,5 +85,5 @@ pub record_loads_are : (test : ℕ → Bool) (cell_of : ℕ → ℕ) (size : ℕ
 record_loads_are test cell_of size store =
     let load : ℕ → Touch = λ i. load_of store (cell_of i) in
     let n = before test 0 size in
-    ap (λ k. map load (range_with_len 0 (looked_at (cond (nat_lt n k) (Some n) None) size))) (range_length 0 size)
+    ap (λ k. map load (range_with_len 0 (looked_at (cond (nat_lt n k) (Some n) None) size))) (length-range_with_len 0 size)
     ∙ ap (λ k. map load (range_with_len 0 k)) (looked_is (nat_lt n size) n size) ∙ sym (loads_is test load 0 size)

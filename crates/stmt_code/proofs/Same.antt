@@ -4,6 +4,7 @@ use Rattle.std.specs.Prelude.{slice_get, slice_index, slice_set}
 use Rattle.std.proofs.Math.ListN.{length-set}
 use Rattle.std.proofs.lemmas.List.{get_or-set_other, get_or-set_same}
 use Rattle.std.proofs.lemmas.Bool.{cases_eq}
+use Rattle.plex_num.proofs.Lists.{index_zeros}
 use Rattle.job_types.specs.declared.fault.Fault.{Fault}
 use Rattle.job_types.specs.declared.outcome.Outcome.{Outcome}
 use Rattle.job_types.specs.declared.outcome.Outcome.TheVariants.{Faulted}
@@ -112,13 +113,8 @@ pub one_small : (v : ℕ) → v < 2 ^ 32 → AllSmall (v ∷ [])
 one_small v lt zero = lt
 one_small v lt (suc i) = none_small i
 
-pub zeros : (n i : ℕ) → slice_index (replicate n 0) i ≡ 0
-zeros zero i = refl
-zeros (suc n) zero = refl
-zeros (suc n) (suc i) = zeros n i
-
 pub zeros_small : (n : ℕ) → AllSmall (replicate n 0)
-zeros_small n i = subst (λ v. v < 2 ^ 32) (sym (zeros n i)) (omega arith)
+zeros_small n i = subst (λ v. v < 2 ^ 32) (sym (index_zeros n i)) (omega arith)
 
 pub zeros_length : (n : ℕ) → length {A = ℕ} (replicate n 0) ≡ n
 zeros_length zero = refl
@@ -126,7 +122,7 @@ zeros_length (suc n) = ap suc (zeros_length n)
 
 -- the temporaries of a new activation
 pub blank_temps : Temps (replicate 24 0) (replicate 50 0)
-blank_temps = record { same = λ t lt. zeros 50 t ∙ sym (zeros 24 t); size = zeros_length 24; wide = zeros_length 50; small = zeros_small 24 }
+blank_temps = record { same = λ t lt. index_zeros 50 t ∙ sym (index_zeros 24 t); size = zeros_length 24; wide = zeros_length 50; small = zeros_small 24 }
 
 -- a temporary is written
 pub temps_set : {temps locals : List ℕ} (t v : ℕ) → t < 24 → v < 2 ^ 32 → Temps temps locals → Temps (slice_set temps t v) (slice_set locals t v)

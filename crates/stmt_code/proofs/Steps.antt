@@ -5,7 +5,8 @@ use Rattle.std.proofs.lemmas.Bool.Decides.{nat_tests}
 use Rattle.exchange_model.specs.declared.stmt.Stmt.{Stmt}
 use Rattle.exchange_model.specs.declared.stmt.StmtKind.{out-StmtKind}
 use Rattle.exchange_model.specs.declared.stmt.StmtKind.TheOpen.{Enter}
-use Rattle.source_meaning.specs.Config.{Item, Do, Turns, Config, is_enter, next_counted}
+use Rattle.source_meaning.specs.Config.{Item, Do, Turns, Config, next_counted}
+use Rattle.exchange_model.specs.Kept.{is_enter}
 use Rattle.source_meaning.specs.Step.{does, starts as begins_with, count, does_first, step}
 use Rattle.source_meaning.specs.Job.{unless_over, after_steps}
 use Rattle.register_machine.specs.Machine.{Machine, here}

@@ -13,7 +13,8 @@ use Rattle.exchange_model.specs.declared.stmt.When.{When}
 use Rattle.exchange_model.specs.declared.stmt.StmtKind.{StmtKind, StmtKind-F, out-StmtKind}
 use Rattle.exchange_model.specs.declared.stmt.StmtKind.TheOpen.{Enter}
 use Rattle.exchange_model.specs.Kept.{IsExchange, scope_of}
-use Rattle.source_meaning.specs.Config.{Do, Start, body_of, label_of, enter_place, from_place, starting, is_enter}
+use Rattle.source_meaning.specs.Config.{Do, Start, body_of, label_of, enter_place, from_place, starting}
+use Rattle.exchange_model.specs.Kept.{is_enter}
 use Rattle.std.specs.Option.{option_map_or}
 use Rattle.expr_code.specs.Runs.{HasOp, HasAt}
 use Rattle.expr_code.proofs.Places.{has_front, has_back}

@@ -10,7 +10,8 @@ use Rattle.exchange_model.specs.declared.block.Block.{Block}
 use Rattle.exchange_model.specs.declared.entry.Entry.{Entry}
 use Rattle.exchange_model.specs.declared.stmt.Stmt.{Stmt}
 use Rattle.exchange_model.specs.declared.stmt.StmtKind.{out-StmtKind}
-use Rattle.source_meaning.specs.Config.{base_of, files_of, body_of, label_of, enter_place, is_receiver, entry_number, is_enter}
+use Rattle.source_meaning.specs.Config.{base_of, files_of, body_of, label_of, enter_place, is_receiver, entry_number}
+use Rattle.exchange_model.specs.Kept.{is_enter}
 use Rattle.source_meaning.specs.Changes.{variable_width}
 use Rattle.stmt_code.specs.StmtCode.{Places, codes, stmt_code}
 

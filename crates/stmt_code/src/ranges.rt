@@ -44,7 +44,7 @@ fn is_numbered(file: &File)
 pub fn numbers_are_words(code: &Code)
     ensures { All AreNumbers code.now.ops }
 {
-    for op in code.ops.as_slice() {
+    for op in code.ops() {
         are_words(*op);
     }
 }

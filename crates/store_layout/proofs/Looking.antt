@@ -23,7 +23,7 @@ use Rattle.store_layout.specs.Search.{IsIn, IsLastUpTo, IsMarkAt, SomeUpTo}
 
 -- rows
 
-slice_get-block_rows : (word : ℕ) (bs : List Block) (b : ℕ) (k : Block) → slice_get bs b ≡ Some k → slice_get (block_rows word bs) b ≡ Some (record { first = word + first_cell bs b; variables = length k.variables })
+pub slice_get-block_rows : (word : ℕ) (bs : List Block) (b : ℕ) (k : Block) → slice_get bs b ≡ Some k → slice_get (block_rows word bs) b ≡ Some (record { first = word + first_cell bs b; variables = length k.variables })
 slice_get-block_rows word [] b k h = absurd (none-some k h)
 slice_get-block_rows word (c ∷ cs) zero k h =
     let same : c ≡ k = same_Some c k h in
@@ -67,7 +67,7 @@ of_block bs l b row laid h =
     let k = at_place bs b within in
     record { block = k.one; there = k.there; is = same_Some row (block_row bs b k.one) (sym h ∙ block_row_at bs l b k.one laid k.there) }
 
-file_row_at : (bs : List Block) (l : Rows) (f : ℕ) (p : Placed) → IsLayout bs l → slice_get (placed_files bs) f ≡ Some p → slice_get l.files f ≡ Some (file_row p)
+pub file_row_at : (bs : List Block) (l : Rows) (f : ℕ) (p : Placed) → IsLayout bs l → slice_get (placed_files bs) f ≡ Some p → slice_get l.files f ≡ Some (file_row p)
 file_row_at bs l f p laid h = ap (λ (rs : List FileRow). slice_get rs f) laid.files ∙ slice_get-map file_row (placed_files bs) f ∙ ap (option_map file_row) h
 
 record OfFile (bs : List Block) (f : ℕ) (row : FileRow) : Type 0 where

@@ -5,10 +5,7 @@ use Rattle.exchange_model.specs.declared.block.Block.{Block}
 use Rattle.exchange_model.specs.declared.block.File.{File}
 use Rattle.exchange_model.specs.Inside.{joined}
 use Rattle.exchange_model.specs.Opening.{block_opening, file_opening, free_mark, inits, opening_store, record_opening}
-
-joined-push : {T : Type 0} (xss : List (List T)) (xs : List T) → joined (xss ++ xs ∷ []) ≡ joined xss ++ xs
-joined-push [] xs = append-nil xs
-joined-push (ys ∷ yss) xs = ap (λ zs. ys ++ zs) (joined-push yss xs) ∙ sym (append_assoc ys (joined yss) xs)
+use Rattle.exchange_model.proofs.Lists.{joined_push}
 
 -- f of each of the items so far was appended
 pub record Filled {X : Type 0} (f : X → List ℕ) (old new : List ℕ) (xs : List X) (index : ℕ) : Type 0 where
@@ -24,7 +21,7 @@ filled_more f old new next xs items index x same within read pushed l =
     let is : get_or xs index x ≡ x = sym (read ∙ ap (λ ys. get_or ys index x) same) in
     let front : List (List ℕ) = map f (take index xs) in
     let longer : map f (take (index + 1) xs) ≡ front ++ f x ∷ [] = ap (map f) (take_more xs index x inside ∙ ap (λ y. take index xs ++ y ∷ []) is) ∙ map-append f (take index xs) (x ∷ []) in
-    record { so_far = pushed ∙ ap (λ ys. ys ++ f x) l.so_far ∙ append_assoc old (joined front) (f x) ∙ ap (λ ys. old ++ ys) (sym (joined-push front (f x)) ∙ ap joined (sym longer)) }
+    record { so_far = pushed ∙ ap (λ ys. ys ++ f x) l.so_far ∙ append_assoc old (joined front) (f x) ∙ ap (λ ys. old ++ ys) (sym (joined_push front (f x)) ∙ ap joined (sym longer)) }
 
 filled_end : {X : Type 0} (f : X → List ℕ) (old new : List ℕ) (xs : List X) (index : ℕ) → length xs ≤ index → Filled f old new xs index → new ≡ old ++ joined (map f xs)
 filled_end f old new xs index past l = l.so_far ∙ ap (λ ys. old ++ joined (map f ys)) (take_all index xs past)
@@ -57,7 +54,7 @@ records_begin old f = record { so_far = sym (append-nil old) }
 pub records_more : (old new next : List ℕ) (f : File) (count : ℕ) → next ≡ new ++ record_opening f → Repeated old new f count → Repeated old next f (count + 1)
 records_more old new next f count pushed l =
     let front : List (List ℕ) = replicate count (record_opening f) in
-    record { so_far = pushed ∙ ap (λ ys. ys ++ record_opening f) l.so_far ∙ append_assoc old (joined front) (record_opening f) ∙ ap (λ ys. old ++ ys) (sym (joined-push front (record_opening f)) ∙ ap joined (replicate_more count (record_opening f))) }
+    record { so_far = pushed ∙ ap (λ ys. ys ++ record_opening f) l.so_far ∙ append_assoc old (joined front) (record_opening f) ∙ ap (λ ys. old ++ ys) (sym (joined_push front (record_opening f)) ∙ ap joined (replicate_more count (record_opening f))) }
 
 pub records_end : (old new : List ℕ) (f : File) (count : ℕ) → count ≡ f.size → Repeated old new f count → new ≡ old ++ file_opening f
 records_end old new f count all l = l.so_far ∙ ap (λ n. old ++ joined (replicate n (record_opening f))) all

@@ -14,11 +14,20 @@ use std::alloc::Global;
 use std::marker::Model;
 
 /// Where each stored cell of an exchange stands among the words of a store. Contracts see its rows.
-#[derive(Drop)]
 pub struct Layout {
     blocks: Seq<BlockRow>,
     files: Seq<FileRow>,
     cells: u32,
+}
+
+impl Drop for Layout {
+    fn drop(self) {
+        let Layout {
+            blocks: _,
+            files: _,
+            cells: _,
+        } = self;
+    }
 }
 
 impl Model for Layout {

@@ -13,21 +13,11 @@ use std::alloc::Global;
 pub fn opening(alloc: Global, exchange: &Exchange, layout: &Layout) -> Result<Seq<u32>, Memory>
     ensures { IfOk result (λ store. store ≡ opening_store exchange.now.blocks) }
 {
-    let mut store = with_room(alloc, layout.words())?;
+    let mut store = Seq::with_capacity(alloc, layout.words() as usize)?;
     for block in exchange.blocks.as_slice() {
         open_block(&mut store, block)?;
     }
     Ok(store)
-}
-
-/// An empty list with room for so many words.
-fn with_room(alloc: Global, words: u32) -> Result<Seq<u32>, Memory>
-    ensures { IfOk result (λ store. store ≡ []) }
-{
-    match Vec::with_capacity(alloc, words as usize) {
-        Ok(store) => Ok(Seq::from_vec(store)),
-        Err(_) => Err(Memory),
-    }
 }
 
 /// Appends the words of a block.

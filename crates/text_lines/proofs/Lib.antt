@@ -1,3 +1,6 @@
 pub mod Cuts
 pub mod Numerals
 pub mod Texts
+mod Lined
+mod Splits
+mod Worded

@@ -1,3 +1,4 @@
 pub mod Parts
 pub mod Numerals
 pub mod Lines
+pub mod Words

@@ -11,14 +11,14 @@ ghost use Rattle.text_rules.specs.Blocks.{has_choice};
 
 use crate::names::NameSet;
 use indexmap::{IndexMap, IndexSet};
-use plex_num::{Memory, Name};
+use plex_num::{Memory, Name, Seed};
 use std::alloc::Global;
 use text_events::{Event, Meaning, Place};
 use token_grammar::KeptName;
 
 /// The names that are declared so far.
 pub(crate) struct Declared {
-    pub(crate) names: IndexMap<Name, Meaning>,
+    pub(crate) names: IndexMap<Name, Meaning, Seed>,
 }
 
 impl Drop for Declared {
@@ -28,11 +28,11 @@ impl Drop for Declared {
 }
 
 impl Declared {
-    pub(crate) fn new(alloc: Global) -> Declared
+    pub(crate) fn new(alloc: Global, seed: Seed) -> Declared
         ensures { (n : List ℕ) → get bytes_eq result.names n ≡ Option.None }
     {
         Declared {
-            names: IndexMap::new(alloc),
+            names: IndexMap::with_hasher(alloc, seed),
         }
     }
 
@@ -71,7 +71,7 @@ pub(crate) fn operand_of(place: Place<'_>) -> Option<u32>
 
 /// The numbers after WHEN that each CASE has so far.
 pub(crate) struct Chosen {
-    pub(crate) numbers: IndexSet<(u32, u32)>,
+    pub(crate) numbers: IndexSet<(u32, u32), Seed>,
 }
 
 impl Drop for Chosen {
@@ -81,11 +81,11 @@ impl Drop for Chosen {
 }
 
 impl Chosen {
-    pub(crate) fn new(alloc: Global) -> Chosen
+    pub(crate) fn new(alloc: Global, seed: Seed) -> Chosen
         ensures { (o n : ℕ) → has_choice result.numbers.keys o n ≡ false }
     {
         Chosen {
-            numbers: IndexSet::new(alloc),
+            numbers: IndexSet::with_hasher(alloc, seed),
         }
     }
 
@@ -124,10 +124,10 @@ fn see_label(names: &mut NameSet, place: Place<'_>) -> Result<(), Memory>
 
 /// The labels of a whole block.
 #[tactic(auto, using(crate::proofs::BlockSteps::labels_begin, crate::proofs::BlockSteps::labels_step, crate::proofs::BlockSteps::labels_end))]
-pub(crate) fn labels_of(alloc: Global, events: &[Event<'_>]) -> Result<NameSet, Memory>
+pub(crate) fn labels_of(alloc: Global, events: &[Event<'_>], seed: Seed) -> Result<NameSet, Memory>
     ensures { IfOk result (λ l. (n : List ℕ) → contains bytes_eq l.names n ≡ any (labels n) events.now) }
 {
-    let mut labels = NameSet::new(alloc);
+    let mut labels = NameSet::new(alloc, seed);
     for event in events {
         see_label(&mut labels, event.place())?;
     }

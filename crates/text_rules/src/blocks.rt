@@ -18,7 +18,7 @@ use crate::rule::BlockRule;
 use crate::surveys::BlockTable;
 use exchange_model::SignalKind;
 use plex_limits::{MOST_OPERANDS, MOST_RECORDS, MOST_TEMPORARIES};
-use plex_num::{Memory, Seq};
+use plex_num::{Memory, Seed, Seq};
 use signal_types::{SignalTable, count_of_signal};
 use std::alloc::Global;
 use text_events::{Event, Head, Meaning, Need, Place, Role};
@@ -209,13 +209,13 @@ pub(crate) struct Tables {
 }
 
 impl Tables {
-    fn new(alloc: Global) -> Tables
+    fn new(alloc: Global, seed: Seed) -> Tables
         ensures { (a : AnAround) → KnowsNothing (known_in result a) }
     {
         Tables {
-            declared: Declared::new(alloc),
+            declared: Declared::new(alloc, seed),
             counts: Operands::new(alloc),
-            chosen: Chosen::new(alloc),
+            chosen: Chosen::new(alloc, seed),
         }
     }
 
@@ -367,7 +367,7 @@ fn check_block(
     requires { (n : List ℕ) → contains bytes_eq around.now.labels.names n ≡ any (labels n) events.now }
     ensures { MatchResult result (λ _. told (λ r k e. broken r k e.note) all_rules line_of (known_of around.now.signals.now.kinds.now around.now.blocks.now.blocks.now events.now) events.now ≡ Option.None) (IsTold (told (λ r k e. broken r k e.note) all_rules line_of (known_of around.now.signals.now.kinds.now around.now.blocks.now.blocks.now events.now) events.now)) }
 {
-    let mut tables = Tables::new(alloc);
+    let mut tables = Tables::new(alloc, around.signals.seed);
     for event in events {
         if let Some(rule) = tables.rule_at(around, event) {
             let line = event.line();
@@ -389,7 +389,7 @@ fn check_part(
 ) -> Result<(), Fault<BlockRule>>
     ensures { MatchResult result (λ _. told (λ r k e. broken r k e.note) all_rules line_of (known_of signals.now.kinds.now blocks.now.blocks.now events.now) events.now ≡ Option.None) (IsTold (told (λ r k e. broken r k e.note) all_rules line_of (known_of signals.now.kinds.now blocks.now.blocks.now events.now) events.now)) }
 {
-    let labels = match labels_of(alloc, events) {
+    let labels = match labels_of(alloc, events, signals.seed) {
         Ok(labels) => labels,
         Err(_) => return Err(Fault::Memory),
     };

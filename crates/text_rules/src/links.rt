@@ -18,7 +18,7 @@ use crate::rule::LinkRule;
 use crate::surveys::BlockTable;
 use exchange_model::SignalKind;
 use plex_ast::{Block, Item, ItemKind, Survey, SurveyKind};
-use plex_num::{Memory, Seq};
+use plex_num::{Memory, Seed, Seq};
 use signal_types::SignalTable;
 use std::alloc::Global;
 use text_events::{Event, Head, Place, Way};
@@ -60,10 +60,10 @@ fn see_entered(names: &mut NameSet, item: &Item) -> Result<(), Memory>
 }
 
 #[tactic(auto, using(crate::proofs::LinkSteps::any_begin, crate::proofs::LinkSteps::any_step, crate::proofs::LinkSteps::any_end))]
-fn received_in(alloc: Global, lines: &[Survey]) -> Result<NameSet, Memory>
+fn received_in(alloc: Global, lines: &[Survey], seed: Seed) -> Result<NameSet, Memory>
     ensures { IfOk result (λ names. (s : List ℕ) → contains bytes_eq names.names s ≡ any (line_receives s) lines.now) }
 {
-    let mut names = NameSet::new(alloc);
+    let mut names = NameSet::new(alloc, seed);
     for line in lines {
         see_received(&mut names, line)?;
     }
@@ -71,10 +71,10 @@ fn received_in(alloc: Global, lines: &[Survey]) -> Result<NameSet, Memory>
 }
 
 #[tactic(auto, using(crate::proofs::LinkSteps::any_begin, crate::proofs::LinkSteps::any_step, crate::proofs::LinkSteps::any_end))]
-fn sent_in(alloc: Global, lines: &[Survey]) -> Result<NameSet, Memory>
+fn sent_in(alloc: Global, lines: &[Survey], seed: Seed) -> Result<NameSet, Memory>
     ensures { IfOk result (λ names. (s : List ℕ) → contains bytes_eq names.names s ≡ any (line_sends s) lines.now) }
 {
-    let mut names = NameSet::new(alloc);
+    let mut names = NameSet::new(alloc, seed);
     for line in lines {
         see_sent(&mut names, line)?;
     }
@@ -82,10 +82,10 @@ fn sent_in(alloc: Global, lines: &[Survey]) -> Result<NameSet, Memory>
 }
 
 #[tactic(auto, using(crate::proofs::LinkSteps::any_begin, crate::proofs::LinkSteps::any_step, crate::proofs::LinkSteps::any_end))]
-fn entered_in(alloc: Global, items: &[Item]) -> Result<NameSet, Memory>
+fn entered_in(alloc: Global, items: &[Item], seed: Seed) -> Result<NameSet, Memory>
     ensures { IfOk result (λ names. (s : List ℕ) → contains bytes_eq names.names s ≡ any (item_enters s) items.now) }
 {
-    let mut names = NameSet::new(alloc);
+    let mut names = NameSet::new(alloc, seed);
     for item in items {
         see_entered(&mut names, item)?;
     }
@@ -94,19 +94,19 @@ fn entered_in(alloc: Global, items: &[Item]) -> Result<NameSet, Memory>
 
 impl Own {
     /// Those of a block, if there is one.
-    fn of(alloc: Global, block: Option<&Block>) -> Result<Own, Memory>
+    fn of(alloc: Global, block: Option<&Block>, seed: Seed) -> Result<Own, Memory>
         ensures { IfOk result (λ own. IsOwn own (block_seen block.entry)) }
     {
         match block {
             Some(block) => Ok(Own {
-                received: received_in(alloc, block.surveys.as_slice())?,
-                sent: sent_in(alloc, block.surveys.as_slice())?,
-                entered: entered_in(alloc, block.items.as_slice())?,
+                received: received_in(alloc, block.surveys.as_slice(), seed)?,
+                sent: sent_in(alloc, block.surveys.as_slice(), seed)?,
+                entered: entered_in(alloc, block.items.as_slice(), seed)?,
             }),
             None => Ok(Own {
-                received: NameSet::new(alloc),
-                sent: NameSet::new(alloc),
-                entered: NameSet::new(alloc),
+                received: NameSet::new(alloc, seed),
+                sent: NameSet::new(alloc, seed),
+                entered: NameSet::new(alloc, seed),
             }),
         }
     }
@@ -281,7 +281,7 @@ fn links_of<'a>(
     ensures blocks { IfOk result (λ l. l.blocks.now.blocks.now ≡ blocks.now.blocks.now) }
     ensures own { IfOk result (λ l. IsOwn l.own (block_of blocks.now.blocks.now part)) }
 {
-    let own = Own::of(alloc, own_block(blocks, part))?;
+    let own = Own::of(alloc, own_block(blocks, part), signals.seed)?;
     Ok(Links {
         signals,
         blocks,
@@ -306,7 +306,7 @@ pub fn check_links<'a>(
             Err(_) => return Err(Fault::Memory),
         };
         let mut before = Before {
-            entered: NameSet::new(alloc),
+            entered: NameSet::new(alloc, signals.seed),
             counted,
         };
         for event in parts[part].as_slice() {

@@ -3,13 +3,13 @@ ghost use Rattle.std.specs.Str.{bytes_eq};
 ghost use Rattle.indexmap.specs.IndexSet.{contains};
 
 use indexmap::IndexSet;
-use plex_num::{Memory, Name};
+use plex_num::{Memory, Name, Seed};
 use std::alloc::Global;
 use token_grammar::KeptName;
 
 /// A set of names.
 pub(crate) struct NameSet {
-    pub(crate) names: IndexSet<Name>,
+    pub(crate) names: IndexSet<Name, Seed>,
 }
 
 impl Drop for NameSet {
@@ -19,11 +19,11 @@ impl Drop for NameSet {
 }
 
 impl NameSet {
-    pub(crate) fn new(alloc: Global) -> NameSet
+    pub(crate) fn new(alloc: Global, seed: Seed) -> NameSet
         ensures { (n : List ℕ) → contains bytes_eq result.names n ≡ false }
     {
         NameSet {
-            names: IndexSet::new(alloc),
+            names: IndexSet::with_hasher(alloc, seed),
         }
     }
 

@@ -10,7 +10,7 @@ use crate::fault::Fault;
 use crate::names::NameSet;
 use crate::rule::SignalRule;
 use plex_limits::MOST_VALUES;
-use plex_num::{Memory, Seq};
+use plex_num::{Memory, Seed, Seq};
 use std::alloc::Global;
 use text_events::{Event, Place};
 
@@ -22,12 +22,12 @@ pub(crate) struct Seen {
 }
 
 impl Seen {
-    fn new(alloc: Global) -> Seen
+    fn new(alloc: Global, seed: Seed) -> Seen
         ensures { KnowsNothing (names_in result) }
     {
         Seen {
-            signals: NameSet::new(alloc),
-            blocks: NameSet::new(alloc),
+            signals: NameSet::new(alloc, seed),
+            blocks: NameSet::new(alloc, seed),
         }
     }
 
@@ -74,11 +74,15 @@ impl Seen {
 }
 
 /// Whether the parts of a text keep the rules of signals and of names of blocks; else the first fault, and there the lowest rule.
-/// It refuses for memory only where memory is refused.
-pub fn check_signals(alloc: Global, parts: &[Seq<Event<'_>>]) -> Result<(), Fault<SignalRule>>
+/// It refuses for memory only where memory is refused. The seed hangs on the names of the text.
+pub fn check_signals(
+    alloc: Global,
+    parts: &[Seq<Event<'_>>],
+    seed: Seed,
+) -> Result<(), Fault<SignalRule>>
     ensures { MatchResult result (λ _. signals_told parts.now ≡ Option.None) (IsTold (signals_told parts.now)) }
 {
-    let mut seen = Seen::new(alloc);
+    let mut seen = Seen::new(alloc, seed);
     for part in parts {
         for event in part.as_slice() {
             if let Some(rule) = seen.rule_at(event) {

@@ -10,7 +10,7 @@ ghost use Rattle.text_rules.specs.Received.{has_pair, counted_in, first_in, chos
 use crate::names::NameSet;
 use indexmap::{IndexMap, IndexSet};
 use plex_ast::{Block, Item, ItemKind, Survey, SurveyKind};
-use plex_num::{Memory, Name};
+use plex_num::{Memory, Name, Seed};
 use std::alloc::Global;
 use token_grammar::KeptName;
 
@@ -23,8 +23,8 @@ pub(crate) struct Receiving {
 
 /// What blocks receive.
 pub(crate) struct Received {
-    pub(crate) pairs: IndexSet<(u32, Name)>,
-    pub(crate) signals: IndexMap<Name, Receiving>,
+    pub(crate) pairs: IndexSet<(u32, Name), Seed>,
+    pub(crate) signals: IndexMap<Name, Receiving, Seed>,
 }
 
 impl Drop for Received {
@@ -37,14 +37,14 @@ impl Drop for Received {
 }
 
 impl Received {
-    fn new(alloc: Global) -> Received
+    fn new(alloc: Global, seed: Seed) -> Received
         ensures pairs { (b : ℕ) (s : List ℕ) → has_pair result b s ≡ false }
         ensures counts { (s : List ℕ) → counted_in result s ≡ 0 }
         ensures first { (s : List ℕ) → first_in result s ≡ Option.None }
     {
         Received {
-            pairs: IndexSet::new(alloc),
-            signals: IndexMap::new(alloc),
+            pairs: IndexSet::with_hasher(alloc, seed),
+            signals: IndexMap::with_hasher(alloc, seed),
         }
     }
 
@@ -206,7 +206,7 @@ impl Received {
 
 /// The numbers of blocks by their names.
 pub(crate) struct Numbers {
-    pub(crate) names: IndexMap<Name, u32>,
+    pub(crate) names: IndexMap<Name, u32, Seed>,
 }
 
 impl Drop for Numbers {
@@ -216,11 +216,11 @@ impl Drop for Numbers {
 }
 
 impl Numbers {
-    fn new(alloc: Global) -> Numbers
+    fn new(alloc: Global, seed: Seed) -> Numbers
         ensures { (n : List ℕ) → get bytes_eq result.names n ≡ Option.None }
     {
         Numbers {
-            names: IndexMap::new(alloc),
+            names: IndexMap::with_hasher(alloc, seed),
         }
     }
 
@@ -271,13 +271,14 @@ impl Drop for BlockTable<'_> {
 }
 
 impl<'a> BlockTable<'a> {
-    /// The table of these blocks. Memory is refused also where there are 2^32 of them or more.
+    /// The table of these blocks, with a seed that hangs on the names of the text. Memory is refused also where there are
+    /// 2^32 of them or more.
     #[tactic(auto, using(crate::proofs::SurveySteps::blocks_named, crate::proofs::SurveySteps::blocks_pairs, crate::proofs::SurveySteps::blocks_counts, crate::proofs::SurveySteps::blocks_firsts))]
-    pub fn of(alloc: Global, blocks: &'a [Block]) -> Result<BlockTable<'a>, Memory>
+    pub fn of(alloc: Global, blocks: &'a [Block], seed: Seed) -> Result<BlockTable<'a>, Memory>
         ensures { IfOk result (λ t. t.blocks.now ≡ blocks.now) }
     {
-        let mut numbers = Numbers::new(alloc);
-        let mut received = Received::new(alloc);
+        let mut numbers = Numbers::new(alloc, seed);
+        let mut received = Received::new(alloc, seed);
         let mut number = 0;
         for block in blocks {
             numbers.add(&block.name.name, number)?;

@@ -1,13 +1,12 @@
 -- Each step of the book keeps its rule.
 use Rattle.std.proofs.Common.{◌≡◌, ◌≢◌, ℕ, zero, suc, true, false, List, [], ◌∷◌, ◌++◌, length, set, sym, refl, ap, ◌∙◌, subst, ⊎_elim, arith, length-append}
-use Rattle.std.proofs.lemmas.Bool.{cases_Bool}
+use Rattle.std.proofs.lemmas.Bool.{cases_Bool, both_ways}
 use mathlib.Core.Option.{none, some, some-injective, some-ne-none}
 use lib.ListN.{get_elem?}
 use lib.Seq.{set-get_or}
 use Rattle.atomic_table.specs.Table.{Allows, Splits, Joins, opening, step, keeps}
 use Rattle.atomic_table.proofs.Lists.{at_set, set_again, at_longer, at_last}
 use Rattle.shared_store.specs.declared.view.Lent.{Lent}
-use Rattle.shared_store.proofs.Touched.{not_both}
 use Rattle.shared_store.proofs.Views.{snoc_at}
 use Rattle.ticket_book.specs.declared.page.Claim.{Claim}
 use Rattle.ticket_book.specs.declared.page.Page.{Page}
@@ -17,7 +16,7 @@ use Rattle.ticket_book.specs.Rule.{St, Sat, IsSo, is_pen, Booked, compared, pen_
 
 -- what a page says that is no pen stays so
 so_longer : (loans : List Lent) (loan : Lent) (v : Page) → is_pen v ≡ false → IsSo loans v → IsSo (loans ++ loan ∷ []) v
-so_longer loans loan (Writes n) bare so = absurd (not_both true refl bare)
+so_longer loans loan (Writes n) bare so = absurd (both_ways true bare refl)
 so_longer loans loan (Claims c) bare so = at_longer loans (loan ∷ []) c.number c.loan so
 so_longer loans loan (Meets c d) bare so = (at_longer loans (loan ∷ []) c.number c.loan so.0, at_longer loans (loan ∷ []) d.number d.loan so.1)
 so_longer loans loan Spent bare so = tt
@@ -37,7 +36,7 @@ opens words = record { loans = []; so = only; one_pen = λ j k v w a b p q. firs
 -- where a page comes last that is no pen, each pen was there before
 pen_before : (views : List Page) (last : Page) → is_pen last ≡ false → (j : ℕ) (w : Page) → get_elem? (views ++ last ∷ []) j ≡ some w → is_pen w ≡ true → get_elem? views j ≡ some w
 pen_before views last bare j w e pen = ⊎_elim (λ (c : get_elem? views j ≡ some w). c)
-    (λ (c : (j ≡ length views) × (last ≡ w)). absurd (not_both (is_pen w) pen (subst (λ (z : Page). is_pen z ≡ false) c.1 bare))) (snoc_at views last w j e)
+    (λ (c : (j ≡ length views) × (last ≡ w)). absurd (both_ways (is_pen w) (subst (λ (z : Page). is_pen z ≡ false) c.1 bare) pen)) (snoc_at views last w j e)
 
 -- a new ticket
 pub writes : (id n : ℕ) (v : Page) (loan : Lent) → v ≡ Writes n → Splits Booked id v (pen_after v) (ticket_after loan v)
@@ -76,7 +75,7 @@ writes id n v loan is s r at =
     bare j w other e = ⊎_elim (λ (p : is_pen w ≡ true). absurd (other (r.one_pen j id w (Writes n) e here p refl))) (λ (p : is_pen w ≡ false). p) (cases_Bool (is_pen w))
 
     at_pen : (j : ℕ) (w : Page) → get_elem? (left ++ ticket ∷ []) j ≡ some w → is_pen w ≡ true → j ≡ id
-    at_pen j w e p = ⊎_elim (λ (d : (j ≡ id) × (pen ≡ w)). d.0) (λ (d : (j ≢ id) × (get_elem? s.views j ≡ some w)). absurd (not_both (is_pen w) p (bare j w d.0 d.1)))
+    at_pen j w e p = ⊎_elim (λ (d : (j ≡ id) × (pen ≡ w)). d.0) (λ (d : (j ≢ id) × (get_elem? s.views j ≡ some w)). absurd (both_ways (is_pen w) (bare j w d.0 d.1) p))
         (at_set s.views id j pen w (pen_before left ticket refl j w e p))
 
 -- the same ticket again
@@ -98,7 +97,7 @@ turned s r id v bare so = record {
 }
   where
     was : (j : ℕ) (w : Page) → get_elem? (set s.views id v) j ≡ some w → is_pen w ≡ true → get_elem? s.views j ≡ some w
-    was j w e p = ⊎_elim (λ (d : (j ≡ id) × (v ≡ w)). absurd (not_both (is_pen w) p (subst (λ (z : Page). is_pen z ≡ false) d.1 bare)))
+    was j w e p = ⊎_elim (λ (d : (j ≡ id) × (v ≡ w)). absurd (both_ways (is_pen w) (subst (λ (z : Page). is_pen z ≡ false) d.1 bare) p))
         (λ (d : (j ≢ id) × (get_elem? s.views j ≡ some w)). d.1) (at_set s.views id j v w e)
 
 -- two tickets come into one seat

@@ -74,9 +74,14 @@ enum Place {
 
 /// A name as a tree keeps it, in 16 bytes: its bytes stand there where they are at most 14, else in a place of their own.
 /// Contracts see it as a list of bytes.
-#[derive(Drop)]
 pub struct KeptName {
     place: Place,
+}
+
+impl Drop for KeptName {
+    fn drop(self) {
+        let KeptName { place: _ } = self;
+    }
 }
 
 impl Model for KeptName {
@@ -123,10 +128,6 @@ impl KeptName {
     pub fn copy(&self) -> Name
         ensures { result ≡ self.now }
     {
-        let mut made = Name::new();
-        for byte in self.as_slice() {
-            made.push(*byte);
-        }
-        made
+        Name::of(self.as_slice())
     }
 }

@@ -2,7 +2,7 @@
 use Rattle.std.specs.Prelude.{◌≡◌, []}
 use Rattle.exchange_model.specs.declared.exchange.Exchange.{Exchange}
 use Rattle.exchange_model.specs.Parts.{parts}
-use Rattle.machine_code.specs.declared.code.Code.{Code}
+use Rattle.machine_code.specs.Coded.{Code}
 use Rattle.register_machine.specs.Faithful.{Faithful}
 use Rattle.register_machine.specs.Private.{Private}
 use Rattle.job_runner.specs.Runs.{IsReady, HasRun}

@@ -16,8 +16,7 @@ use std::marker::{Model, PhantomData};
 use std::sync::Wait;
 use ticket_book::{Pen, Ticket, TicketBook};
 
-/// A job that waits, runs or has run, wherever it is. Contracts see the loan that it is of.
-#[derive(Drop)]
+/// A job that waits, runs or has run, wherever it is. Contracts see the loan that it is of. It cannot be dropped: it must be finished.
 pub struct Flight<B: Naming> {
     ticket: Ticket,
     of: PhantomData<B>,

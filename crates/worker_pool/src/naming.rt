@@ -5,7 +5,7 @@ use std::marker::Brand;
 /// that its threads hand to one another speaks of these alone.
 pub trait Naming {
     ghost use Rattle.exchange_model.specs.declared.exchange.Exchange.{Exchange};
-    ghost use Rattle.machine_code.specs.declared.code.Code.{Code};
+    ghost use Rattle.machine_code.specs.Coded.{Code};
     ghost use Rattle.shared_store.specs.Seats.{StoreId};
     ghost use Rattle.ticket_book.specs.Pages.{BookId};
 

@@ -1,9 +1,9 @@
 use Rattle.std.proofs.Common.{◌≤◌, length, get_or, rules}
 use Rattle.std.proofs.lemmas.Grind.{common_steps}
 use Rattle.std.proofs.lemmas.List.{get_or_default}
+use Rattle.plex_num.proofs.Lists.{all_here}
 use Rattle.job_types.specs.declared.chain.Held.{Held}
 use Rattle.source_meaning.specs.Valid.{IsRecord}
-use Rattle.block_change.proofs.Lists.{all_here}
 use Rattle.block_change.proofs.Wording.{has_mark, mark_inside, mark_of, marks_end, marks_more}
 use Rattle.block_change.proofs.words.mark_all.Goals as goal
 

@@ -1,15 +1,9 @@
-use Rattle.std.proofs.Common.{Some, length, sym, ap, ◌∙◌}
+use Rattle.std.proofs.Common.{Some, sym, ap, ◌∙◌}
 use Rattle.std.specs.Prelude.{slice_index}
 use Rattle.std.specs.Option.{option_map}
 use Rattle.exchange_model.specs.Cells.{cell_number}
-use Rattle.block_change.proofs.Wording.{same_is_cell, word_inside}
+use Rattle.block_change.proofs.Wording.{same_is_cell}
 use Rattle.block_change.proofs.words.old_value.Goals as goal
-
-pub value_at-requires : goal.value_at-requires
-value_at-requires c =
-    let x = c.args.old.now.exchange.now in
-    let number = c.word_of.ensures x.blocks c.requires.layout (same_is_cell x c.args.new.now c.kept.ensures c.args.cell c.in-Some.found (sym c.in-Some.ensures)) in
-    word_inside x c.args.new.now c.args.cell c.in-Some.found c.word_of.result (length c.args.words.now) c.kept.ensures c.in-Some.ensures number c.requires.whole
 
 pub returns : goal.returns
 returns c =

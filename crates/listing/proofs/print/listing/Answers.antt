@@ -1,5 +1,5 @@
 use Rattle.std.proofs.Common.{◌++◌, List, ℕ, codes, ap, ◌∙◌}
-use Rattle.machine_code.specs.declared.code.Code.{Code}
+use Rattle.machine_code.specs.Coded.{Code}
 use Rattle.listing.proofs.Printed.{code_text-parts}
 use Rattle.listing.proofs.print.listing.Goals as goal
 

@@ -4,6 +4,7 @@ use Rattle.std.proofs.lemmas.List.{nil_from_length}
 use Rattle.std.specs.Cmp.Lexicographic.{other_text, same_text}
 use Rattle.machine_code.specs.declared.op.Op.{Op}
 use Rattle.listing.specs.Statements.{ReadsStatement}
+use Rattle.listing.proofs.Once.{code_told}
 use Rattle.listing.proofs.FirstLines.{Read, read_begin, read_few, read_fault, read_last, read_more, read_open, read_past}
 use Rattle.listing.proofs.read.read_lines.Goals as goal
 
@@ -21,7 +22,8 @@ pub statement-requires-clause-other : goal.statement-requires-clause-other
 statement-requires-clause-other c = λ e. other_text c.in-Some.line.now c.as_slice.result.now c.if-eq.ensures (e ∙ sym c.as_slice.ensures)
 
 pub returns-then-is_empty : goal.returns-then-is_empty
-returns-then-is_empty c = read_last c.args.text.now c.loop-line.rest.now c.in-Some.line.now c.in-Some.after.now c.loop-line.ops c.loop-line.entries c.loop-line.number c.loop-line.invariant c.in-Some.ensures (same_text c.in-Some.line.now c.as_slice.result.now c.if-eq.ensures ∙ c.as_slice.ensures) (nil_from_length c.in-Some.after.now (eqb-true (length c.in-Some.after.now) 0 (sym c.if-is_empty.ensures)))
+returns-then-is_empty c =
+    code_told c.args.text.now c.code_of.result _ (read_last c.args.text.now c.loop-line.rest.now c.in-Some.line.now c.in-Some.after.now c.loop-line.ops c.loop-line.entries c.loop-line.number c.loop-line.invariant c.in-Some.ensures (same_text c.in-Some.line.now c.as_slice.result.now c.if-eq.ensures ∙ c.as_slice.ensures) (nil_from_length c.in-Some.after.now (eqb-true (length c.in-Some.after.now) 0 (sym c.if-is_empty.ensures)))) c.code_of.ensures
 
 pub returns-else-is_empty : goal.returns-else-is_empty
 returns-else-is_empty c = read_past c.args.text.now c.loop-line.rest.now c.in-Some.line.now c.in-Some.after.now c.loop-line.ops c.loop-line.entries c.loop-line.number c.loop-line.invariant c.in-Some.ensures (same_text c.in-Some.line.now c.as_slice.result.now c.if-eq.ensures ∙ c.as_slice.ensures) (λ e. eqb-false (length c.in-Some.after.now) 0 (sym c.if-is_empty.ensures) (ap length e))

@@ -1,11 +1,13 @@
-use Rattle.std.proofs.Common.{◌∙◌, ◌++◌, ◌∷◌, [], ap}
+use Rattle.std.proofs.Common.{◌∙◌, ◌++◌, ◌∷◌, [], ap, refl}
+use Rattle.source_meaning.specs.Traces.{trace_of}
 use Rattle.shared_store.specs.Seats.{JobView, RootView}
+use Rattle.parallel_dispatch.specs.Bare.{bare}
 use Rattle.parallel_dispatch.specs.Windows.{View}
-use Rattle.parallel_dispatch.proofs.Moving.{beside, entry_within, has_summary, issued, number_fits, ready}
+use Rattle.parallel_dispatch.proofs.Moving.{beside, entry_within, has_summary, issued, issued_event, number_fits, ready}
 use Rattle.parallel_dispatch.proofs.moves.issue.Goals as goal
 
-pub summary-requires : goal.summary-requires
-summary-requires g c =
+pub summary-told-requires : goal.summary-told-requires
+summary-told-requires g c =
     let set = c.requires.set in
     has_summary g.B.Naming.exchange c.args.setting.now.checked.now set.exchange set.checked set.true_of c.args.books.now c.args.root.now c.args.window.now c.args.start c.requires.next c.requires.flying
 
@@ -20,23 +22,31 @@ number_of_next-job-requires g c =
     let set = c.requires.set in
     number_fits g.B.Naming.exchange c.args.setting.now.checked.now set.exchange set.checked set.true_of c.args.books.now c.args.root.now c.args.window.now c.args.start c.requires.next c.requires.flying c.requires.counted
 
-pub lend-seat-requires-clause-permit : goal.lend-seat-requires-clause-permit
-lend-seat-requires-clause-permit g c =
+pub lend_as-seat-requires-clause-permit : goal.lend_as-seat-requires-clause-permit
+lend_as-seat-requires-clause-permit g c =
     let set = c.requires.set in
     beside g.B.Naming.exchange c.args.setting.now.checked.now set.exchange set.checked set.true_of c.args.books.now c.args.root.now c.args.window.now c.args.start c.requires.next c.requires.flying
-    c.summary.result.now c.summary.ensures.it c.in_ok-granted.granted c.args.setting.now.exchange.now c.requires.named.0 c.chains.result.now.chains c.chains.ensures.chains c.in_ok-granted.ensures.reads c.in_ok-granted.ensures.writes
+    c.summary-told.result.now c.summary-told.ensures.it (bare (trace_of g.B.Naming.exchange c.args.start c.args.root.now.1.values)) refl
 
 pub push-task-requires-clause-ready : goal.push-task-requires-clause-ready
 push-task-requires-clause-ready g c =
     let set = c.requires.set in
     ready g.B.Naming.exchange c.args.setting.now.checked.now set.exchange set.checked set.true_of c.args.books.now c.args.root.now c.args.window.now c.args.start c.requires.next c.requires.flying
-    c.summary.result.now c.summary.ensures.it c.in_ok-granted.granted c.args.setting.now.exchange.now c.requires.named.0 c.chains.result.now.chains c.chains.ensures.chains c.in_ok-granted.ensures.reads c.in_ok-granted.ensures.writes
-    g.B.Naming.code c.args.setting.now.code.now g.B.Naming.store c.lend-seat.result c.begin.new.self c.requires.named.1 c.requires.root c.lend-seat.ensures.seat c.begin.ensures
+    c.summary-told.result.now c.summary-told.ensures.it (bare (trace_of g.B.Naming.exchange c.args.start c.args.root.now.1.values)) refl
+    g.B.Naming.code c.args.setting.now.code.now g.B.Naming.store c.lend_as-seat.result c.begin.new.self c.requires.named.1 c.requires.root c.lend_as-seat.ensures.seat c.begin.ensures
 
 pub returns-clause-fly : goal.returns-clause-fly
 returns-clause-fly g c = λ s fly.
     let set = c.requires.set in
     issued g.B.Naming.exchange c.args.setting.now.checked.now set.exchange set.checked set.true_of c.args.books.now c.args.root.now c.args.window.now c.args.start c.requires.next c.requires.flying
-    c.summary.result.now c.summary.ensures.it c.in_ok-granted.granted c.args.setting.now.exchange.now c.requires.named.0 c.chains.result.now.chains c.chains.ensures.chains c.in_ok-granted.ensures.reads c.in_ok-granted.ensures.writes
-    s _ _ _ _ fly c.next_job-begun.ensures.start c.next_job-begun.ensures.left (ap (λ (r : RootView). r.1) c.lend-seat.ensures.root)
-    (ap (λ (v : View). v.loans) c.push-task.ensures ∙ λ i. ap (λ (v : View). v.loans) c.idle_run.ensures i ++ ap (λ (j : JobView). j.1.lent) c.lend-seat.ensures.seat i ∷ [])
+    c.summary-told.result.now c.summary-told.ensures.it (bare (trace_of g.B.Naming.exchange c.args.start c.args.root.now.1.values)) refl
+    s _ _ _ _ fly c.next_job-begun.ensures.start c.next_job-begun.ensures.left (ap (λ (r : RootView). r.1) c.lend_as-seat.ensures.root)
+    (ap (λ (v : View). v.loans) c.push-task.ensures ∙ λ i. ap (λ (v : View). v.loans) c.idle_run.ensures i ++ ap (λ (j : JobView). j.1.lent) c.lend_as-seat.ensures.seat i ∷ [])
+
+pub returns-clause-events : goal.returns-clause-events
+returns-clause-events g c =
+    let set = c.requires.set in
+    issued_event g.B.Naming.exchange c.args.setting.now.checked.now set.exchange set.checked set.true_of c.args.books.now c.args.root.now c.args.window.now c.args.start c.requires.next c.requires.flying
+    c.summary-told.result.now c.summary-told.ensures.it (bare (trace_of g.B.Naming.exchange c.args.start c.args.root.now.1.values)) refl
+    g.B.Naming.code _ _ _ _ c.next_job-begun.ensures.start c.next_job-begun.ensures.left (ap (λ (r : RootView). r.1) c.lend_as-seat.ensures.root)
+    (ap (λ (v : View). v.loans) c.push-task.ensures ∙ λ i. ap (λ (v : View). v.loans) c.idle_run.ensures i ++ ap (λ (j : JobView). j.1.lent) c.lend_as-seat.ensures.seat i ∷ [])

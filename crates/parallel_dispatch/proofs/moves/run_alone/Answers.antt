@@ -1,10 +1,12 @@
 use Rattle.std.proofs.Common.{◌∙◌, refl, sym, ap, subst}
 use Rattle.std.specs.Prelude.{IsSome}
-use Rattle.machine_code.specs.declared.code.Code.{Code}
+use Rattle.machine_code.specs.Coded.{Code}
 use Rattle.exchange_run.specs.Runs.{left_by}
 use Rattle.register_machine.specs.Private.{Private}
 use Rattle.shared_store.specs.Seats.{RootView}
-use Rattle.parallel_dispatch.specs.Made.{RunMakes}
+use Rattle.parallel_dispatch.specs.Made.{RunEnds}
+use Rattle.interleave_core.proofs.Changing.{done_is}
+use Rattle.shared_store.specs.declared.view.Top.{Top}
 use Rattle.parallel_dispatch.proofs.Alone.{done_alone, entry_alone, faithful_here, is_next, lent_nothing, may_be_here, may_run_here, number_fits, one_runs, stores_alone, turned_alone}
 use Rattle.parallel_dispatch.proofs.moves.run_alone.Goals as goal
 
@@ -87,8 +89,8 @@ retire-retired-requires-clause-words g c =
     c.done-done.result.now (done_alone c.run_on_root-root.new.run c.done-done.result.now (left_by x c.args.start top.values) ran.leaves (c.done-done.ensures.sends ∙ ap (λ (r : Private). r.own.sends) c.deref-2.ensures) (c.done-done.ensures.chain ∙ ap (λ (r : Private). r.own.chain) c.deref-2.ensures) (c.done-done.ensures.outcome ∙ ap (λ (r : Private). r.over) c.deref-2.ensures))
     c.new-words.result.root.1 (ap (λ (r : RootView). r.1) c.new-words.ensures.root ∙ ran.root_is)
 
-pub returns : goal.returns
-returns g c =
+pub returns-clause-turned : goal.returns-clause-turned
+returns-clause-turned g c =
     let x = c.args.setting.now.exchange.now in
     let k = c.args.setting.now.checked.now in
     let old = c.args.books.now in
@@ -98,10 +100,12 @@ returns g c =
     turned_alone x k old top c.args.start n c.next_job-begun.result c.next_job-begun.new.self c.next_job-begun.ensures.start c.next_job-begun.ensures.left
     c.done-done.result.now (done_alone c.run_on_root-root.new.run c.done-done.result.now (left_by x c.args.start top.values) ran.leaves (c.done-done.ensures.sends ∙ ap (λ (r : Private). r.own.sends) c.deref-2.ensures) (c.done-done.ensures.chain ∙ ap (λ (r : Private). r.own.chain) c.deref-2.ensures) (c.done-done.ensures.outcome ∙ ap (λ (r : Private). r.over) c.deref-2.ensures))
     c.new-words.result.root.1 (ap (λ (r : RootView). r.1) c.new-words.ensures.root ∙ ran.root_is)
-    c.retire-retired.new.self c.arrive.new.books c.retire-retired.new.words.root.1.values _ _ c.in_ok-retired.ensures.retired c.in_ok-arrive.ensures
-    g.B.Naming.exchange g.B.Naming.code g.B.Naming.store c.args.window.now c.keep_run.new.self (record { root = c.into_root-root.result; steps = c.steps-steps.result }) c.run_on_root-root.new.run.made
-    c.requires.named.0 c.requires.next.alone (c.keep_run.ensures ∙ c.idle_run.ensures)
-    (ap (λ (r : RootView). r.1.values) c.into_root-root.ensures) (ap (λ (r : RootView). r.1.loans) c.into_root-root.ensures ∙ sym c.in_ok-retired.ensures.like.1)
-    (subst (λ (z : Code). RunMakes z c.args.start top.values c.run_on_root-root.new.run.made) c.requires.named.1 ran.makes) (c.steps-steps.ensures ∙ ap (λ (r : Private). r.made) c.deref.ensures)
-    (ap (λ (r : RootView). r.0) c.into_root-root.ensures ∙ sym c.in_ok-retired.ensures.like.0 ∙ ap (λ (r : RootView). r.0) c.new-words.ensures.root ∙ c.run_on_root-root.ensures.root ∙ c.requires.root)
+    c.retire-retired.new.self c.arrive.new.books c.retire-retired.new.words.root.1.values _ _ c.in-Ok-retired.ensures.retired c.in-Ok-arrive.ensures
+    g.B.Naming.exchange g.B.Naming.code g.B.Naming.store c.args.window.now c.keep_run.new.self (record { root = c.into_root-root.result; steps = c.steps-steps.result }) c.run_on_root-root.new.run
+    c.requires.named.0 c.requires.next (c.keep_run.ensures ∙ c.idle_run.ensures)
+    (ap (λ (r : RootView). r.1.values) c.into_root-root.ensures) (ap (λ (r : RootView). r.1.loans) c.into_root-root.ensures ∙ sym c.in-Ok-retired.ensures.like.1)
+    (subst (λ (z : Code × Top). RunEnds z.0 c.args.start top.values c.run_on_root-root.new.run z.1) (λ i. (c.requires.named.1 i, sym (ap (λ (r : RootView). r.1) c.new-words.ensures.root) i)) ran.comes)
+    (done_is c.run_on_root-root.new.run.own c.run_on_root-root.new.run.over c.done-done.result.now (c.done-done.ensures.sends ∙ ap (λ (r : Private). r.own.sends) c.deref-2.ensures) (c.done-done.ensures.chain ∙ ap (λ (r : Private). r.own.chain) c.deref-2.ensures) (c.done-done.ensures.outcome ∙ ap (λ (r : Private). r.over) c.deref-2.ensures))
+    (c.steps-steps.ensures ∙ ap (λ (r : Private). r.made) c.deref.ensures)
+    (ap (λ (r : RootView). r.0) c.into_root-root.ensures ∙ sym c.in-Ok-retired.ensures.like.0 ∙ ap (λ (r : RootView). r.0) c.new-words.ensures.root ∙ c.run_on_root-root.ensures.root ∙ c.requires.root)
     c.requires.counted

@@ -14,17 +14,38 @@ decreases-case l = 13 * l.deep + 11
 abbrev pub decreases-on : goal.decreases-on
 decreases-on l = 13 * l.deep + 11
 
+abbrev pub decreases-then_of : goal.decreases-then_of
+decreases-then_of l = 13 * l.deep + 11
+
+abbrev pub decreases-arms : goal.decreases-arms
+decreases-arms l = 13 * l.deep + 10
+
+abbrev pub decreases-span : goal.decreases-span
+decreases-span l = 13 * l.deep + 10
+
+abbrev pub decreases-branches : goal.decreases-branches
+decreases-branches l = 13 * l.deep + 10
+
+abbrev pub decreases-upto : goal.decreases-upto
+decreases-upto l = 13 * l.deep + 9
+
+abbrev pub decreases-otherwise : goal.decreases-otherwise
+decreases-otherwise l = 13 * l.deep + 9
+
 abbrev pub decreases-whens : goal.decreases-whens
-decreases-whens l = 13 * l.deep + 10
+decreases-whens l = 13 * l.deep + 9
+
+abbrev pub decreases-else_to_fi : goal.decreases-else_to_fi
+decreases-else_to_fi l = 13 * l.deep + 9
 
 abbrev pub decreases-when : goal.decreases-when
-decreases-when l = 13 * l.deep + 9
-
-abbrev pub decreases-then_of : goal.decreases-then_of
-decreases-then_of l = 13 * l.deep + 9
+decreases-when l = 13 * l.deep + 8
 
 abbrev pub decreases-else_of : goal.decreases-else_of
 decreases-else_of l = 13 * l.deep + 8
+
+abbrev pub decreases-do_until : goal.decreases-do_until
+decreases-do_until l = 13 * l.deep + 8
 
 abbrev pub decreases-stmts : goal.decreases-stmts
 decreases-stmts l = 13 * l.deep + 7

@@ -1,4 +1,4 @@
-use Rattle.signal_file.specs.Form.{words}
+use Rattle.text_lines.specs.Words.{words}
 use Rattle.signal_file.proofs.Tails.{tail_ended, tail_none, tail_strange}
 use Rattle.signal_file.proofs.form.tail_of.Goals as goal
 

@@ -1,5 +1,5 @@
 use Rattle.std.proofs.Common.{◌+◌, ◌≤◌, length}
-use Rattle.signal_file.specs.Form.{words}
+use Rattle.text_lines.specs.Words.{words}
 use Rattle.signal_file.proofs.Tails.{Goes}
 use Rattle.signal_file.proofs.form.tail_of.Given as goal
 

@@ -18,6 +18,24 @@ spawn-requires-send-F g c κs = λ _.
     let store = SharedStore.the_sync.shared in
     let gate = c.type_bounds.sync-G.shared in
     record {
-      owned = λ x vs. search (runtime, shop, exchange, code, store, gate) depth 20;
+      owned = λ x vs. λ parts. (
+        tt,
+        (
+          (tt, runtime x.0.now x.0.ref_ptr.0 x.0.ref_ptr.1 _),
+          (
+            (tt, shop x.1.now x.1.ref_ptr.0 x.1.ref_ptr.1 _),
+            (
+              (tt, exchange x.2.now x.2.ref_ptr.0 x.2.ref_ptr.1 _),
+              (
+                (tt, code x.3.now x.3.ref_ptr.0 x.3.ref_ptr.1 _),
+                (
+                  (tt, store x.4.now x.4.ref_ptr.0 x.4.ref_ptr.1 _),
+                  ((tt, gate x.5.now x.5.ref_ptr.0 x.5.ref_ptr.1 _), tt),
+                ),
+              ),
+            ),
+          ),
+        ),
+      );
       leaving = λ k. Quiet-if (k (of_param 1)) _ _ (λ x w. tt) (λ x w. tt);
     }

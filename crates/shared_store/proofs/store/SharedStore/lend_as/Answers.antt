@@ -1,5 +1,4 @@
 use Rattle.std.proofs.Common.{sym, ap, ◌∙◌, subst, ◌<◌, List}
-use Rattle.machine_code.specs.declared.permit.Permit.{Permit}
 use Rattle.shared_store.specs.declared.view.Lent.{Lent}
 use Rattle.shared_store.specs.Loans.{FitsBeside}
 use Rattle.shared_store.specs.Seats.{top_of}
@@ -9,8 +8,8 @@ use Rattle.shared_store.proofs.store.SharedStore.lend_as.Goals as goal
 
 pub split_seat-seat-requires : goal.split_seat-seat-requires
 split_seat-seat-requires g c = let home = ap (λ p. p.0) c.root.view_is ∙ (c.requires.store ∙ sym c.self.view_is) in let words = ap (λ z. z.words) home in let cells = c.root.invariant.cells in
-    let same = ap (λ p. p.1.loans) (sym c.root.view_is) in let picked = sym c.requires.terms.1 in (
+    let same = ap (λ p. p.1.loans) (sym c.root.view_is) in (
       home,
       subst (λ n. 0 < n) (cells ∙ words) (place_later _ _),
-      cuts _ (top_of c.root.inside.seat.me.0) _ _ _ (ap (λ m. m.0) c.root.invariant.root) (subst (λ (z : List Lent × Permit). FitsBeside z.0 z.1) (λ i. (same i, picked i)) c.requires.permit),
+      cuts _ (top_of c.root.inside.seat.me.0) _ _ _ (ap (λ m. m.0) c.root.invariant.root) (subst (λ (z : List Lent). FitsBeside z _) same c.requires.permit),
     )

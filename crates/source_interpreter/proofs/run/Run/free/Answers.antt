@@ -1,5 +1,6 @@
 use Rattle.std.proofs.Common.{rules, ◌≡◌, Some, Ok, slice_get}
-use Rattle.source_meaning.specs.Value.{pointer_fault, unless}
+use Rattle.source_meaning.specs.Value.{pointer_fault}
+use Rattle.source_interpreter.specs.Checks.{unless}
 use Rattle.source_meaning.specs.Config.{files_of}
 use Rattle.source_interpreter.proofs.Searching.{free_goes}
 use Rattle.source_interpreter.proofs.run.Run.free.Goals as goal

@@ -1,0 +1,27 @@
+// The seed of the tables of a text.
+use plex_num::{Seed, Seq};
+use text_events::{Event, Place};
+
+/// The seed that hangs, too, on what a table may keep of this place.
+fn with_place(seed: Seed, place: Place<'_>) -> Seed {
+    match place {
+        Place::Signal { name } => seed.with(name.as_slice()),
+        Place::BlockName { name } => seed.with(name.as_slice()),
+        Place::Declares { name, .. } => seed.with(name.as_slice()),
+        Place::Names { signal, .. } => seed.with(signal.as_slice()),
+        Place::Chooses { owner, number } => seed.with_number(owner).with_number(number),
+        _ => seed,
+    }
+}
+
+/// The seed of the tables of a text in which these events stand. It hangs on all names and numbers by which something is
+/// looked up, so that nobody can choose them to meet in a table.
+pub(crate) fn seed_of(parts: &[Seq<Event<'_>>]) -> Seed {
+    let mut seed = Seed::new();
+    for part in parts {
+        for event in part.as_slice() {
+            seed = with_place(seed, event.place());
+        }
+    }
+    seed
+}

@@ -1,0 +1,57 @@
+-- The permit of a trace lets the trace be made, and no more than the touches of the trace are permitted.
+use Rattle.std.proofs.Common.{◌≡◌, ℕ, ◌+◌, ◌*◌, true, false, List, [], ◌∷◌, subst, inr, ⊎_elim, arith, lit<}
+use Rattle.std.proofs.lemmas.Bool.{or_cases, or_left, or_right}
+use Rattle.std.specs.List.{list_any}
+use Rattle.job_types.specs.declared.job.JobStart.{JobStart}
+use Rattle.job_types.specs.declared.touch.Touch.{Touch}
+use Rattle.job_types.specs.declared.touch.Touch.TheVariants.{Load, Store}
+use Rattle.job_types.specs.Forlopps.{ChainMap}
+use Rattle.machine_code.specs.declared.permit.Permit.{Permit}
+use Rattle.machine_code.specs.Permits.{may_read, may_write, spans}
+use Rattle.machine_code.proofs.Spanned.{spans_in, spans_out}
+use Rattle.exchange_model.specs.declared.exchange.Exchange.{Exchange}
+use Rattle.entry_summary.specs.declared.summary.Summary.{Summary}
+use Rattle.start_permit.specs.Granted.{MayRead, MayWrite}
+use Rattle.permit_laws.specs.Permitted.{ArePermitted}
+use Rattle.job_runner.specs.Runs.{Keeps}
+use Rattle.parallel_dispatch.specs.Bare.{alone, bare, loads_of, stores_of}
+
+no-false : false ≡ true → ⊥
+no-false e = cc
+
+alone_in : (w : ℕ) → spans (alone w) w ≡ true
+alone_in w = let e : w + 0 * 1 ≡ w = omega arith in subst (λ (u : ℕ). spans (alone w) u ≡ true) e (spans_in (alone w) 0 (lit< tt))
+
+alone_out : (w u : ℕ) → spans (alone w) u ≡ true → w ≡ u
+alone_out w u e = let o = spans_out (alone w) u e in omega (arith, o.1, o.2)
+
+module _ (x : Exchange) (m : Summary) (start : JobStart) (chains : ChainMap) where
+  stored : (ts : List Touch) → ArePermitted x m start chains ts → (w : ℕ) → list_any (λ s. spans s w) (stores_of ts) ≡ true → MayWrite x m start chains w
+  stored [] all w e = absurd (no-false e)
+  stored (Load u v ∷ ts) all w e = stored ts all.1 w e
+  stored (Store u v ∷ ts) all w e = ⊎_elim
+      (λ (h : spans (alone u) w ≡ true). subst (MayWrite x m start chains) (alone_out u w h) all.0)
+      (λ (h : list_any (λ s. spans s w) (stores_of ts) ≡ true). stored ts all.1 w h)
+      (or_cases (spans (alone u) w) _ e)
+
+  loaded : (ts : List Touch) → ArePermitted x m start chains ts → (w : ℕ) → list_any (λ s. spans s w) (loads_of ts) ≡ true → MayRead x m start chains w
+  loaded [] all w e = absurd (no-false e)
+  loaded (Store u v ∷ ts) all w e = loaded ts all.1 w e
+  loaded (Load u v ∷ ts) all w e = ⊎_elim
+      (λ (h : spans (alone u) w ≡ true). subst (MayRead x m start chains) (alone_out u w h) all.0)
+      (λ (h : list_any (λ s. spans s w) (loads_of ts) ≡ true). loaded ts all.1 w h)
+      (or_cases (spans (alone u) w) _ e)
+
+  pub bare_writes : (ts : List Touch) → ArePermitted x m start chains ts → (w : ℕ) → may_write (bare ts) w ≡ true → MayWrite x m start chains w
+  bare_writes ts all w e = stored ts all w e
+
+  pub bare_reads : (ts : List Touch) → ArePermitted x m start chains ts → (w : ℕ) → may_read (bare ts) w ≡ true → MayRead x m start chains w
+  bare_reads ts all w e = ⊎_elim (λ h. loaded ts all w h) (λ h. inr (stored ts all w h)) (or_cases (list_any (λ s. spans s w) (loads_of ts)) (may_write (bare ts) w) e)
+
+keeps_of : (p : Permit) (ts : List Touch) → ((w : ℕ) → list_any (λ s. spans s w) (loads_of ts) ≡ true → may_read p w ≡ true) → ((w : ℕ) → list_any (λ s. spans s w) (stores_of ts) ≡ true → may_write p w ≡ true) → Keeps p ts
+keeps_of p [] reads writes = tt
+keeps_of p (Load w v ∷ ts) reads writes = (reads w (or_left (spans (alone w) w) _ (alone_in w)), keeps_of p ts (λ u e. reads u (or_right (spans (alone w) u) _ e)) writes)
+keeps_of p (Store w v ∷ ts) reads writes = (writes w (or_left (spans (alone w) w) _ (alone_in w)), keeps_of p ts reads (λ u e. writes u (or_right (spans (alone w) u) _ e)))
+
+pub keeps_bare : (ts : List Touch) → Keeps (bare ts) ts
+keeps_bare ts = keeps_of (bare ts) ts (λ w e. or_left _ (may_write (bare ts) w) e) (λ w e. e)

@@ -1,0 +1,89 @@
+-- Lists of events, one list after the other; and the events by which the oldest job comes to its end and retires.
+use Rattle.std.proofs.Common.{◌≡◌, ℕ, suc, ◌+◌, List, [], ◌∷◌, ◌++◌, Some, refl, sym, ap, ◌∙◌, subst, slice_get, arith}
+use Rattle.std.proofs.lemmas.Option.{get_or_from_slice_get}
+use Rattle.job_types.specs.declared.job.JobStart.{JobStart}
+use Rattle.job_types.specs.Own.{World}
+use Rattle.machine_code.specs.declared.op.Op.{Op}
+use Rattle.machine_code.specs.declared.op.Op.TheVariants.{End}
+use Rattle.register_machine.specs.Faithful.{Ends, begun, started}
+use Rattle.register_machine.specs.Machine.{Apart, Goes, Loads, Machine, Reach, Stores, by_op, here, machine_step, op_at, reach, touched, untouched}
+use Rattle.interleave_core.specs.declared.event.CoreEvent.{CoreEvent}
+use Rattle.interleave_core.specs.declared.event.CoreEvent.TheVariants.{Retire}
+use Rattle.interleave_core.specs.declared.window.WindowJob.{WindowJob}
+use Rattle.interleave_core.specs.Allowed.{CanRetire}
+use Rattle.interleave_core.specs.Cores.{Core, lets_go, steps}
+use Rattle.interleave_core.specs.Runs.{Allows, Runs, Setting, core_after}
+use Rattle.parallel_dispatch.specs.Turning.{at_machine, so_many_steps, turn_of}
+
+-- ## One list after the other
+
+pub runs_append : (k : Setting) (es fs : List CoreEvent) (c m d : Core) → Runs k es c m → Runs k fs m d → Runs k (es ++ fs) c d
+unfolding Runs
+runs_append k [] fs c m d is more = subst (λ (o : Core). Runs k fs o d) is more
+runs_append k (e ∷ es) fs c m d runs more = (runs.0, runs_append k es fs (core_after k c e runs.0) m d runs.1 more)
+
+-- one event alone
+pub runs_one : (k : Setting) (c : Core) (e : CoreEvent) (can : Allows k c e) → Runs k (e ∷ []) c (core_after k c e can)
+unfolding Runs
+runs_one k c e can = (can, refl)
+
+-- ## Steps of the oldest job
+
+op_is : (code : List Op) (a : ℕ) (op : Op) → slice_get code a ≡ Some op → op_at code a ≡ op
+op_is code a op at = get_or_from_slice_get code a op End at
+
+-- what an instruction stores does not hang on the touches before it
+touch_free : (r : Reach) (w : World) → (touched r (untouched w.store)).store ≡ (touched r w).store
+touch_free Apart w = refl
+touch_free (Loads word) w = refl
+touch_free (Stores word value) w = refl
+
+-- the core after the instruction
+stepped_core : (k : Setting) (c : Core) (start : JobStart) (younger : List WindowJob) (op : Op) (m : Machine) → slice_get k.code.ops m.run.pc ≡ Some op
+    → steps k.code 0 (record { start = start; run = m.run }) (at_machine c start younger m) ≡ at_machine c start younger (machine_step op m)
+stepped_core k c start younger op m at =
+    let is = op_is k.code.ops m.run.pc op at in
+    ap (λ (o : Op). at_machine c start younger (machine_step o (record { run = m.run; world = untouched m.world.store }))) is
+    ∙ ap (λ ws. at_machine c start younger (record { run = (machine_step op m).run; world = untouched ws })) (touch_free (reach op m.run) m.world)
+
+-- the machine goes to its end by so many events, whatever core the job is the oldest of
+pub record GoesBySteps (k : Setting) (m end : Machine) : Type 0 where
+  pub count : ℕ
+  pub runs : (c : Core) (start : JobStart) (younger : List WindowJob) → Runs k (so_many_steps count (c.retired + 1)) (at_machine c start younger m) (at_machine c start younger end)
+
+pub goes_by_steps : (k : Setting) (m end : Machine) → Goes k.code.ops m end → GoesBySteps k m end
+unfolding Runs
+goes_by_steps k m end here = record { count = 0; runs = λ c start younger. refl }
+goes_by_steps k m end (by_op op running at allowed more) =
+    let rest = goes_by_steps k (machine_step op m) end more in
+    record {
+      count = suc rest.count;
+      runs = λ c start younger. (
+        record { place = 0; job = record { start = start; run = m.run }; numbered = omega arith; there = refl; runs = running },
+        subst (λ (d : Core). Runs k (so_many_steps rest.count (c.retired + 1)) d (at_machine c start younger end)) (sym (stepped_core k c start younger op m at)) (rest.runs c start younger),
+      );
+    }
+
+-- ## The oldest job has its turn
+
+-- from a core of these words in which the oldest job stands at this start, these events lead to the core in which it has retired, which
+-- had come to this end
+pub record HasTurn (k : Setting) (start : JobStart) (words : List ℕ) (end : Machine) : Type 0 where
+  pub count : ℕ
+  pub runs : (c : Core) (younger : List WindowJob) → c.window ≡ record { start = start; run = started k.code start } ∷ younger → c.state.store ≡ words
+      → Runs k (turn_of count (c.retired + 1)) c (lets_go k.exchange (record { start = start; run = end.run }) younger (at_machine c start younger end))
+
+pub has_turn : (k : Setting) (start : JobStart) (words : List ℕ) (end : Machine) → Ends k.code.ops (begun (started k.code start) words) end → HasTurn k start words end
+has_turn k start words end ends =
+    let first = begun (started k.code start) words in
+    let steps = goes_by_steps k first end ends.goes in
+    record {
+      count = steps.count;
+      runs = λ c younger is store.
+          let here : c ≡ at_machine c start younger first = λ i. record c { state = record c.state { store = store i }; window = is i } in
+          let there = at_machine c start younger end in
+          let can : CanRetire there = record { oldest = record { start = start; run = end.run }; younger = younger; first = refl; over = ends.over } in
+          runs_append k (so_many_steps steps.count (c.retired + 1)) (Retire ∷ []) c there (lets_go k.exchange (record { start = start; run = end.run }) younger there)
+          (subst (λ (o : Core). Runs k (so_many_steps steps.count (c.retired + 1)) o there) (sym here) (steps.runs c start younger))
+          (runs_one k there Retire can);
+    }

@@ -1,0 +1,48 @@
+-- What contracts see of the dispatcher's desk, and what its type keeps.
+use Rattle.std.specs.Prelude.{◌≡◌, ℕ, ◌<◌, []}
+use Rattle.std.specs.FinMap as map
+use Rattle.job_types.specs.Forlopps.{none_dead}
+use Rattle.job_types.specs.Waiting.{nobody}
+use Rattle.machine_code.specs.Coded.{Code}
+use Rattle.exchange_model.specs.declared.exchange.Exchange.{Exchange}
+use Rattle.source_meaning.specs.State.{State}
+use Rattle.checked.specs.Kept.{Kept}
+use Rattle.retire_order.specs.Accounts.{Account}
+use Rattle.shared_store.specs.Seats.{RootView, StoreId}
+use Rattle.parallel_dispatch.specs.Events.{IsReached}
+use Rattle.parallel_dispatch.specs.Moves.{AreCounted}
+use Rattle.parallel_dispatch.specs.Windows.{View}
+
+-- the books, the root of the store, the jobs that fly, and how many instructions the runs of those that retired made
+pub record DeskView : Type 0 where
+  pub books : Account
+  pub root : RootView
+  pub window : View
+  pub steps : ℕ
+
+-- what the type of the desk keeps: from the first state events lead, each as it is allowed, to the state of the core that books, root and
+-- loans are, in which each loaned job stands at its start
+pub record IsDesk (x : Exchange) (k : Kept) (code : Code) (store : StoreId) (workers : ℕ) (first : State) (limit : ℕ) (books : Account) (root : RootView) (window : View) (steps : ℕ) : Type 0 where
+  pub reached : IsReached x k code workers first limit books root.1 window.loans steps
+  pub home : root.0 ≡ store
+  pub room : window.room ≡ workers
+  pub some : 0 < workers
+  pub counted : AreCounted books window
+
+-- what stands where no course is named
+abbrev pub no_kept : Kept
+no_kept = record { facts = []; summaries = [] }
+
+abbrev pub no_state : State
+no_state = record {
+  store = [];
+  waiting = nobody;
+  chains = map.empty;
+  dead = none_dead;
+  next = 1;
+  ended = 0;
+  restarts = 0;
+  events = [];
+  lines = [];
+  arrived = [];
+}

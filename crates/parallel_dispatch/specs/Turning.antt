@@ -1,0 +1,24 @@
+-- The events by which the oldest job of a window, which stands at its start, comes to its end and retires.
+use Rattle.std.specs.Prelude.{ℕ, zero, suc, List, [], ◌∷◌, ◌++◌}
+use Rattle.job_types.specs.declared.job.JobStart.{JobStart}
+use Rattle.register_machine.specs.Machine.{Machine}
+use Rattle.interleave_core.specs.declared.event.CoreEvent.{CoreEvent}
+use Rattle.interleave_core.specs.declared.event.CoreEvent.TheVariants.{Step, Retire}
+use Rattle.interleave_core.specs.declared.window.WindowJob.{WindowJob}
+use Rattle.interleave_core.specs.Cores.{Core}
+
+-- so many instructions of the job of this number, one after the other
+abbrev pub so_many_steps : ℕ → ℕ → List CoreEvent
+so_many_steps zero job = []
+so_many_steps (suc n) job = Step job ∷ so_many_steps n job
+
+-- they are made, and the job retires
+abbrev pub turn_of : ℕ → ℕ → List CoreEvent
+turn_of n job = so_many_steps n job ++ Retire ∷ []
+
+-- the core in which the oldest job has come so far, and the words with it
+abbrev pub at_machine : Core → JobStart → List WindowJob → Machine → Core
+at_machine c start younger m = record c {
+  state = record c.state { store = m.world.store };
+  window = record { start = start; run = m.run } ∷ younger;
+}

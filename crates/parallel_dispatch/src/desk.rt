@@ -1,0 +1,266 @@
+// The dispatcher's desk: its books, the root of the store and the jobs that fly, which are a state of the core of events.
+ghost use Rattle.std.specs.Prelude.{◌≡◌, ◌<◌, ◌≤◌, [], Some, None, IfOk, IfErr, MatchOption};
+ghost use Rattle.plex_limits.specs.declared.limits.TheConstants.{MOST_JOBS};
+ghost use Rattle.retire_order.specs.Accounts.{upcoming, with_words};
+ghost use Rattle.retire_order.specs.Events.{ending_of};
+ghost use Rattle.shared_store.specs.Loans.{unlent};
+ghost use Rattle.source_meaning.specs.SingleRun.{ending_at};
+ghost use Rattle.source_meaning.specs.Valid.{IsValid};
+ghost use Rattle.parallel_dispatch.specs.Ends.{IsOverFrom};
+ghost use Rattle.parallel_dispatch.specs.Moves.{HasNames, IsLeft, IsSet, MayFly, MayMove, MayRunAlone, to_do};
+
+use crate::course::Course;
+use crate::driving::Over;
+use crate::moves::{Left, Move, issue, next_move, retire, run_alone};
+use crate::pace::Pace;
+use crate::setting::Setting;
+use crate::window::Window;
+use interference_check::PairTable;
+use job_types::JobStart;
+use plex_io::Gate;
+use retire_order::{Books, Ending, let_arrive};
+use shared_store::RootSeat;
+use std::marker::Model;
+use std::sync::Wait;
+use worker_pool::Shop;
+
+/// The books, the root of the store, and the jobs that fly. They are a state of the core of events, in which each job that flies stands at
+/// its start, and events lead to it from the state in which the run began. It cannot be dropped, since no job that flies may be.
+pub(crate) struct Desk<B: Course> {
+    books: Books,
+    root: RootSeat,
+    window: Window<B>,
+    steps: u64,
+}
+
+impl<B: Course> Model for Desk<B> {
+    ghost use Rattle.parallel_dispatch.specs.Desks.{DeskView, IsDesk};
+    ghost use Rattle.std.specs.Coded.{codes};
+    ghost use Rattle.forlopp_chain.specs.Codes.{chains_code, dead_code};
+
+    ghost Value = { DeskView };
+
+    ghost coded = { Prim.hlevel (codes, chains_code, dead_code) };
+
+    ghost view = { λ d. record { books = d.books; root = d.root; window = d.window; steps = d.steps } };
+
+    ghost invariant = { λ d. IsDesk B.exchange B.kept B.code B.store B.workers B.first B.limit d.books d.root d.window d.steps };
+}
+
+impl<B: Course> Desk<B> {
+    /// Before the first job: what is due arrives. The root and the window are given back where memory is refused.
+    pub fn open(
+        setting: &Setting<'_>,
+        books: Books,
+        root: RootSeat,
+        window: Window<B>,
+    ) -> Result<Desk<B>, Left<B>>
+        requires named { HasNames B.exchange B.code B.store B.book setting.now }
+        requires set { IsSet B.exchange B.code setting.now }
+        requires kept { setting.now.checked.now ≡ B.kept }
+        requires first { with_words books.state root.1.values ≡ B.first }
+        requires limit { (books.limit ≡ B.limit) × (books.limit ≤ MOST_JOBS) }
+        requires nobody { books.running ≡ 0 }
+        requires root { root ≡ (B.store, unlent root.1.values) }
+        requires valid { IsValid B.exchange B.first }
+        requires window { (window.loans ≡ []) × (window.flown ≡ 0) }
+        requires room { (window.room ≡ B.workers) × (0 < window.room) }
+        ensures left { IfErr result (λ left. IsLeft B.store left.root left.window.loans) }
+    {
+        let mut books = books;
+        match let_arrive(setting.exchange, &mut books) {
+            Ok(()) => Ok(Desk {
+                books,
+                root,
+                window,
+                steps: 0,
+            }),
+            Err(_) => Err(Left { root, window }),
+        }
+    }
+
+    /// How the run ends, if none flies and it does.
+    pub fn ending(&self) -> Option<Ending>
+        ensures { MatchOption result
+            (self.now.window.loans ≡ []
+            → ending_at self.now.books.limit self.now.books.state ≡ None)
+            (λ ending. (self.now.window.loans ≡ [])
+            × (Some (ending_of ending)
+            ≡ ending_at self.now.books.limit self.now.books.state)) }
+    {
+        if self.window.len() == 0 {
+            return self.books.finished();
+        }
+        None
+    }
+
+    /// The next job flies, which may. The root and the window are given back where memory is refused.
+    pub fn issue<R: Wait>(
+        self,
+        rt: &R,
+        setting: &Setting<'_>,
+        shop: &Shop<B>,
+        start: JobStart,
+    ) -> Result<Desk<B>, Left<B>>
+        requires named { HasNames B.exchange B.code B.store B.book setting.now }
+        requires set { IsSet B.exchange B.code setting.now }
+        requires kept { setting.now.checked.now ≡ B.kept }
+        requires next { MayFly B.kept self.books self.window start }
+        ensures fewer { IfOk result (λ desk. to_do desk.books < to_do self.books) }
+        ensures left { IfErr result (λ left. IsLeft B.store left.root left.window.loans) }
+    {
+        let Desk {
+            books,
+            root,
+            window,
+            steps,
+        } = self;
+        let mut books = books;
+        let mut root = root;
+        let mut window = window;
+        match issue(rt, setting, shop, &mut books, &mut root, &mut window, start) {
+            Ok(()) => Ok(Desk {
+                books,
+                root,
+                window,
+                steps,
+            }),
+            Err(_) => Err(Left { root, window }),
+        }
+    }
+
+    /// The next job runs alone to its end, and retires. The root and the window are given back where memory is refused.
+    pub fn run_alone<G: Gate>(
+        self,
+        setting: &Setting<'_>,
+        shop: &Shop<B>,
+        gate: &G,
+        pace: &mut Pace,
+        start: JobStart,
+    ) -> Result<Desk<B>, Left<B>>
+        requires named { HasNames B.exchange B.code B.store B.book setting.now }
+        requires set { IsSet B.exchange B.code setting.now }
+        requires kept { setting.now.checked.now ≡ B.kept }
+        requires next { MayRunAlone self.books self.window start }
+        requires goes_on { ending_at self.books.limit self.books.state ≡ None }
+        ensures fewer { IfOk result (λ desk. to_do desk.books < to_do self.books) }
+        ensures left { IfErr result (λ left. IsLeft B.store left.root left.window.loans) }
+    {
+        let Desk {
+            books,
+            root,
+            window,
+            steps,
+        } = self;
+        let mut books = books;
+        let mut window = window;
+        match run_alone(
+            setting,
+            shop,
+            gate,
+            pace,
+            &mut books,
+            root,
+            &mut window,
+            start,
+        ) {
+            Ok(alone) => Ok(Desk {
+                books,
+                root: alone.root,
+                window,
+                steps: steps.wrapping_add(alone.steps),
+            }),
+            Err(root) => Err(Left { root, window }),
+        }
+    }
+
+    /// The oldest job that flies retires. The root and the window are given back where memory is refused.
+    pub fn retire<R: Wait, G: Gate>(
+        self,
+        rt: &R,
+        setting: &Setting<'_>,
+        shop: &Shop<B>,
+        gate: &G,
+        pace: &mut Pace,
+    ) -> Result<Desk<B>, Left<B>>
+        requires named { HasNames B.exchange B.code B.store B.book setting.now }
+        requires set { IsSet B.exchange B.code setting.now }
+        requires kept { setting.now.checked.now ≡ B.kept }
+        requires next { self.window.loans ≡ [] → None ≡ upcoming self.books }
+        requires goes_on { self.window.loans ≡ []
+            → ending_at self.books.limit self.books.state ≡ None }
+        ensures fewer { IfOk result (λ desk. to_do desk.books < to_do self.books) }
+        ensures left { IfErr result (λ left. IsLeft B.store left.root left.window.loans) }
+    {
+        let Desk {
+            books,
+            root,
+            window,
+            steps,
+        } = self;
+        let mut books = books;
+        let mut window = window;
+        match retire(rt, setting, shop, gate, pace, &mut books, root, &mut window) {
+            Ok(oldest) => Ok(Desk {
+                books,
+                root: oldest.root,
+                window,
+                steps: steps.wrapping_add(oldest.steps),
+            }),
+            Err(root) => Err(Left { root, window }),
+        }
+    }
+
+    /// The next move.
+    pub fn next_move(
+        &self,
+        setting: &Setting<'_>,
+        pairs: &PairTable<'_>,
+        worth_a_loan: bool,
+    ) -> Move
+        requires set { IsSet B.exchange B.code setting.now }
+        requires kept { setting.now.checked.now ≡ B.kept }
+        requires pairs { pairs.now ≡ B.kept }
+        requires goes_on { self.now.window.loans ≡ []
+            → ending_at self.now.books.limit self.now.books.state ≡ None }
+        ensures { MayMove B.kept self.now.books self.now.window result }
+    {
+        let _ = setting;
+        next_move(&self.books, &self.window, pairs, worth_a_loan)
+    }
+
+    /// The jobs that fly.
+    pub fn window(&self) -> &Window<B>
+        ensures { result.now ≡ self.now.window }
+    {
+        &self.window
+    }
+
+    /// The run is over, and none flies.
+    pub fn finish(self, setting: &Setting<'_>, ending: Ending) -> (Books, Over)
+        requires set { IsSet B.exchange B.code setting.now }
+        requires kept { setting.now.checked.now ≡ B.kept }
+        requires valid { IsValid B.exchange B.first }
+        requires none { self.window.loans ≡ [] }
+        requires over { Some (ending_of ending) ≡ ending_at self.books.limit self.books.state }
+        ensures { IsOverFrom B.exchange B.code B.kept B.workers B.store B.first B.limit
+            result.0 result.1 }
+    {
+        let _ = setting;
+        let Desk {
+            books,
+            root,
+            window,
+            steps,
+        } = self;
+        window.close();
+        (
+            books,
+            Over {
+                root,
+                ending,
+                steps,
+            },
+        )
+    }
+}
