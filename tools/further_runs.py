@@ -1,28 +1,20 @@
 """Runs of `timed`, `trace` and `change` on an exchange that was made by chance, beside the report of `single`.
 
   timed   with a table made by chance: as `single` on the file to which this module writes out the merged lines
-  trace   an empty filter adds nothing to the report; SHOW adds a job for each one that ended, with the signals that left and the faults
-          as the report has them; and a filter made by chance adds those of them that this module finds shown
-  change  to the same exchange, after a number of jobs made by chance: as `single`, but for its own line, which parts the jobs
+  trace   an empty filter adds nothing to the report; SHOW adds a job for each one that ended, with the signals that
+          left and the faults as the report has them; and a filter made by chance adds those of them that this
+          module finds shown
+  change  to the same exchange, after a number of jobs made by chance: as `single`, but for its own line, which
+          parts the jobs
 
-`commands_of(usage)` are those of them that a program has. `differences(fuzzer, place, case, wanted, chance, command)` tells what is
-wrong: `fuzzer` answers words, `place` is the folder of the case's files, and `wanted` is the answer of `single`.
+`differences(fuzzer, place, case, wanted, chance, command)` tells what is wrong with one of the `COMMANDS`: `fuzzer`
+answers words, `place` is the folder of the case's files, and `wanted` is the answer of `single`.
 """
 import made_exchange
+import program
 
 COMMANDS = ("timed", "trace", "change")
 MANY = (2, 8, 64)
-
-
-def commands_of(usage):
-    return [command for command in COMMANDS if f"plex {command} ".encode() in usage]
-
-
-def first_difference(wrote, wanted):
-    lines, others = wrote.split(b"\n"), wanted.split(b"\n")
-    place = next((place for place, pair in enumerate(zip(lines, others)) if pair[0] != pair[1]), min(len(lines), len(others)))
-    got, needed = (some[place] if place < len(some) else b"" for some in (lines, others))
-    return f"line {place + 1} is {got[:80]!r} and not {needed[:80]!r}"
 
 
 def compared(shown, answer, wanted):
@@ -30,7 +22,7 @@ def compared(shown, answer, wanted):
     if answer[0] is None:
         return [f"{shown}: no answer"]
     if answer != wanted:
-        return [f"{shown}: status {answer[0]} and not {wanted[0]}; {first_difference(answer[1], wanted[1])}"]
+        return [f"{shown}: status {answer[0]} and not {wanted[0]}; {program.first_difference(answer[1], wanted[1])}"]
     return []
 
 
@@ -43,7 +35,7 @@ def lines_of(text):
 
 
 def written_out(signals, table):
-    """The signal file of the merged lines: those of the file, then those of each period, ordered by count and numbered anew."""
+    """The signal file of the merged lines: those of the file and of each period, by their counts, and numbered anew."""
     merged = [(int(words[1]), number, words[2:]) for number, words in lines_of(signals)]
     for _, words in lines_of(table):
         every, first, times = (int(words[place]) for place in (1, 3, 5))
@@ -131,12 +123,14 @@ def is_shown(job, lines):
 def of_report(jobs, report):
     """What of all jobs is not as the report has it."""
     lines = report.splitlines(keepends=True)
-    ended = int(next(line for line in lines if line.startswith(b"JOBS ")).split()[1])
+    ended = ended_in(report)
     if [job.number for job in jobs] != list(range(1, ended + 1)):
         yield f"trace of all: its {len(jobs)} jobs are not those up to {ended}"
     if [line for job in jobs for line in job.outside()] != [line for line in lines if line.startswith(b"OUT ")]:
         yield "trace of all: other outside signals than the report has"
-    faults = [line.decode().split(" at ")[0].rsplit(" ", 2)[1:] for line in lines if line.startswith((b"RELEASE", b"RESTART"))]
+    faults = [
+        line.decode().split(" at ")[0].rsplit(" ", 2)[1:] for line in lines if line.startswith((b"RELEASE", b"RESTART"))
+    ]
     if [[str(job.number), job.outcome] for job in jobs if job.outcome != "ENDED"] != faults:
         yield "trace of all: other faults than the report has"
 
@@ -158,11 +152,15 @@ def trace(fuzzer, place, case, wanted, chance):
     return told + compared("trace of some", answer_to("".join(map(line_of, lines))), (status, some + report))
 
 
+def ended_in(report):
+    """How many jobs have ended, as a report has it."""
+    return int(next(line for line in report.split(b"\n") if line.startswith(b"JOBS ")).split()[1])
+
+
 def is_made(count, wanted):
-    """Whether a run with this answer comes to the change after so many jobs: it does, but for a third restart by the last of them."""
+    """Whether a run with this answer comes to the change after so many jobs, which a third restart forestalls."""
     status, report = wanted
-    ended = int(next(line for line in report.split(b"\n") if line.startswith(b"JOBS ")).split()[1])
-    return count < ended + (status != 4)
+    return count < ended_in(report) + (status != 4)
 
 
 def job_of(line):

@@ -1,7 +1,9 @@
 """Exchange texts with signal files, made by chance, which break no rule and whose jobs come far.
 
-`made_case(chance)` gives a `Case`, and `made_table(case, chance)` a table of periodic signals for it. An exchange has one to four blocks,
-and each of these one to three families of entries. A family says what its jobs are made for:
+`made_case(chance)` gives a `Case`, with a family of entries on purpose where one is named; `made_table(case,
+chance)` gives a table of periodic signals for it, and `made_other(case, chance)` an exchange text to which it may
+change. An exchange has one to four blocks, and each of these one to three families of entries. A family says what
+its jobs are made for:
 
   call   one seizes a record, later ones of its forlopp work on it, and the last one frees it
   row    works on the records of a plain file that its line names
@@ -10,9 +12,11 @@ and each of these one to three families of entries. A family says what its jobs 
   wild   any statements in any order
   grab, shout, spin, deep   goes for the limit of a chain, of the signals sent, of the statements, of the callers
 
-Jobs of the first four pass as pairs where their forlopps and their values differ, so that many run at once. The others conflict, and
-fault in each way.
+Jobs of the first four pass as pairs where their forlopps and their values differ, so that many run at once. The
+others conflict, and fault in each way.
 """
+import copy
+
 LEVELS = "ABCD"
 RELATIONS = ["=", "<>", "<", "<=", ">", ">="]
 GIVEN = ["P", "T", "U", "W", "Q", "R", "I", "J"]
@@ -23,9 +27,9 @@ MIXED = {"call": 4, "row": 4, "cell": 2, "pure": 2, "wild": 5, "grab": 0.8, "sho
 WILD = {"call": 2, "row": 1, "cell": 1, "pure": 1, "wild": 9, "grab": 1, "shout": 0.5, "deep": 1.5, "spin": 0.1}
 CALM_ROLES = ("seize", "own", "free", "row", "cell", "pure")
 STATEMENTS = {
-    "temporary": 6, "variable": 5, "field": 5, "own field": 2, "GOTO": 1, "IF GOTO": 3, "IF": 3, "CASE": 2, "ON": 2, "FOR FIRST": 3,
-    "loop by GOTO": 1.2, "SEND buffered": 4, "SEND outside": 3, "SEND combined": 2.5, "SEIZE": 2, "FREE": 1.2, "EXIT": 0.7,
-    "SEND direct": 0.7, "TRANSFER": 0.5, "RETURN": 0.3,
+    "temporary": 6, "variable": 5, "field": 5, "own field": 2, "GOTO": 1, "IF GOTO": 3, "IF": 3, "CASE": 2, "ON": 2,
+    "FOR FIRST": 3, "loop by GOTO": 1.2, "SEND buffered": 4, "SEND outside": 3, "SEND combined": 2.5, "SEIZE": 2,
+    "FREE": 1.2, "EXIT": 0.7, "SEND direct": 0.7, "TRANSFER": 0.5, "RETURN": 0.3,
 }
 TURNS = {"short": [1, 2, 5, 20], "long": [200, 800, 2000, 6000], "very long": [6000, 20000, 40000]}
 NESTING = ("IF", "CASE", "ON", "loop by GOTO")
@@ -39,7 +43,10 @@ def weighed(chance, weights):
 
 
 class Signal:
-    """A signal. A buffered one has a level and the role of its jobs; a direct one may carry on for the caller that awaits `answer`."""
+    """A signal.
+
+    A buffered one has a level and the role of its jobs; a direct one may carry on for the caller that awaits `answer`.
+    """
 
     def __init__(self, name, kind, count, rank=0, level=None, role=None, answer=None):
         self.name, self.kind, self.count, self.rank = name, kind, count, rank
@@ -86,7 +93,10 @@ class Block:
         ] + [Stored(chance, "H", 32)]
         size = chance.choice([3, 4, 8, 8, 12])
         widths = [8, 32, 32, 32, 32, 16]
-        self.plain = [File(chance, f"F{place}", size, "XY"[place], chance.randint(1, 2), widths) for place in range(chance.randint(1, 2))]
+        self.plain = [
+            File(chance, f"F{place}", size, "XY"[place], chance.randint(1, 2), widths)
+            for place in range(chance.randint(1, 2))
+        ]
         own_size = 70 if "grab" in families else chance.choice([1, 2, 3, 5, 8])
         self.own = [File(chance, "G0", own_size, "Z", chance.randint(1, 2), widths)]
         if chance.random() < 0.3:
@@ -160,19 +170,28 @@ class Body:
         text = self.operand(depth)
         for _ in range(self.chance.choice([0, 0, 0, 1, 1, 2])):
             operator = self.chance.choice(["+", "+", "-", "*", "/", "MOD"])
-            divides = operator in ("/", "MOD")
-            right = str(self.chance.choice([1, 2, 3, 7, 16])) if divides and self.maybe(0.97 if self.calm else 0.75) else self.operand(depth)
-            text += f" {operator} {right}"
+            text += f" {operator} {self.right_operand(operator, depth)}"
         return text
+
+    def right_operand(self, operator, depth):
+        """What stands behind an operator; most divisors are numbers above 0."""
+        if operator in ("/", "MOD") and self.maybe(0.97 if self.calm else 0.75):
+            return str(self.chance.choice([1, 2, 3, 7, 16]))
+        return self.operand(depth)
 
     def fitting(self, width):
         """An expression of which most values fit the width."""
         if width == 32 or self.maybe(0.08 if self.calm else 0.4):
             return self.expr()
-        return f"({self.expr()}) MOD {2 ** min(width, 31)}" if self.maybe(0.6) else str(self.chance.randrange(min(2**width, 300)))
+        if self.maybe(0.6):
+            return f"({self.expr()}) MOD {2 ** min(width, 31)}"
+        return str(self.chance.randrange(min(2**width, 300)))
+
+    def relation(self):
+        return f"{self.expr()} {self.chance.choice(RELATIONS)} {self.expr()}"
 
     def cond(self):
-        relations = [f"{self.expr()} {self.chance.choice(RELATIONS)} {self.expr()}" for _ in range(self.chance.choice([1, 1, 1, 2, 3]))]
+        relations = [self.relation() for _ in range(self.chance.choice([1, 1, 1, 2, 3]))]
         return relations[0] + "".join(f" {self.chance.choice(['AND', 'OR'])} {relation}" for relation in relations[1:])
 
     def values(self, signal, first=None):
@@ -267,7 +286,9 @@ class Body:
         return f"{field.name}({name}) = {self.fitting(field.width)};"
 
     def write_goto(self, depth):
-        return f"GOTO {self.label()};" if depth else f"IF {self.cond()} THEN GOTO {self.label()}; ELSE {self.block_of(1, 1)} FI;"
+        if depth:
+            return f"GOTO {self.label()};"
+        return f"IF {self.cond()} THEN GOTO {self.label()}; ELSE {self.block_of(1, 1)} FI;"
 
     def write_if_goto(self, depth):
         return f"IF {self.cond()} GOTO {self.label()};"
@@ -352,8 +373,13 @@ class Body:
     def write_exit(self, depth):
         return "EXIT;"
 
+    def carrying_on(self):
+        """Direct signals that mostly carry on for the same caller."""
+        answer = self.signal.answer
+        return [signal for signal in self.later(self.maker.direct) if signal.answer is answer or self.maybe(0.1)]
+
     def write_send_direct(self, depth):
-        signals = [signal for signal in self.later(self.maker.direct) if signal.answer is self.signal.answer or self.maybe(0.1)]
+        signals = self.carrying_on()
         if not signals:
             return None
         signal = self.chance.choice(signals)
@@ -361,7 +387,7 @@ class Body:
         return f"{before}SEND {signal.name}{words}{self.values(signal)};"
 
     def write_transfer(self, depth):
-        signals = [signal for signal in self.later(self.maker.direct) if signal.answer is self.signal.answer or self.maybe(0.1)]
+        signals = self.carrying_on()
         if not signals:
             return None
         signal = self.chance.choice(signals)
@@ -455,7 +481,8 @@ class Body:
         signal = self.chance.choice(signals)
         before, words = self.reference(signal)
         self.count("SEND buffered")
-        self.put(f"{before}SEND {signal.name}{words}{self.values(signal, 'P')}{' NEW FORLOPP' if self.maybe(0.03) else ''};")
+        new = " NEW FORLOPP" if self.maybe(0.03) else ""
+        self.put(f"{before}SEND {signal.name}{words}{self.values(signal, 'P')}{new};")
 
     def make_seize(self):
         file = self.block.own[0]
@@ -491,20 +518,23 @@ class Body:
         file = self.block.own[0]
         self.count("SEIZE")
         self.count("ON")
-        self.put(f"ON I FROM 1 UPTO {self.chance.choice([20, 64, 65, 65, 65])} DO SEIZE P IN {file.name} ELSE GOTO {self.label()}; NO;")
+        count = self.chance.choice([20, 64, 65, 65, 65])
+        self.put(f"ON I FROM 1 UPTO {count} DO SEIZE P IN {file.name} ELSE GOTO {self.label()}; NO;")
 
     def make_shout(self):
         signal = self.chance.choice(self.maker.outside)
         self.sends(signal)
         self.count("ON")
         self.count("SEND outside")
-        self.put(f"ON I FROM 1 UPTO {self.chance.choice([255, 256, 256])} DO SEND {signal.name}{self.values(signal)}; NO;")
+        count = self.chance.choice([255, 256, 256])
+        self.put(f"ON I FROM 1 UPTO {count} DO SEND {signal.name}{self.values(signal)}; NO;")
 
     def make_spin(self):
         name = self.new_label()
         self.put(f"IF {self.cond()} GOTO {self.label()};")
         self.count("GOTO")
-        self.put(self.chance.choice([f"{name}) GOTO {name};", f"{name}) T = T + 1; GOTO {name};", "ON I FROM 0 UPTO 4294967295 DO NO;"]))
+        loops = [f"{name}) GOTO {name};", f"{name}) T = T + 1; GOTO {name};", "ON I FROM 0 UPTO 4294967295 DO NO;"]
+        self.put(self.chance.choice(loops))
 
     def make_deep(self):
         """A call that calls itself as often as its first value says."""
@@ -527,10 +557,10 @@ class Body:
 
 
 class Maker:
-    """Makes one exchange."""
+    """Makes one exchange. Its first block has the family that is wanted, where there is one."""
 
-    def __init__(self, chance):
-        self.chance, self.counts = chance, {}
+    def __init__(self, chance, wanted=None):
+        self.chance, self.counts, self.wanted = chance, {}, wanted
         self.temper = chance.choices([CALM, MIXED, WILD], [5, 4, 3])[0]
         self.length = chance.choices(list(TURNS), [6, 3, 1])[0]
         self.blocks = [self.new_block(number) for number in range(chance.choice([1, 2, 2, 3, 4]))]
@@ -543,6 +573,8 @@ class Maker:
 
     def new_block(self, number):
         families = [weighed(self.chance, self.temper) for _ in range(self.chance.choice([1, 1, 2, 2, 3]))]
+        if self.wanted and number == 0:
+            families[0] = self.wanted
         return Block(self.chance, number, families)
 
     def turns(self):
@@ -583,7 +615,8 @@ class Maker:
     def add_combined(self, block, role, least):
         place = len(self.combined)
         answer = Signal(f"R{place}", "answer", self.chance.randint(0, 2))
-        signal = Signal(f"C{place}", "combined", self.chance.randint(least, 3), rank=100 + place, role=role, answer=answer)
+        count = self.chance.randint(least, 3)
+        signal = Signal(f"C{place}", "combined", count, rank=100 + place, role=role, answer=answer)
         self.combined.append(signal)
         self.receive(signal, [block] + (self.others(block, 0.3) if not role else []))
 
@@ -594,7 +627,8 @@ class Maker:
         for place in range(self.chance.choice([0, 1, 2, 3])):
             answer = self.chance.choice([None] + [signal.answer for signal in self.combined])
             role = "pure" if self.temper is CALM or self.chance.random() < 0.3 else None
-            signal = Signal(f"D{place}", "direct", self.chance.randint(0, 3), rank=200 + place, role=role, answer=answer)
+            count = self.chance.randint(0, 3)
+            signal = Signal(f"D{place}", "direct", count, rank=200 + place, role=role, answer=answer)
             self.direct.append(signal)
             block = self.chance.choice(self.blocks)
             self.receive(signal, [block] + self.others(block, 0.4))
@@ -616,7 +650,8 @@ class Lines:
     def __init__(self, maker, chance):
         self.maker, self.chance = maker, chance
         self.entries = [(signal, block) for signal in maker.buffered for block in signal.receivers]
-        self.weights = [{"own": 0.15, "free": 0.15, "grab": 0.4, "shout": 0.4}.get(signal.role, 1) for signal, _ in self.entries]
+        weights = {"own": 0.15, "free": 0.15, "grab": 0.4, "shout": 0.4, maker.wanted: 4}
+        self.weights = [weights.get(signal.role, 1) for signal, _ in self.entries]
         self.new, self.none = self.chance.choice([(0.95, 0.02), (0.85, 0.05), (0.7, 0.15), (0.5, 0.35), (0.9, 0.0)])
         self.steps = self.chance.choice([[0], [0, 0, 0, 0, 0, 1], [0, 0, 1, 2], [0, 1, 3]])
         self.written, self.holders, self.turn = [], [], 0
@@ -698,8 +733,8 @@ class Case:
         return self.maker.counts
 
 
-def made_case(chance):
-    maker = Maker(chance)
+def made_case(chance, wanted=None):
+    maker = Maker(chance, wanted)
     exchange = maker.text()
     signals = Lines(maker, chance).text()
     limit = chance.randint(1, 30) if chance.random() < 0.08 else 400
@@ -709,3 +744,52 @@ def made_case(chance):
 def made_table(case, chance):
     """A table for the exchange and the signal file of a case."""
     return Periods(case.maker, chance).text().encode()
+
+
+# another exchange, for a change
+
+
+def changed_stored(stored, chance):
+    """Another width, and an INIT value that fits it."""
+    if chance.random() < 0.4:
+        stored.width = chance.choice([1, 8, 16, 31, 32])
+        stored.init = chance.choice([0, 1, chance.randrange(2**stored.width)])
+
+
+def changed_block(block, chance):
+    """Other variables and files, as far as they may differ. What its program does is made anew."""
+    for variable in block.variables:
+        changed_stored(variable, chance)
+    if chance.random() < 0.5:
+        block.variables.insert(chance.randrange(len(block.variables)), Stored(chance, "NEW1", 16, True))
+    if chance.random() < 0.5 and len(block.variables) > 2:
+        block.variables.pop(0)
+    for file in block.plain + block.own:
+        for field in file.fields:
+            changed_stored(field, chance)
+        if chance.random() < 0.3:
+            file.fields.insert(0, Stored(chance, f"{file.name}NEW", 32))
+        file.size += chance.choice([0, 0, 1, 5])
+    for file in block.plain:
+        file.size = max(1, file.size - chance.choice([0, 0, 2, 6]))
+    block.items, block.labels, block.sends = [], 0, {}
+
+
+def made_other(case, chance, lacks=None):
+    """An exchange text that may take the place of that of a case; one that lacks an ENTRY or a FILE of it may not."""
+    maker = copy.deepcopy(case.maker)
+    maker.chance, maker.counts, maker.cells = chance, {}, {}
+    if chance.random() < 0.5:
+        chance.shuffle(maker.blocks)
+    for block in maker.blocks:
+        changed_block(block, chance)
+    if lacks == "ENTRY":
+        signal = chance.choice(maker.buffered)
+        signal.level = LEVELS[LEVELS.index(signal.level) - 1]
+    if lacks == "FILE":
+        file = chance.choice(chance.choice(maker.blocks).own)
+        if file.size == 1 or chance.random() < 0.5:
+            file.name = "OTHER"
+        else:
+            file.size = 1
+    return maker.text().encode()

@@ -1,6 +1,7 @@
 """Reads what `plex analyse` writes: the entries of an exchange, and what it tells of their pairs.
 For `pairs_dot` and `pairs_table`."""
 import itertools
+import os
 import pathlib
 import re
 import sys
@@ -65,3 +66,17 @@ def blocks_of(entries):
     return [
         (block, list(some)) for block, some in itertools.groupby(entries, lambda entry: entry.block)
     ]
+
+
+def write(lines):
+    """Writes the lines to the standard output. Where the reader has gone, as `head` does, it ends
+    quietly; another failure ends the program with a line that says why."""
+    try:
+        for line in lines:
+            print(line)
+        sys.stdout.flush()
+    except OSError as wrong:
+        # what is left in the buffer goes nowhere, so that the end of the program does not fail too
+        os.dup2(os.open(os.devnull, os.O_WRONLY), sys.stdout.fileno())
+        if not isinstance(wrong, BrokenPipeError):
+            sys.exit(f"{pathlib.Path(sys.argv[0]).name}: the output: {wrong.strerror}")

@@ -2,10 +2,11 @@
 
 `analysis(text)` gives the text that `plex analyse` writes of an exchange text in bytes, `certificate(text)` the one that `plex
 certify` writes, and `refusal(text, facts)` the line with which a certificate of these facts is refused, or None. They follow
-docs/ANALYSIS.md and share nothing with the program: the tree is that of `slow_rules`, and the least facts are found by going
+docs/ANALYSIS.md and share nothing with the program: the tree is that of `plex_tree`, and the least facts are found by going
 round all statements until nothing is new. Texts must break no rule, and are meant to be short.
 """
-import slow_rules
+from plex_phrases import Node
+from plex_tree import Tree, tree
 
 ANY, DEPTH, AWAITS = ("ANY", 0), ("DEPTH", 0), ("AWAITS", 0)
 SLOTS, VALUES, LEVELS = ["T", "E", "A", "DEPTH", "AWAITS"], ["ARG", "CONST", "ANY"], "ABCD"
@@ -35,7 +36,7 @@ def may_be(value, number):
     return value[0] != "CONST" or value[1] == number
 
 
-class Reader(slow_rules.Parser):
+class Reader(Tree):
     """Reads expressions as trees: an expression is its terms, a term its factors, each with the operator before it."""
 
     def expr(self, depth=0):
@@ -79,11 +80,10 @@ class Exchange:
     reader = Reader
 
     def __init__(self, text):
-        tokens, last_line = slow_rules.tokens_of(text)
-        signals, self.blocks = self.reader(tokens, last_line).exchange()
+        signals, self.blocks = tree(self.reader, text)
         self.signals = []
         for node in signals:
-            level = tokens[node.first.place + 4].text if node.kind == "BUFFERED" else None
+            level = node.level.text if node.level else None
             answer = len(self.signals) + 1 if node.kind == "COMBINED" else None
             self.signals.append(Signal(node.kind, node, level, answer))
             if node.answer:
@@ -108,7 +108,7 @@ class Exchange:
                 block.labels[item.first.text] = len(block.body)
             else:
                 block.body.append(item)
-        block.body.append(slow_rules.Node(block.end, "FINISH"))
+        block.body.append(Node(block.end, "FINISH"))
         self.number_list(number, block.body)
         self.chain_list(block.body, None)
 

@@ -1,0 +1,160 @@
+"""Opens pages in Chromium without a window, and clicks, types, reads and takes pictures by the browser's own
+debugging interface.
+
+`Browser()` is for a `with`. Where no Chromium is there, `find()` is None; CHROMIUM names another one.
+"""
+import base64
+import json
+import os
+import select
+import shutil
+import subprocess
+import tempfile
+import time
+
+NAMES = ("chromium", "chromium-browser", "google-chrome", "chrome")
+LONGEST = 240
+OPTIONS = (
+    "--headless=new",
+    "--no-sandbox",
+    "--disable-gpu",
+    "--hide-scrollbars",
+    "--no-first-run",
+    "--disable-extensions",
+    "--disable-dev-shm-usage",
+    "--disable-background-networking",
+    "--disable-component-update",
+    "--disable-sync",
+    "--remote-debugging-pipe",
+    "--force-device-scale-factor=1",
+)
+
+
+class BrowserFault(Exception):
+    """The browser does not do what it is asked."""
+
+
+def find():
+    named = os.environ.get("CHROMIUM")
+    return shutil.which(named) if named else next(filter(None, map(shutil.which, NAMES)), None)
+
+
+class Browser:
+    def __enter__(self):
+        self.folder = tempfile.mkdtemp()
+        to_read, self.to = os.pipe()
+        self.back, to_write = os.pipe()
+
+        def place():
+            """The browser reads commands from descriptor 3 and writes what comes of them to 4."""
+            for number, new in ((os.dup(to_read), 3), (os.dup(to_write), 4)):
+                os.dup2(number, new)
+
+        words = [find(), *OPTIONS, f"--user-data-dir={self.folder}", "about:blank"]
+        nothing = subprocess.DEVNULL
+        self.process = subprocess.Popen(
+            words, stdin=nothing, stdout=nothing, stderr=nothing, close_fds=False, preexec_fn=place
+        )
+        os.close(to_read)
+        os.close(to_write)
+        self.left, self.number, self.session = b"", 0, None
+        target = self.ask("Target.createTarget", url="about:blank")["targetId"]
+        self.session = self.ask("Target.attachToTarget", targetId=target, flatten=True)["sessionId"]
+        self.ask("Page.enable")
+        return self
+
+    def __exit__(self, *_):
+        try:
+            self.session = None
+            self.ask("Browser.close")
+            self.process.wait(10)
+        except (BrowserFault, OSError, subprocess.TimeoutExpired):
+            self.process.kill()
+            self.process.wait()
+        for number in (self.to, self.back):
+            os.close(number)
+        shutil.rmtree(self.folder, ignore_errors=True)
+
+    def message(self, until):
+        """The next message of the browser."""
+        while b"\0" not in self.left:
+            ready, _, _ = select.select([self.back], [], [], max(0, until - time.monotonic()))
+            some = os.read(self.back, 1 << 20) if ready else b""
+            if not some:
+                raise BrowserFault(
+                    "the browser has ended" if ready else f"the browser says nothing for {LONGEST} seconds"
+                )
+            self.left += some
+        text, _, self.left = self.left.partition(b"\0")
+        return json.loads(text)
+
+    def ask(self, method, of_browser=False, **parameters):
+        """What comes of a command to the page, or to the browser."""
+        self.number += 1
+        told = {"id": self.number, "method": method, "params": parameters}
+        if self.session and not of_browser:
+            told["sessionId"] = self.session
+        os.write(self.to, json.dumps(told).encode() + b"\0")
+        until = time.monotonic() + LONGEST
+        while True:
+            message = self.message(until)
+            if message.get("id") == self.number:
+                if "error" in message:
+                    raise BrowserFault(f"{method}: {message['error'].get('message')}")
+                return message["result"]
+
+    def wait_for(self, event):
+        until = time.monotonic() + LONGEST
+        while self.message(until).get("method") != event:
+            pass
+
+    def processor_time(self):
+        """The seconds of processors that the browser has taken so far, all its processes together."""
+        return sum(
+            process["cpuTime"] for process in self.ask("SystemInfo.getProcessInfo", of_browser=True)["processInfo"]
+        )
+
+    # what a reader does
+
+    def size(self, width, height, is_dark=False):
+        self.ask("Emulation.setDeviceMetricsOverride", width=width, height=height, deviceScaleFactor=1, mobile=False)
+        self.ask(
+            "Emulation.setEmulatedMedia",
+            features=[{"name": "prefers-color-scheme", "value": "dark" if is_dark else "light"}],
+        )
+
+    def open(self, address, scripts=True):
+        """Opens a page, and gives the seconds of processors that it takes until it is there and drawn."""
+        self.ask("Emulation.setScriptExecutionDisabled", value=not scripts)
+        for place in ("about:blank", address):
+            begin = self.processor_time()
+            self.ask("Page.navigate", url=place)
+            self.wait_for("Page.loadEventFired")
+        self.ask("Page.captureScreenshot", format="jpeg", quality=1)
+        return self.processor_time() - begin
+
+    def value(self, script):
+        done = self.ask("Runtime.evaluate", expression=script, returnByValue=True, awaitPromise=True)
+        if "exceptionDetails" in done:
+            raise BrowserFault(
+                f"{script[:80]}: {done['exceptionDetails'].get('exception', {}).get('description', '')[:200]}"
+            )
+        return done["result"].get("value")
+
+    def click(self, selector):
+        """Clicks the middle of the first element that a selector names, where it then stands on the screen."""
+        place = self.value(
+            f"(() => {{ const e = document.querySelector({json.dumps(selector)});"
+            " e.scrollIntoView({block: 'center', inline: 'center'});"
+            " const b = e.getBoundingClientRect(); return [b.x + b.width / 2, b.y + b.height / 2]; })()"
+        )
+        for kind in ("mousePressed", "mouseReleased"):
+            self.ask("Input.dispatchMouseEvent", type=kind, x=place[0], y=place[1], button="left", clickCount=1)
+
+    def key(self, key, code=0):
+        for kind in ("keyDown", "keyUp"):
+            self.ask("Input.dispatchKeyEvent", type=kind, key=key, code=key, windowsVirtualKeyCode=code)
+
+    def picture(self, name):
+        with open(name, "wb") as file:
+            file.write(base64.b64decode(self.ask("Page.captureScreenshot", format="png")["data"]))

@@ -1,0 +1,38 @@
+# Completion of the words of plex-why, plex-load and plex-page in bash. Source this file, or put it
+# into a folder of bash-completion under the name of each tool.
+
+# The file names that begin with the word.
+_plex_tools_files() {
+    compopt -o filenames 2>/dev/null
+    mapfile -t COMPREPLY < <(compgen -f -- "$1")
+}
+
+# Those of the words behind the first one that begin with it.
+_plex_tools_words() {
+    local begun=$1
+    shift
+    mapfile -t COMPREPLY < <(compgen -W "$*" -- "$begun")
+}
+
+_plex_tools() {
+    local word=${COMP_WORDS[COMP_CWORD]} before=${COMP_WORDS[COMP_CWORD-1]} options
+    COMPREPLY=()
+    case ${COMP_WORDS[0]##*/} in
+        plex-why) options='--all --help' ;;
+        plex-load) options='--workers --jobs --json --help' ;;
+        plex-page) options='-o --workers --jobs --help' ;;
+    esac
+    case $before in
+        --workers) _plex_tools_words "$word" 1 2 4 8 16 32 64 ;;
+        --jobs) _plex_tools_words "$word" 1000 1000000 10000000 ;;
+        *)
+            if [[ $word == -* ]]; then
+                _plex_tools_words "$word" "$options"
+            else
+                _plex_tools_files "$word"
+            fi
+            ;;
+    esac
+}
+
+complete -F _plex_tools plex-why plex-load plex-page

@@ -1,0 +1,63 @@
+"""What a command takes of the processor and of memory. For `large_texts`.
+
+`measured(command, folder, most)` runs a command in a folder, in which its output is the file WRITTEN, and gives
+what it came to. A command that takes more seconds of the processor than the most is ended by the system, with the
+signal SIGXCPU; one that takes none and does not end is ended too, after a longer while, since others may use the
+processor beside it.
+"""
+import os
+import signal
+import subprocess
+import sys
+import time
+from collections import namedtuple
+
+WRITTEN = "written"
+WHILE = 120
+PACE, TURNS = 0.066, 2_000_000
+
+Measure = namedtuple("Measure", "status seconds memory")
+
+# Runs a command and tells its status, its time of the processor and its peak of memory. What a process takes counts
+# for its children until they have begun, so this small one stands between them and the tool, which holds large
+# texts.
+SMALL = """
+import os, resource, sys
+most = int(sys.argv[1])
+resource.setrlimit(resource.RLIMIT_CPU, (most, most + 5))
+written = os.open(sys.argv[2], os.O_WRONLY | os.O_CREAT | os.O_TRUNC)
+nothing = os.open(os.devnull, os.O_RDONLY)
+files = [(os.POSIX_SPAWN_DUP2, nothing, 0), (os.POSIX_SPAWN_DUP2, written, 1)]
+child = os.posix_spawn(sys.argv[3], sys.argv[3:], os.environ, file_actions=files)
+_, status, used = os.wait4(child, 0)
+print(os.waitstatus_to_exitcode(status), used.ru_utime + used.ru_stime, used.ru_maxrss * 1024)
+"""
+
+
+def measured(command, folder, most):
+    """The exit status, the seconds of the processor and the peak of memory in bytes.
+
+    The status is None where the command did not end.
+    """
+    words = [sys.executable, "-I", "-S", "-c", SMALL, str(int(most) + 1), WRITTEN, *map(str, command)]
+    small = subprocess.Popen(words, cwd=folder, stdout=subprocess.PIPE, start_new_session=True)
+    try:
+        told = small.communicate(timeout=WHILE + 10 * most)[0].split()
+    except subprocess.TimeoutExpired:
+        os.killpg(small.pid, signal.SIGKILL)
+        small.communicate()
+        return Measure(None, float(most), 0)
+    if small.returncode or len(told) != 3:
+        sys.exit(f"{command[0]} cannot be measured")
+    status = int(told[0])
+    return Measure(None if status == -signal.SIGXCPU else status, float(told[1]), int(told[2]))
+
+
+def pace():
+    """How much slower this machine is than the one of the known figures: 1 where it is faster."""
+    taken = []
+    for _ in range(3):
+        begun = time.process_time()
+        sum(number % 7 for number in range(TURNS))
+        taken.append(time.process_time() - begun)
+    return max(1.0, min(taken) / PACE)

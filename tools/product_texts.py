@@ -1,0 +1,191 @@
+"""Right exchange texts whose cost may be the product of two numbers that the text has. For `large_texts`.
+
+Such a text is near the limits, and each of its parts is cheap by itself: as many FREEs as a file has fields, a CASE
+of many choices at a point of many facts. A program that does for each of the one kind something for each of the
+other takes minutes or gigabytes for it. Each of `PRODUCTS` has a size for the gate and one near the limits.
+"""
+GO = "SIGNAL GO SINGLE BUFFERED B DATA 0;\n"
+CALL = "SIGNAL CALL SINGLE BUFFERED B DATA 1;\n"
+GET = "SIGNAL GET COMBINED DATA 1 ANSWER GOT DATA 1;\n"
+ONCE, ONE_CALL = "AFTER 0 GO K NEW\n", "AFTER 0 CALL K 3 NONE\n"
+IN_SUM, CONSTANTS, ENTRIES, RECEIVERS = 60, 255, 256, 64
+
+
+def each(piece, count, first=0):
+    return "".join(piece.format(number) for number in range(first, first + count))
+
+
+def block(declared, survey, program, name="K"):
+    return f"BLOCK {name};\nDECLARE;\n{declared}\nSURVEY; {survey}\nPROGRAM;\n{program}\nEND BLOCK;\n"
+
+
+def many_entries(count, data=""):
+    """The signals, the survey and the ENTERs of so many entries, one behind the other."""
+    declared = each(f"SIGNAL G{{}} SINGLE BUFFERED B DATA {1 if data else 0};\n", count)
+    given = f" WITH {data};\n" if data else ";\n"
+    return declared, each("RECEIVE G{}; ", count), each("ENTER G{}" + given, count)
+
+
+def one_of(constants, taken="T", by="U"):
+    """The temporary takes one of so many numbers."""
+    return each(f"IF {by} = {{0}} THEN {taken} = {{0}}; FI;\n", constants)
+
+
+def sums(piece, count):
+    """Assignments of sums of so many values, as many as one statement may have in each."""
+    for first in range(0, count, IN_SUM):
+        yield "T = " + " + ".join(piece.format(number) for number in range(first, min(count, first + IN_SUM))) + ";\n"
+
+
+# texts of one number and another
+
+
+def frees(fields, count):
+    declared = "TEMPORARY T; FORLOPP FILE F SIZE 1;\n" + each("FIELD X{} WIDTH 1;\n", fields)
+    program = "ENTER GO;\nSEIZE T IN F ELSE GOTO L;\n" + "FREE T IN F;\n" * count + "L) EXIT;"
+    return GO + block(declared, "RECEIVE GO;", program)
+
+
+def held_sends(count, blocks):
+    signals = GO + "SIGNAL S SINGLE DIRECT DATA 1;\n"
+    program = "ENTER GO;\n" + "SEND S REFERENCE (T) WITH 1;\n" * count + "EXIT;\nENTER S WITH T;"
+    others = "".join(
+        block("TEMPORARY T;", "RECEIVE S;", "ENTER S WITH T;", f"K{number}") for number in range(1, blocks)
+    )
+    return signals + block("TEMPORARY T;", "RECEIVE GO; SEND S; RECEIVE S;", program) + others
+
+
+def choices(count, entries, constants):
+    signals, survey, enters = many_entries(entries, "U")
+    case = "CASE T IS\n" + each("WHEN {} DO\n", count) + "OTHERWISE DO ESAC;"
+    return signals + block("TEMPORARY U; TEMPORARY T;", survey, enters + one_of(constants) + case)
+
+
+def case_turns(count, turns):
+    case = "CASE T IS\n" + each("WHEN {} DO\n", count) + "OTHERWISE DO ESAC;"
+    program = f"ENTER GO;\nT = {count};\nON I FROM 1 UPTO {turns} DO\n{case}\nNO;"
+    return GO + block("TEMPORARY T; TEMPORARY I;", "RECEIVE GO;", program)
+
+
+def case_loop(count, temporaries):
+    """The values go round: each temporary takes that of the next one."""
+    last = f"T{temporaries - 1}"
+    case = "CASE T0 IS\n" + each("WHEN {} DO\n", count) + "OTHERWISE DO ESAC;\n"
+    moves = "".join(f"T{number} = T{number + 1};\n" for number in range(temporaries - 1))
+    program = f"ENTER CALL WITH T0;\nL)\n{case}{moves}" + each(f"IF T0 = 1 THEN {last} = {{}}; FI;\n", 200) + "GOTO L;"
+    return CALL + block(each("TEMPORARY T{};", temporaries), "RECEIVE CALL;", program)
+
+
+def accesses(fields, entries):
+    """Each entry reads each field in one of a hundred records."""
+    signals, survey, enters = many_entries(entries, "U")
+    declared = "TEMPORARY T; TEMPORARY U; FILE F SIZE 100;\n" + each("FIELD X{} WIDTH 1;\n", fields)
+    reads = "".join(text.replace("T = ", "U = ", 1) for text in sums("X{}(T)", fields))
+    return signals + block(declared, survey, enters + one_of(100) + reads)
+
+
+def entries_that_free(fields, entries):
+    signals, survey, enters = many_entries(entries)
+    declared = "TEMPORARY T; FORLOPP FILE F SIZE 1;\n" + each("FIELD X{} WIDTH 1;\n", fields)
+    return signals + block(declared, survey, enters + "FREE T IN F;")
+
+
+def entries_that_read(variables, entries):
+    signals, survey, enters = many_entries(entries)
+    declared = "TEMPORARY T;\n" + each("VARIABLE V{} WIDTH 1;\n", variables)
+    return signals + block(declared, survey, enters + "".join(sums("V{}", variables)))
+
+
+def values(count, constants):
+    """Sends by a held reference, each with eight values, and each of these one of many numbers."""
+    signals = CALL + "SIGNAL S SINGLE DIRECT DATA 8;\n"
+    given = ", ".join(["T"] * 8)
+    send = f"IF U = 1 THEN SEND S REFERENCE (U) WITH {given}; FI;\n"
+    program = "ENTER CALL WITH U;\n" + one_of(constants) + send * count
+    others = "".join(
+        block("TEMPORARY T;", "RECEIVE S;", f"ENTER S WITH {given};", f"K{number}") for number in range(1, RECEIVERS)
+    )
+    return signals + block("TEMPORARY T; TEMPORARY U;", "RECEIVE CALL; SEND S;", program) + others
+
+
+def sends_itself():
+    program = "ENTER GO;\nON I FROM 1 UPTO 255 DO SEND GO; NO;"
+    return GO + block("TEMPORARY I;", "RECEIVE GO; SEND GO;", program)
+
+
+def asks(count):
+    """As many askers as there are places that answer."""
+    program = "ENTER CALL WITH T;\n" + each("SEND GET WITH {}; RETRIEVE GOT WITH T;\n", count) + "EXIT;"
+    answers = "ENTER GET WITH T;\n" + each("IF T = {} THEN RETURN GOT WITH T; FI;\n", count) + "RETURN GOT WITH 0;"
+    first = block("TEMPORARY T;", "RECEIVE CALL; SEND GET;", program)
+    return CALL + GET + first + block("TEMPORARY T;", "RECEIVE GET;", answers, "LIB")
+
+
+def asks_of_long(statements, count):
+    """Many askers, each with a number of its own, of a long text that stands before them."""
+    answers = "ENTER GET WITH T;\n" + "V = 1;\n" * statements + "RETURN GOT WITH 0;"
+    program = "ENTER CALL WITH T;\n" + each("SEND GET WITH {}; RETRIEVE GOT WITH T;\n", count) + "EXIT;"
+    first = block("TEMPORARY T; VARIABLE V WIDTH 32;", "RECEIVE GET;", answers, "LIB")
+    return CALL + GET + first + block("TEMPORARY T;", "RECEIVE CALL; SEND GET;", program)
+
+
+def jumps_to_long(statements, count):
+    """Many jumps back to a long text, each with a number of its own."""
+    jumps = each("IF U = {0} THEN T = {0}; GOTO H; FI;\n", count)
+    program = "ENTER CALL WITH U;\nGOTO P;\nH) V = 1;\n" + "V = 1;\n" * statements + f"EXIT;\nP) V = 2;\n{jumps}EXIT;"
+    return CALL + block("TEMPORARY T; TEMPORARY U; VARIABLE V WIDTH 32;", "RECEIVE CALL;", program)
+
+
+def reads_of_many(statements, constants):
+    """Sums of one field in one of many records."""
+    declared = "TEMPORARY T; TEMPORARY U; VARIABLE V WIDTH 32; FILE G SIZE 256; FIELD F WIDTH 32;"
+    reads = ("V = " + " + ".join(["F(T)"] * IN_SUM) + ";\n") * statements
+    return CALL + block(declared, "RECEIVE CALL;", "ENTER CALL WITH U;\n" + one_of(constants) + reads + "EXIT;")
+
+
+def calls(count):
+    return each("AFTER 0 G0 K {} NEW\n", 100) * (count // 100)
+
+
+class Product:
+    """A text of a size, two sizes, one for the gate and one near the limits, and the signal lines of a size.
+
+    Where a run would not end by itself, its size is the number of its jobs.
+    """
+
+    def __init__(self, name, text, sizes, signals=lambda size: "", is_endless=False):
+        self.name, self.text, self.sizes, self.signals, self.is_endless = name, text, sizes, signals, is_endless
+
+    def files(self, size):
+        return {"E": self.text(size).encode(), "S": self.signals(size).encode()}
+
+    def limit(self, size):
+        return ["--jobs", str(size)] if self.is_endless else []
+
+
+def once(size):
+    return ONCE
+
+
+def one_call(size):
+    return ONE_CALL
+
+
+PRODUCTS = [
+    Product("FREEs of many fields", lambda size: frees(size, size), (2500, 10000), once),
+    Product("sends by a held reference", lambda size: held_sends(size, RECEIVERS), (5000, 19700), once),
+    Product("choices of many facts", lambda size: choices(size, 1, 250), (25000, 100000)),
+    Product("choices of many entries", lambda size: choices(size, ENTRIES, 1), (25000, 100000)),
+    Product("turns round many choices", lambda size: case_turns(size, 4000), (25000, 100000), once),
+    Product("choices in a GOTO loop", lambda size: case_loop(size, 24), (1500, 10000)),
+    Product("fields that many entries read", lambda size: accesses(size, 30), (500, 2000), lambda size: calls(100)),
+    Product("fields that many jobs read", lambda size: accesses(size, 1), (2000, 9900), lambda size: calls(size // 10)),
+    Product("fields that many entries free", lambda size: entries_that_free(size, ENTRIES), (1200, 20000)),
+    Product("variables that many entries read", lambda size: entries_that_read(size, ENTRIES), (1500, 6000)),
+    Product("values of many constants", lambda size: values(size, 250), (1500, 9000)),
+    Product("signals that a job sends itself", lambda size: sends_itself(), (3000, 10000), once, True),
+    Product("askers and answers", asks, (400, 1500), one_call),
+    Product("askers of a long text", lambda size: asks_of_long(size, 200), (2500, 10000), one_call),
+    Product("jumps to a long text", lambda size: jumps_to_long(size, CONSTANTS), (4500, 18000), one_call),
+    Product("reads of many records", lambda size: reads_of_many(size, CONSTANTS), (750, 3000), one_call),
+]
