@@ -1,5 +1,5 @@
 -- What is made for one entry after the other.
-use Rattle.std.proofs.Common.{◌≡◌, ◌⊎◌, ◌↔◌, inl, inr, ⊎_elim, ℕ, Bool, true, false, nat_lt, ◌+◌, ◌<◌, ◌≤◌, List, [], ◌∷◌, ◌++◌, length, Option, Some, None, slice_get, Contains, refl, sym, ap, ◌∙◌, subst, arith, length-append}
+use Rattle.std.proofs.Common.{◌≡◌, ◌⊎◌, ◌↔◌, inl, inr, ⊎_elim, ℕ, Bool, true, false, nat_lt, ◌+◌, ◌<◌, ◌≤◌, List, [], ◌∷◌, ◌++◌, length, map, Option, Some, None, slice_get, Contains, refl, sym, ap, ◌∙◌, subst, arith, length-append}
 use Rattle.std.proofs.lemmas.List.Elements.{Contains-append_left, Contains-append_right, Contains-append_cases}
 use Rattle.std.proofs.lemmas.Option.{none-some, same_Some, slice_get_within}
 use Rattle.std.specs.Prelude.{IfSome}
@@ -12,8 +12,10 @@ use Rattle.flow_points.specs.contracts.fact.SlotOrd.TheImpl as slots
 use Rattle.flow_points.specs.contracts.fact.ValueOrd.TheImpl as values
 use Rattle.exchange_model.specs.declared.exchange.Exchange.{Exchange}
 use Rattle.flow_points.specs.declared.fact.Fact.{Fact}
-use Rattle.flow_points.specs.Facts.{IsLeast}
+use Rattle.flow_points.specs.Facts.{Facts, IsLeast}
 use Rattle.flow_points.proofs.Least.{least_in}
+use Rattle.flow_table.specs.declared.place.PlaceAt.{PlaceAt}
+use Rattle.flow_table.specs.Texts.{ArePlaces, AreReachedAmong, seen}
 use Rattle.fact_rows.specs.Known.{Rows, Knows}
 use Rattle.fact_rows.specs.Orders.{fact_order}
 use Rattle.fact_rows.proofs.Listing.{nat_less, sorted_append, sorted_none}
@@ -22,6 +24,10 @@ use Rattle.entry_summary.specs.declared.summary.Summary.{Summary}
 use Rattle.entry_summary.specs.Summaries.{IsSummary}
 use Rattle.access_summary.specs.Least.{AreSummaries}
 use Rattle.access_summary.proofs.Alike.{summary_alike}
+
+-- the statements that are reached, as a slice of the list
+pub reached_in : (x : Exchange) (P : Facts) (e : ℕ) (places there given : List PlaceAt) → ArePlaces x (map seen places) → ((y : Exchange) → ArePlaces y (map seen places) → AreReachedAmong y P e (map seen there)) → given ≡ there → AreReachedAmong x P e (map seen given)
+reached_in x P e places there given are told same = subst (λ l. AreReachedAmong x P e (map seen l)) (sym same) (told x are)
 
 -- a summary by what rows know of the entry is one by the least facts
 pub summary_of_least : (x : Exchange) (e : ℕ) (k : Rows) (s : Summary) → KnowLeast x e k → IsSummary x (Knows k) e s → IsSummary x (IsLeast x) e s

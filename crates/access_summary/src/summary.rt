@@ -10,7 +10,7 @@ use entry_accesses::{CellNumbers, accesses_of, levels_of};
 use entry_faults::may_fault;
 use entry_summary::Summary;
 use exchange_model::Exchange;
-use flow_table::{FlowTable, KnownFacts, PlaceAt};
+use flow_table::{FlowTable, KnownFacts, PlaceAt, reached_places};
 use plex_num::Memory;
 use std::alloc::Global;
 
@@ -30,9 +30,11 @@ pub fn summary_of<K: KnownFacts>(
     requires numbers { AreNumbers exchange.now numbers.now }
     ensures { IfOk result (IsSummary exchange.now (K.knows known.now) entry) }
 {
-    let accesses = accesses_of(alloc, exchange, numbers, places, known, entry)?;
-    let levels = levels_of(alloc, exchange, places, known, entry)?;
-    let fault = may_fault(alloc, exchange, table, places, known, entry)?;
+    let there = reached_places(alloc, places, known, entry)?;
+    let reached = there.as_slice();
+    let accesses = accesses_of(alloc, exchange, numbers, reached, known, entry)?;
+    let levels = levels_of(alloc, exchange, reached, known, entry)?;
+    let fault = may_fault(alloc, exchange, table, places, reached, known, entry)?;
     Ok(Summary {
         level: exchange.level_of(entry),
         accesses,

@@ -32,7 +32,7 @@ use Rattle.block_change.specs.Names.{file_names, place_of}
 use Rattle.exchange_model.specs.Names.{names_of_blocks}
 use Rattle.block_change.specs.Same.{file_at, file_named, same_block, same_entry, same_file, same_signal}
 use Rattle.block_change.proofs.Distinct.{named_apart}
-use Rattle.block_change.proofs.Lists.{and_then, named_item}
+use Rattle.block_change.proofs.Lists.{and_then, named_item, stands_at}
 use Rattle.block_change.proofs.Placed.{placed_file}
 
 -- ## Nothing is missing
@@ -58,7 +58,7 @@ none_passes {X} p (y ∷ ys) none i x at = by (p y) refl (λ more j there. none_
 pub position_none : {X : Type 0} (p : X → Bool) (xs : List X) → position p xs ≡ None → (i : ℕ) (x : X) → slice_get xs i ≡ Some x → p x ≡ false
 position_none p xs none i x at = none_passes p xs (λ lt. none_there p xs lt none) i x at
 
-find_none : {X : Type 0} (p : X → Bool) (xs : List X) → find p xs ≡ None → (i : ℕ) (x : X) → slice_get xs i ≡ Some x → p x ≡ false
+pub find_none : {X : Type 0} (p : X → Bool) (xs : List X) → find p xs ≡ None → (i : ℕ) (x : X) → slice_get xs i ≡ Some x → p x ≡ false
 find_none p [] none i x at = absurd (none-some x at)
 find_none {X} p (y ∷ ys) none i x at = by (p y) refl none (λ more j there. find_none p ys more j x there) i at
   where
@@ -107,7 +107,7 @@ ranked B = refl
 ranked C = refl
 ranked D = refl
 
-one_rank : (k l : Level) → rank k ≡ rank l → k ≡ l
+pub one_rank : (k l : Level) → rank k ≡ rank l → k ≡ l
 one_rank k l is = sym (ranked k) ∙ ap unrank is ∙ ranked l
 
 level_by : (y : Exchange) (n : ℕ) → level_of y n ≡ signal_level (entry_signal y n)
@@ -174,13 +174,13 @@ pub record IsNewFile (x y : Exchange) (f : ℕ) (p : Placed) : Type 0 where
   pub kind : file.forlopp ≡ true
   pub size : p.file.size ≤ file.size
 
-taken : (g f : File) → takes (Some g) f ≡ true → (g.forlopp ≡ true) × (f.size ≤ g.size)
+pub taken : (g f : File) → takes (Some g) f ≡ true → (g.forlopp ≡ true) × (f.size ≤ g.size)
 taken g f is =
     let parts = and_true g.forlopp (nat_le f.size g.size) is in
     let small = parts.1 in
     (parts.0, grind (arith, nat_tests, small))
 
-lacks_not : (y : Exchange) (block : List ℕ) (f : File) → f.forlopp ≡ true → lacks y block f ≡ false → takes (file_named y.blocks block f.name) f ≡ true
+pub lacks_not : (y : Exchange) (block : List ℕ) (f : File) → f.forlopp ≡ true → lacks y block f ≡ false → takes (file_named y.blocks block f.name) f ≡ true
 lacks_not y block f kind none = not-false (takes (file_named y.blocks block f.name) f) (sym (ap (λ b. b && not (takes (file_named y.blocks block f.name) f)) kind) ∙ none)
 
 pub new_file_is : (x y : Exchange) → IsExchange y → misfit x y ≡ None → (f : ℕ) (p : Placed) → slice_get (placed_files x.blocks) f ≡ Some p → p.file.forlopp ≡ true → IsNewFile x y f p
@@ -270,3 +270,15 @@ one_file x y kept_x kept_y fits f g p q at at2 kind kind2 same =
     let places : m.place ≡ n.place = named_once (λ (h : File). h.name) m.owner.files m.place n.place p.file q.file (named_apart x p.block m.owner (kept_x.blocks.each p.block m.owner m.owner_at)).files m.own own2 names in
     let files : p.file ≡ q.file = same_Some p.file q.file (sym m.own ∙ ap (slice_get m.owner.files) places ∙ own2) in
     sym (file_number x kept_x f p at) ∙ ap (λ (h : File). h.number) files ∙ file_number x kept_x g q at2
+
+-- ## A name that no other item has
+
+place_self : (ns : List (List ℕ)) (i : ℕ) (n : List ℕ) → IsDistinct bytes_eq ns → slice_get ns i ≡ Some n → place_of n ns ≡ Some i
+place_self ns i n apart at = by (place_of n ns) refl
+  where
+    by : (o : Option ℕ) → place_of n ns ≡ o → o ≡ Some i
+    by None is = absurd (true_not_false (bytes_eq n n) ((bytes_eq-Decides n n).1 refl) (position_none (bytes_eq n) ns is i n at))
+    by (Some j) is = ap Some (once_there ns j i n apart (stands_at n ns j is).there at)
+
+pub named_self : {X : Type 0} (name_of : X → List ℕ) (xs : List X) (i : ℕ) (a : X) → IsDistinct bytes_eq (map name_of xs) → slice_get xs i ≡ Some a → place_of (name_of a) (map name_of xs) ≡ Some i
+named_self name_of xs i a apart at = place_self (map name_of xs) i (name_of a) apart (got_map name_of xs i a at)

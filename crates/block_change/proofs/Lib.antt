@@ -10,5 +10,6 @@ pub mod Chaining
 pub mod Valid
 pub mod Moved
 pub mod Entered
+pub mod Fitting
 pub mod Unchanged
 pub mod Once

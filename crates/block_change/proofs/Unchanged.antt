@@ -1,16 +1,14 @@
 -- Where both exchanges are one, nothing changes but the events.
-use Rattle.std.proofs.Common.{◌≡◌, ◌⊎◌, inl, inr, ℕ, suc, ◌<◌, ◌^◌, Bool, true, false, not, ◌&&◌, ◌||◌, cond, List, [], ◌∷◌, ◌++◌, length, map, position, Option, Some, None, unwrap_or, slice_get, refl, sym, ap, ◌∙◌, subst, arith, if◌then◌else◌}
-use Rattle.std.specs.Prelude.{nat_eq, nat_le, slice_index, slice_index_or}
+use Rattle.std.proofs.Common.{◌≡◌, ◌⊎◌, inl, inr, ℕ, ◌<◌, ◌^◌, Bool, true, false, ◌||◌, List, [], ◌∷◌, ◌++◌, length, map, position, Option, Some, None, unwrap_or, slice_get, refl, sym, ap, ◌∙◌, subst, arith, if◌then◌else◌}
+use Rattle.std.specs.Prelude.{slice_index}
 use Rattle.std.specs.Cmp.{nat_cmp_total}
 use Rattle.std.specs.FinMap as fin
 use Rattle.std.specs.FinMap.{nat_cmp-IsAntisymmetric}
-use Rattle.std.specs.List.{AllByRecursion, IsDistinct, find}
-use Rattle.std.specs.Option.{option_and_then, option_map, option_map_or, option_or}
+use Rattle.std.specs.List.{AllByRecursion, IsDistinct}
+use Rattle.std.specs.Option.{option_and_then, option_map, option_map_or}
 use Rattle.std.specs.Str.{bytes_eq}
-use Rattle.std.proofs.lemmas.Bool.{eq-eqb, le-leb, lt-ltb}
-use Rattle.std.proofs.lemmas.List.Quantifiers.{position-Some}
-use Rattle.std.proofs.lemmas.Option.{get_or_from_slice_get, slice_get-get_or}
-use Rattle.std.proofs.lemmas.Slice.Eq.{bytes_eq-Decides}
+use Rattle.std.proofs.lemmas.Bool.{lt-ltb}
+use Rattle.std.proofs.lemmas.Option.{get_or_from_slice_get}
 use Rattle.plex_num.proofs.Lists.{all_at as every_at, all_left, all_right, some_at, got_map, all_weaker}
 use Rattle.exchange_model.specs.declared.block.Block.{Block}
 use Rattle.exchange_model.specs.declared.block.File.{File}
@@ -22,7 +20,7 @@ use Rattle.exchange_model.specs.declared.exchange.Exchange.{Exchange}
 use Rattle.exchange_model.specs.declared.signal.SignalKind.{SignalKind}
 use Rattle.exchange_model.specs.Cells.{IsCell, Placed, cell_number, mark_cell, placed_files, variable_cell}
 use Rattle.exchange_model.specs.Index.{is_entry}
-use Rattle.exchange_model.specs.Kept.{IsExchange, signal_count, signal_name, variable_names}
+use Rattle.exchange_model.specs.Kept.{IsExchange, signal_name, variable_names}
 use Rattle.exchange_model.proofs.Facts.{file_number}
 use Rattle.exchange_model.proofs.Numbers.{cell_number-field, cell_number-mark, cell_numbered, there_from}
 use Rattle.exchange_model.proofs.Places.{stands}
@@ -32,36 +30,26 @@ use Rattle.job_types.specs.Chain.{holds, is_record}
 use Rattle.job_types.specs.Forlopps.{all_records, chain_at}
 use Rattle.plex_num.specs.declared.level.Level.{Level}
 use Rattle.plex_num.specs.declared.level.Level.TheVariants.{A, B, C, D}
-use Rattle.exchange_model.specs.Names.{signal_level}
 use Rattle.source_meaning.specs.Config.{files_of}
 use Rattle.source_meaning.specs.State.{Arrived, Coming, State}
 use Rattle.source_meaning.specs.Valid.{HoldsRecord, IsRecord, IsValid, LinesFit, WaitsAt}
 use Rattle.source_meaning.proofs.Booleans.{bool_cases, or_right, true_not_false}
 use Rattle.source_meaning.proofs.Chains.{record_is, record_itself}
 use Rattle.source_meaning.proofs.Maps.{all_records_fit, held_among_all}
-use Rattle.block_change.specs.Carried.{AreCarriedWords, IsCarried, carried_arrived, carried_chain, carried_chains, carried_held, carried_line, carried_value, carried_waiting, kept_value, mark_value, new_entries, new_entry, new_file, number_for, old_value}
-use Rattle.block_change.specs.Misfits.{agree, entry_signal, first_lacking, first_misfit, has_entry, lacking, lacks, misfit, rank, takes}
+use Rattle.block_change.specs.Carried.{AreCarriedWords, IsCarried, carried_arrived, carried_chain, carried_chains, carried_held, carried_line, carried_value, carried_waiting, carried_with, kept_value, mark_value, new_entries, new_entry, new_file, number_for, old_value}
+use Rattle.block_change.specs.Misfits.{misfit}
 use Rattle.block_change.specs.Names.{file_names, place_of}
 use Rattle.exchange_model.specs.Names.{names_of_blocks, names_of_signals}
 use Rattle.block_change.specs.Renamed.{job_with}
-use Rattle.block_change.specs.Same.{cell_variable, field_cell_in, file_at, file_named, same_block, same_cell, same_entry, same_file, same_signal, variable_cell_at}
-use Rattle.block_change.proofs.Alike.{once_there, position_none}
+use Rattle.block_change.specs.Same.{cell_variable, field_cell_in, file_at, same_block, same_cell, same_entry, same_file, same_signal, variable_cell_at}
+use Rattle.block_change.proofs.Alike.{named_self}
 use Rattle.block_change.proofs.Chaining.{get-carried}
 use Rattle.block_change.proofs.Distinct.{named_apart}
 use Rattle.block_change.proofs.Entered.{entry_known, entry_once}
-use Rattle.block_change.proofs.Lists.{list_same, stands_at, then_is}
+use Rattle.block_change.proofs.Fitting.{fits_none}
+use Rattle.block_change.proofs.Lists.{list_same, then_is}
 
--- ## Lists and names
-
-place_self : (ns : List (List ℕ)) (i : ℕ) (n : List ℕ) → IsDistinct bytes_eq ns → slice_get ns i ≡ Some n → place_of n ns ≡ Some i
-place_self ns i n apart at = by (place_of n ns) refl
-  where
-    by : (o : Option ℕ) → place_of n ns ≡ o → o ≡ Some i
-    by None is = absurd (true_not_false (bytes_eq n n) ((bytes_eq-Decides n n).1 refl) (position_none (bytes_eq n) ns is i n at))
-    by (Some j) is = ap Some (once_there ns j i n apart (stands_at n ns j is).there at)
-
-named_self : {X : Type 0} (name_of : X → List ℕ) (xs : List X) (i : ℕ) (a : X) → IsDistinct bytes_eq (map name_of xs) → slice_get xs i ≡ Some a → place_of (name_of a) (map name_of xs) ≡ Some i
-named_self name_of xs i a apart at = place_self (map name_of xs) i (name_of a) apart (got_map name_of xs i a at)
+-- ## Lists
 
 map_same : {X : Type 0} (P : X → Type 0) (f : X → X) (xs : List X) → ((a : X) → P a → f a ≡ a) → AllByRecursion P xs → map f xs ≡ xs
 map_same P f [] each all = refl
@@ -234,13 +222,11 @@ module _ (x : Exchange) (kept : IsExchange x) where
         let c = cell_numbered x.blocks i (omega (arith, inside, whole, cells)) in
         ap (slice_index words) (sym c.same) ∙ are.each c.cell c.is ∙ value_self c.cell c.is ∙ ap (slice_index s.store) c.same)
 
-    pub state_same : (t : State) → IsCarried x x s t → t ≡ record s { events = [] }
-    state_same t is =
+    books_same : (words : List ℕ) → carried_with x x s words ≡ record s { store = words; events = [] }
+    books_same words =
         let all = have_entries [] (map (λ (a : Arrived). a.line) s.arrived ++ s.lines) valid.lines in
-        let chains : all_records t.chains ≡ all_records s.chains = ap (λ (u : State). all_records u.chains) is.books ∙ ap all_records chains_same in
-        let words = words_same t.store (subst (λ rs. AreCarriedWords x x s.store rs t.store) chains is.words) in
-        is.books ∙ (λ i. record {
-          store = words i;
+        λ i. record {
+          store = words;
           waiting = waiting_same i;
           chains = chains_same i;
           dead = s.dead;
@@ -250,62 +236,57 @@ module _ (x : Exchange) (kept : IsExchange x) where
           events = [];
           lines = map_same HasEntry (carried_line x x) s.lines line_same (all_right HasEntry (map (λ (a : Arrived). a.line) s.arrived) s.lines all) i;
           arrived = arrived_same s.arrived (all_left HasEntry (map (λ (a : Arrived). a.line) s.arrived) s.lines all) i;
-        })
+        }
+
+    pub state_same : (t : State) → IsCarried x x s t → t ≡ record s { events = [] }
+    state_same t is =
+        let chains : all_records t.chains ≡ all_records s.chains = ap (λ (u : State). all_records u.chains) is.books ∙ ap all_records chains_same in
+        let words = words_same t.store (subst (λ rs. AreCarriedWords x x s.store rs t.store) chains is.words) in
+        is.books ∙ books_same t.store ∙ (λ i. record s { store = words i; events = [] })
+
+    pub state_goes : IsCarried x x s (record s { events = [] })
+    state_goes = record {
+      books = sym (books_same s.store);
+      words = record { whole = valid.store.whole; each = λ c is. sym (value_self c is) };
+    }
 
 pub carried_same : (x : Exchange) (s t : State) → IsExchange x → IsValid x s → IsCarried x x s t → t ≡ record s { events = [] }
 carried_same x s t kept valid is = state_same x kept s valid t is
 
+pub goes_over : (x : Exchange) (s : State) → IsExchange x → IsValid x s → IsCarried x x s (record s { events = [] })
+goes_over x s kept valid = state_goes x kept s valid
+
 -- ## An exchange fits itself
 
-none_found : {X : Type 0} (p : X → Bool) (xs : List X) (d : X) → ((i : ℕ) (a : X) → slice_get xs i ≡ Some a → p a ≡ false) → position p xs ≡ None
-none_found {X} p xs d each = by (position p xs) refl
-  where
-    by : (o : Option ℕ) → position p xs ≡ o → o ≡ None
-    by None is = refl
-    by (Some i) is =
-        let found = position-Some p xs i d is in
-        absurd (true_not_false (p (slice_index_or xs i d)) found.1 (each i (slice_index_or xs i d) (slice_get-get_or xs i d found.0)))
-
-find_nothing : {X : Type 0} (p : X → Bool) (xs : List X) → ((i : ℕ) (a : X) → slice_get xs i ≡ Some a → p a ≡ false) → find p xs ≡ None
-find_nothing p [] each = refl
-find_nothing p (x ∷ xs) each = ap (λ b. cond b (Some x) (find p xs)) (each 0 x refl) ∙ find_nothing p xs (λ i a at. each (suc i) a at)
-
-none_lacks : (y : Exchange) (blocks : List Block) → ((b : ℕ) (k : Block) → slice_get blocks b ≡ Some k → lacking y k ≡ None) → first_lacking y blocks ≡ None
-unfolding first_lacking
-none_lacks y [] each = refl
-none_lacks y (k ∷ rest) each = ap (λ o. option_or o (first_lacking y rest)) (each 0 k refl) ∙ none_lacks y rest (λ b l at. each (suc b) l at)
-
-module _ (x : Exchange) (kept : IsExchange x) where
-  entry_there : (e : ℕ) (r : Entry) → slice_get x.entries e ≡ Some r → not (has_entry x x r) ≡ false
-  entry_there e r at =
-      ap (λ o. not (option_map_or (λ n. agree (slice_get x.signals r.signal) (entry_signal x n)) o false)) (entry_self x kept e r at)
-      ∙ ap (λ o. not (agree (slice_get x.signals r.signal) (option_and_then (λ (d : Entry). slice_get x.signals d.signal) o))) at
-      ∙ ap not (agrees (slice_get x.signals r.signal))
-    where
-      agrees : (k : Option SignalKind) → agree k k ≡ true
-      agrees k = ap (λ b. b && nat_eq (option_map_or signal_count k 0) (option_map_or signal_count k 0)) (eq-eqb (rank (signal_level k)) (rank (signal_level k)) refl) ∙ eq-eqb (option_map_or signal_count k 0) (option_map_or signal_count k 0) refl
-
-  file_there : (b j : ℕ) (k : Block) (f : File) → slice_get x.blocks b ≡ Some k → slice_get k.files j ≡ Some f → lacks x k.name f ≡ false
-  file_there b j k f at own = by f.forlopp refl
-    where
-      apart : IsDistinct bytes_eq (file_names k.files)
-      apart = (named_apart x b k (kept.blocks.each b k at)).files
-
-      named : file_named x.blocks k.name f.name ≡ Some f
-      named =
-          then_is (file_at x.blocks f.name) (place_of k.name (names_of_blocks x.blocks)) b (Some f) (named_self (λ (l : Block). l.name) x.blocks b k kept.blocks.names at)
-          (then_is (λ (l : Block). option_and_then (slice_get l.files) (place_of f.name (file_names l.files))) (slice_get x.blocks b) k (Some f) at
-          (then_is (slice_get k.files) (place_of f.name (file_names k.files)) j (Some f) (named_self (λ (g : File). g.name) k.files j f apart own) own))
-
-      by : (t : Bool) → f.forlopp ≡ t → lacks x k.name f ≡ false
-      by false is = ap (λ t. t && not (takes (file_named x.blocks k.name f.name) f)) is
-      by true is =
-          ap (λ t. t && not (takes (file_named x.blocks k.name f.name) f)) is
-          ∙ ap (λ o. not (takes o f)) named
-          ∙ ap (λ t. not (t && nat_le f.size f.size)) is
-          ∙ ap not (le-leb f.size f.size (omega arith))
-
-  pub fits_itself : misfit x x ≡ None
-  fits_itself =
-      ap (λ o. first_misfit o (first_lacking x x.blocks)) (none_found (λ r. not (has_entry x x r)) x.entries (record { block = 0; signal = 0; point = 0 }) entry_there)
-      ∙ ap (first_misfit None) (none_lacks x x.blocks (λ b k at. find_nothing (lacks x k.name) k.files (λ j f own. file_there b j k f at own)))
+pub fits_itself : (x : Exchange) → IsExchange x → misfit x x ≡ None
+fits_itself x kept = fits_none x x kept (record {
+  entries = λ e r at.
+      let own = entry_known x kept e r at in
+      record {
+        signal = own.kind;
+        signal_there = own.kind_there;
+        block = own.block;
+        block_there = own.block_there;
+        number = e;
+        entry = r;
+        there = at;
+        like = own.kind;
+        like_there = own.kind_there;
+        home = own.block;
+        home_there = own.block_there;
+        alike = record { name = refl; level = refl; count = refl };
+        one_name = refl;
+      };
+  files = λ b j k f at own kind. record {
+    number = b;
+    home = k;
+    home_there = at;
+    one_name = refl;
+    place = j;
+    file = f;
+    there = own;
+    own_name = refl;
+    kind = kind;
+    size = omega arith;
+  };
+})

@@ -26,7 +26,8 @@ use Rattle.flow_points.specs.Sources.{source_of, start_source}
 use Rattle.flow_points.proofs.Least.{least_in}
 use Rattle.flow_table.proofs.Rowing.{place_fits}
 use Rattle.fact_rows.specs.Values.{HasNumber, IsAwaited, IsNumbered}
-use Rattle.least_facts.proofs.Numbering.{Awaited, Numbered, SourceFits, leads_fit, start_fits}
+use Rattle.least_facts.specs.Fit.{Awaited, Numbered, SourceFits}
+use Rattle.least_facts.proofs.Numbering.{leads_fit, start_fits}
 use Rattle.certificate_text.specs.Text.{FactFits, SlotFits, ValueFits}
 
 -- values

@@ -40,7 +40,7 @@ same_places x ps qs one other = same_items ps qs (one.each_point ∙ sym other.e
 same_count : (x : Exchange) (n m : ℕ) → HasReferences x n → HasReferences x m → n ≡ m
 same_count x n m one other = one.so ∙ ap (count_by (λ (p : Place). refers p.layer)) (same_places x one.places other.places one.all other.all) ∙ sym other.so
 
-same_shape : (x : Exchange) (s t : Shape) → IsShapeOf x s → IsShapeOf x t → s ≡ t
+pub same_shape : (x : Exchange) (s t : Shape) → IsShapeOf x s → IsShapeOf x t → s ≡ t
 same_shape x s t one other =
     let signals : s.signals ≡ t.signals = one.signals ∙ sym other.signals in
     let blocks : s.blocks ≡ t.blocks = one.blocks ∙ sym other.blocks in

@@ -4,6 +4,7 @@ ghost use Rattle.std.specs.Option.{option_map};
 ghost use Rattle.std.specs.Str.{bytes_eq};
 ghost use Rattle.plex_limits.specs.declared.limits.TheConstants.{MOST_JOBS};
 ghost use Rattle.command_words.specs.Bounded.{AreWithin, AreWorkers, HasBounds, IsBounded};
+ghost use Rattle.command_words.specs.Shapes.{AreReadAs};
 ghost use Rattle.command_words.specs.Words.{allowed_calls, allowed_jobs, allowed_workers, both_bounds, bounded_run, bounds_beside, calls_in, change_at, change_words, jobs_beside, jobs_told, only_word, run_words, shape, single_run, single_words, timed_words, trace_words, value_of, words_of, workers_told};
 
 use plex_io::Word;
@@ -126,8 +127,10 @@ impl Drop for TraceWords {
 }
 
 /// The command that these words are; `None` where they are none.
+#[tactic(auto, using(crate::proofs::Shaped::read_as))]
 pub fn read_command(alloc: Global, words: &[Word]) -> Result<Option<Command>, Memory>
     ensures command { IfOk result (λ command. command ≡ shape words.now) }
+    ensures shaped { IfOk result (λ command. AreReadAs words.now command) }
     ensures bounds { IfOk result (λ command. IfSome command IsBounded) }
 {
     let Some((name, rest)) = words.split_first() else {

@@ -5,8 +5,10 @@
 #![tactic(auto)]
 
 mod command;
+mod laws;
 
 pub use command::{
     Bounds, ChangeWords, Command, MOST_CALLS, RunWords, TimedWords, TraceWords, USUAL_JOBS,
     USUAL_WORKERS, read_command,
 };
+pub use laws::words_are_of_one_shape;

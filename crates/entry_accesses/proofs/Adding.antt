@@ -1,5 +1,6 @@
 -- Lists that have more, item by item.
 use Rattle.std.proofs.Common.{◌≡◌, ◌⊎◌, inl, inr, ⊎_elim, ℕ, ◌+◌, ◌<◌, ◌≤◌, List, [], ◌∷◌, ◌++◌, length, drop, get_or, sym, subst}
+use Rattle.std.specs.Prelude.{◌↔◌}
 use Rattle.std.specs.List.{Contains}
 use Rattle.std.proofs.Math.ListN.{drop_of_length-le}
 use Rattle.std.proofs.lemmas.List.Elements.{Contains-append_left, Contains-push, Contains-push_cases}
@@ -22,6 +23,21 @@ adds_as old new G H there back h = record {
   kept = h.kept;
   added = λ a g. h.added a (back a g);
 }
+
+-- another list of the same items
+pub adds_alike : {A : Type 0} (old new other : List A) (G : A → Type 0) → ((a : A) → Contains other a ↔ Contains new a) → Adds old new G → Adds old other G
+adds_alike old new other G same h = record {
+  each = λ a c. h.each a ((same a).0 c);
+  kept = λ a c. (same a).1 (h.kept a c);
+  added = λ a g. (same a).1 (h.added a g);
+}
+
+-- what one of these items gives, one of the same items gives
+pub gives_alike : {A B : Type 0} (G : B → A → Type 0) (items others : List B) → ((b : B) → Contains others b ↔ Contains items b) → (a : A) → OneGives G others a ↔ OneGives G items a
+gives_alike G items others same a = (
+  λ o. record { item = o.item; one = (same o.item).0 o.one; gives = o.gives },
+  λ o. record { item = o.item; one = (same o.item).1 o.one; gives = o.gives },
+)
 
 -- item by item
 

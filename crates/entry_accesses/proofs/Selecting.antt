@@ -4,13 +4,13 @@ use Rattle.std.specs.List.{Contains}
 use Rattle.std.proofs.Math.ListN.{drop_of_length-le}
 use Rattle.std.proofs.lemmas.List.Elements.{Contains-append_left, Contains-append_right, Contains-append_cases}
 use Rattle.std.proofs.lemmas.List.{get_or_default}
-use Rattle.plex_num.proofs.Members.{first_or_later, none_in, in_map}
+use Rattle.plex_num.proofs.Members.{in_map}
 use Rattle.plex_num.proofs.Lists.{opens}
-use Rattle.source_meaning.proofs.Lists.{first_is, later_is}
 use Rattle.flow_points.specs.declared.fact.Value.{Value}
 use Rattle.flow_points.specs.declared.flow.Source.{Source}
 use Rattle.flow_points.specs.Facts.{Facts, SourceGives}
 use Rattle.flow_table.specs.Giving.{AreValues}
+use Rattle.flow_table.proofs.Reaching.{of_map}
 use Rattle.entry_summary.specs.declared.summary.Access.{Access}
 use Rattle.entry_summary.specs.declared.summary.Access.TheVariants as access
 use Rattle.entry_accesses.specs.declared.uses.Use.{Use}
@@ -41,14 +41,6 @@ selected_item write number values i d old now new lt made g = selected_more writ
 
 pub selected_end : (write : Bool) (number : ℕ) (values : List Value) (i : ℕ) (old now : List Access) → length values ≤ i → SelectedGo write number values i old now → now ≡ old ++ map (access.Field write number) values
 selected_end write number values i old now past g = sym (append-nil now) ∙ sym (ap (λ l. now ++ map (access.Field write number) l) (drop_of_length-le values past)) ∙ g.same
-
-of_map : {A B : Type 0} (f : A → B) (xs : List A) (y : B) → Contains (map f xs) y → (x : A) × Contains xs x × (f x ≡ y)
-of_map f [] y c = absurd (none_in y c)
-of_map f (x ∷ xs) y c =
-    ⊎_elim
-    (λ same. (x, first_is x xs, same))
-    (λ later. let r = of_map f xs y later in (r.0, later_is x r.0 xs r.1, r.2))
-    (first_or_later (f x) y (map f xs) c)
 
 pub field_selected : (P : Facts) (e p : ℕ) (write : Bool) (number : ℕ) (source : Source) (u : Use) (values given : List Value) (old new : List Access) → u ≡ use_of.Field write number source → AreValues (SourceGives P e p source) values → given ≡ values → new ≡ old ++ map (access.Field write number) given → Adds old new (UseGives P e p u)
 field_selected P e p write number source u values given old new used are same made = subst (λ w. Adds old new (UseGives P e p w)) (sym used) adds

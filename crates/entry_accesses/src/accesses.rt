@@ -3,13 +3,14 @@ ghost use Rattle.std.specs.Prelude.{◌≡◌, ◌↔◌, ◌++◌, map, IfOk, O
 ghost use Rattle.std.specs.List.{Contains};
 ghost use Rattle.std.specs.List.Sorted.{IsStrictlySortedBy};
 ghost use Rattle.flow_points.specs.Places.{IsPlace};
-ghost use Rattle.flow_table.specs.Texts.{ArePlaces, seen};
+ghost use Rattle.flow_table.specs.Texts.{AreReachedAmong, seen};
 ghost use Rattle.entry_summary.specs.Accesses.{IsAccess};
 ghost use Rattle.entry_summary.specs.Orders.{access_order};
 ghost use Rattle.entry_summary.specs.declared.summary.Access.{Access as AccessType};
 ghost use Rattle.entry_summary.specs.declared.summary.Access.TheVariants as access;
 ghost use Rattle.entry_accesses.specs.Adding.{Adds, HasAccess, OneGives};
 ghost use Rattle.entry_accesses.specs.Numbered.{AreNumbers};
+ghost use Rattle.entry_accesses.specs.declared.uses.Use.{Use as UseType};
 ghost use Rattle.entry_accesses.specs.Uses.{UseGives};
 
 use crate::numbers::CellNumbers;
@@ -21,8 +22,8 @@ use flow_table::{KnownFacts, PlaceAt, values_from};
 use plex_num::{Memory, Seq};
 use std::alloc::Global;
 
-/// The accesses of the statements that a job of the entry may reach, in order, each once. The places and the numbers are
-/// those of the exchange.
+/// The accesses of the statements that a job of the entry may reach, in order, each once. The numbers are those of the exchange; the
+/// places are of it too, and all that are reached are among them.
 pub fn accesses_of<K: KnownFacts>(
     alloc: Global,
     exchange: &Exchange,
@@ -31,18 +32,77 @@ pub fn accesses_of<K: KnownFacts>(
     known: &K,
     entry: u32,
 ) -> Result<Seq<Access>, Memory>
-    requires places { ArePlaces exchange.now (map seen places.now) }
+    requires places { AreReachedAmong exchange.now (K.knows known.now) entry (map seen places.now) }
     requires numbers { AreNumbers exchange.now numbers.now }
     ensures exact { IfOk result (λ accesses. (a : AccessType) → Contains accesses a
         ↔ IsAccess exchange.now (K.knows known.now) entry a) }
     ensures rising { IfOk result (λ accesses. IsStrictlySortedBy access_order accesses) }
 {
-    // In the order of the text, some more than once.
-    let mut found = Seq::new(alloc);
+    let accesses = Seq::new(alloc);
+    let mut found = Gathered {
+        accesses,
+        most: FEW,
+    };
     for at in places {
-        push_reached(alloc, exchange, numbers, known, entry, at, &mut found)?;
+        found = gather(alloc, exchange, numbers, known, entry, at, found)?;
     }
-    Ok(in_order(found))
+    let Gathered { accesses, .. } = found;
+    let each = in_order(accesses);
+    let copy = copied(alloc, each.as_slice())?;
+    Ok(copy)
+}
+
+/// Among so few accesses repeats do no harm.
+const FEW: usize = 1_024;
+
+/// Accesses that were found, some more than once; and how many may stand there before repeats go.
+#[derive(Drop)]
+struct Gathered {
+    accesses: Seq<Access>,
+    most: usize,
+}
+
+/// The accesses that were found, and those of a statement, if it is reached.
+fn gather<K: KnownFacts>(
+    alloc: Global,
+    exchange: &Exchange,
+    numbers: &CellNumbers,
+    known: &K,
+    entry: u32,
+    at: &PlaceAt<'_>,
+    found: Gathered,
+) -> Result<Gathered, Memory>
+    requires place { IsPlace exchange.now (seen at.now) }
+    requires numbers { AreNumbers exchange.now numbers.now }
+    ensures { IfOk result (λ now. Adds found.accesses now.accesses
+        (HasAccess exchange.now (K.knows known.now) entry (seen at.now))) }
+{
+    let Gathered { accesses, most } = found;
+    let mut accesses = accesses;
+    push_reached(alloc, exchange, numbers, known, entry, at, &mut accesses)?;
+    Ok(thinned(Gathered { accesses, most }))
+}
+
+/// The same without repeats, where there are too many: then as many again may come before they go once more.
+fn thinned(gathered: Gathered) -> Gathered
+    ensures { (a : AccessType) → Contains result.accesses a ↔ Contains gathered.accesses a }
+{
+    let Gathered { accesses, most } = gathered;
+    if accesses.len() <= most {
+        return Gathered { accesses, most };
+    }
+    let accesses = in_order(accesses);
+    let most = accesses.len().saturating_mul(2).max(FEW);
+    Gathered { accesses, most }
+}
+
+/// These accesses, in a list that has no room for more.
+fn copied(alloc: Global, accesses: &[Access]) -> Result<Seq<Access>, Memory>
+    ensures { IfOk result (λ copy. copy ≡ accesses.now) }
+{
+    let mut copy = Seq::with_capacity(alloc, accesses.len())?;
+    copy.push_all(accesses)?;
+    Ok(copy)
 }
 
 /// Appends the accesses of a statement, if it is reached.
@@ -71,8 +131,19 @@ fn push_reached<K: KnownFacts>(
     };
     let mut uses = Seq::new(alloc);
     push_uses(alloc, &here, at.kind, &mut uses)?;
+    let uses = each_once(uses);
     push_all(alloc, known, entry, at.point, uses.as_slice(), accesses)?;
     Ok(())
+}
+
+/// What a statement does, each once.
+fn each_once(uses: Seq<Use>) -> Seq<Use>
+    ensures { (u : UseType) → Contains result u ↔ Contains uses u }
+{
+    let mut each = uses.into_vec();
+    each.sort_unstable();
+    each.dedup();
+    Seq::from_vec(each)
 }
 
 /// Appends the accesses that these are before a point in a job of the entry.

@@ -4,7 +4,7 @@ ghost use Rattle.std.specs.List.{Contains, filter};
 ghost use Rattle.std.specs.List.Sorted.{IsStrictlySortedBy};
 ghost use Rattle.plex_num.specs.declared.level.Level.{Level as LevelType};
 ghost use Rattle.exchange_model.specs.declared.stmt.StmtKind.{out-StmtKind};
-ghost use Rattle.flow_table.specs.Texts.{ArePlaces, seen};
+ghost use Rattle.flow_table.specs.Texts.{AreReachedAmong, seen};
 ghost use Rattle.entry_summary.specs.Orders.{level_order};
 ghost use Rattle.entry_summary.specs.Summaries.{MaySendTo};
 ghost use Rattle.entry_accesses.specs.Adding.{Adds};
@@ -15,7 +15,8 @@ use flow_table::{KnownFacts, PlaceAt};
 use plex_num::{Level, Memory, Seq};
 use std::alloc::Global;
 
-/// The levels to which a job of the entry may send, from A on, each once. The places are those of the exchange.
+/// The levels to which a job of the entry may send, from A on, each once. The places are of the exchange, and all that are
+/// reached are among them.
 pub fn levels_of<K: KnownFacts>(
     alloc: Global,
     exchange: &Exchange,
@@ -23,7 +24,7 @@ pub fn levels_of<K: KnownFacts>(
     known: &K,
     entry: u32,
 ) -> Result<Seq<Level>, Memory>
-    requires { ArePlaces exchange.now (map seen places.now) }
+    requires { AreReachedAmong exchange.now (K.knows known.now) entry (map seen places.now) }
     ensures exact { IfOk result (λ levels. (l : LevelType) → Contains levels l
         ↔ MaySendTo exchange.now (K.knows known.now) entry l) }
     ensures rising { IfOk result (λ levels. IsStrictlySortedBy level_order levels) }
@@ -41,7 +42,7 @@ fn sent_of<K: KnownFacts>(
     known: &K,
     entry: u32,
 ) -> Result<Seq<Level>, Memory>
-    requires { ArePlaces exchange.now (map seen places.now) }
+    requires { AreReachedAmong exchange.now (K.knows known.now) entry (map seen places.now) }
     ensures { IfOk result (λ sent. (l : LevelType) → Contains sent l
         ↔ MaySendTo exchange.now (K.knows known.now) entry l) }
 {

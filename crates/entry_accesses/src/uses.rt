@@ -21,7 +21,7 @@ use std::alloc::Global;
 
 /// What a statement does to stored data, where facts have not yet told the values of pointers. Variables, fields and files
 /// are numbered through the exchange.
-#[derive(Clone, Copy)]
+#[derive(Clone, Copy, PartialEq, Eq, PartialOrd, Ord)]
 pub enum Use {
     Variable {
         write: bool,

@@ -1,12 +1,9 @@
 -- The faults of a statement, one by one.
-use Rattle.std.proofs.Common.{◌≡◌, ◌⊎◌, inl, inr, ⊎_elim, ℕ, ◌+◌, ◌^◌, ◌<◌, ◌≤◌, Bool, true, false, ◌||◌, List, [], ◌∷◌, ◌++◌, length, map, drop, get_or, Option, Some, None, slice_get, refl, sym, ap, ◌∙◌, subst, arith, append-nil, append_assoc}
+use Rattle.std.proofs.Common.{◌≡◌, ◌⊎◌, inl, inr, ⊎_elim, ℕ, ◌+◌, ◌^◌, ◌<◌, ◌≤◌, Bool, true, false, ◌||◌, List, [], ◌∷◌, ◌++◌, length, map, drop, get_or, Option, Some, None, slice_get, refl, sym, ap, ◌∙◌, subst, arith, append-nil, append_assoc, rules, IsPermutation}
 use Rattle.std.specs.Prelude.{◌↔◌}
-use Rattle.std.specs.List.{Contains, list_any}
+use Rattle.std.specs.List.{Contains, dedup, list_any}
 use Rattle.std.proofs.Math.ListN.{drop_of_length-le}
-use Rattle.std.proofs.Math.Nat.{eq-or-lt_of_le}
-use Rattle.std.proofs.lemmas.List.{length-map}
 use Rattle.std.proofs.lemmas.List.Elements.{Contains-append_left, Contains-append_right, Contains-append_cases}
-use Rattle.std.proofs.lemmas.Option.{slice_get_within, same_Some}
 use Rattle.std.proofs.lemmas.Bool.{or_right}
 use Rattle.plex_limits.specs.declared.limits.TheConstants.{MOST_CALLERS}
 use Rattle.plex_num.proofs.Members.{first_or_later, none_in}
@@ -31,14 +28,18 @@ use Rattle.source_meaning.specs.Named.{Layer, Named, NamedVariable, NamedField, 
 use Rattle.flow_points.specs.declared.fact.Slot.TheVariants.{Temp, Depth}
 use Rattle.flow_points.specs.declared.flow.Source.TheVariants.{Of}
 use Rattle.flow_points.specs.Facts.{Facts, Reached}
-use Rattle.flow_points.specs.Places.{Place, StandsAt}
+use Rattle.flow_points.specs.Places.{Place}
 use Rattle.flow_points.specs.Sources.{expr_source}
 use Rattle.flow_table.specs.declared.place.PlaceAt.{PlaceAt}
-use Rattle.flow_table.specs.Texts.{ArePlaces, seen}
+use Rattle.flow_table.specs.Texts.{AreReachedAmong, seen}
+use Rattle.flow_table.proofs.Reaching.{of_map}
 use Rattle.flow_table.proofs.Rowing.{seen_at}
 use Rattle.entry_summary.specs.Faults.{SourceMayBe, may_divide_by_zero, PointsAt, reads, writes, frees, PutsIn, in_variable, in_field, FaultsAt, no_record, no_receiver, too_wide, divides_by_zero, not_own, seizes, has_caller, no_caller, other_caller, too_deep, SomeFaults, TooManySends, GoesRound, MayFault}
+use Rattle.entry_summary.proofs.Sorting.{same_items}
 use Rattle.entry_faults.specs.declared.exprs.ExprAt.{ExprAt}
 use Rattle.entry_faults.specs.declared.fields.Pointer.{Pointer}
+use Rattle.entry_faults.specs.contracts.fields.PointerPartialEq.TheImpl as equal
+use Rattle.entry_faults.specs.contracts.fields.PointerEq.TheImpl.Laws as equal_laws
 use Rattle.entry_faults.specs.declared.question.Asked.TheVariants.{AtLeast}
 use Rattle.entry_faults.specs.declared.question.Question.{Question}
 use Rattle.entry_faults.specs.Asking.{MayAnswer}
@@ -351,6 +352,25 @@ misses_end x P e p pointers i past g = (
   λ m. absurd (none_in m.pointer (subst (λ l. Contains l m.pointer) (drop_of_length-le pointers past) (g.left m.pointer m.one m.misses))),
 )
 
+-- pointers, each once
+
+abbrev pub alike : Pointer → Pointer → Bool
+alike = equal.ghosts.eq
+
+same_pointer : (q r : Pointer) → alike q r ≡ true → q ≡ r
+same_pointer q r is = search (rules, is)
+
+pub same_pointers : (found items sorted new result : List Pointer) → items ≡ found → IsPermutation items sorted → new ≡ dedup alike sorted → result ≡ new → (q : Pointer) → Contains result q ↔ Contains found q
+same_pointers = same_items alike equal_laws.laws-law same_pointer
+
+misses_there : (x : Exchange) (P : Facts) (e p : ℕ) (pointers others : List Pointer) → ((q : Pointer) → Contains pointers q → Contains others q) → AnyMisses x P e p pointers → AnyMisses x P e p others
+misses_there x P e p pointers others there m = record { pointer = m.pointer; one = there m.pointer m.one; misses = m.misses }
+
+pub misses_alike : (x : Exchange) (P : Facts) (e p : ℕ) (pointers each given : List Pointer) (b : Bool) → ((q : Pointer) → Contains each q ↔ Contains pointers q) → given ≡ each → ((b ≡ true) ↔ AnyMisses x P e p given) → (b ≡ true) ↔ AnyMisses x P e p pointers
+misses_alike x P e p pointers each given b same is said =
+    let h = subst (λ l. (b ≡ true) ↔ AnyMisses x P e p l) is said in
+    (λ so. misses_there x P e p each pointers (λ q. (same q).0) (h.0 so), λ m. h.1 (misses_there x P e p pointers each (λ q. (same q).1) m))
+
 -- statements, one after the other
 
 pub reached_faults : (x : Exchange) (P : Facts) (e : ℕ) (at : PlaceAt) (b r : Bool) → ((r ≡ true) ↔ Reached P e at.point) → r ≡ true → ((b ≡ true) ↔ FaultsAt x P e at.block at.point (out-StmtKind at.kind.now)) → (b ≡ true) ↔ FaultsHere x P e at
@@ -359,44 +379,39 @@ reached_faults x P e at b r reach is said = (λ so. record { reached = reach.0 i
 pub not_reached : (x : Exchange) (P : Facts) (e : ℕ) (at : PlaceAt) (r : Bool) → ((r ≡ true) ↔ Reached P e at.point) → r ≡ false → (false ≡ true) ↔ FaultsHere x P e at
 not_reached x P e at r reach not_so = (λ clash. absurd (let k : false ≡ true = clash in cc), λ h. absurd (let k : false ≡ true = sym not_so ∙ reach.1 h.reached in cc))
 
-pub record FaultsGo (x : Exchange) (P : Facts) (e i : ℕ) : Type 0 where
-  pub later : (h : SomeFaults x P e) → i ≤ h.point
+-- a statement that faults is none of the first so many of these
+pub record FaultsGo (x : Exchange) (P : Facts) (e : ℕ) (places : List PlaceAt) (i : ℕ) : Type 0 where
+  pub later : (at : PlaceAt) → Contains places at → FaultsHere x P e at → Contains (drop i places) at
 
-pub faults_begin : (x : Exchange) (P : Facts) (e : ℕ) → FaultsGo x P e 0
-faults_begin x P e = record { later = λ h. omega arith }
+pub faults_begin : (x : Exchange) (P : Facts) (e : ℕ) (places : List PlaceAt) → FaultsGo x P e places 0
+faults_begin x P e places = record { later = λ at c h. c }
 
-same_place : (x : Exchange) (places : List PlaceAt) (i : ℕ) (at : PlaceAt) (q : Place) → ArePlaces x (map seen places) → i < length places → at ≡ get_or places i at → StandsAt x i q → q ≡ seen at
-same_place x places i at q are lt is stands = same_Some q (seen at) (sym (are.listed i q stands) ∙ seen_at places i at lt is)
-
-faults_there : (x : Exchange) (P : Facts) (e : ℕ) (places : List PlaceAt) (i : ℕ) (at : PlaceAt) → ArePlaces x (map seen places) → i < length places → at ≡ get_or places i at → (h : SomeFaults x P e) → h.point ≡ i → FaultsHere x P e at
-faults_there x P e places i at are lt is h here =
-    let same : h.at ≡ seen at = same_place x places i at h.at are lt is (subst (λ n. StandsAt x n h.at) here h.stands) in
-    let point : h.point ≡ at.point = sym h.stands.here ∙ ap (λ (q : Place). q.point) same in
-    record {
-      reached = subst (Reached P e) point h.reached;
-      faults = subst (λ n. FaultsAt x P e at.block n (out-StmtKind at.kind.now)) point (subst (λ (q : Place). FaultsAt x P e q.block h.point q.layer) same h.faults);
-    }
-
-pub faults_more : (x : Exchange) (P : Facts) (e : ℕ) (places : List PlaceAt) (i : ℕ) (at : PlaceAt) (b : Bool) → ArePlaces x (map seen places) → i < length places → at ≡ get_or places i at → ((b ≡ true) ↔ FaultsHere x P e at) → b ≡ false → FaultsGo x P e i → FaultsGo x P e (i + 1)
-faults_more x P e places i at b are lt is said none g = record {
-  later = λ h.
-      let low = g.later h in
+pub faults_more : (x : Exchange) (P : Facts) (e : ℕ) (places : List PlaceAt) (i : ℕ) (at : PlaceAt) (b : Bool) → i < length places → at ≡ get_or places i at → ((b ≡ true) ↔ FaultsHere x P e at) → b ≡ false → FaultsGo x P e places i → FaultsGo x P e places (i + 1)
+faults_more x P e places i at b lt is said none g = record {
+  later = λ q c h.
       ⊎_elim
-      (λ here. absurd (let k : false ≡ true = sym none ∙ said.1 (faults_there x P e places i at are lt is h (sym here)) in cc))
-      (λ above. (let up : i < h.point = above in omega (arith, up)))
-      (eq-or-lt_of_le low);
+      (λ (same : at ≡ q). absurd (let k : false ≡ true = sym none ∙ said.1 (subst (FaultsHere x P e) (sym same) h) in cc))
+      (λ rest. rest)
+      (first_or_later at q (drop (i + 1) places) (subst (λ l. Contains l q) (opens places i at lt is) (g.later q c h)));
 }
 
-pub faults_found : (x : Exchange) (P : Facts) (e : ℕ) (places : List PlaceAt) (i : ℕ) (at : PlaceAt) (b : Bool) → ArePlaces x (map seen places) → i < length places → at ≡ get_or places i at → ((b ≡ true) ↔ FaultsHere x P e at) → b ≡ true → (true ≡ true) ↔ SomeFaults x P e
+pub faults_found : (x : Exchange) (P : Facts) (e : ℕ) (places : List PlaceAt) (i : ℕ) (at : PlaceAt) (b : Bool) → AreReachedAmong x P e (map seen places) → i < length places → at ≡ get_or places i at → ((b ≡ true) ↔ FaultsHere x P e at) → b ≡ true → (true ≡ true) ↔ SomeFaults x P e
 faults_found x P e places i at b are lt is said so =
     let h = said.0 so in
-    let stands = are.stands i (seen at) (seen_at places i at lt is) in
-    (λ _. record { at = seen at; point = at.point; stands = record { place = stands.place; here = refl }; reached = h.reached; faults = h.faults }, λ _. refl)
+    let place = are.each i (seen at) (seen_at places i at lt is) in
+    (λ _. record { at = seen at; point = at.point; stands = record { place = place; here = refl }; reached = h.reached; faults = h.faults }, λ _. refl)
 
-pub faults_end : (x : Exchange) (P : Facts) (e : ℕ) (places : List PlaceAt) (i : ℕ) → ArePlaces x (map seen places) → length places ≤ i → FaultsGo x P e i → (false ≡ true) ↔ SomeFaults x P e
+pub faults_end : (x : Exchange) (P : Facts) (e : ℕ) (places : List PlaceAt) (i : ℕ) → AreReachedAmong x P e (map seen places) → length places ≤ i → FaultsGo x P e places i → (false ≡ true) ↔ SomeFaults x P e
 faults_end x P e places i are past g = (
   λ clash. absurd (let k : false ≡ true = clash in cc),
-  λ h. absurd (let lt = slice_get_within (map seen places) h.point h.at (are.listed h.point h.at h.stands) in let long = length-map places seen in let later = g.later h in omega (arith, lt, long, past, later)),
+  λ h.
+      let r = of_map seen places h.at (are.all h.point h.at h.stands h.reached) in
+      let point : h.point ≡ r.0.point = sym h.stands.here ∙ ap (λ (q : Place). q.point) (sym r.2) in
+      let here : FaultsHere x P e r.0 = record {
+        reached = subst (Reached P e) point h.reached;
+        faults = subst (λ n. FaultsAt x P e r.0.block n (out-StmtKind r.0.kind.now)) point (subst (λ (q : Place). FaultsAt x P e q.block h.point q.layer) (sym r.2) h.faults);
+      } in
+      absurd (none_in r.0 (subst (λ l. Contains l r.0) (drop_of_length-le places past) (g.later r.0 r.1 here))),
 )
 
 -- all together

@@ -7,7 +7,7 @@ use exchange_model::{Expr, Factor, Term};
 use plex_num::{Memory, Seq};
 
 /// A temporary that has the number of a record of a file, which is a number through the exchange.
-#[derive(Clone, Copy)]
+#[derive(Clone, Copy, PartialEq, Eq, PartialOrd, Ord)]
 pub struct Pointer {
     pub file: u32,
     pub temp: u8,

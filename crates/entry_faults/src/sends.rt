@@ -1,7 +1,7 @@
 // Whether a job may send more signals than it may.
 ghost use Rattle.std.specs.Prelude.{◌≡◌, ◌↔◌, ◌+◌, ◌<◌, ◌^◌, map, slice_get, true};
 ghost use Rattle.exchange_model.specs.declared.stmt.StmtKind.{out-StmtKind};
-ghost use Rattle.flow_table.specs.Texts.{ArePlaces, seen};
+ghost use Rattle.flow_table.specs.Texts.{AreReachedAmong, seen};
 ghost use Rattle.entry_summary.specs.Faults.{TooManySends};
 ghost use Rattle.entry_faults.specs.Sends.{PostsHere, counts, joins_outbox as joins, posts as posts_layer};
 
@@ -16,7 +16,7 @@ pub fn too_many_sends<K: KnownFacts>(
     known: &K,
     entry: u32,
 ) -> bool
-    requires { ArePlaces exchange.now (map seen places.now) }
+    requires { AreReachedAmong exchange.now (K.knows known.now) entry (map seen places.now) }
     ensures { (result ≡ true) ↔ TooManySends exchange.now (K.knows known.now) entry }
 {
     exchange.kept();

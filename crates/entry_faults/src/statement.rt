@@ -1,10 +1,11 @@
 // Whether a statement that is reached may fault.
 ghost use Rattle.std.specs.Prelude.{◌≡◌, ◌↔◌, ◌++◌, map, true, IfOk, OnOk};
-ghost use Rattle.std.specs.List.{list_any};
+ghost use Rattle.std.specs.List.{Contains, list_any};
 ghost use Rattle.exchange_model.specs.declared.stmt.StmtKind.{out-StmtKind};
 ghost use Rattle.source_meaning.specs.Rests.{IsOfBlock};
-ghost use Rattle.flow_table.specs.Texts.{ArePlaces, seen};
+ghost use Rattle.flow_table.specs.Texts.{AreReachedAmong, seen};
 ghost use Rattle.entry_summary.specs.Faults.{FaultsAt, SomeFaults, may_divide_by_zero as may_divide};
+ghost use Rattle.entry_faults.specs.declared.fields.Pointer.{Pointer as PointerType};
 ghost use Rattle.entry_faults.specs.Exprs.{expr_seen};
 ghost use Rattle.entry_faults.specs.Fields.{pointers_in};
 ghost use Rattle.entry_faults.specs.Statements.{AnyMisses, FaultsHere, alone, own_pointer as own_pointer_layer, points_at_forlopp as points_so};
@@ -31,7 +32,7 @@ pub fn some_faults<K: KnownFacts>(
     known: &K,
     entry: u32,
 ) -> Result<bool, Memory>
-    requires { ArePlaces exchange.now (map seen places.now) }
+    requires { AreReachedAmong exchange.now (K.knows known.now) entry (map seen places.now) }
     ensures { IfOk result
         (λ fault. (fault ≡ true) ↔ SomeFaults exchange.now (K.knows known.now) entry) }
 {
@@ -83,7 +84,7 @@ fn may_fault_at<K: KnownFacts>(
     let seizes = is_seize(at.kind);
     let divides = any_divides(expressions);
     let forlopp = any_forlopp(exchange, pointing);
-    let misses = any_misses(alloc, exchange, known, entry, point, pointing)?;
+    let misses = any_misses(alloc, exchange, known, entry, point, pointers)?;
     let receiver = receiver_question(at.kind);
     let lost = may_answer(alloc, exchange, known, entry, point, receiver)?;
     let width = width_question(exchange, at.block, at.kind);
@@ -148,8 +149,35 @@ fn any_forlopp(exchange: &Exchange, pointers: &[Pointer]) -> bool
 }
 
 /// Whether one of these pointers may lead to no record.
-#[tactic(auto, using(crate::proofs::Faulting::misses_found, crate::proofs::Faulting::misses_more))]
 fn any_misses<K: KnownFacts>(
+    alloc: Global,
+    exchange: &Exchange,
+    known: &K,
+    entry: u32,
+    point: u32,
+    pointers: Seq<Pointer>,
+) -> Result<bool, Memory>
+    ensures { IfOk result (λ misses. (misses ≡ true)
+        ↔ AnyMisses exchange.now (K.knows known.now) entry point pointers) }
+{
+    let each = each_once(pointers);
+    let misses = some_miss(alloc, exchange, known, entry, point, each.as_slice())?;
+    Ok(misses)
+}
+
+/// These pointers, each once.
+fn each_once(pointers: Seq<Pointer>) -> Seq<Pointer>
+    ensures { (p : PointerType) → Contains result p ↔ Contains pointers p }
+{
+    let mut each = pointers.into_vec();
+    each.sort_unstable();
+    each.dedup();
+    Seq::from_vec(each)
+}
+
+/// Whether one of these pointers may lead to no record; each is asked about.
+#[tactic(auto, using(crate::proofs::Faulting::misses_found, crate::proofs::Faulting::misses_more))]
+fn some_miss<K: KnownFacts>(
     alloc: Global,
     exchange: &Exchange,
     known: &K,

@@ -4,32 +4,38 @@ ghost use Rattle.std.specs.Prelude.{◌≡◌};
 use crate::runner::Runner;
 use exchange_model::Exchange;
 use job_types::{Chain, JobDone, JobStart, Outbox, Outcome};
+use plex_io::{Gate, Place};
 use plex_num::{Memory, Seq};
 use source_interpreter::plain_job;
 use std::alloc::Global;
 
-/// Runs each job by the source interpreter.
+/// Runs each job by the source interpreter, and calls the gate before and after it. It counts no steps, and tells the gate of none.
 #[derive(Drop)]
-pub struct BySource {
+pub struct BySource<'a, G> {
     alloc: Global,
+    gate: &'a G,
     done: JobDone,
+    /// How many jobs have begun.
+    begun: u64,
 }
 
-impl BySource {
+impl<'a, G: Gate> BySource<'a, G> {
     /// Before the first job.
-    pub fn new(alloc: Global) -> BySource {
+    pub fn new(alloc: Global, gate: &'a G) -> BySource<'a, G> {
         BySource {
             alloc,
+            gate,
             done: JobDone {
                 sends: Outbox::new(),
                 chain: Chain::new(),
                 outcome: Outcome::Ended,
             },
+            begun: 0,
         }
     }
 }
 
-impl Runner for BySource {
+impl<'a, G: Gate> Runner for BySource<'a, G> {
     ghost use Rattle.std.specs.Prelude.{◌≡◌};
 
     ghost runs = { λ _ _. Unit {0} };
@@ -42,7 +48,10 @@ impl Runner for BySource {
         start: &JobStart,
         words: &mut Seq<u32>,
     ) -> Result<(), Memory> {
+        self.begun = self.begun.wrapping_add(1);
+        self.gate.at(self.begun, Place::Before);
         self.done = plain_job(self.alloc, exchange, words, start)?;
+        self.gate.at(self.begun, Place::After { steps: 0 });
         Ok(())
     }
 

@@ -1,8 +1,8 @@
 // The single run of an exchange: one job at a time, by the source itself or by the compiled code.
 //
 // What goes in: an exchange, the lines of a signal file, after how many jobs the run ends, and what runs a job. What comes
-// out: the books and the stored words at the end of the single run, and how it ended. There is one loop, whatever runs a job; what runs
-// the code calls a gate before and after each. It knows neither texts nor reports, and keeps no copy of the exchange.
+// out: the books and the stored words at the end of the single run, and how it ended. There is one loop, whatever runs a job, and a gate
+// is called before and after each. It knows neither texts nor reports, and keeps no copy of the exchange.
 #![tactic(auto)]
 
 mod by_code;

@@ -81,7 +81,7 @@ not_reached x P e p b old test none = given_none (GivenAt x P e p) old (λ f h. 
     reached : (f : Fact) → GivenAt x P e p f → Reached P e p
     reached f h = subst (λ n. Reached P n p) h.entry (subst (λ n. Reached P f.entry n) h.gives.stands.here h.gives.flow.reached)
 
-ways_give : (x : Exchange) (P : Facts) (e p : ℕ) (at : Place) (r : Row) → StandsAt x p at → IsRowOf x at r → Reached P e p → (f : Fact) → OneGives (WayGives x P e p) r.ways f → GivenAt x P e p f
+pub ways_give : (x : Exchange) (P : Facts) (e p : ℕ) (at : Place) (r : Row) → StandsAt x p at → IsRowOf x at r → Reached P e p → (f : Fact) → OneGives (WayGives x P e p) r.ways f → GivenAt x P e p f
 ways_give x P e p at r stands is reached f h =
     let w = h.gives in
     let q : f.point ≡ w.end = w.flows.point in

@@ -10,4 +10,5 @@ mod slots;
 mod start;
 
 pub use flows::push_given_at;
+pub use slots::slots_at;
 pub use start::push_given_at_start;

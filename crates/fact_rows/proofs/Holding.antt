@@ -45,7 +45,7 @@ from_map f ns y c =
 pub to_map : {A : Type 0} (f : ℕ → A) (ns : List ℕ) (n : ℕ) → Contains ns n → Contains (map f ns) (f n)
 to_map f ns n c = (let l = c.1 in (c.0, omega (arith, length-map ns f), get_or-map f ns c.0 n (f n) l ∙ ap f c.2))
 
-each_all : (P : ℕ → Type 0) (ns : List ℕ) → ((n : ℕ) → Contains ns n → P n) → All P ns
+pub each_all : (P : ℕ → Type 0) (ns : List ℕ) → ((n : ℕ) → Contains ns n → P n) → All P ns
 each_all P ns h = λ k d lt. h (get_or ns k d) (Contains-get_or ns k d lt)
 
 no_planed : (bound : ℕ) → ArePlaned bound []
@@ -75,7 +75,7 @@ few_between (x ∷ xs) a n up h =
 plane_few : (bound : ℕ) (ns : List ℕ) → ArePlaned bound ns → length ns ≤ bound
 plane_few bound ns p = few_between ns 0 bound p.rising (λ n c. (omega arith, (let b = All-contains (λ m. m < bound) ns n p.below c in omega arith)))
 
-sums_few : (bound : ℕ) (planes : List (List ℕ)) → All (ArePlaned bound) planes → sum_by length planes ≤ bound * length planes
+pub sums_few : (bound : ℕ) (planes : List (List ℕ)) → All (ArePlaned bound) planes → sum_by length planes ≤ bound * length planes
 sums_few bound [] all = omega arith
 sums_few bound (ns ∷ planes) all =
     let here = plane_few bound ns (All-head (ArePlaned bound) ns planes all) in
@@ -85,7 +85,7 @@ sums_few bound (ns ∷ planes) all =
 
 -- ---- one number more
 
-abbrev counted : Marks → ℕ
+abbrev pub counted : Marks → ℕ
 counted m = sum_by length m.planes + sum_by length m.awaits
 
 -- a number more before a point and slot, and everything else as it was
@@ -219,20 +219,20 @@ still_kept m p s n added new touched later fresh kept more empty touch = record 
     here : Contains later p
     here = ⊎_elim (λ none. touch.there (empty.1 none)) (λ there. touch.still p there) (kept.listed p s)
 
+pub planed_at : (bound : ℕ) (rows : List (List ℕ)) (i : ℕ) → All (ArePlaned bound) rows → ArePlaned bound (get_or rows i [])
+planed_at bound rows i all = elim (cases_lt i (length rows)) [
+  | inl lt ↦ All-get_or (ArePlaned bound) rows i [] lt all
+  | inr past ↦ subst (ArePlaned bound) (sym (get_or_past rows i [] past)) (no_planed bound)
+]
+
 -- each number of a slot is one of its plane
 pub slot_below : (m : Marks) (touched : List ℕ) → IsKept m touched → (p : ℕ) (s : Slot) → ArePlaned (numbers_of s) (numbers_at m p s)
 slot_below m touched kept p s = by (spot_of m.slots p s) refl
   where
-    at_row : (bound : ℕ) (rows : List (List ℕ)) (i : ℕ) → All (ArePlaned bound) rows → ArePlaned bound (get_or rows i [])
-    at_row bound rows i all = elim (cases_lt i (length rows)) [
-      | inl lt ↦ All-get_or (ArePlaned bound) rows i [] lt all
-      | inr past ↦ subst (ArePlaned bound) (sym (get_or_past rows i [] past)) (no_planed bound)
-    ]
-
     by : (o : Option Spot) → spot_of m.slots p s ≡ o → ArePlaned (numbers_of s) (numbers_at m p s)
     by None e = subst (ArePlaned (numbers_of s)) (sym (numbers_by m p s None e)) (no_planed (numbers_of s))
-    by (Some (Plane i)) e = subst (ArePlaned (numbers_of s)) (sym (numbers_by m p s (Some (Plane i)) e)) (subst (λ b. ArePlaned b (get_or m.planes i [])) (sym (plane_slot m.slots p s i e)) (at_row (ANY_NUMBER + 1) m.planes i kept.planes))
-    by (Some (Awaited i)) e = subst (ArePlaned (numbers_of s)) (sym (numbers_by m p s (Some (Awaited i)) e)) (subst (λ b. ArePlaned b (get_or m.awaits i [])) (sym (await_slot m.slots p s i e)) (at_row AWAITED_NUMBERS m.awaits i kept.awaits))
+    by (Some (Plane i)) e = subst (ArePlaned (numbers_of s)) (sym (numbers_by m p s (Some (Plane i)) e)) (subst (λ b. ArePlaned b (get_or m.planes i [])) (sym (plane_slot m.slots p s i e)) (planed_at (ANY_NUMBER + 1) m.planes i kept.planes))
+    by (Some (Awaited i)) e = subst (ArePlaned (numbers_of s)) (sym (numbers_by m p s (Some (Awaited i)) e)) (subst (λ b. ArePlaned b (get_or m.awaits i [])) (sym (await_slot m.slots p s i e)) (planed_at AWAITED_NUMBERS m.awaits i kept.awaits))
 
 -- ---- what is known then
 

@@ -11,13 +11,14 @@ use Rattle.fact_rows.specs.declared.place.Counts.{Counts}
 use Rattle.fact_rows.specs.declared.place.Spot.{Spot}
 use Rattle.fact_rows.specs.declared.place.Spot.TheVariants.{Plane, Awaited}
 use Rattle.fact_rows.specs.declared.value.TheConstants.{ANY_NUMBER, AWAITED_NUMBERS}
+use Rattle.fact_rows.specs.Known.{HasSpot}
 use Rattle.fact_rows.specs.Values.{is_awaits, numbers_of}
 use Rattle.fact_rows.specs.Places.{Marks, HasPlace, at_spot, counts_of, numbers_at, size_of, start_of, spot_below, spot_in, spot_if, spot_of}
 use Rattle.plex_num.specs.declared.seq.Memory.{Memory}
 use Rattle.std.specs.List.{All}
 use Rattle.fact_rows.specs.declared.planes.Planes.{Planes}
 use Rattle.fact_rows.specs.Spread.{IsSound, row_of}
-use Rattle.fact_rows.specs.Grids.{IsLaid, IsGrid, IsBlank, IsSetAt, SetsAt}
+use Rattle.fact_rows.specs.Grids.{IsLaid, IsGrid, IsBlank, IsJoinedAt, IsSetAt, JoinsAt, SetsAt}
 
 -- ---- where the planes of a point begin
 
@@ -292,6 +293,31 @@ module _ (old : Marks) (slots : List Counts) (planes awaits new : List (List ℕ
   })
   await_set (Err e) spot u = u
 
+-- all numbers of one spot come to another one, unless memory is refused
+
+module _ (old : Marks) (slots : List Counts) (planes awaits new : List (List ℕ)) (p q i j : ℕ) (s t : Slot) (view : record { slots = slots; planes = planes; awaits = awaits } ≡ old) where
+  pub plane_joined : (r : Result Bool Memory) → spot_of old.slots p s ≡ Some (Plane i) → spot_of old.slots q t ≡ Some (Plane j) → IfOk r (λ grown. IsJoinedAt planes i j grown new)
+      → IfOk r (λ grown. JoinsAt old grown (spot_of old.slots p s) (spot_of old.slots q t) (record { slots = slots; planes = new; awaits = awaits }))
+  plane_joined (Ok grown) from to h = subst (λ o. JoinsAt old grown o (spot_of old.slots q t) (record { slots = slots; planes = new; awaits = awaits })) (sym from) (subst (λ o. JoinsAt old grown (Some (Plane i)) o (record { slots = slots; planes = new; awaits = awaits })) (sym to) (record {
+    slots = ap (λ (m : Marks). m.slots) view;
+    planes = subst (λ ps. IsJoinedAt ps i j grown new) (ap (λ (m : Marks). m.planes) view) h;
+    awaits = ap (λ (m : Marks). m.awaits) view;
+  }))
+  plane_joined (Err e) from to u = u
+
+  pub await_joined : (r : Result Bool Memory) → spot_of old.slots p s ≡ Some (Awaited i) → spot_of old.slots q t ≡ Some (Awaited j) → IfOk r (λ grown. IsJoinedAt awaits i j grown new)
+      → IfOk r (λ grown. JoinsAt old grown (spot_of old.slots p s) (spot_of old.slots q t) (record { slots = slots; planes = planes; awaits = new }))
+  await_joined (Ok grown) from to h = subst (λ o. JoinsAt old grown o (spot_of old.slots q t) (record { slots = slots; planes = planes; awaits = new })) (sym from) (subst (λ o. JoinsAt old grown (Some (Awaited i)) o (record { slots = slots; planes = planes; awaits = new })) (sym to) (record {
+    slots = ap (λ (m : Marks). m.slots) view;
+    planes = ap (λ (m : Marks). m.planes) view;
+    awaits = subst (λ ps. IsJoinedAt ps i j grown new) (ap (λ (m : Marks). m.awaits) view) h;
+  }))
+  await_joined (Err e) from to u = u
+
+-- AWAITS stands in the planes of AWAITS, and nothing else does
+pub kinds_apart : {A : Type 0} (slots : List Counts) (p q i j : ℕ) (s t : Slot) → numbers_of s ≡ numbers_of t → spot_of slots p s ≡ Some (Plane i) → spot_of slots q t ≡ Some (Awaited j) → A
+kinds_apart slots p q i j s t alike from to = absurd (omega (arith, plane_slot slots p s i from, await_slot slots q t j to, alike))
+
 -- what memory refused leaves
 module _ (old : Marks) (slots : List Counts) (planes awaits new : List (List ℕ)) (view : record { slots = slots; planes = planes; awaits = awaits } ≡ old) where
   pub plane_refused : (r : Result Bool Memory) → OnErr r (new ≡ planes) → OnErr r (record { slots = slots; planes = new; awaits = awaits } ≡ old)
@@ -435,13 +461,7 @@ in_place start p c (Answered t) spot e = below_some (start + c.temps + c.given) 
 in_place start p c Depth spot e = tt
 in_place start p c Awaits spot e = tt
 
--- the slot stands before the point
-pub record IsPlaced (slots : List Counts) (p : ℕ) (s : Slot) : Type 0 where
-  pub counts : Counts
-  pub there : slice_get slots p ≡ Some counts
-  pub slot : HasPlace counts s
-
-pub slot_placed : (slots : List Counts) (p : ℕ) (s : Slot) (spot : Spot) → spot_of slots p s ≡ Some spot → IsPlaced slots p s
+pub slot_placed : (slots : List Counts) (p : ℕ) (s : Slot) (spot : Spot) → spot_of slots p s ≡ Some spot → HasSpot slots p s
 slot_placed slots p s spot e =
     let a = spot_there slots p s spot e in
     record { counts = a.counts; there = a.there; slot = in_place (start_of slots p) p a.counts s spot a.is }

@@ -1,9 +1,11 @@
 pub mod Narrowing
 pub mod Numbering
 pub mod Spreading
+pub mod Joining
 pub mod Laying
 pub mod Valuing
 pub mod Holding
+pub mod Merging
 pub mod Listing
 pub mod Keying
 pub mod Fitting

@@ -1,6 +1,6 @@
 -- A row of numbers in two bytes each, or in four: what it tells, and what it becomes where a number is put into it.
 use Rattle.std.proofs.Common.{◌≡◌, ℕ, ◌<◌, ◌≤◌, List, [], ◌∷◌, length, get_or, set, replicate, refl, sym, subst, ap, ◌∙◌, arith, length-set}
-use Rattle.std.proofs.lemmas.List.{get_or_default, length-replicate}
+use Rattle.std.proofs.lemmas.List.{get_or_default}
 use Rattle.fact_rows.specs.Narrow.{told}
 
 pub told_narrow : (narrow wide : List ℕ) → wide ≡ [] → told narrow wide ≡ narrow

@@ -243,7 +243,7 @@ each_zero : (words : List ℕ) → ((k : ℕ) → k < length words → get_or wo
 each_zero [] h = refl
 each_zero (w ∷ words) h = and_from (eqb w 0) (list_all (λ (u : ℕ). eqb u 0) words) (eq-eqb w 0 (h 0 (omega arith))) (each_zero words (λ k lt. h (suc k) (omega arith)))
 
-at_row : (words : List ℕ) (k r : ℕ) → r < 64 → has_bit words (64 * k + r) ≡ eqb (bit_at (get_or words k 0) r) 1
+pub at_row : (words : List ℕ) (k r : ℕ) → r < 64 → has_bit words (64 * k + r) ≡ eqb (bit_at (get_or words k 0) r) 1
 at_row words k r lt =
     let row : (64 * k + r) / 64 ≡ k = omega arith in
     let column : (64 * k + r) % 64 ≡ r = omega arith in

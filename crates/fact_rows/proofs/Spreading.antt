@@ -24,7 +24,7 @@ words_before words rest width o le =
 words_last : (words own : List ℕ) (width : ℕ) → length own ≡ width → words_at (words ++ own) width (length words) ≡ own
 words_last words own width long = ap (take width) (drop-append_seam words own) ∙ take_all width own (omega arith)
 
-words_long : (words : List ℕ) (width o : ℕ) → o + width ≤ length words → length (words_at words width o) ≡ width
+pub words_long : (words : List ℕ) (width o : ℕ) → o + width ≤ length words → length (words_at words width o) ≡ width
 words_long words width o le = length-take-le width (drop o words) (let long = length-drop o words in omega (arith, le, long))
 
 -- a list of which all items were written
@@ -53,10 +53,10 @@ set_found s n kept own within h same = record { from = h.from; within = within; 
 
 -- ---- the set of a number
 
-set_below : (words : List ℕ) (first width n : ℕ) → n < first → set_in words first width n ≡ []
+pub set_below : (words : List ℕ) (first width n : ℕ) → n < first → set_in words first width n ≡ []
 set_below words first width n lt = cond-true (nat_lt n first) [] (numbers (words_at words width (n - first))) (lt-ltb n first lt)
 
-set_there : (words : List ℕ) (first width n : ℕ) → first ≤ n → set_in words first width n ≡ numbers (words_at words width (n - first))
+pub set_there : (words : List ℕ) (first width n : ℕ) → first ≤ n → set_in words first width n ≡ numbers (words_at words width (n - first))
 set_there words first width n le = cond-false (nat_lt n first) [] (numbers (words_at words width (n - first))) (le-ltb n first le)
 
 set_before : (words rest : List ℕ) (first width n : ℕ) → n + width ≤ first + length words → set_in (words ++ rest) first width n ≡ set_in words first width n
@@ -71,17 +71,17 @@ set_before words rest first width n le = elim (cases_lt n first) as (λ _. set_i
 abbrev kept_at : Planes → ℕ → List ℕ
 kept_at p i = set_in p.sets.words.items p.sets.first p.sets.width (get_or p.set_numbers i 0)
 
-shown_own : (p : Planes) (i : ℕ) → i ≡ p.own → shown_at p i ≡ numbers p.laid.items
+pub shown_own : (p : Planes) (i : ℕ) → i ≡ p.own → shown_at p i ≡ numbers p.laid.items
 shown_own p i own = cond-true (nat_eq i p.own) (numbers p.laid.items) (kept_at p i) (eq-eqb i p.own own)
 
-shown_kept : (p : Planes) (i : ℕ) → (i ≡ p.own → ⊥) → shown_at p i ≡ kept_at p i
+pub shown_kept : (p : Planes) (i : ℕ) → (i ≡ p.own → ⊥) → shown_at p i ≡ kept_at p i
 shown_kept p i apart = cond-false (nat_eq i p.own) (numbers p.laid.items) (kept_at p i) (ne_eqb i p.own apart)
 
-row_long : (p : Planes) → length (row_of p) ≡ length p.set_numbers
+pub row_long : (p : Planes) → length (row_of p) ≡ length p.set_numbers
 unfolding row_of
 row_long p = length-map-range_with_len (shown_at p) 0 (length p.set_numbers)
 
-row_at : (p : Planes) (i : ℕ) → i < length p.set_numbers → get_or (row_of p) i [] ≡ shown_at p i
+pub row_at : (p : Planes) (i : ℕ) → i < length p.set_numbers → get_or (row_of p) i [] ≡ shown_at p i
 unfolding row_of
 row_at p i lt = get_or-map-range_with_len (shown_at p) 0 (length p.set_numbers) i i [] lt (omega arith)
 
@@ -260,6 +260,28 @@ module _ (old new : Planes) (i n : ℕ) (sound : IsSound old) (past : length old
       (ap length same ∙ length-replicate {A = ℕ} count 0 ∙ wide ∙ sym (ap (λ (s : Sets). s.width) sets_so))
       (ap numbers same ∙ numbers_zero count ∙ sym (set_below old.sets.words.items old.sets.first old.sets.width n below))
 
+-- ---- the set that is laid out is changed
+
+pub row_changed : (mid new : Planes) (i : ℕ) (words : List ℕ) → mid.own ≡ i → new.sets ≡ mid.sets → new.set_numbers ≡ mid.set_numbers → new.own ≡ mid.own → new.laid.items ≡ words → i < length mid.set_numbers → row_of new ≡ set (row_of mid) i (numbers words)
+row_changed mid new i words own sets_so numbers_so own_so words_so inside = ext_get_or [] (row_of new) (set (row_of mid) i (numbers words)) (row_long new ∙ ap length numbers_so ∙ sym (length-set (row_of mid) i (numbers words) ∙ row_long mid)) each
+  where
+    each : (j : ℕ) → j < length (row_of new) → get_or (row_of new) j [] ≡ get_or (set (row_of mid) i (numbers words)) j []
+    each j below =
+        let whole = row_long new in
+        let in_new : j < length new.set_numbers = omega (arith, whole, below) in
+        let in_mid : j < length mid.set_numbers = omega (arith, in_new, ap length numbers_so) in
+        let in_row : i < length (row_of mid) = (let w = row_long mid in omega (arith, w, inside)) in
+        elim (cases_eq j i) as (λ _. get_or (row_of new) j [] ≡ get_or (set (row_of mid) i (numbers words)) j []) [
+          | inl here ↦
+              (row_at new j in_new ∙ shown_own new j (here ∙ sym own ∙ sym own_so) ∙ ap numbers words_so
+              ∙ sym (ap (λ k. get_or (set (row_of mid) i (numbers words)) k []) here ∙ get_or-set_same (row_of mid) i (numbers words) [] in_row))
+          | inr apart ↦
+              (row_at new j in_new ∙ shown_kept new j (λ e. apart (e ∙ own_so ∙ own))
+              ∙ (λ k. set_in (sets_so k).words.items (sets_so k).first (sets_so k).width (get_or (numbers_so k) j 0))
+              ∙ sym (shown_kept mid j (λ e. apart (e ∙ own))) ∙ sym (row_at mid j in_mid)
+              ∙ sym (get_or-set_other (row_of mid) i j (numbers words) [] apart))
+        ]
+
 -- ---- a number more in the set that is laid out
 
 module _ (old mid new : Planes) (i n : ℕ) (added : Bool) (alike : IsAlike old mid) (own : mid.own ≡ i) (lt : i < length old.set_numbers)
@@ -273,7 +295,7 @@ module _ (old mid new : Planes) (i n : ℕ) (added : Bool) (alike : IsAlike old 
   more_set seen words seen_so words_so are fresh counted = subst (λ r. IsSetAt r i n added (row_of new)) alike.same (record {
     within = (let whole = row_long mid in omega (arith, whole, inside));
     list = numbers words;
-    is = ext_get_or [] (row_of new) (set (row_of mid) i (numbers words)) (row_long new ∙ ap length numbers_so ∙ sym (length-set (row_of mid) i (numbers words) ∙ row_long mid)) each;
+    is = row_changed mid new i words own sets_so numbers_so own_so words_so inside;
     numbers = subst (λ l. AreNumbers (λ m. (m ≡ n) ⊎ Contains l m) (numbers words)) was are;
     fresh = subst (λ l. IsTrue added ↔ (Contains l n → ⊥)) was fresh;
     counted = subst (λ l. MatchBool added (length (numbers words) ≡ length l + 1) (numbers words ≡ l)) was counted;
@@ -281,23 +303,6 @@ module _ (old mid new : Planes) (i n : ℕ) (added : Bool) (alike : IsAlike old 
     where
       was : numbers seen ≡ get_or (row_of mid) i []
       was = ap numbers seen_so ∙ sym (row_at mid i inside ∙ shown_own mid i (sym own))
-
-      each : (j : ℕ) → j < length (row_of new) → get_or (row_of new) j [] ≡ get_or (set (row_of mid) i (numbers words)) j []
-      each j below =
-          let whole = row_long new in
-          let in_new : j < length new.set_numbers = omega (arith, whole, below) in
-          let in_mid : j < length mid.set_numbers = omega (arith, in_new, ap length numbers_so) in
-          let in_row : i < length (row_of mid) = (let w = row_long mid in omega (arith, w, inside)) in
-          elim (cases_eq j i) as (λ _. get_or (row_of new) j [] ≡ get_or (set (row_of mid) i (numbers words)) j []) [
-            | inl here ↦
-                (row_at new j in_new ∙ shown_own new j (here ∙ sym own ∙ sym own_so) ∙ ap numbers words_so
-                ∙ sym (ap (λ k. get_or (set (row_of mid) i (numbers words)) k []) here ∙ get_or-set_same (row_of mid) i (numbers words) [] in_row))
-            | inr apart ↦
-                (row_at new j in_new ∙ shown_kept new j (λ e. apart (e ∙ own_so ∙ own))
-                ∙ (λ k. set_in (sets_so k).words.items (sets_so k).first (sets_so k).width (get_or (numbers_so k) j 0))
-                ∙ sym (shown_kept mid j (λ e. apart (e ∙ own))) ∙ sym (row_at mid j in_mid)
-                ∙ sym (get_or-set_other (row_of mid) i j (numbers words) [] apart))
-          ]
 
   pub more_sound : IsSound new
   more_sound = record {

@@ -41,6 +41,14 @@ pub record IsSetAt (old : List (List ℕ)) (i n : ℕ) (added : Bool) (new : Lis
   pub fresh : IsTrue added ↔ (Contains (slice_index_or old i []) n → ⊥)
   pub counted : MatchBool added (length list ≡ length (slice_index_or old i []) + 1) (list ≡ slice_index_or old i [])
 
+-- all numbers of one plane of a row come to another one
+pub record IsJoinedAt (old : List (List ℕ)) (i j : ℕ) (grown : Bool) (new : List (List ℕ)) : Type 0 where
+  pub within : j < length old
+  pub list : List ℕ
+  pub is : new ≡ slice_set old j list
+  pub numbers : AreNumbers (λ m. Contains (slice_index_or old i []) m ⊎ Contains (slice_index_or old j []) m) list
+  pub counted : MatchBool grown (length (slice_index_or old j []) < length list) (list ≡ slice_index_or old j [])
+
 -- a number more at a spot, if it was not there
 pub record SetsPlane (old : Marks) (n : ℕ) (added : Bool) (i : ℕ) (new : Marks) : Type 0 where
   pub slots : new.slots ≡ old.slots
@@ -51,6 +59,22 @@ pub record SetsAwaited (old : Marks) (n : ℕ) (added : Bool) (i : ℕ) (new : M
   pub slots : new.slots ≡ old.slots
   pub planes : new.planes ≡ old.planes
   pub awaits : IsSetAt old.awaits i n added new.awaits
+
+-- all numbers at one spot come to another one
+pub record JoinsPlane (old : Marks) (grown : Bool) (i j : ℕ) (new : Marks) : Type 0 where
+  pub slots : new.slots ≡ old.slots
+  pub planes : IsJoinedAt old.planes i j grown new.planes
+  pub awaits : new.awaits ≡ old.awaits
+
+pub record JoinsAwaited (old : Marks) (grown : Bool) (i j : ℕ) (new : Marks) : Type 0 where
+  pub slots : new.slots ≡ old.slots
+  pub planes : new.planes ≡ old.planes
+  pub awaits : IsJoinedAt old.awaits i j grown new.awaits
+
+abbrev pub JoinsAt : Marks → Bool → Option Spot → Option Spot → Marks → Type 0
+JoinsAt old grown (Some (Plane i)) (Some (Plane j)) new = JoinsPlane old grown i j new
+JoinsAt old grown (Some (Awaited i)) (Some (Awaited j)) new = JoinsAwaited old grown i j new
+JoinsAt old grown from to new = ⊥
 
 abbrev pub SetsAt : Marks → ℕ → Bool → Option Spot → Marks → Type 0
 SetsAt old n added None new = ⊥

@@ -3,7 +3,10 @@ use Rattle.std.specs.Prelude.{◌≡◌, ◌⊎◌, ◌↔◌, ℕ, ◌+◌, ◌
 use Rattle.std.specs.List.{Contains, sum_by}
 use Rattle.std.specs.List.Sorted.{IsStrictlySortedBy}
 use Rattle.flow_points.specs.declared.fact.Fact.{Fact}
+use Rattle.flow_points.specs.declared.fact.Slot.{Slot}
+use Rattle.flow_points.specs.Facts.{fact}
 use Rattle.flow_table.specs.declared.row.FlowTable.{FlowTable}
+use Rattle.fact_rows.specs.declared.keys.Key.{Key}
 use Rattle.fact_rows.specs.declared.place.Counts.{Counts}
 use Rattle.fact_rows.specs.declared.value.TheConstants.{ANY_NUMBER, AWAITED_NUMBERS}
 use Rattle.fact_rows.specs.Places.{Marks, HasPlace, counts_of, numbers_at}
@@ -27,6 +30,12 @@ pub record Fits (slots : List Counts) (f : Fact) : Type 0 where
   pub slot : HasPlace counts f.slot
   pub number : HasNumber f.slot f.value
 
+-- the slot stands before the point
+pub record HasSpot (slots : List Counts) (p : ℕ) (s : Slot) : Type 0 where
+  pub counts : Counts
+  pub there : slice_get slots p ≡ Some counts
+  pub slot : HasPlace counts s
+
 -- the slots before each point of a table
 abbrev pub slots_of : FlowTable → List Counts
 slots_of t = map counts_of t.rows
@@ -42,6 +51,12 @@ pub record Adds (f : Fact) (old new : Rows) : Type 0 where
   pub entry : new.entry ≡ old.entry
   pub slots : new.marks.slots ≡ old.marks.slots
   pub knows : (g : Fact) → Knows new g ↔ ((g ≡ f) ⊎ Knows old g)
+
+-- the values of one slot come to be known of another one too
+pub record Joins (from to : Key) (old new : Rows) : Type 0 where
+  pub entry : new.entry ≡ old.entry
+  pub slots : new.marks.slots ≡ old.marks.slots
+  pub knows : (g : Fact) → Knows new g ↔ (((g.point ≡ to.point) × (g.slot ≡ to.slot) × Knows old (fact g.entry from.point from.slot g.value)) ⊎ Knows old g)
 
 -- how many facts are not known
 unfoldable pub missing : Rows → ℕ

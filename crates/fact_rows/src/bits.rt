@@ -25,6 +25,27 @@ pub(crate) fn set_bit(words: &mut [u64], i: u32) -> bool
     word & bit == 0
 }
 
+/// Sets all bits of other words, of which there are as many; true exactly where one of them was not set.
+pub(crate) fn join(words: &mut [u64], others: &[u64]) -> bool
+    requires { length others.now ≡ length words.old }
+    ensures numbers { AreNumbers
+        (λ n. Contains (numbers others.now) n ⊎ Contains (numbers words.old) n)
+        (numbers words.new) }
+    ensures counted { MatchBool result
+        (length (numbers words.old) < length (numbers words.new))
+        (words.new ≡ words.old) }
+    ensures long { length words.new ≡ length words.old }
+{
+    let mut grown = false;
+    for place in 0..words.len() {
+        let word = words[place];
+        let joined = word | others[place];
+        words[place] = joined;
+        grown = grown | (joined != word);
+    }
+    grown
+}
+
 /// The words from a place on.
 pub(crate) fn from(words: &[u64], n: usize) -> &[u64]
     requires { n ≤ length words.now }

@@ -2,8 +2,8 @@
 ghost use Rattle.std.specs.Prelude.{◌≡◌, ◌↔◌, ◌+◌, ◌<◌, [], map, IfOk, OnErr, IsTrue};
 ghost use Rattle.std.specs.Option.{IsSome};
 ghost use Rattle.fact_rows.specs.Places.{counts_of as counts_of_row, numbers_at, spot_of as spot_of_slots};
-ghost use Rattle.fact_rows.specs.Values.{numbers_of};
-ghost use Rattle.fact_rows.specs.Grids.{IsBlank, SetsAt};
+ghost use Rattle.fact_rows.specs.Values.{is_awaits, numbers_of};
+ghost use Rattle.fact_rows.specs.Grids.{IsBlank, JoinsAt, SetsAt};
 ghost use Rattle.fact_rows.specs.Touched.{keys_before};
 
 use crate::keys::{Key, keys_at};
@@ -121,6 +121,32 @@ impl Grid {
         match self.spot_of(point, slot) {
             Some(Spot::Plane(i)) => self.planes.set(i, number),
             Some(Spot::Awaited(i)) => self.awaits.set(i, number),
+            None => Ok(false),
+        }
+    }
+
+    /// Adds to the numbers of a slot before a point all those of another one, which must be there both, and AWAITS both or neither;
+    /// true exactly where one of them was not there. Where memory is refused, all stays as it was.
+    pub(crate) fn join(&mut self, from: Key, to: Key) -> Result<bool, Memory>
+        requires from { IsSome (spot_of_slots self.old.slots from.point from.slot) }
+        requires to { IsSome (spot_of_slots self.old.slots to.point to.slot) }
+        requires alike { is_awaits from.slot ≡ is_awaits to.slot }
+        ensures ok { IfOk result (λ grown. JoinsAt self.old grown
+            (spot_of_slots self.old.slots from.point from.slot)
+            (spot_of_slots self.old.slots to.point to.slot) self.new) }
+        ensures err { OnErr result (self.new ≡ self.old) }
+    {
+        match self.spot_of(from.point, from.slot) {
+            Some(Spot::Plane(i)) => match self.spot_of(to.point, to.slot) {
+                Some(Spot::Plane(j)) => self.planes.join(i, j),
+                Some(Spot::Awaited(_)) => Ok(false),
+                None => Ok(false),
+            },
+            Some(Spot::Awaited(i)) => match self.spot_of(to.point, to.slot) {
+                Some(Spot::Awaited(j)) => self.awaits.join(i, j),
+                Some(Spot::Plane(_)) => Ok(false),
+                None => Ok(false),
+            },
             None => Ok(false),
         }
     }

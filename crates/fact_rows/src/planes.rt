@@ -1,10 +1,10 @@
 // A row of sets of numbers, of which each set that was met is kept once.
 ghost use Rattle.std.specs.Prelude.{◌≡◌, ◌↔◌, ◌*◌, ◌<◌, ◌≤◌, ◌^◌, [], length, replicate, slice_index_or, IfOk, OnErr, OnOk, IsTrue, MatchOption};
 ghost use Rattle.std.specs.List.{All};
-ghost use Rattle.fact_rows.specs.Grids.{IsSetAt};
+ghost use Rattle.fact_rows.specs.Grids.{IsJoinedAt, IsSetAt};
 ghost use Rattle.fact_rows.specs.Spread.{AreWordsAt, IsAlike, IsSound, row_of};
 
-use crate::bits::{are_zero, numbers_in, set_bit};
+use crate::bits::{are_zero, join, numbers_in, set_bit};
 use crate::narrow::NumberRow;
 use crate::sets::Sets;
 use plex_num::{Memory, Seq};
@@ -105,6 +105,47 @@ impl Planes {
     {
         self.lay_out(i)?;
         Ok(set_bit(&mut self.laid, number))
+    }
+
+    /// Adds to a set of the row all numbers of another one; true exactly where one of them was not there. Sets with the same number
+    /// are not looked at. Where memory is refused, all sets stay as they were.
+    pub(crate) fn join(&mut self, from: usize, to: usize) -> Result<bool, Memory>
+        requires sound { IsSound self.old }
+        requires from { from < length self.old.set_numbers }
+        requires to { to < length self.old.set_numbers }
+        ensures ok { IfOk result (λ grown.
+            IsJoinedAt (row_of self.old) from to grown (row_of self.new)) }
+        ensures err { OnErr result (row_of self.new ≡ row_of self.old) }
+        ensures sound { IsSound self.new }
+        ensures long { length self.new.set_numbers ≡ length self.old.set_numbers }
+        ensures width { self.new.sets.width ≡ self.old.sets.width }
+    {
+        self.put_away()?;
+        let more = self.set_numbers.number(from);
+        let own = self.set_numbers.number(to);
+        if own == more {
+            return Ok(false);
+        }
+        self.take_out(to);
+        Ok(self.join_laid(from))
+    }
+
+    /// Adds to the set that is laid out all numbers of another one; true exactly where one of them was not there.
+    #[tactic(auto, using(crate::proofs::Spreading::number_inside))]
+    fn join_laid(&mut self, from: usize) -> bool
+        requires sound { IsSound self.old }
+        requires from { from < length self.old.set_numbers }
+        requires own { self.old.own < length self.old.set_numbers }
+        requires apart { from ≡ self.old.own → ⊥ }
+        ensures joined { IsJoinedAt (row_of self.old) from self.old.own result (row_of self.new) }
+        ensures sound { IsSound self.new }
+        ensures long { length self.new.set_numbers ≡ length self.old.set_numbers }
+        ensures width { self.new.sets.width ≡ self.old.sets.width }
+    {
+        match self.sets.set(self.set_numbers.number(from)) {
+            Some(others) => join(&mut self.laid, others),
+            None => false,
+        }
     }
 
     /// Lays out a set of the row.

@@ -1,5 +1,5 @@
 // The facts of one entry, in sets of numbers.
-ghost use Rattle.std.specs.Prelude.{◌≡◌, ◌↔◌, ◌+◌, ◌++◌, ◌∷◌, [], map, true, IfOk, OnErr, OnOk, IsTrue};
+ghost use Rattle.std.specs.Prelude.{◌≡◌, ◌↔◌, ◌+◌, ◌<◌, ◌++◌, ◌∷◌, [], map, true, IfOk, OnErr, OnOk, IsTrue};
 ghost use Rattle.std.specs.Bool.{MatchBool};
 ghost use Rattle.std.specs.List.{Contains};
 ghost use Rattle.std.specs.List.Sorted.{IsStrictlySortedBy};
@@ -7,7 +7,8 @@ ghost use Rattle.flow_points.specs.declared.fact.Fact.{Fact};
 ghost use Rattle.flow_points.specs.Facts.{Reached, fact};
 ghost use Rattle.flow_table.specs.Giving.{AreValues};
 ghost use Rattle.fact_rows.specs.Places.{numbers_at};
-ghost use Rattle.fact_rows.specs.Known.{Adds, AreFacts, Fits, KnowNothing, Knows, missing, slots_of};
+ghost use Rattle.fact_rows.specs.Known.{Adds, AreFacts, Fits, HasSpot, Joins, KnowNothing, Knows, missing, slots_of};
+ghost use Rattle.fact_rows.specs.Values.{is_awaits};
 ghost use Rattle.fact_rows.specs.Numbers.{AreNumbers};
 ghost use Rattle.fact_rows.specs.Touched.{IsTouched, facts_at, facts_of, keys_of};
 
@@ -89,6 +90,26 @@ impl FactRows {
         touch(&mut self.touched, fresh, point)?;
         let added = self.grid.set(point, slot, number_in(slot, fact.value))?;
         Ok(added)
+    }
+
+    /// Adds to the values of a slot, which must stand before its point, all those of another one; AWAITS must be both or neither.
+    /// True exactly where one of them was not known. Where memory is refused, the rows stay as they were.
+    pub fn join(&mut self, from: Key, to: Key) -> Result<bool, Memory>
+        requires to { HasSpot self.old.marks.slots to.point to.slot }
+        requires alike { is_awaits from.slot ≡ is_awaits to.slot }
+        ensures joins { OnOk result (Joins from to self.old self.new) }
+        ensures counted { IfOk result (λ grown. MatchBool grown
+            (missing self.new < missing self.old)
+            (self.new ≡ self.old)) }
+        ensures err { OnErr result (self.new ≡ self.old) }
+    {
+        if self.grid.is_empty(from.point, from.slot) {
+            return Ok(false);
+        }
+        let fresh = self.grid.is_empty(to.point, to.slot);
+        touch(&mut self.touched, fresh, to.point)?;
+        let grown = self.grid.join(from, to)?;
+        Ok(grown)
     }
 
     /// The facts that are known, in their order.

@@ -2,7 +2,7 @@ use crate::fact::{Slot, Value};
 use plex_num::Seq;
 
 /// Where the values of a slot come from over a flow.
-#[derive(Clone, Copy, PartialEq, Eq)]
+#[derive(Clone, Copy, PartialEq, Eq, PartialOrd, Ord)]
 pub enum Source {
     /// The values of a slot before the statement.
     Of(Slot),

@@ -12,4 +12,5 @@ pub mod Rowing
 pub mod Naming
 pub mod Raising
 pub mod Tabling
+pub mod Reaching
 pub mod Handing

@@ -1,29 +1,25 @@
 -- The rows of the table, step by step.
-use Rattle.std.proofs.Common.{◌≡◌, ◌≢◌, ◌⊎◌, Bool, true, false, nat_eq, if◌then◌else◌, inl, inr, ℕ, zero, suc, ◌+◌, ◌<◌, ◌≤◌, List, [], ◌∷◌, ◌++◌, length, map, drop, get_or, Option, Some, None, slice_get, refl, sym, ap, ◌∙◌, subst, arith, append-nil, append_assoc, ⊎_elim}
+use Rattle.std.proofs.Common.{◌≡◌, ℕ, zero, suc, ◌+◌, ◌<◌, ◌≤◌, List, [], ◌∷◌, ◌++◌, length, map, drop, get_or, Option, Some, None, slice_get, refl, sym, ap, ◌∙◌, subst, arith, append-nil, append_assoc}
 use Rattle.std.specs.Option.{option_map_or}
 use Rattle.std.specs.List.{AllByRecursion, Contains}
 use Rattle.std.proofs.Math.ListN.{drop_of_length-le}
-use Rattle.std.proofs.lemmas.Bool.{eqb-true, eqb-false, eq-eqb, ne_eqb}
 use Rattle.std.proofs.lemmas.List.{length-map}
-use Rattle.std.proofs.lemmas.List.Elements.{Contains-append_left, Contains-push, Contains-push_cases}
 use Rattle.source_meaning.proofs.Lists.{first_is, later_is}
 use Rattle.std.proofs.lemmas.Option.{slice_get_past, none-some, same_Some}
-use Rattle.plex_num.proofs.Members.{first_or_later}
 use Rattle.plex_num.proofs.Lists.{opens}
 use Rattle.exchange_model.specs.declared.block.Block.{Block}
 use Rattle.exchange_model.specs.declared.exchange.Exchange.{Exchange}
-use Rattle.exchange_model.specs.declared.stmt.StmtKind.{out-StmtKind}
 use Rattle.exchange_model.specs.Fits.{retrieved}
 use Rattle.exchange_model.specs.Kept.{IsExchange}
 use Rattle.source_meaning.specs.Config.{Item, Do, Turns}
 use Rattle.source_meaning.specs.Rests.{IsOfBlock, Stands, head_point}
 use Rattle.source_meaning.proofs.Fitting.{stmt_fits_in}
-use Rattle.flow_points.specs.Places.{Place, IsPlace, IsRetrieveAt}
+use Rattle.flow_points.specs.Places.{Place, IsPlace}
 use Rattle.flow_points.specs.Slots.{temp_count, given_count, answer_count}
 use Rattle.flow_table.specs.declared.place.PlaceAt.{PlaceAt}
 use Rattle.flow_table.specs.declared.row.Row.{Row}
 use Rattle.flow_table.specs.declared.way.Way.{Way}
-use Rattle.flow_table.specs.Rows.{IsRowOf, HasRow, AreRows, AreRetrieves, awaited_point}
+use Rattle.flow_table.specs.Rows.{IsRowOf, HasRow, AreRows}
 use Rattle.flow_table.specs.Texts.{ArePlaces, seen}
 use Rattle.flow_table.specs.Ways.{AreWays, ways_of}
 use Rattle.flow_table.specs.Small.{IsSmall}
@@ -119,101 +115,7 @@ seen_at (a ∷ places) (suc i) at lt is = seen_at places i at (omega arith) is
 pub place_at : (x : Exchange) (places : List PlaceAt) (i : ℕ) (at : PlaceAt) → ArePlaces x (map seen places) → i < length places → at ≡ get_or places i at → IsPlace x (seen at)
 place_at x places i at are lt is = (are.stands i (seen at) (seen_at places i at lt is)).place
 
--- the RETRIEVEs of an answer
-
--- a RETRIEVE of the answer is among these places, and this is its point
-pub record Listed (answer : ℕ) (places : List PlaceAt) (q : ℕ) : Type 0 where
-  pub at : PlaceAt
-  pub one : Contains places at
-  pub retrieves : retrieved (out-StmtKind at.kind.now) ≡ Some answer
-  pub point : at.point ≡ q
-
-pub record RetrievesGo (x : Exchange) (answer : ℕ) (places : List PlaceAt) (i : ℕ) (points : List ℕ) : Type 0 where
-  pub from : (q : ℕ) → Contains points q → IsRetrieveAt x q answer
-  pub to : (q : ℕ) → Listed answer places q → Contains points q ⊎ Listed answer (drop i places) q
-
-pub retrieves_begin : (x : Exchange) (answer : ℕ) (places : List PlaceAt) (now : List ℕ) → now ≡ [] → RetrievesGo x answer places 0 now
-retrieves_begin x answer places now none = record { from = λ q c. absurd (let lt = c.1 in let e = ap length none in omega (arith, lt, e)); to = λ q h. inr h }
-
-later_listed : (answer : ℕ) (places : List PlaceAt) (i : ℕ) (at : PlaceAt) (q : ℕ) → i < length places → at ≡ get_or places i at → Listed answer (drop i places) q → ((retrieved (out-StmtKind at.kind.now) ≡ Some answer) × (at.point ≡ q)) ⊎ Listed answer (drop (i + 1) places) q
-later_listed answer places i at q lt is h =
-    ⊎_elim
-    (λ e. inl (subst (λ (p : PlaceAt). retrieved (out-StmtKind p.kind.now) ≡ Some answer) (sym e) h.retrieves, ap (λ (p : PlaceAt). p.point) e ∙ h.point))
-    (λ c. inr (record { at = h.at; one = c; retrieves = h.retrieves; point = h.point }))
-    (first_or_later at h.at (drop (i + 1) places) (subst (λ l. Contains l h.at) (opens places i at lt is) h.one))
-
-pub retrieves_yes : (x : Exchange) (answer : ℕ) (places : List PlaceAt) (i : ℕ) (at : PlaceAt) (now new : List ℕ) → ArePlaces x (map seen places) → i < length places → at ≡ get_or places i at → retrieved (out-StmtKind at.kind.now) ≡ Some answer → new ≡ now ++ at.point ∷ []
-    → RetrievesGo x answer places i now → RetrievesGo x answer places (i + 1) new
-retrieves_yes x answer places i at now new are lt is yes_is e g = record {
-  from = λ q c. ⊎_elim (g.from q) here (Contains-push_cases now at.point q (subst (λ l. Contains l q) e c));
-  to = λ q h. subst (λ l. Contains l q ⊎ Listed answer (drop (i + 1) places) q) (sym e) (⊎_elim (λ c. inl (Contains-append_left now (at.point ∷ []) q c)) (λ l. rest q (later_listed answer places i at q lt is l)) (g.to q h));
-}
-  where
-    here : {q : ℕ} → at.point ≡ q → IsRetrieveAt x q answer
-    here {q} e = record { place = seen at; stands = record { place = place_at x places i at are lt is; here = e }; retrieves = yes_is }
-
-    rest : (q : ℕ) → ((retrieved (out-StmtKind at.kind.now) ≡ Some answer) × (at.point ≡ q)) ⊎ Listed answer (drop (i + 1) places) q → Contains (now ++ at.point ∷ []) q ⊎ Listed answer (drop (i + 1) places) q
-    rest q (inl f) = inl (subst (λ n. Contains (now ++ n ∷ []) q) (sym f.1) (Contains-push now q))
-    rest q (inr l) = inr l
-
-pub retrieves_not : (x : Exchange) (answer : ℕ) (places : List PlaceAt) (i : ℕ) (at : PlaceAt) (now : List ℕ) → i < length places → at ≡ get_or places i at → (retrieved (out-StmtKind at.kind.now) ≡ Some answer → ⊥) → RetrievesGo x answer places i now → RetrievesGo x answer places (i + 1) now
-retrieves_not x answer places i at now lt is not_is g = record {
-  from = g.from;
-  to = λ q h. ⊎_elim inl (λ l. ⊎_elim (λ f. absurd (not_is f.0)) inr (later_listed answer places i at q lt is l)) (g.to q h);
-}
-
 pub placed_from : (places : List PlaceAt) (q : ℕ) (p : Place) → slice_get (map seen places) q ≡ Some p → (at : PlaceAt) × Contains places at × (seen at ≡ p)
 placed_from [] q p there = absurd (none-some p there)
 placed_from (a ∷ places) zero p there = (a, first_is a places, same_Some (seen a) p there)
 placed_from (a ∷ places) (suc q) p there = (let f = placed_from places q p there in (f.0, later_is a f.0 places f.1, f.2))
-
-pub retrieves_end : (x : Exchange) (answer : ℕ) (places : List PlaceAt) (i : ℕ) (now : List ℕ) → ArePlaces x (map seen places) → length places ≤ i → RetrievesGo x answer places i now → AreRetrieves x answer now
-retrieves_end x answer places i now are past g = record { exact = λ q. (g.from q, found q) }
-  where
-    listed : (q : ℕ) → IsRetrieveAt x q answer → Listed answer places q
-    listed q h =
-        let f = placed_from places q h.place (are.listed q h.place h.stands) in
-        record {
-          at = f.0;
-          one = f.1;
-          retrieves = subst (λ (p : Place). retrieved p.layer ≡ Some answer) (sym f.2) h.retrieves;
-          point = ap (λ (p : Place). p.point) f.2 ∙ h.stands.here;
-        }
-
-    none : (q : ℕ) → Listed answer (drop i places) q → ⊥
-    none q l = (let c = subst (λ ps. Contains ps l.at) (drop_of_length-le places past) l.one in let lt = c.1 in omega (arith, lt))
-
-    found : (q : ℕ) → IsRetrieveAt x q answer → Contains now q
-    found q h = ⊎_elim (λ c. c) (λ l. absurd (none q l)) (g.to q (listed q h))
-
--- one statement
-
-pub equal_listed : (found answer p : ℕ) (old new : List ℕ) → found ≡ answer → new ≡ old ++ p ∷ [] → new ≡ old ++ awaited_point answer (Some found) p
-equal_listed found answer p old new same e = e ∙ ap (λ t. old ++ (if t then p ∷ [] else [])) (sym (eq-eqb found answer same))
-
-pub unequal_listed : (found answer p : ℕ) (old : List ℕ) → found ≢ answer → old ≡ old ++ awaited_point answer (Some found) p
-unequal_listed found answer p old other = sym (append-nil old) ∙ ap (λ t. old ++ (if t then p ∷ [] else [])) (sym (ne_eqb found answer other))
-
-pub awaited_is : (answer found p : ℕ) (o : Option ℕ) (old new : List ℕ) → Some found ≡ o → new ≡ old ++ awaited_point answer (Some found) p → new ≡ old ++ awaited_point answer o p
-awaited_is answer found p o old new is e = e ∙ ap (λ u. old ++ awaited_point answer u p) is
-
-pub awaited_none : (answer p : ℕ) (o : Option ℕ) (old : List ℕ) → None ≡ o → old ≡ old ++ awaited_point answer o p
-awaited_none answer p o old is = sym (append-nil old) ∙ ap (λ u. old ++ awaited_point answer u p) is
-
-pub retrieves_more : (x : Exchange) (answer : ℕ) (places : List PlaceAt) (i : ℕ) (at : PlaceAt) (now new : List ℕ) → ArePlaces x (map seen places) → i < length places → at ≡ get_or places i at → new ≡ now ++ awaited_point answer (retrieved (out-StmtKind at.kind.now)) at.point
-    → RetrievesGo x answer places i now → RetrievesGo x answer places (i + 1) new
-retrieves_more x answer places i at now new are lt is e g = by (retrieved (out-StmtKind at.kind.now)) refl e
-  where
-    same : new ≡ now → (retrieved (out-StmtKind at.kind.now) ≡ Some answer → ⊥) → RetrievesGo x answer places (i + 1) new
-    same f not_is = subst (RetrievesGo x answer places (i + 1)) (sym f) (retrieves_not x answer places i at now lt is not_is g)
-
-    other : (m : ℕ) → retrieved (out-StmtKind at.kind.now) ≡ Some m → nat_eq m answer ≡ false → retrieved (out-StmtKind at.kind.now) ≡ Some answer → ⊥
-    other m at_m differ at_answer = eqb-false m answer differ (same_Some m answer (sym at_m ∙ at_answer))
-
-    test : (m : ℕ) (t : Bool) → retrieved (out-StmtKind at.kind.now) ≡ Some m → nat_eq m answer ≡ t → new ≡ now ++ (if t then at.point ∷ [] else []) → RetrievesGo x answer places (i + 1) new
-    test m true at_m eq f = retrieves_yes x answer places i at now new are lt is (at_m ∙ ap Some (eqb-true m answer eq)) f g
-    test m false at_m eq f = same (f ∙ append-nil now) (other m at_m eq)
-
-    by : (o : Option ℕ) → retrieved (out-StmtKind at.kind.now) ≡ o → new ≡ now ++ awaited_point answer o at.point → RetrievesGo x answer places (i + 1) new
-    by None none f = same (f ∙ append-nil now) (λ some. absurd (let clash : None ≡ Some answer = sym none ∙ some in cc))
-    by (Some m) at_m f = test m (nat_eq m answer) at_m refl f

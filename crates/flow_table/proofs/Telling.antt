@@ -1,9 +1,9 @@
 -- The ways that are kept lead where the rules say.
 use Rattle.std.proofs.Common.{◌≡◌, ◌⊎◌, inl, inr, ⊎_elim, ℕ, zero, suc, ◌+◌, ◌<◌, Bool, true, false, List, [], ◌∷◌, ◌++◌, length, Option, Some, None, slice_get, refl, sym, ap, ◌∙◌, subst, arith}
-use Rattle.std.specs.Prelude.{if◌then◌else◌}
+use Rattle.std.specs.Prelude.{◌||◌, is_none, if◌then◌else◌}
 use Rattle.std.proofs.lemmas.List.Elements.{Contains-append_left, Contains-append_right, Contains-append_cases}
-use Rattle.std.proofs.lemmas.Option.{none-some}
-use Rattle.std.specs.List.{Contains, range_with_len}
+use Rattle.std.proofs.lemmas.Option.{none-some, same_Some}
+use Rattle.std.specs.List.{Contains, list_any, range_with_len}
 use Rattle.exchange_model.specs.declared.block.Block.{Block}
 use Rattle.exchange_model.specs.declared.exchange.Exchange.{Exchange}
 use Rattle.exchange_model.specs.declared.expr.Expr.{Expr}
@@ -11,7 +11,10 @@ use Rattle.exchange_model.specs.declared.signal.SignalKind.{SignalKind}
 use Rattle.exchange_model.specs.declared.signal.SignalKind.TheVariants.{Buffered, Direct, Combined, Outside}
 use Rattle.exchange_model.specs.declared.stmt.Receiver.{Receiver}
 use Rattle.exchange_model.specs.declared.stmt.Receiver.TheVariants as receiver
+use Rattle.exchange_model.specs.declared.stmt.Stmt.{Stmt}
+use Rattle.exchange_model.specs.declared.stmt.StmtKind.{out-StmtKind}
 use Rattle.exchange_model.specs.declared.stmt.When.{When, out-When}
+use Rattle.exchange_model.specs.Kept.{is_enter}
 use Rattle.exchange_model.specs.declared.stmt.StmtKind.TheOpen as stmt
 use Rattle.std.specs.Option.{option_map_or}
 use Rattle.plex_num.proofs.Members.{none_in, first_or_later}
@@ -27,7 +30,7 @@ use Rattle.flow_points.specs.Places.{Place, label_point, enter_point, receives, 
 use Rattle.flow_points.specs.Sources.{expr_source}
 use Rattle.flow_points.specs.Flows.{Goes, Enters, Chooses, passed, SendLeads, Leads}
 use Rattle.flow_table.specs.declared.way.Way.{Way}
-use Rattle.flow_table.specs.Ways.{WayLeads, WaysLead, AreWays, listed, to_points, to_next, receiving, receivers_of, enters_in, to_enters, choice_points, send_ways, layer_ways, ways_of}
+use Rattle.flow_table.specs.Ways.{WayLeads, WaysLead, AreWays, listed, to_points, to_next, receiving, receivers_of, enters_in, to_enters, bare_points, begun_points, choice_points, is_bare, send_ways, layer_ways, ways_of}
 
 -- lists
 
@@ -112,21 +115,85 @@ enters_has x signal (d ∷ bs) b q c is =
 
 -- the choices of a CASE
 
-in_choices : (whens : List When) (next : Option ℕ) (q : ℕ) (how : Passing) → how ≡ Kept → Contains (choice_points whens next) q → Chooses whens next q how
-in_choices [] next q how is c = absurd (none_in q c)
-in_choices (w ∷ ws) next q how is c =
+-- a list that leads to a statement of its own leads there whatever comes after it, and one that does not leads to what comes after it
+
+first_kept : (list : List Stmt) (end : Option ℕ) (q : ℕ) → first_point list None ≡ Some q → first_point list end ≡ Some q
+first_kept [] end q is = absurd (none-some q is)
+first_kept (s ∷ rest) end q is = by (is_enter (out-StmtKind s.kind)) is (λ h. first_kept rest end q h)
+  where
+    by : (t : Bool) → (if t then first_point rest None else Some s.point) ≡ Some q → (first_point rest None ≡ Some q → first_point rest end ≡ Some q) → (if t then first_point rest end else Some s.point) ≡ Some q
+    by true h more = more h
+    by false h more = h
+
+first_past : (list : List Stmt) (end : Option ℕ) → first_point list None ≡ None → first_point list end ≡ end
+first_past [] end is = refl
+first_past (s ∷ rest) end is = by (is_enter (out-StmtKind s.kind)) is (λ h. first_past rest end h)
+  where
+    by : (t : Bool) → (if t then first_point rest None else Some s.point) ≡ None → (first_point rest None ≡ None → first_point rest end ≡ end) → (if t then first_point rest end else Some s.point) ≡ end
+    by true h more = more h
+    by false h more = absurd (none-some s.point (sym h))
+
+lacks_none : (o : Option ℕ) → is_none o ≡ true → o ≡ None
+lacks_none None is = refl
+lacks_none (Some q) is = absurd (let clash : false ≡ true = is in cc)
+
+any_bare : (whens : List When) → list_any is_bare whens ≡ true → (w : When) × Contains whens w × (is_bare w ≡ true)
+any_bare [] e = absurd (let clash : false ≡ true = e in cc)
+any_bare (w ∷ ws) e = by (is_bare w) refl e (λ more. any_bare ws more)
+  where
+    by : (t : Bool) → is_bare w ≡ t → (t || list_any is_bare ws) ≡ true → (list_any is_bare ws ≡ true → (v : When) × Contains ws v × (is_bare v ≡ true)) → (v : When) × Contains (w ∷ ws) v × (is_bare v ≡ true)
+    by true is h more = (w, first_is w ws, is)
+    by false is h more = (let m = more h in (m.0, later_is w m.0 ws m.1, m.2))
+
+bare_any : (whens : List When) (w : When) → Contains whens w → is_bare w ≡ true → list_any is_bare whens ≡ true
+bare_any [] w c is = absurd (none_in w c)
+bare_any (v ∷ ws) w c is = by (is_bare v) refl (first_or_later v w ws c) (λ later. bare_any ws w later is)
+  where
+    by : (t : Bool) → is_bare v ≡ t → (v ≡ w) ⊎ Contains ws w → (Contains ws w → list_any is_bare ws ≡ true) → (t || list_any is_bare ws) ≡ true
+    by true so h more = refl
+    by false so (inl e) more = absurd (let clash : false ≡ true = sym so ∙ ap is_bare e ∙ is in cc)
+    by false so (inr later) more = more later
+
+in_begun : (whens : List When) (next : Option ℕ) (q : ℕ) (how : Passing) → how ≡ Kept → Contains (begun_points whens) q → Chooses whens next q how
+in_begun [] next q how is c = absurd (none_in q c)
+in_begun (w ∷ ws) next q how is c =
     ⊎_elim
-    (λ here. record { choice = w; one = first_is w ws; goes = record { ends = in_listed (first_point (out-When w).body next) q here; is = is } })
-    (λ later. let e = in_choices ws next q how is later in record { choice = e.choice; one = later_is w e.choice ws e.one; goes = e.goes })
-    (Contains-append_cases (listed (first_point (out-When w).body next)) (choice_points ws next) q c)
+    (λ here. record { choice = w; one = first_is w ws; goes = record { ends = first_kept (out-When w).body next q (in_listed (first_point (out-When w).body None) q here); is = is } })
+    (λ later. let e = in_begun ws next q how is later in record { choice = e.choice; one = later_is w e.choice ws e.one; goes = e.goes })
+    (Contains-append_cases (listed (first_point (out-When w).body None)) (begun_points ws) q c)
+
+in_bare : (whens : List When) (next : Option ℕ) (q : ℕ) (how : Passing) → how ≡ Kept → Contains (bare_points whens next) q → Chooses whens next q how
+in_bare whens next q how is c = by (list_any is_bare whens) refl c
+  where
+    by : (t : Bool) → list_any is_bare whens ≡ t → Contains (if t then listed next else []) q → Chooses whens next q how
+    by true some d =
+        let h = any_bare whens some in
+        record { choice = h.0; one = h.1; goes = record { ends = first_past (out-When h.0).body next (lacks_none (first_point (out-When h.0).body None) h.2) ∙ in_listed next q d; is = is } }
+    by false none d = absurd (none_in q d)
+
+in_choices : (whens : List When) (next : Option ℕ) (q : ℕ) (how : Passing) → how ≡ Kept → Contains (choice_points whens next) q → Chooses whens next q how
+in_choices whens next q how is c = ⊎_elim (in_begun whens next q how is) (in_bare whens next q how is) (Contains-append_cases (begun_points whens) (bare_points whens next) q c)
+
+begun_has : (whens : List When) (w : When) (q : ℕ) → Contains whens w → first_point (out-When w).body None ≡ Some q → Contains (begun_points whens) q
+begun_has [] w q c is = absurd (none_in w c)
+begun_has (v ∷ ws) w q c is =
+    ⊎_elim
+    (λ e. Contains-append_left (listed (first_point (out-When v).body None)) (begun_points ws) q (listed_in (first_point (out-When v).body None) q (ap (λ u. first_point (out-When u).body None) e ∙ is)))
+    (λ later. Contains-append_right (listed (first_point (out-When v).body None)) (begun_points ws) q (begun_has ws w q later is))
+    (first_or_later v w ws c)
 
 choices_has : (whens : List When) (next : Option ℕ) (w : When) (q : ℕ) → Contains whens w → first_point (out-When w).body next ≡ Some q → Contains (choice_points whens next) q
-choices_has [] next w q c is = absurd (none_in w c)
-choices_has (v ∷ ws) next w q c is =
-    ⊎_elim
-    (λ e. Contains-append_left (listed (first_point (out-When v).body next)) (choice_points ws next) q (listed_in (first_point (out-When v).body next) q (ap (λ u. first_point (out-When u).body next) e ∙ is)))
-    (λ later. Contains-append_right (listed (first_point (out-When v).body next)) (choice_points ws next) q (choices_has ws next w q later is))
-    (first_or_later v w ws c)
+choices_has whens next w q c is = by (first_point (out-When w).body None) refl
+  where
+    begun : (r : ℕ) → first_point (out-When w).body None ≡ Some r → r ≡ q
+    begun r at = same_Some r q (sym (first_kept (out-When w).body next r at) ∙ is)
+
+    by : (o : Option ℕ) → first_point (out-When w).body None ≡ o → Contains (choice_points whens next) q
+    by (Some r) at = Contains-append_left (begun_points whens) (bare_points whens next) q (begun_has whens w q c (at ∙ ap Some (begun r at)))
+    by None at =
+        let any = bare_any whens w c (ap is_none at) in
+        let ends : next ≡ Some q = sym (first_past (out-When w).body next at) ∙ is in
+        Contains-append_right (begun_points whens) (bare_points whens next) q (subst (λ t. Contains (if t then listed next else []) q) (sym any) (listed_in next q ends))
 
 module _ (x : Exchange) (q : ℕ) (how : Passing) where
   -- one way, and two

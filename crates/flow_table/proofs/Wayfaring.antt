@@ -1,8 +1,8 @@
 -- The ways from a statement, kind by kind.
-use Rattle.std.proofs.Common.{◌≡◌, ℕ, zero, suc, ◌+◌, ◌<◌, ◌≤◌, ◌^◌, max, List, [], ◌∷◌, ◌++◌, length, drop, get_or, Option, Some, Result, IfOk, slice_get, sym, ap, ◌∙◌, subst, arith, append-nil, append_assoc}
+use Rattle.std.proofs.Common.{◌≡◌, ℕ, zero, suc, ◌+◌, ◌<◌, ◌≤◌, ◌^◌, max, List, [], ◌∷◌, ◌++◌, length, drop, get_or, Bool, true, false, if◌then◌else◌, Option, Some, None, Result, IfOk, slice_get, sym, ap, ◌∙◌, subst, arith, append-nil, append_assoc}
 use Rattle.std.proofs.Math.ListN.{drop_of_length-le}
 use Rattle.std.proofs.lemmas.Option.{slice_get_past}
-use Rattle.std.specs.List.{AllByRecursion}
+use Rattle.std.specs.List.{AllByRecursion, list_any}
 use Rattle.std.specs.Option.{option_map_or}
 use Rattle.plex_num.specs.declared.seq.Memory.{Memory}
 use Rattle.plex_num.proofs.Lists.{opens}
@@ -23,22 +23,28 @@ use Rattle.source_meaning.specs.Rests.{IsOfBlock, first_point}
 use Rattle.flow_points.specs.Slots.{given_count}
 use Rattle.flow_table.specs.declared.way.Way.{Way}
 use Rattle.flow_table.specs.Alone.{IsExprIn}
-use Rattle.flow_table.specs.Ways.{listed, choice_points, layer_ways, most_of}
+use Rattle.flow_table.specs.Ways.{bare_points, begun_points, is_bare, listed, layer_ways, most_of}
 
 -- the choices of a CASE
 
-pub choices_begin : (whens : List When) (next : Option ℕ) (old now : List ℕ) → now ≡ old → now ++ choice_points whens next ≡ old ++ choice_points whens next
-choices_begin whens next old now same = ap (λ l. l ++ choice_points whens next) same
+pub choices_begin : (whens : List When) (old now : List ℕ) → now ≡ old → now ++ begun_points whens ≡ old ++ begun_points whens
+choices_begin whens old now same = ap (λ l. l ++ begun_points whens) same
 
-pub choices_more : (whens : List When) (next o : Option ℕ) (i : ℕ) (w : When) (body : List Stmt) (now new all : List ℕ) → i < length whens → w ≡ get_or whens i w → body ≡ (out-When w).body → o ≡ first_point body next → new ≡ now ++ listed o → now ++ choice_points (drop i whens) next ≡ all → new ++ choice_points (drop (i + 1) whens) next ≡ all
-choices_more whens next o i w body now new all lt is same at e h =
-    let rest = choice_points (drop (i + 1) whens) next in
-    let one = listed (first_point (out-When w).body next) in
-    ap (λ l. l ++ rest) (e ∙ ap (λ p. now ++ listed p) (at ∙ ap (λ b. first_point b next) same)) ∙ append_assoc now one rest
-    ∙ ap (λ l. now ++ choice_points l next) (sym (opens whens i w lt is)) ∙ h
+pub choices_more : (whens : List When) (o : Option ℕ) (i : ℕ) (w : When) (body : List Stmt) (now new all : List ℕ) → i < length whens → w ≡ get_or whens i w → body ≡ (out-When w).body → o ≡ first_point body None → new ≡ now ++ listed o → now ++ begun_points (drop i whens) ≡ all → new ++ begun_points (drop (i + 1) whens) ≡ all
+choices_more whens o i w body now new all lt is same at e h =
+    let rest = begun_points (drop (i + 1) whens) in
+    let one = listed (first_point (out-When w).body None) in
+    ap (λ l. l ++ rest) (e ∙ ap (λ p. now ++ listed p) (at ∙ ap (λ b. first_point b None) same)) ∙ append_assoc now one rest
+    ∙ ap (λ l. now ++ begun_points l) (sym (opens whens i w lt is)) ∙ h
 
-pub choices_end : (whens : List When) (next : Option ℕ) (i : ℕ) (now all : List ℕ) → length whens ≤ i → now ++ choice_points (drop i whens) next ≡ all → now ≡ all
-choices_end whens next i now all past h = sym (append-nil now) ∙ sym (ap (λ l. now ++ choice_points l next) (drop_of_length-le whens past)) ∙ h
+pub choices_end : (whens : List When) (i : ℕ) (now all : List ℕ) → length whens ≤ i → now ++ begun_points (drop i whens) ≡ all → now ≡ all
+choices_end whens i now all past h = sym (append-nil now) ∙ sym (ap (λ l. now ++ begun_points l) (drop_of_length-le whens past)) ∙ h
+
+pub bare_some : (whens : List When) (next : Option ℕ) (t : Bool) (old new : List ℕ) → t ≡ list_any is_bare whens → t ≡ true → new ≡ old ++ listed next → new ≡ old ++ bare_points whens next
+bare_some whens next t old new is so e = e ∙ ap (λ b. old ++ (if b then listed next else [])) (sym so ∙ is)
+
+pub bare_none : (whens : List When) (next : Option ℕ) (t : Bool) (old : List ℕ) → t ≡ list_any is_bare whens → t ≡ false → old ≡ old ++ bare_points whens next
+bare_none whens next t old is none = sym (append-nil old) ∙ ap (λ b. old ++ (if b then listed next else [])) (sym none ∙ is)
 
 -- how many values signals have
 

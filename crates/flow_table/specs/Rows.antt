@@ -1,5 +1,5 @@
 -- The rows of the table, one for each point.
-use Rattle.std.specs.Prelude.{◌≡◌, ◌↔◌, ℕ, nat_eq, List, [], ◌∷◌, length, Option, Some, None, slice_get, if◌then◌else◌}
+use Rattle.std.specs.Prelude.{◌≡◌, ◌↔◌, ℕ, List, [], ◌∷◌, ◌++◌, length, Option, Some, None, slice_get, slice_index_or, slice_set}
 use Rattle.std.specs.List.{AllByRecursion, Contains}
 use Rattle.exchange_model.specs.declared.exchange.Exchange.{Exchange}
 use Rattle.exchange_model.specs.Fits.{retrieved}
@@ -7,9 +7,15 @@ use Rattle.flow_points.specs.Places.{Place, StandsAt, IsRetrieveAt}
 use Rattle.flow_points.specs.Slots.{temp_count, given_count, answer_count}
 use Rattle.flow_table.specs.declared.row.Row.{Row}
 use Rattle.flow_table.specs.declared.row.FlowTable.{FlowTable}
+use Rattle.flow_table.specs.declared.table.BlockSlots.{BlockSlots}
 use Rattle.flow_table.specs.declared.way.Way.{Way}
 use Rattle.flow_table.specs.Small.{IsSmall}
 use Rattle.flow_table.specs.Ways.{AreWays}
+
+-- so many temporaries and entry values stand before each point of the block
+pub record AreSlotsOf (x : Exchange) (s : BlockSlots) : Type 0 where
+  pub temps : s.temps ≡ temp_count x s.block
+  pub given : s.given ≡ given_count x s.block
 
 -- a statement's row: its slots and its ways
 pub record IsRowOf (x : Exchange) (at : Place) (r : Row) : Type 0 where
@@ -34,10 +40,14 @@ pub record AreRows (x : Exchange) (rows : List Row) : Type 0 where
 pub record AreRetrieves (x : Exchange) (answer : ℕ) (points : List ℕ) : Type 0 where
   pub exact : (q : ℕ) → Contains points q ↔ IsRetrieveAt x q answer
 
--- the point of a statement that awaits this answer, and of no other
-abbrev pub awaited_point : ℕ → Option ℕ → ℕ → List ℕ
-awaited_point answer None p = []
-awaited_point answer (Some m) p = (if nat_eq m answer then p ∷ [] else [])
+-- one of these lists with a point more
+abbrev pub put : ℕ → ℕ → List (List ℕ) → List (List ℕ)
+put i point lists = slice_set lists i (slice_index_or lists i [] ++ point ∷ [])
+
+-- the list of the answer, if there is one, with a point more
+abbrev pub listed_at : Option ℕ → ℕ → List (List ℕ) → List (List ℕ)
+listed_at None point lists = lists
+listed_at (Some answer) point lists = put answer point lists
 
 -- the points of the RETRIEVEs of each signal
 pub record AreAllRetrieves (x : Exchange) (retrieves : List (List ℕ)) : Type 0 where

@@ -1,5 +1,5 @@
 -- The statements of an exchange in the order of the text: each one before those in it, and these before those after it.
-use Rattle.std.specs.Prelude.{◌≡◌, ℕ, ◌+◌, List, [], ◌∷◌, ◌++◌, length, map, Option, Some, None, slice_get}
+use Rattle.std.specs.Prelude.{◌≡◌, ◌⊎◌, ℕ, ◌+◌, ◌<◌, ◌≤◌, List, [], ◌∷◌, ◌++◌, length, map, Option, Some, None, slice_get}
 use Rattle.exchange_model.specs.declared.exchange.Exchange.{Exchange}
 use Rattle.exchange_model.specs.declared.block.Block.{Block}
 use Rattle.exchange_model.specs.declared.expr.Cond.{Cond}
@@ -10,7 +10,9 @@ use Rattle.exchange_model.specs.declared.stmt.StmtKind.{out-StmtKind}
 use Rattle.exchange_model.specs.declared.stmt.StmtKind.TheOpen as stmt
 use Rattle.source_meaning.specs.Named.{Layer}
 use Rattle.source_meaning.specs.Rests.{first_point}
-use Rattle.flow_points.specs.Places.{Place, place_of, StandsAt}
+use Rattle.std.specs.List.{Contains}
+use Rattle.flow_points.specs.Facts.{Facts, Reached}
+use Rattle.flow_points.specs.Places.{IsPlace, Place, place_of, StandsAt}
 use Rattle.flow_table.specs.declared.place.PlaceAt.{PlaceAt}
 
 -- a statement as it is kept
@@ -56,6 +58,17 @@ pub record ArePlaces (x : Exchange) (places : List Place) : Type 0 where
   pub each_point : length places ≡ length x.points
   pub stands : (p : ℕ) (at : Place) → slice_get places p ≡ Some at → StandsAt x p at
   pub listed : (p : ℕ) (at : Place) → StandsAt x p at → slice_get places p ≡ Some at
+
+-- statements of the exchange in the order of their points, each once, and all that are reached in a job of the entry are among them
+pub record AreReachedAmong (x : Exchange) (P : Facts) (e : ℕ) (places : List Place) : Type 0 where
+  pub few : length places ≤ length x.points
+  pub each : (i : ℕ) (at : Place) → slice_get places i ≡ Some at → IsPlace x at
+  pub rising : (i j : ℕ) (a b : Place) → i < j → slice_get places i ≡ Some a → slice_get places j ≡ Some b → a.point < b.point
+  pub all : (p : ℕ) (at : Place) → StandsAt x p at → Reached P e p → Contains places at
+
+-- a list that has a statement more, if it is reached
+abbrev pub HasReached : Facts → ℕ → PlaceAt → List PlaceAt → List PlaceAt → Type 0
+HasReached P e at old new = (Reached P e at.point × (new ≡ old ++ at ∷ [])) ⊎ ((Reached P e at.point → ⊥) × (new ≡ old))
 
 -- a list that has these places more
 pub record HasMore (old new : List PlaceAt) (Are : List Place → Type 0) : Type 0 where

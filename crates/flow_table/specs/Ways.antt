@@ -1,7 +1,7 @@
 -- The ways from a statement as they are kept, and what they lead to. Each point to which several flows go with the same values is an
 -- end of one way, and an answer goes to all its RETRIEVEs, which are kept once.
-use Rattle.std.specs.Prelude.{◌≡◌, ◌↔◌, ℕ, List, [], ◌∷◌, ◌++◌, length, map, Option, Some, None, slice_get, if◌then◌else◌}
-use Rattle.std.specs.List.{Contains, range_with_len}
+use Rattle.std.specs.Prelude.{◌≡◌, ◌↔◌, ℕ, Bool, is_none, List, [], ◌∷◌, ◌++◌, length, map, Option, Some, None, slice_get, if◌then◌else◌}
+use Rattle.std.specs.List.{Contains, list_any, range_with_len}
 use Rattle.exchange_model.specs.declared.exchange.Exchange.{Exchange}
 use Rattle.exchange_model.specs.declared.block.Enter.{Enter as Row}
 use Rattle.exchange_model.specs.Inside.{most}
@@ -80,10 +80,22 @@ enters_in x signal (b ∷ bs) = listed (enter_point x b signal) ++ enters_in x s
 abbrev pub to_enters : Exchange → ℕ → Option Receiver → Passing → Way
 to_enters x signal to how = to_points how (enters_in x signal (receivers_of x signal to))
 
--- where the choices of a CASE begin
+-- where the choices of a CASE begin that have a statement to begin with
+abbrev pub begun_points : List When → List ℕ
+begun_points [] = []
+begun_points (w ∷ ws) = listed (first_point (out-When w).body None) ++ begun_points ws
+
+-- a choice has no statement to begin with
+abbrev pub is_bare : When → Bool
+is_bare w = is_none (first_point (out-When w).body None)
+
+-- where the bare choices lead to, if there is one
+abbrev pub bare_points : List When → Option ℕ → List ℕ
+bare_points whens next = (if list_any is_bare whens then listed next else [])
+
+-- where the choices of a CASE begin; all bare ones at one point
 abbrev pub choice_points : List When → Option ℕ → List ℕ
-choice_points [] next = []
-choice_points (w ∷ ws) next = listed (first_point (out-When w).body next) ++ choice_points ws next
+choice_points whens next = begun_points whens ++ bare_points whens next
 
 abbrev pub send_ways : Exchange → Option SignalKind → Option ℕ → ℕ → Option Receiver → List Expr → List Way
 send_ways x (Some (Buffered name level count)) next signal to values = to_next Kept next ∷ []

@@ -1,10 +1,10 @@
 // The table of an exchange.
-ghost use Rattle.std.specs.Prelude.{◌≡◌, ◌++◌, map, IfOk, OnOk, Some};
+ghost use Rattle.std.specs.Prelude.{◌≡◌, [], map, replicate, IfOk, OnOk};
 ghost use Rattle.exchange_model.specs.declared.stmt.StmtKind.{out-StmtKind};
 ghost use Rattle.exchange_model.specs.Fits.{retrieved};
 ghost use Rattle.flow_points.specs.Places.{IsPlace};
 ghost use Rattle.flow_points.specs.Slots.{answer_count, temp_count};
-ghost use Rattle.flow_table.specs.Rows.{AreAllRetrieves, AreRetrieves, AreRows, IsRowOf, IsTable, awaited_point};
+ghost use Rattle.flow_table.specs.Rows.{AreAllRetrieves, AreRows, AreSlotsOf, IsRowOf, IsTable, listed_at, put};
 ghost use Rattle.flow_table.specs.Texts.{ArePlaces, seen};
 
 use crate::place::PlaceAt;
@@ -26,7 +26,6 @@ pub fn table_of(alloc: Global, exchange: &Exchange) -> Result<FlowTable, Memory>
 }
 
 /// The points of the RETRIEVEs of each signal, among these places of an exchange.
-#[tactic(auto, using(crate::proofs::Tabling::all_begin))]
 fn all_retrieves(
     alloc: Global,
     exchange: &Exchange,
@@ -37,11 +36,47 @@ fn all_retrieves(
 {
     exchange.kept();
     let count = exchange.signals.len();
-    let mut all = Seq::with_capacity(alloc, count)?;
-    for answer in 0..count {
-        all.push(retrieves_of(alloc, exchange, places, answer as u32)?)?;
+    let lists = empty_lists(alloc, count)?;
+    let mut retrieves = lists.into_vec();
+    for at in places {
+        push_retrieve(at, &mut retrieves)?;
     }
-    Ok(all)
+    Ok(Seq::from_vec(retrieves))
+}
+
+/// So many empty lists.
+#[tactic(auto, using(crate::proofs::Tabling::lists_more, crate::proofs::Tabling::lists_end))]
+fn empty_lists(alloc: Global, count: usize) -> Result<Seq<Seq<u32>>, Memory>
+    ensures { IfOk result (λ lists. lists ≡ replicate count []) }
+{
+    let mut lists = Seq::with_capacity(alloc, count)?;
+    for _ in 0..count {
+        lists.push(Seq::new(alloc))?;
+    }
+    Ok(lists)
+}
+
+/// Appends the point of a statement to the list of the answer that it awaits, if it is a RETRIEVE.
+fn push_retrieve(at: &PlaceAt<'_>, retrieves: &mut Vec<Seq<u32>>) -> Result<(), Memory>
+    ensures { OnOk result (retrieves.new.items
+        ≡ listed_at (retrieved (out-StmtKind at.now.kind.now)) at.now.point retrieves.old.items) }
+{
+    match awaited_of(at.kind) {
+        Some(answer) => push_at(retrieves, answer as usize, at.point),
+        None => Ok(()),
+    }
+}
+
+/// Appends a point to one of these lists, if there are so many.
+#[tactic(auto, using(crate::proofs::Tabling::put_past, crate::proofs::Tabling::put_at))]
+fn push_at(lists: &mut Vec<Seq<u32>>, i: usize, point: u32) -> Result<(), Memory>
+    ensures { OnOk result (lists.new.items ≡ put i point lists.old.items) }
+{
+    if i >= lists.len() {
+        return Ok(());
+    }
+    lists[i].push(point)?;
+    Ok(())
 }
 
 /// The rows of all points of an exchange, of which these are the places.
@@ -55,22 +90,63 @@ pub fn rows_of(
     ensures { IfOk result (λ rows. AreRows exchange.now rows) }
 {
     let mut rows = Seq::with_capacity(alloc, places.len())?;
+    let mut slots = slots_of(exchange, 0);
     for at in places {
-        rows.push(row_of(alloc, exchange, at)?)?;
+        slots = slots_near(exchange, slots, at.block);
+        rows.push(row_of(alloc, exchange, slots, at)?)?;
     }
     Ok(rows)
 }
 
-/// The row of a statement where it stands.
-fn row_of(alloc: Global, exchange: &Exchange, at: &PlaceAt<'_>) -> Result<Row, Memory>
-    requires { IsPlace exchange.now (seen at.now) }
+/// How many temporaries and entry values stand before each point of a block.
+#[derive(Clone, Copy)]
+pub struct BlockSlots {
+    pub block: u32,
+    pub temps: u8,
+    pub given: u8,
+}
+
+/// Those of a block.
+fn slots_of(exchange: &Exchange, block: u32) -> BlockSlots
+    ensures block { result.block ≡ block }
+    ensures slots { AreSlotsOf exchange.now result }
+{
+    BlockSlots {
+        block,
+        temps: temps_of(exchange, block),
+        given: given_of(exchange, block),
+    }
+}
+
+/// The same, where those of some block are known, which need not be looked for again.
+fn slots_near(exchange: &Exchange, known: BlockSlots, block: u32) -> BlockSlots
+    requires { AreSlotsOf exchange.now known }
+    ensures block { result.block ≡ block }
+    ensures slots { AreSlotsOf exchange.now result }
+{
+    if known.block == block {
+        return known;
+    }
+    slots_of(exchange, block)
+}
+
+/// The row of a statement where it stands, before which its block has these slots.
+fn row_of(
+    alloc: Global,
+    exchange: &Exchange,
+    slots: BlockSlots,
+    at: &PlaceAt<'_>,
+) -> Result<Row, Memory>
+    requires place { IsPlace exchange.now (seen at.now) }
+    requires block { slots.block ≡ at.now.block }
+    requires slots { AreSlotsOf exchange.now slots }
     ensures { IfOk result (λ row. IsRowOf exchange.now (seen at.now) row) }
 {
     exchange.kept();
     let ways = ways_of(alloc, exchange, at.kind, at.block, at.point, at.next)?;
     Ok(Row {
-        temps: temps_of(exchange, at.block),
-        given: given_of(exchange, at.block),
+        temps: slots.temps,
+        given: slots.given,
         answered: answered_of(exchange, at.kind),
         ways,
     })
@@ -106,46 +182,4 @@ fn awaited_of(kind: &StmtKind) -> Option<u32>
         StmtKind::Retrieve { answer, .. } => Some(*answer),
         _ => None,
     }
-}
-
-/// The points of the RETRIEVEs of an answer, among these places of an exchange.
-#[tactic(auto, using(crate::proofs::Rowing::retrieves_begin))]
-pub fn retrieves_of(
-    alloc: Global,
-    exchange: &Exchange,
-    places: &[PlaceAt<'_>],
-    answer: u32,
-) -> Result<Seq<u32>, Memory>
-    requires { ArePlaces exchange.now (map seen places.now) }
-    ensures { IfOk result (λ points. AreRetrieves exchange.now answer points) }
-{
-    let _ = &exchange.cells;
-    let mut points = Seq::new(alloc);
-    for at in places {
-        push_retrieve(at, answer, &mut points)?;
-    }
-    Ok(points)
-}
-
-/// Appends the point of a statement, if it is a RETRIEVE of the answer.
-#[tactic(auto, using(crate::proofs::Rowing::awaited_is, crate::proofs::Rowing::awaited_none))]
-fn push_retrieve(at: &PlaceAt<'_>, answer: u32, points: &mut Seq<u32>) -> Result<(), Memory>
-    ensures { OnOk result (points.new ≡ points.old
-        ++ awaited_point answer (retrieved (out-StmtKind at.now.kind.now)) at.now.point) }
-{
-    match awaited_of(at.kind) {
-        Some(found) => push_equal(found, answer, at.point, points),
-        None => Ok(()),
-    }
-}
-
-/// Appends a point, if the two numbers are the same.
-#[tactic(auto, using(crate::proofs::Rowing::equal_listed, crate::proofs::Rowing::unequal_listed))]
-fn push_equal(found: u32, answer: u32, point: u32, points: &mut Seq<u32>) -> Result<(), Memory>
-    ensures { OnOk result (points.new ≡ points.old ++ awaited_point answer (Some found) point) }
-{
-    if found == answer {
-        return points.push(point);
-    }
-    Ok(())
 }

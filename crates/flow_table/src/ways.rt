@@ -1,6 +1,6 @@
 // The ways from a statement.
 ghost use Rattle.std.specs.Prelude.{◌≡◌, ◌∷◌, ◌++◌, [], map, max, min, slice_get, IfOk, OnOk, Some};
-ghost use Rattle.std.specs.List.{AllByRecursion};
+ghost use Rattle.std.specs.List.{AllByRecursion, list_any};
 ghost use Rattle.exchange_model.specs.declared.stmt.StmtKind.{out-StmtKind};
 ghost use Rattle.source_meaning.specs.Changes.{value_count};
 ghost use Rattle.source_meaning.specs.Rests.{IsOfBlock};
@@ -13,7 +13,7 @@ ghost use Rattle.flow_points.specs.Sources.{expr_source};
 ghost use Rattle.flow_table.specs.declared.way.Ends.TheVariants as ends;
 ghost use Rattle.flow_table.specs.declared.way.Way.{Way};
 ghost use Rattle.flow_table.specs.Alone.{IsExprIn};
-ghost use Rattle.flow_table.specs.Ways.{choice_points, layer_ways, listed, most_of, send_ways as ways_of_send, to_enters, to_next, to_points};
+ghost use Rattle.flow_table.specs.Ways.{bare_points, begun_points, choice_points, is_bare as is_bare_choice, layer_ways, listed, most_of, send_ways as ways_of_send, to_enters, to_next, to_points};
 
 use crate::lookup::{label_point, push_enters, push_point};
 use crate::points::Points;
@@ -170,22 +170,49 @@ fn choices(
     ensures { IfOk result (λ ways. ways ≡ to_points passing.Kept
         (choice_points whens.now next ++ listed other) ∷ []) }
 {
-    let mut points = Seq::with_capacity(alloc, whens.len() + 1)?;
-    push_choices(whens, next, &mut points)?;
+    let mut points = Seq::new(alloc);
+    push_begun(whens, &mut points)?;
+    push_bare(whens, next, &mut points)?;
     push_point(other, &mut points)?;
     let mut ways = Seq::with_capacity(alloc, 1)?;
     push_way(alloc, Passing::Kept, points, &mut ways)?;
     Ok(ways)
 }
 
+/// Appends where the choices begin that have a statement to begin with.
 #[tactic(auto, using(crate::proofs::Wayfaring::choices_begin, crate::proofs::Wayfaring::choices_end))]
-fn push_choices(whens: &[When], next: Option<u32>, points: &mut Seq<u32>) -> Result<(), Memory>
-    ensures { OnOk result (points.new ≡ points.old ++ choice_points whens.now next) }
+fn push_begun(whens: &[When], points: &mut Seq<u32>) -> Result<(), Memory>
+    ensures { OnOk result (points.new ≡ points.old ++ begun_points whens.now) }
 {
     for when in whens {
-        push_point(first_of(when.body.as_slice(), next), points)?;
+        push_point(first_of(when.body.as_slice(), None), points)?;
     }
     Ok(())
+}
+
+/// Appends the point to which the choices lead that have no statement to begin with, if there is one; it stands once for all of
+/// them.
+#[tactic(auto, using(crate::proofs::Wayfaring::bare_some, crate::proofs::Wayfaring::bare_none))]
+fn push_bare(whens: &[When], next: Option<u32>, points: &mut Seq<u32>) -> Result<(), Memory>
+    ensures { OnOk result (points.new ≡ points.old ++ bare_points whens.now next) }
+{
+    if any_bare(whens) {
+        return push_point(next, points);
+    }
+    Ok(())
+}
+
+fn any_bare(whens: &[When]) -> bool
+    ensures { result ≡ list_any is_bare_choice whens.now }
+{
+    whens.iter().any(|when| is_bare(when))
+}
+
+/// Whether a choice has no statement to begin with.
+fn is_bare(when: &When) -> bool
+    ensures { result ≡ is_bare_choice when.now }
+{
+    first_of(when.body.as_slice(), None).is_none()
 }
 
 /// A temporary gets any value on one way, and everything is as it is on the other.

@@ -1,7 +1,8 @@
-// What no clause says of the devices and the printer: outside examples, real files and the real output, and each public
-// call that may be refused memory run once with ample memory.
+// What no clause says of the devices and the printer: outside examples, real files and the real
+// output, and each public call that may be refused memory run once with ample memory.
 //
-// A crate with tests is proved twice, so these tests stand here and not in the crates that they are of. Nothing comes out.
+// A crate with tests is proved twice, so these tests stand here and not in the crates that they are
+// of. Nothing comes out.
 #![tactic(auto)]
 
 #[cfg(test)]

@@ -58,7 +58,8 @@ fn a_sink_writes_output(rt: HostRuntime) -> Result<(), Fail> {
     Ok(())
 }
 
-// An output that takes three bytes at a time, none that begin with `0`, and fails at `!` and at nothing.
+// An output that takes three bytes at a time, none that begin with `0`, and fails at `!` and at
+// nothing.
 struct Blocked;
 
 impl Print for Blocked {

@@ -108,6 +108,42 @@ impl<'c> PairTable<'c> {
         self.passes(first, later)
     }
 
+    /// Whether a job of this entry may run at once with some other job, as far as pairs are told: where they are not, it may.
+    pub fn has_partner(&self, entry: u32) -> bool {
+        for other in 0..self.told {
+            if self.may_pass(entry, other) || self.may_pass(other, entry) {
+                return true;
+            }
+        }
+        self.told < self.checked.entries()
+    }
+
+    /// Whether jobs of two entries may ever pass, as far as it is told.
+    fn may_pass(&self, first: u32, later: u32) -> bool {
+        match told_pair(self.pairs.as_slice(), self.told, first, later) {
+            Some(Pair::Never) => false,
+            _ => true,
+        }
+    }
+
+    /// How much it takes, about, to ask whether jobs of two entries pass: how many tests are looked at, or accesses where the pair is not
+    /// told.
+    pub fn asking(&self, first: u32, later: u32) -> u64 {
+        match told_pair(self.pairs.as_slice(), self.told, first, later) {
+            Some(Pair::Never) => 0,
+            Some(Pair::Asks { from, to }) => to.saturating_sub(from) as u64,
+            None => self.accesses(first).saturating_add(self.accesses(later)),
+        }
+    }
+
+    /// How many accesses the summary of an entry has; none where the entry has no summary.
+    fn accesses(&self, entry: u32) -> u64 {
+        if entry < self.checked.entries() {
+            return self.checked.summary(entry).accesses.len() as u64;
+        }
+        0
+    }
+
     /// Whether two jobs pass.
     fn passes(&self, first: &JobStart, later: &JobStart) -> bool
         requires first { first.now.job.entry < length self.now.summaries }

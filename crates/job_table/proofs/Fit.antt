@@ -18,17 +18,17 @@ use Rattle.source_meaning.specs.Valid.{HasOrigin, IsWord, LineFits, LinesFit, Na
 use Rattle.retire_order.specs.Lines.{coming_of, origin_of}
 use Rattle.retire_order.proofs.Fitting.{all_coming, got_coming, signal_lines_fit}
 use Rattle.job_table.specs.declared.period.Period.{Period}
-use Rattle.job_table.specs.Fit.{AreNumberedFrom}
+use Rattle.job_table.specs.Fit.{AreNumberedFrom, Rises}
 use Rattle.job_table.specs.Merged.{all_lines, by_count, has_number, line_at, lines_of, merged, number_in, numbered_from, placed_in, renamed, renumbered}
 use Rattle.job_table.specs.Table.{table_periods}
 use Rattle.job_table.proofs.Fitted.{PeriodFits, periods_fit}
 use Rattle.job_table.proofs.Numbering.{numbered-cons, numbered-nil, numbered-push}
 use Rattle.job_table.proofs.Signals.{IsSound, signal_lines_sound}
-use Rattle.job_table.proofs.Sorting.{Rises, not_up, all_by_count, by_count-cons, by_count-nil, placed_alone, placed_first, placed_later, rises-by_count}
+use Rattle.job_table.proofs.Sorting.{not_up, all_by_count, by_count-cons, by_count-nil, placed_alone, placed_first, placed_later, rises-by_count}
 use Rattle.job_table.proofs.Turns.{turn_small}
 
 -- a line is one of these
-abbrev Has : Line → List Line → Type 0
+abbrev pub Has : Line → List Line → Type 0
 Has l [] = ⊥
 Has l (m ∷ rest) = (l ≡ m) ⊎ Has l rest
 
@@ -36,6 +36,11 @@ has_all : (P : Line → Type 0) (l : Line) (ls : List Line) → AllByRecursion P
 has_all P l [] all has = absurd has
 has_all P l (m ∷ rest) all (inl is) = subst P (sym is) all.0
 has_all P l (m ∷ rest) all (inr later) = has_all P l rest all.1 later
+
+pub had_front : (g : Line) (xs ys : List Line) → Has g xs → Has g (xs ++ ys)
+had_front g [] ys has = absurd has
+had_front g (k ∷ xs) ys (inl is) = inl is
+had_front g (k ∷ xs) ys (inr has) = inr (had_front g xs ys has)
 
 has_last : (l m : Line) (ls : List Line) → (l ≡ m) ⊎ Has l ls → Has l (ls ++ m ∷ [])
 has_last l m [] (inl is) = inl is
@@ -99,20 +104,20 @@ pub lines_of_coming : (P : Coming → Type 0) (ls : List Line) → AllByRecursio
 lines_of_coming P [] all = tt
 lines_of_coming P (l ∷ ls) all = (all.0, lines_of_coming P ls all.1)
 
--- no other line has the number of one
-only_giver : (x : Exchange) (g : Line) (done rest : List Line) → LinesFit x (map coming_of done) (map coming_of rest) → Has g rest → gives g.kind ≡ true → Gives (done ++ rest) g.number
-only_giver x g done [] fit has giving = absurd has
-only_giver x g done (l ∷ rest) fit (inl is) giving =
+-- what holds of a line holds of each that has its number: no other line has
+only_one : (Q : Line → Type 0) (x : Exchange) (g : Line) (done rest : List Line) → LinesFit x (map coming_of done) (map coming_of rest) → Has g rest → Q g → AllByRecursion (λ (m : Line). m.number ≡ g.number → Q m) (done ++ rest)
+only_one Q x g done [] fit has own = absurd has
+only_one Q x g done (l ∷ rest) fit (inl is) own =
     let numbers : AllByRecursion (λ (m : Line). m.number < l.number) done = lines_of_coming (λ e. e.number < l.number) done fit.0.number in
     let above : AllByRecursion (λ (m : Line). l.number < m.number) rest =
     numbers_above x l (done ++ l ∷ []) rest (has_last l l done (inl refl)) (subst (λ us. LinesFit x us (map coming_of rest)) (sym (map-append coming_of done (l ∷ []))) fit.1) in
     let same : g.number ≡ l.number = ap (λ (q : Line). q.number) is in
-    all_append (λ (m : Line). m.number ≡ g.number → gives m.kind ≡ true) done (l ∷ rest)
-    (all_weaker (λ (m : Line). m.number < l.number) (λ (m : Line). m.number ≡ g.number → gives m.kind ≡ true) done (λ m less e. absurd (omega (arith, less, e, same))) numbers)
-    ((λ e. ap (λ (q : Line). gives q.kind) (sym is) ∙ giving), all_weaker (λ (m : Line). l.number < m.number) (λ (m : Line). m.number ≡ g.number → gives m.kind ≡ true) rest (λ m less e. absurd (omega (arith, less, e, same))) above)
-only_giver x g done (l ∷ rest) fit (inr later) giving =
-    subst (λ ls. Gives ls g.number) (append_assoc done (l ∷ []) rest)
-    (only_giver x g (done ++ l ∷ []) rest (subst (λ us. LinesFit x us (map coming_of rest)) (sym (map-append coming_of done (l ∷ []))) fit.1) later giving)
+    all_append (λ (m : Line). m.number ≡ g.number → Q m) done (l ∷ rest)
+    (all_weaker (λ (m : Line). m.number < l.number) (λ (m : Line). m.number ≡ g.number → Q m) done (λ m less e. absurd (omega (arith, less, e, same))) numbers)
+    ((λ e. subst Q is own), all_weaker (λ (m : Line). l.number < m.number) (λ (m : Line). m.number ≡ g.number → Q m) rest (λ m less e. absurd (omega (arith, less, e, same))) above)
+only_one Q x g done (l ∷ rest) fit (inr later) own =
+    subst (AllByRecursion (λ (m : Line). m.number ≡ g.number → Q m)) (append_assoc done (l ∷ []) rest)
+    (only_one Q x g (done ++ l ∷ []) rest (subst (λ us. LinesFit x us (map coming_of rest)) (sym (map-append coming_of done (l ∷ []))) fit.1) later own)
 
 -- the line behind a place
 line_at_place : (done : List Line) (i : ℕ) (c : Coming) → slice_get (map coming_of done) i ≡ Some c → (g : Line) × Has g done × (coming_of g ≡ c)
@@ -151,11 +156,6 @@ origins_from x all done seen (l ∷ rest) more only fit = (
       (subst (λ us. LinesFit x us (map coming_of rest)) (sym (map-append coming_of done (l ∷ []))) fit.1),
 )
   where
-    had_front : (g : Line) (xs ys : List Line) → Has g xs → Has g (xs ++ ys)
-    had_front g [] ys has = absurd has
-    had_front g (k ∷ xs) ys (inl is) = inl is
-    had_front g (k ∷ xs) ys (inr has) = inr (had_front g xs ys has)
-
     split : (g : Line) (xs : List Line) → Has g (xs ++ l ∷ []) → (g ≡ l) ⊎ Has g xs
     split g [] (inl is) = inl is
     split g [] (inr has) = absurd has
@@ -268,7 +268,7 @@ lines_are x done (l ∷ rest) fit sound = (
 -- ---- the lines that are numbered
 
 -- of these lines one has the number, and the first of them gives its forlopp
-record First (number : ℕ) (done more : List Line) : Type 0 where
+pub record First (number : ℕ) (done more : List Line) : Type 0 where
   pub place : ℕ
   pub line : Line
   pub there : slice_get done place ≡ Some line
@@ -276,7 +276,7 @@ record First (number : ℕ) (done more : List Line) : Type 0 where
   pub inside : place < length done
   pub first : position_or_len (has_number number) (done ++ more) ≡ place
 
-first_from : (number : ℕ) (done more : List Line) (g : Line) → Has g done → g.number ≡ number → First number done more
+pub first_from : (number : ℕ) (done more : List Line) (g : Line) → Has g done → g.number ≡ number → First number done more
 first_from number [] more g has is = absurd has
 first_from number (l ∷ done) more g has is = elim (cases_Bool (nat_eq l.number number)) [
   | inl same ↦ record {
@@ -304,7 +304,7 @@ first_from number (l ∷ done) more g has is = elim (cases_Bool (nat_eq l.number
     behind (inl same) other = let e : l.number ≡ number = ap (λ (q : Line). q.number) (sym same) ∙ is in let yes = eq-eqb l.number number e in absurd (cc)
     behind (inr has) other = has
 
-number_is : (number : ℕ) (done more : List Line) (f : First number done more) → number_in (done ++ more) number ≡ Some (f.place + 1)
+pub number_is : (number : ℕ) (done more : List Line) (f : First number done more) → number_in (done ++ more) number ≡ Some (f.place + 1)
 number_is number done more f =
     let n : ℕ = position_or_len (has_number number) (done ++ more) in
     let inside = f.inside in
@@ -312,14 +312,14 @@ number_is number done more f =
     let longer = length-append done more in
     ap (option_map (λ place. place + 1)) (sym (cond_below n (length (done ++ more)) (Some n) None (omega (arith, inside, first, longer)))) ∙ ap (λ (k : ℕ). Some (k + 1)) first
 
-got_numbered : (new : ℕ → Option ℕ) (from : ℕ) (ls : List Line) (i : ℕ) (l : Line) (number : ℕ) → slice_get ls i ≡ Some l → number ≡ from + i → slice_get (numbered_from new from ls) i ≡ Some (renumbered new number l)
+pub got_numbered : (new : ℕ → Option ℕ) (from : ℕ) (ls : List Line) (i : ℕ) (l : Line) (number : ℕ) → slice_get ls i ≡ Some l → number ≡ from + i → slice_get (numbered_from new from ls) i ≡ Some (renumbered new number l)
 got_numbered new from [] i l number is n = absurd (none-some l is)
 got_numbered new from (k ∷ ls) zero l number is n =
     ap (λ ms. slice_get ms 0) (numbered-cons new from k ls)
     ∙ ap (λ (q : Line). Some (renumbered new from q)) (same_Some k l is) ∙ ap (λ (m : ℕ). Some (renumbered new m l)) (omega (arith, n))
 got_numbered new from (k ∷ ls) (suc i) l number is n = ap (λ ms. slice_get ms (suc i)) (numbered-cons new from k ls) ∙ got_numbered new (from + 1) ls i l number is (omega (arith, n))
 
-all_numbered : (P : Line → Type 0) (new : ℕ → Option ℕ) (from : ℕ) (ls : List Line) → ((l : Line) (n : ℕ) → P l → P (renumbered new n l)) → AllByRecursion P ls → AllByRecursion P (numbered_from new from ls)
+pub all_numbered : (P : Line → Type 0) (new : ℕ → Option ℕ) (from : ℕ) (ls : List Line) → ((l : Line) (n : ℕ) → P l → P (renumbered new n l)) → AllByRecursion P ls → AllByRecursion P (numbered_from new from ls)
 all_numbered P new from [] keeps all = subst (AllByRecursion P) (sym (numbered-nil new from)) tt
 all_numbered P new from (l ∷ ls) keeps all = subst (AllByRecursion P) (sym (numbered-cons new from l ls)) (keeps l from all.0, all_numbered P new (from + 1) ls keeps all.1)
 
@@ -341,7 +341,7 @@ has_origin new Fresh giving = tt
 has_origin new Bare giving = absurd (cc)
 has_origin new (Same line) giving = tt
 
-all_got : (P : Line → Type 0) (ls : List Line) (i : ℕ) (l : Line) → AllByRecursion P ls → slice_get ls i ≡ Some l → P l
+pub all_got : (P : Line → Type 0) (ls : List Line) (i : ℕ) (l : Line) → AllByRecursion P ls → slice_get ls i ≡ Some l → P l
 all_got P [] i l all is = absurd (none-some l is)
 all_got P (k ∷ ls) zero l all is = subst P (same_Some k l is) all.0
 all_got P (k ∷ ls) (suc i) l all is = all_got P ls i l all.1 is
@@ -405,15 +405,15 @@ module _ (x : Exchange) (signals table : List ℕ) (lines : List Line) (periods 
   turns : AllByRecursion (IsTurn x) (flat_map lines_of periods)
   turns = periods_are x periods (periods_fit x (length lines) table periods table_read)
 
-  giving_all : (g : Line) → Has g lines → gives g.kind ≡ true → Gives (all_lines lines periods) g.number
-  giving_all g has giving =
+  pub only_all : (Q : Line → Type 0) (g : Line) → Has g lines → Q g → AllByRecursion (λ (m : Line). m.number ≡ g.number → Q m) (all_lines lines periods)
+  only_all Q g has own =
       let some : 1 ≤ g.number = (has_all IsSound g lines sound has).number in
-      all_append (λ (m : Line). m.number ≡ g.number → gives m.kind ≡ true) lines (flat_map lines_of periods) (only_giver x g [] lines fit has giving)
-      (all_weaker (IsTurn x) (λ (m : Line). m.number ≡ g.number → gives m.kind ≡ true) (flat_map lines_of periods) (λ m t e. let n = t.number in absurd (omega (arith, n, e, some))) turns)
+      all_append (λ (m : Line). m.number ≡ g.number → Q m) lines (flat_map lines_of periods) (only_one Q x g [] lines fit has own)
+      (all_weaker (IsTurn x) (λ (m : Line). m.number ≡ g.number → Q m) (flat_map lines_of periods) (λ m t e. let n = t.number in absurd (omega (arith, n, e, some))) turns)
 
   origins : Origins (all_lines lines periods) [] (all_lines lines periods)
   origins =
-      origins_append (all_lines lines periods) [] lines (flat_map lines_of periods) (origins_from x (all_lines lines periods) [] [] lines (λ g has. has) giving_all fit)
+      origins_append (all_lines lines periods) [] lines (flat_map lines_of periods) (origins_from x (all_lines lines periods) [] [] lines (λ g has. has) (λ g has giving. only_all (λ (m : Line). gives m.kind ≡ true) g has giving) fit)
       (all_weaker (IsTurn x) (λ (m : Line). IsOwn m.kind) (flat_map lines_of periods) (λ m t. t.own) turns)
 
   fine : AllByRecursion (IsFine x) (by_count (all_lines lines periods))

@@ -70,7 +70,7 @@ joined : {x : Exchange} {b : Before} {line : List ℕ} {first : Option Period} (
 joined ps skips all = all
 joined {x = x} {b = b} {line = line} ps (says s p said m) all = (meant_fits x b s p (said_words (words line) s said) m, all)
 
-gone : {A B : Type 0} (r : Result A TableFault) (go : A → Result B TableFault) (b : B) → and_then r go ≡ Ok b → (a : A) × (r ≡ Ok a) × (go a ≡ Ok b)
+pub gone : {A B : Type 0} (r : Result A TableFault) (go : A → Result B TableFault) (b : B) → and_then r go ≡ Ok b → (a : A) × (r ≡ Ok a) × (go a ≡ Ok b)
 gone (Ok a) go b e = (a, refl, e)
 gone (Err f) go b e = absurd (cc)
 
@@ -84,10 +84,10 @@ periods_behind_fit x b (line ∷ rest) list e =
     let same : cons_option here.0 more.0 ≡ list = cc in
     subst (AllByRecursion (PeriodFits x)) same (joined more.0 (adds x b line here.0 here.1) (periods_behind_fit x (behind b here.0) rest more.0 more.1))
 
-abbrev times_in : List Period → ℕ
+abbrev pub times_in : List Period → ℕ
 times_in periods = sum_by (λ (p : Period). p.times) periods
 
-times_joined : (first : Option Period) (ps : List Period) → times_in (cons_option first ps) ≡ signals_in first + times_in ps
+pub times_joined : (first : Option Period) (ps : List Period) → times_in (cons_option first ps) ≡ signals_in first + times_in ps
 times_joined None ps = omega arith
 times_joined (Some p) ps = sum_by-cons (λ (q : Period). q.times) p ps
 

@@ -1,4 +1,5 @@
 pub mod Again
+mod Deciding
 pub mod Entries
 pub mod Fit
 pub mod Fitted
@@ -8,6 +9,7 @@ pub mod Numbering
 pub mod Ranges
 pub mod Signals
 pub mod Sorting
+mod Standing
 pub mod Tabled
 pub mod Told
 pub mod Turns

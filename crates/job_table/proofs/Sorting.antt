@@ -6,21 +6,22 @@ use Rattle.std.specs.List.Sorted.{ties, IsNonDecreasingBy, IsStableByKey}
 use Rattle.std.proofs.lemmas.Bool.{cond-true, cond-false, cases_Bool, leb-true}
 use Rattle.std.proofs.lemmas.Bool.Decides.{nat_tests}
 use Rattle.signal_file.specs.declared.line.Line.{Line}
+use Rattle.job_table.specs.Fit.{Rises}
 use Rattle.job_table.specs.Merged.{by_count, placed_in}
 
 abbrev pub count_of : Line → ℕ
 count_of l = l.after
 
-abbrev same_count : Line → Line → Bool
+abbrev pub same_count : Line → Line → Bool
 same_count = ties (λ x y. is_lt (nat_cmp (count_of x) (count_of y)))
 
 ties_at : (m n : ℕ) → (ties (λ x y. is_lt (nat_cmp x y)) m n ≡ true → m ≡ n) × (m ≡ n → ties (λ x y. is_lt (nat_cmp x y)) m n ≡ true)
 ties_at m n = (λ h. grind (arith, nat_tests), λ h. grind (arith, nat_tests))
 
-same_count-true : (x y : Line) → same_count x y ≡ true → x.after ≡ y.after
+pub same_count-true : (x y : Line) → same_count x y ≡ true → x.after ≡ y.after
 same_count-true x y = (ties_at x.after y.after).0
 
-same_count_from : (x y : Line) → x.after ≡ y.after → same_count x y ≡ true
+pub same_count_from : (x y : Line) → x.after ≡ y.after → same_count x y ≡ true
 same_count_from x y = (ties_at x.after y.after).1
 
 filter-kept : (p : Line → Bool) (y : Line) (ys : List Line) → p y ≡ true → filter p (y ∷ ys) ≡ y ∷ filter p ys
@@ -100,7 +101,7 @@ pub all_by_count : (P : Line → Type 0) (ls : List Line) → AllByRecursion P l
 all_by_count P [] all = rw by_count-nil tt
 all_by_count P (l ∷ ls) all = rw (by_count-cons l ls) (all_placed P l (by_count ls) all.0 (all_by_count P ls all.1))
 
-filter-by_count : (x : Line) (ls : List Line) → filter (same_count x) (by_count ls) ≡ filter (same_count x) ls
+pub filter-by_count : (x : Line) (ls : List Line) → filter (same_count x) (by_count ls) ≡ filter (same_count x) ls
 filter-by_count x [] = ap (filter (same_count x)) by_count-nil
 filter-by_count x (l ∷ ls) =
     ap (filter (same_count x)) (by_count-cons l ls) ∙ filter-placed x l (by_count ls)
@@ -110,10 +111,6 @@ filter-by_count x (l ∷ ls) =
 
 abbrev AreAtLeast : ℕ → List Line → Type 0
 AreAtLeast n ls = AllByRecursion (λ (l : Line). n ≤ l.after) ls
-
-abbrev pub Rises : List Line → Type 0
-Rises [] = Unit {0}
-Rises (l ∷ ls) = AllByRecursion (λ (m : Line). l.after ≤ m.after) ls × Rises ls
 
 at_least-le : (n m : ℕ) (ls : List Line) → n ≤ m → AreAtLeast m ls → AreAtLeast n ls
 at_least-le n m [] le h = tt

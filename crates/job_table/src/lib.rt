@@ -17,7 +17,9 @@ mod read;
 mod write;
 
 pub use fault::TableFault;
-pub use laws::{merged_lines_fit, written_lines_are_read};
+pub use laws::{
+    first_faulty_line_decides, merged_lines_fit, merging_keeps_all_lines, written_lines_are_read,
+};
 pub use merging::merge;
 pub use period::{MOST_LINES, Period};
 pub use read::read_table;

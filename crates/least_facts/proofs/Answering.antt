@@ -30,11 +30,11 @@ put_at i point lists new before after lt is pushed made =
 
 -- so many empty lists
 
-pub lists_more : (n : ℕ) (item : List ℕ) (now new : List (List ℕ)) → item ≡ [] → new ≡ now ++ item ∷ [] → now ≡ replicate n [] → new ≡ replicate (n + 1) []
-lists_more n item now new none pushed is = pushed ∙ ap (λ l. l ++ item ∷ []) is ∙ ap (λ i. replicate n [] ++ i ∷ []) none ∙ replicate_more n []
+pub lists_more : {A : Type 0} (n : ℕ) (empty item : A) (now new : List A) → item ≡ empty → new ≡ now ++ item ∷ [] → now ≡ replicate n empty → new ≡ replicate (n + 1) empty
+lists_more n empty item now new none pushed is = pushed ∙ ap (λ l. l ++ item ∷ []) is ∙ ap (λ i. replicate n empty ++ i ∷ []) none ∙ replicate_more n empty
 
-pub lists_end : (n count : ℕ) (now : List (List ℕ)) → n ≤ count → count ≤ n → now ≡ replicate n [] → now ≡ replicate count []
-lists_end n count now low high is = (let e : n ≡ count = omega arith in is ∙ ap (λ m. replicate m []) e)
+pub lists_end : {A : Type 0} (n count : ℕ) (empty : A) (now : List A) → n ≤ count → count ≤ n → now ≡ replicate n empty → now ≡ replicate count empty
+lists_end n count empty now low high is = (let e : n ≡ count = omega arith in is ∙ ap (λ m. replicate m empty) e)
 
 -- the RETURNs of each signal
 

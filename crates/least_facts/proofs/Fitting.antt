@@ -1,6 +1,5 @@
 -- Each least fact has its place in the rows.
-use Rattle.std.proofs.Common.{◌≡◌, inl, inr, ℕ, ◌<◌, List, length, map, Some, slice_get, sym, ap, subst, arith, zero, suc, [], ◌∷◌}
-use Rattle.std.proofs.lemmas.List.{length-map}
+use Rattle.std.proofs.Common.{◌≡◌, inl, inr, ℕ, ◌<◌, List, map, Some, slice_get, sym, ap, subst, arith, zero, suc, [], ◌∷◌}
 use Rattle.std.proofs.lemmas.Option.{none-some, same_Some}
 use Rattle.exchange_model.specs.declared.exchange.Exchange.{Exchange}
 use Rattle.exchange_model.specs.Kept.{IsExchange}
@@ -19,15 +18,16 @@ use Rattle.flow_table.specs.declared.row.Row.{Row}
 use Rattle.flow_table.specs.declared.row.FlowTable.{FlowTable}
 use Rattle.flow_table.specs.Rows.{IsRowOf, IsTable}
 use Rattle.flow_table.proofs.Rowing.{place_fits}
-use Rattle.fact_rows.specs.Known.{Fits, slots_of}
+use Rattle.fact_rows.specs.Known.{Fits, HasSpot, slots_of}
 use Rattle.fact_rows.specs.Places.{HasPlace, counts_of}
 use Rattle.fact_rows.specs.Values.{HasNumber, IsNumbered, IsAwaited}
-use Rattle.least_facts.proofs.Numbering.{Numbered, Awaited, SourceFits, leads_fit, start_fits}
+use Rattle.least_facts.specs.Fit.{Awaited, Numbered, SourceFits}
+use Rattle.least_facts.proofs.Numbering.{leads_fit, start_fits}
 
 -- values
 
 module _ (t : FlowTable) where
-  abbrev InRows : Facts
+  abbrev pub InRows : Facts
   InRows f = Fits (slots_of t) f
 
   numbered_gives : (e p : ℕ) (source : Source) (v : Value) → Numbered source → SourceGives InRows e p source v → IsNumbered v
@@ -42,7 +42,7 @@ module _ (t : FlowTable) where
   awaited_gives e p Deeper v h g = absurd h
   awaited_gives e p Nothing v h g = absurd g
 
-  value_numbered : (e p : ℕ) (s : Slot) (source : Source) (v : Value) → SourceFits s source → SourceGives InRows e p source v → HasNumber s v
+  pub value_numbered : (e p : ℕ) (s : Slot) (source : Source) (v : Value) → SourceFits s source → SourceGives InRows e p source v → HasNumber s v
   value_numbered e p (Temp k) source v h g = numbered_gives e p source v h g
   value_numbered e p (Given k) source v h g = numbered_gives e p source v h g
   value_numbered e p (Answered k) source v h g = numbered_gives e p source v h g
@@ -56,14 +56,14 @@ module _ (t : FlowTable) where
   get_map f (y ∷ xs) zero a there = ap (λ z. Some (f z)) (same_Some y a there)
   get_map f (y ∷ xs) (suc i) a there = get_map f xs i a there
 
-  slot_placed : (x : Exchange) (at : Place) (r : Row) (s : Slot) → IsRowOf x at r → IsSlotOf x at s → HasPlace (counts_of r) s
+  pub slot_placed : (x : Exchange) (at : Place) (r : Row) (s : Slot) → IsRowOf x at r → IsSlotOf x at s → HasPlace (counts_of r) s
   slot_placed x at r (Temp k) is h = subst (λ n. k < n) (sym is.temps) h
   slot_placed x at r (Given k) is h = subst (λ n. k < n) (sym is.given) h
   slot_placed x at r (Answered k) is h = subst (λ n. k < n) (sym is.answered) h
   slot_placed x at r Depth is h = tt
   slot_placed x at r Awaits is h = tt
 
-  fits : (x : Exchange) (f : Fact) → IsTable x t → HasSlot x f.point f.slot → HasNumber f.slot f.value → Fits (slots_of t) f
+  pub fits : (x : Exchange) (f : Fact) → IsTable x t → HasSlot x f.point f.slot → HasNumber f.slot f.value → Fits (slots_of t) f
   fits x f table slot number =
       let r = table.rows.each f.point slot.place slot.stands in
       record {
@@ -83,15 +83,8 @@ module _ (t : FlowTable) where
   pub least_fits : (x : Exchange) → IsExchange x → IsTable x t → (f : Fact) → IsLeast x f → Fits (slots_of t) f
   least_fits x kept table f h = least_in x InRows (rows_closed x kept table) f h
 
-  got_below : {A : Type 0} (xs : List A) (i : ℕ) (a : A) → slice_get xs i ≡ Some a → i < length xs
-  got_below [] i a there = absurd (none-some a there)
-  got_below (y ∷ xs) zero a there = omega arith
-  got_below (y ∷ xs) (suc i) a there = (let lt = got_below xs i a there in omega arith)
-
-  pub least_below : (x : Exchange) → IsExchange x → IsTable x t → (f : Fact) → IsLeast x f → f.point < length x.points
-  least_below x kept table f h =
-      let fit = least_fits x kept table f h in
-      let lt = got_below (slots_of t) f.point fit.counts fit.there in
-      let long : length (slots_of t) ≡ length t.rows = length-map t.rows counts_of in
-      let each = table.rows.each_point in
-      omega (arith, lt, long, each)
+  -- a slot that is there has its place
+  pub spot_at : (x : Exchange) (q : ℕ) (s : Slot) → IsTable x t → HasSlot x q s → HasSpot (slots_of t) q s
+  spot_at x q s table slot =
+      let r = table.rows.each q slot.place slot.stands in
+      record { counts = counts_of r.row; there = get_map counts_of t.rows q r.row r.there; slot = slot_placed x slot.place r.row s r.is slot.slot }

@@ -1,16 +1,13 @@
--- What is known grows until nothing is marked; then it is all that is least.
-use Rattle.std.proofs.Common.{◌≡◌, ◌⊎◌, inl, inr, ⊎_elim, ℕ, zero, suc, ◌+◌, ◌*◌, ◌<◌, ◌≤◌, Bool, true, false, nat_eq, nat_lt, if◌then◌else◌, List, [], ◌∷◌, ◌++◌, length, drop, get_or, Option, Some, None, slice_get, refl, sym, ap, ◌∙◌, subst, arith, add-one, drop-cons, length-append}
-use Rattle.std.specs.Prelude.{◌↔◌, IfSome}
+-- How a search goes on, and that all that is least is known where nothing is marked.
+use Rattle.std.proofs.Common.{◌≡◌, ◌⊎◌, inl, inr, ⊎_elim, ℕ, zero, suc, ◌+◌, ◌*◌, ◌<◌, ◌≤◌, Bool, true, false, nat_eq, nat_lt, if◌then◌else◌, List, [], ◌∷◌, ◌++◌, length, take, get_or, replicate, Option, Some, None, slice_get, refl, sym, ap, ◌∙◌, subst, arith}
+use Rattle.std.specs.Prelude.{◌↔◌, IfSome, IsTrue}
 use Rattle.std.specs.Option.{IsSome}
-use Rattle.std.specs.List.{All, Contains}
+use Rattle.std.specs.List.{Contains}
 use Rattle.std.specs.List.Sorted.{IsStrictlySortedBy}
-use Rattle.std.specs.Ordering.{nat_cmp}
-use Rattle.std.proofs.Math.ListN.{drop_of_length-le}
 use Rattle.std.proofs.Math.Nat.{mul-le-mul_right, suc-mul}
-use Rattle.std.proofs.lemmas.Bool.{eqb-true, eqb-false, cases_lt}
-use Rattle.std.proofs.lemmas.List.Elements.{Contains-append_left, Contains-append_right}
-use Rattle.std.proofs.lemmas.Map.Views.{length-le_from_below}
-use Rattle.std.proofs.lemmas.Option.{slice_get_within}
+use Rattle.std.proofs.lemmas.Bool.{eqb-true, eqb-false, cases_lt, true≢false}
+use Rattle.std.proofs.lemmas.List.{length-replicate, take_all}
+use Rattle.std.proofs.lemmas.Option.{none-some, same_Some, slice_get_past}
 use Rattle.plex_num.proofs.Members.{first_or_later, none_in}
 use Rattle.plex_num.proofs.Lists.{some_at}
 use Rattle.exchange_model.specs.declared.exchange.Exchange.{Exchange}
@@ -31,40 +28,41 @@ use Rattle.flow_points.specs.declared.fact.Slot.TheVariants.{Temp, Given, Answer
 use Rattle.flow_points.specs.declared.fact.Value.{Value}
 use Rattle.flow_points.specs.declared.fact.Value.TheVariants.{Arg, Const}
 use Rattle.flow_points.specs.declared.flow.Passing.{Passing}
-use Rattle.flow_points.specs.declared.flow.Passing.TheVariants.{Kept, Answers}
+use Rattle.flow_points.specs.declared.flow.Passing.TheVariants.{Kept, Sets, Takes, Retrieves, Begins, Passes, Calls, Answers}
 use Rattle.flow_points.specs.declared.flow.Source.{Source}
 use Rattle.flow_points.specs.declared.flow.Source.TheVariants.{Is}
-use Rattle.flow_points.specs.Facts.{Facts, fact, AnswersTo, IsClosed, IsLeast, Reached, SourceGives, StartGives, PointGives}
-use Rattle.flow_points.specs.Flows.{Leads, SendLeads}
-use Rattle.flow_points.specs.Places.{IsRetrieveAt}
-use Rattle.flow_points.specs.Sources.{start_source}
-use Rattle.flow_points.proofs.Least.{least_closed, least_in, point_alike, point_more}
+use Rattle.flow_points.specs.Facts.{Facts, fact, Gives, Guarded, IsClosed, IsLeast, Reached, SourceGives, StartGives, PointGives}
+use Rattle.flow_points.specs.Flows.{Leads, LeadsTo, SendLeads}
+use Rattle.flow_points.specs.Places.{IsRetrieveAt, Place, StandsAt}
+use Rattle.flow_points.specs.Slots.{HasSlot, answer_count}
+use Rattle.flow_points.specs.Sources.{source_of, start_source}
+use Rattle.flow_points.proofs.Least.{derived_in, gives_more, least_closed, least_in, point_alike, source_alike}
 use Rattle.flow_table.specs.declared.row.FlowTable.{FlowTable}
 use Rattle.flow_table.specs.Giving.{HasGiven}
 use Rattle.flow_table.specs.Rows.{IsTable}
 use Rattle.flow_table.proofs.Rowing.{place_fits}
-use Rattle.fact_flows.specs.Given.{GivenAt, GivenAtStart}
+use Rattle.fact_flows.specs.Flows.{OneGives}
+use Rattle.fact_flows.specs.Given.{GivenAtStart}
 use Rattle.fact_rows.specs.declared.place.Counts.{Counts}
 use Rattle.fact_rows.specs.Orders.{fact_order}
-use Rattle.fact_rows.specs.Known.{Adds, AreFacts, Fits, KnowNothing, Knows, Rows, missing, slots_of}
+use Rattle.fact_rows.specs.Known.{AreFacts, KnowNothing, Knows, Rows, missing, slots_of}
 use Rattle.least_facts.specs.declared.analyser.Analyser.{Analyser}
 use Rattle.least_facts.specs.declared.answers.AnswerTable.{AnswerTable}
-use Rattle.least_facts.specs.Answers.{AreAnswers, known_answer, returned, Returns as ReturnsTo}
-use Rattle.least_facts.specs.Growing.{AreFound, Grows, IsAdded, IsFresh, IsSame, Settled, Went}
+use Rattle.least_facts.specs.Answers.{AreAnswers, IsReturnAt, ReturnsOf, awaited_at, known_answer, returned}
+use Rattle.least_facts.specs.Giving.{Fills, IsFact, IsOwnLeast}
+use Rattle.least_facts.specs.Growing.{AreFound, Goes, GoesOn, HandedFrom, IsFirst, IsNew, IsVisited, Search, Searches, SentFrom, Stands, Went, is_answer, without}
+use Rattle.least_facts.specs.Marks.{HasFirst, Settles, most_marks}
 use Rattle.least_facts.specs.Least.{HasLearned}
-use Rattle.least_facts.proofs.Fitting.{least_below, least_fits}
+use Rattle.least_facts.proofs.Filling.{before_or_here, guard_by, none_yet}
 
 -- to which RETRIEVEs an answer flows
 
--- an answer is returned, and awaited at the other end
-record ReturnsFrom (x : Exchange) (l : Layer) (q : ℕ) : Type 0 where
-  answer : ℕ
-  returns : returned l ≡ Some answer
-  awaits : IsRetrieveAt x q answer
-
-abbrev is_answer : Passing → Bool
-is_answer (Answers values) = true
-is_answer _ = false
+-- an answer is returned, awaited at the other end, and goes to all that await it
+pub record ReturnsFrom (x : Exchange) (b p : ℕ) (next : Option ℕ) (l : Layer) (q : ℕ) (how : Passing) : Type 0 where
+  pub answer : ℕ
+  pub returns : returned l ≡ Some answer
+  pub awaits : IsRetrieveAt x q answer
+  pub others : (r : ℕ) → IsRetrieveAt x r answer → Leads x b p next l r how
 
 other : {A : Type 0} (values : List Source) (made : Passing) → Answers values ≡ made → is_answer made ≡ false → A
 other values made is no_answer = absurd (let clash : true ≡ false = ap is_answer is ∙ no_answer in cc)
@@ -77,7 +75,7 @@ send_other x (Some (Combined name count answer)) next signal to exprs q values (
 send_other x (Some (Outside name count)) next signal to exprs q values g = other values Kept g.is refl
 send_other x _ next signal to exprs q values g = absurd g
 
-answered : (x : Exchange) (b p : ℕ) (next : Option ℕ) (l : Layer) (q : ℕ) (values : List Source) → Leads x b p next l q (Answers values) → ReturnsFrom x l q
+pub answered : (x : Exchange) (b p : ℕ) (next : Option ℕ) (l : Layer) (q : ℕ) (values : List Source) → Leads x b p next l q (Answers values) → ReturnsFrom x b p next l q (Answers values)
 answered x b p next (stmt.Enter signal temps) q values g = other values _ g.is refl
 answered x b p next (stmt.SetTemp temp e) q values g = other values _ g.is refl
 answered x b p next (stmt.SetVariable variable e) q values g = other values _ g.is refl
@@ -95,7 +93,7 @@ answered x b p next (stmt.ForFirst temp file field rel e label) q values (inl g)
 answered x b p next (stmt.ForFirst temp file field rel e label) q values (inr g) = other values _ g.is refl
 answered x b p next (stmt.Send signal to exprs fresh) q values g = send_other x (slice_get x.signals signal) next signal to exprs q values g
 answered x b p next (stmt.Retrieve answer temps) q values g = other values _ g.is refl
-answered x b p next (stmt.Return answer exprs) q values g = record { answer = answer; returns = refl; awaits = g.retrieve }
+answered x b p next (stmt.Return answer exprs) q values g = record { answer = answer; returns = refl; awaits = g.retrieve; others = λ r at. record { retrieve = at; is = g.is } }
 answered x b p next (stmt.Transfer signal to) q values g = other values _ g.goes.is refl
 answered x b p next (stmt.Seize temp file label) q values (inl g) = other values _ g.is refl
 answered x b p next (stmt.Seize temp file label) q values (inr g) = other values _ g.is refl
@@ -103,28 +101,27 @@ answered x b p next (stmt.Free temp file) q values g = other values _ g.is refl
 answered x b p next stmt.Exit q values g = absurd g
 answered x b p next stmt.Finish q values g = absurd g
 
--- a RETURN from which an answer flows is in the table
-answers_return : (x : Exchange) (a : AnswerTable) (p q : ℕ) → IsExchange x → AreAnswers x a → AnswersTo x p q → ReturnsTo a q p
-answers_return x a p q kept are h =
-    let r = answered x h.at.block h.at.point h.at.next h.at.layer q h.values h.leads in
-    let w = r.awaits in
-    let low : r.answer < length a.returns = ⊎_elim (λ lt. lt) (λ past. absurd (answer_below x w.place.block w.place.layer r.answer (let e = are.returns.each_signal in omega (arith, e, past)) (place_fits x w.place kept w.stands.place) w.retrieves)) (cases_lt r.answer (length a.returns)) in
-    let f = some_at a.returns r.answer low in
-    record {
-      answer = r.answer;
-      awaits = ap known_answer (are.awaits q w.place w.stands) ∙ w.retrieves;
-      points = f.0;
-      there = f.1;
-      among = ((are.returns.exact r.answer f.0 f.1).exact p).1 (record { place = h.at; stands = h.stands; returns = r.returns });
-    }
+-- ---- RETRIEVEs and RETURNs by the table
 
--- and each that is there is a point of the exchange
-return_below : (x : Exchange) (a : AnswerTable) (q p : ℕ) → AreAnswers x a → ReturnsTo a q p → p < length x.points
-return_below x a q p are r =
-    let s = ((are.returns.exact r.answer r.points r.there).exact p).0 r.among in
-    let lt = slice_get_within a.awaited p (retrieved s.place.layer) (are.awaits p s.place s.stands) in
-    let long = are.each_point in
-    omega (arith, lt, long)
+module _ (x : Exchange) (a : AnswerTable) (are : AreAnswers x a) where
+  pub awaited_of : (q n : ℕ) → IsRetrieveAt x q n → awaited_at a q ≡ Some n
+  awaited_of q n w = ap known_answer (are.awaits q w.place w.stands) ∙ w.retrieves
+
+  pub one_answer : (q n m : ℕ) → IsRetrieveAt x q n → IsRetrieveAt x q m → n ≡ m
+  one_answer q n m w u = same_Some n m (sym (awaited_of q n w) ∙ awaited_of q m u)
+
+  pub retrieve_of : (q n : ℕ) (at : Place) → StandsAt x q at → awaited_at a q ≡ Some n → IsRetrieveAt x q n
+  retrieve_of q n at stands is = record { place = at; stands = stands; retrieves = sym (ap known_answer (are.awaits q at stands)) ∙ is }
+
+  pub answer_low : (q n : ℕ) → IsExchange x → IsRetrieveAt x q n → n < length x.signals
+  answer_low q n kept w =
+      ⊎_elim (λ lt. lt) (λ past. absurd (answer_below x w.place.block w.place.layer n past (place_fits x w.place kept w.stands.place) w.retrieves)) (cases_lt n (length x.signals))
+
+  pub returns_of : (n r : ℕ) → n < length x.signals → IsReturnAt x r n → ReturnsOf a n r
+  returns_of n r lt h =
+      let long = are.returns.each_signal in
+      let f = some_at a.returns n (omega (arith, lt, long)) in
+      record { points = f.0; there = f.1; among = ((are.returns.exact n f.0 f.1).exact r).1 h }
 
 -- whether a point is marked
 
@@ -159,188 +156,495 @@ start_any x P Q f g = record {
   gives = start_values P Q f.entry f.point (value_count x g.entry.signal) f.slot f.value g.gives;
 }
 
--- the beginning
+-- ---- what an answer gives is least at each of its RETRIEVEs
 
-pub start_begin : (x : Exchange) (t : FlowTable) (e : ℕ) (slots : List Counts) (k : Rows) (marked : List ℕ) (none facts listed : List Fact) → KnowNothing e slots k → slots ≡ slots_of t → marked ≡ [] → none ≡ [] → HasGiven none facts (GivenAtStart x (Knows k) e) → listed ≡ facts → Grows x t e k marked listed
-start_begin x t e slots k marked none facts listed knows own unmarked empty given same = subst (λ m. Grows x t e k m listed) (sym unmarked) (subst (Grows x t e k []) (sym same) (record {
-  of_entry = knows.of_entry;
-  of_slots = knows.of_slots ∙ own;
-  least = λ f h. absurd (knows.nothing f h);
-  comes = λ f c. (let g = given.each f (subst (λ l. Contains l f) all c) in (g.entry, least_closed x f (inl (start_any x (Knows k) (IsLeast x) f g.gives))));
-  start = λ f g. inr (subst (λ l. Contains l f) (sym all) (given.listed f g));
-  points = λ p. inr (λ f g. absurd (unreached f p g));
-  below = λ p c. absurd (none_in p c);
-}))
+answer_source : (x : Exchange) (e p q k : ℕ) (v : Value) (r : ℕ) → Reached (IsLeast x) e q → HasSlot x q (Answered k) → (m : ℕ) → IsRetrieveAt x p m → IsRetrieveAt x q m → ((i : ℕ) → IsRetrieveAt x p i → i ≡ m)
+    → PointGives x (IsLeast x) r (fact e p (Answered k) v) → IsLeast x (fact e q (Answered k) v)
+answer_source x e p q k v r reached has m first other same g = by g.how refl g.flow.leads g.flow.gives
   where
-    all : facts ≡ given.added
-    all = given.is ∙ ap (λ l. l ++ given.added) empty
+    by : (how : Passing) → g.how ≡ how → LeadsTo x g.at p g.how → SourceGives (IsLeast x) e g.at.point (source_of g.how (Answered k)) v → IsLeast x (fact e q (Answered k) v)
+    by Kept is leads gives = absurd (subst (λ (h : Passing). SourceGives (IsLeast x) e g.at.point (source_of h (Answered k)) v) is gives)
+    by (Sets temp s) is leads gives = absurd (subst (λ (h : Passing). SourceGives (IsLeast x) e g.at.point (source_of h (Answered k)) v) is gives)
+    by (Takes temps) is leads gives = absurd (subst (λ (h : Passing). SourceGives (IsLeast x) e g.at.point (source_of h (Answered k)) v) is gives)
+    by (Retrieves temps) is leads gives = absurd (subst (λ (h : Passing). SourceGives (IsLeast x) e g.at.point (source_of h (Answered k)) v) is gives)
+    by (Begins values) is leads gives = absurd (subst (λ (h : Passing). SourceGives (IsLeast x) e g.at.point (source_of h (Answered k)) v) is gives)
+    by (Passes count) is leads gives = absurd (subst (λ (h : Passing). SourceGives (IsLeast x) e g.at.point (source_of h (Answered k)) v) is gives)
+    by (Calls values answer) is leads gives = absurd (subst (λ (h : Passing). SourceGives (IsLeast x) e g.at.point (source_of h (Answered k)) v) is gives)
+    by (Answers values) is leads gives =
+        let from = answered x g.at.block g.at.point g.at.next g.at.layer p values (subst (LeadsTo x g.at p) is leads) in
+        least_closed x (fact e q (Answered k) v) (inr (
+          r,
+          record {
+            at = g.at;
+            stands = g.stands;
+            how = Answers values;
+            flow = record {
+              leads = from.others q (subst (IsRetrieveAt x q) (sym (same from.answer from.awaits)) other);
+              reached = g.flow.reached;
+              guarded = reached;
+              slot = has;
+              gives = subst (λ (h : Passing). SourceGives (IsLeast x) e g.at.point (source_of h (Answered k)) v) is gives;
+            };
+          },
+        ))
 
-    unreached : (f : Fact) (p : ℕ) → GivenAt x (Knows k) e p f → ⊥
-    unreached f p g = knows.nothing _ g.gives.flow.reached.1
-
-pub visit_begin : (x : Exchange) (t : FlowTable) (e : ℕ) (k : Rows) (p : ℕ) (marked : List ℕ) (none facts listed : List Fact) → Grows x t e k (p ∷ marked) [] → none ≡ [] → HasGiven none facts (GivenAt x (Knows k) e p) → listed ≡ facts → Grows x t e k marked listed
-visit_begin x t e k p marked none facts listed g empty given same = subst (Grows x t e k marked) (sym same) (record {
-  of_entry = g.of_entry;
-  of_slots = g.of_slots;
-  least = g.least;
-  comes = λ f c. (let h = given.each f (subst (λ l. Contains l f) all c) in (h.entry, least_closed x f (inr (p, point_more x (Knows k) (IsLeast x) p f g.least h.gives))));
-  start = λ f h. ⊎_elim inl (λ c. absurd (none_in f c)) (g.start f h);
-  points = λ q. ⊎_elim (λ c. ⊎_elim (λ e. inr (own q e)) inl (first_or_later p q marked c)) (λ s. inr (λ f h. ⊎_elim inl (λ c. absurd (none_in f c)) (s f h))) (g.points q);
-  below = λ q c. g.below q (later_is p q marked c);
-})
+pub answer_least : (x : Exchange) (a : AnswerTable) → AreAnswers x a → (e p q n k : ℕ) (v : Value) → IsRetrieveAt x p n → IsRetrieveAt x q n → Reached (IsLeast x) e q → HasSlot x q (Answered k) → IsLeast x (fact e p (Answered k) v) → IsLeast x (fact e q (Answered k) v)
+answer_least x a are e p q n k v first other reached has h = by (gives_more x (Contains h.before) (IsLeast x) (λ g c. derived_in x (IsLeast x) (least_closed x) h.before h.derived.1 g c) (fact e p (Answered k) v) h.derived.0)
   where
-    all : facts ≡ given.added
-    all = given.is ∙ ap (λ l. l ++ given.added) empty
+    by : Gives x (IsLeast x) (fact e p (Answered k) v) → IsLeast x (fact e q (Answered k) v)
+    by (inl g) = absurd g.gives
+    by (inr g) = answer_source x e p q k v g.0 reached has n first other (λ i w. one_answer x a are p i n w first) g.1
 
-    own : (q : ℕ) → p ≡ q → Settled x e k facts q
-    own q is f h = inr (subst (λ l. Contains l f) (sym all) (given.listed f (subst (λ n. GivenAt x (Knows k) e n f) (sym is) h)))
+-- a least fact is of a slot that is there
+least_slot : (x : Exchange) (f : Fact) → IsLeast x f → HasSlot x f.point f.slot
+least_slot x f h = by h.derived.0
+  where
+    by : Gives x (Contains h.before) f → HasSlot x f.point f.slot
+    by (inl g) = g.slot
+    by (inr g) = g.1.flow.slot
 
--- fact by fact
+-- ---- one step
 
-pub record AddsGo (x : Exchange) (t : FlowTable) (e : ℕ) (facts : List Fact) (k : Rows) (old : List ℕ) (i : ℕ) (new_k : Rows) (new : List ℕ) : Type 0 where
-  pub grows : Grows x t e new_k new (drop i facts)
-  pub change : IsSame k new_k old new ⊎ (missing new_k < missing k)
+module _ (x : Exchange) (t : FlowTable) (a : AnswerTable) (e : ℕ) where
+  pub goes_same : (s : Search) → Stands x t e s → Goes x t a e s s
+  goes_same s stands = record {
+    stands = stands;
+    more = λ f c. c;
+    still = λ p c. c;
+    fresh = λ f c. inl c;
+    kept = λ n q there. there;
+    firsts = λ n q there. inl there;
+    reached = λ n q p at r there. inl r;
+    counted = omega arith;
+  }
 
-pub adds_begin : (x : Exchange) (t : FlowTable) (e : ℕ) (facts : List Fact) (k : Rows) (old : List ℕ) → Grows x t e k old facts → AddsGo x t e facts k old 0 k old
-adds_begin x t e facts k old g = record { grows = g; change = inl (record { rows = refl; marks = refl }) }
-
-pub adds_end : (x : Exchange) (t : FlowTable) (e : ℕ) (facts : List Fact) (k : Rows) (old : List ℕ) (i : ℕ) (new_k : Rows) (new : List ℕ) → length facts ≤ i → AddsGo x t e facts k old i new_k new → Went x t e k old new_k new
-adds_end x t e facts k old i new_k new past g = record { grows = subst (Grows x t e new_k new) (drop_of_length-le facts past) g.grows; change = g.change }
-
--- one fact more
-
-module _ (x : Exchange) (t : FlowTable) (a : AnswerTable) (e : ℕ) (kept : IsExchange x) (table : IsTable x t) (are : AreAnswers x a) where
-  -- what is asked of the rows
-  pub coming_entry : (k : Rows) (marked : List ℕ) (f : Fact) (rest : List Fact) → Grows x t e k marked (f ∷ rest) → f.entry ≡ k.entry
-  coming_entry k marked f rest g = (g.comes f (first_is f rest)).0 ∙ sym g.of_entry
-
-  pub coming_fits : (k : Rows) (marked : List ℕ) (f : Fact) (rest : List Fact) → Grows x t e k marked (f ∷ rest) → Fits k.marks.slots f
-  coming_fits k marked f rest g = subst (λ s. Fits s f) (sym g.of_slots) (least_fits t x kept table f (g.comes f (first_is f rest)).1)
-
-  -- what a new fact makes flow from a point that is not marked flowed before
-  before_fresh : (k : Rows) (f : Fact) (new_k : Rows) (new : List ℕ) → Adds f k new_k → IsFresh a f k new_k new → (p : ℕ) → (Contains new p → ⊥) → (b : Fact) → PointGives x (Knows new_k) p b → PointGives x (Knows k) p b
-  before_fresh k f new_k new adds fresh p n b c = point_alike x (Knows new_k) (Knows k) p b knows reaches c
+  pub goes_then : (s m n : Search) → Goes x t a e s m → Goes x t a e m n → Goes x t a e s n
+  goes_then s m n g h = record {
+    stands = h.stands;
+    more = λ f c. h.more f (g.more f c);
+    still = λ p c. h.still p (g.still p c);
+    fresh = λ f c. ⊎_elim (λ mid. ⊎_elim inl (λ marked. inr (h.still f.point marked)) (g.fresh f mid)) inr (h.fresh f c);
+    kept = λ i q there. h.kept i q (g.kept i q there);
+    firsts = λ i q there.
+        ⊎_elim
+        (λ mid. ⊎_elim inl (λ (new : IsNew x m.marks i q). inr (record { own = h.still q new.own; returns = λ r of. h.still r (new.returns r of) })) (g.firsts i q mid))
+        inr
+        (h.firsts i q there);
+    reached = λ i q p at r there.
+        ⊎_elim
+        (λ mid. ⊎_elim
+        (λ was. ⊎_elim inl (λ marked. inr (h.still p marked)) (g.reached i q p at mid was))
+        (λ (new : IsNew x n.marks i p). inr new.own)
+        (h.firsts i p there))
+        inr
+        (h.reached i q p at r there);
+    counted = fewer_then (length s.marks + missing s.rows * most_marks a) (length m.marks + missing m.rows * most_marks a) (length n.marks + missing n.rows * most_marks a) g.counted h.counted;
+  }
     where
-      knows : (s : Slot) (v : Value) → Knows new_k (fact b.entry p s v) → Knows k (fact b.entry p s v)
-      knows s v d = ⊎_elim (λ is. absurd (n (subst (Contains new) (sym (ap (λ (z : Fact). z.point) is)) fresh.own))) (λ o. o) ((adds.knows (fact b.entry p s v)).0 d)
+      fewer_then : (b c d : ℕ) → c ≤ b → d ≤ c → d ≤ b
+      fewer_then b c d first last = omega (arith, first, last)
 
-      reached : (q : ℕ) (v : Value) → AnswersTo x p q → fact b.entry q Depth v ≡ f → Reached (Knows k) b.entry q
-      reached q v to is =
-          let point : q ≡ f.point = ap (λ (z : Fact). z.point) is in
-          let entry : b.entry ≡ f.entry = ap (λ (z : Fact). z.entry) is in
-          let slot : Depth ≡ f.slot = ap (λ (z : Fact). z.slot) is in
+  room : (new old fewer many most : ℕ) → new ≤ old + most → fewer < many → new + fewer * most ≤ old + many * most
+  room new old fewer many most few less =
+      let up : suc fewer ≤ many = omega (arith, less) in
+      sum (fewer * most) (many * most) (suc fewer * most) (suc-mul fewer most) (mul-le-mul_right most up)
+    where
+      sum : (b c d : ℕ) → d ≡ b + most → d ≤ c → new + b ≤ old + c
+      sum b c d is le = omega (arith, few, is, le)
+
+  module _ (kept : IsExchange x) (are : AreAnswers x a) (s : Search) (k : Rows) (q : ℕ) (stands : Stands x t e s) (m : List ℕ) (firsts : List (Option ℕ)) where
+    abbrev made : Search
+    made = record { rows = k; marks = m; firsts = firsts }
+
+    grown_goes : (reached : Bool) → Fills x q s.rows true k → (IsTrue reached ↔ Reached (Knows s.rows) e q) → Settles a k e true reached q s.marks s.firsts m firsts → Goes x t a e s made
+    grown_goes reached fills test settles = record {
+      stands = record {
+        of_entry = fills.entry ∙ stands.of_entry;
+        of_slots = fills.slots ∙ stands.of_slots;
+        least = λ f c. ⊎_elim (stands.least f) (λ w. w.1) (fills.each f c);
+        long = settles.long ∙ stands.long;
+        retrieve = λ n p is. ⊎_elim (stands.retrieve n p) (λ o. subst (λ z. IsRetrieveAt x z n) (sym o.2.this) (retrieve_there n o.0 o.1)) (settles.firsts n p is);
+        reached = λ n p is. ⊎_elim (λ was. still_reached p (stands.reached n p was)) (λ o. subst (Reached (Knows k) e) (sym o.2.this) o.0) (settles.firsts n p is);
+        found = found;
+      };
+      more = fills.more;
+      still = settles.still;
+      fresh = λ f c. ⊎_elim inl (λ w. inr (subst (Contains m) (sym w.0) own)) (fills.each f c);
+      kept = settles.kept;
+      firsts = λ n p is. ⊎_elim inl (λ o. inr (record {
+        own = subst (Contains m) (sym o.2.this) own;
+        returns = λ r of. o.2.returns r (returns_of x a are n r (answer_low x a are q n kept (retrieve_there n o.0 o.1)) of);
+      })) (settles.firsts n p is);
+      reached = λ n p first w r is. ⊎_elim (λ was. inl (r.0, was)) (λ o. newly n p first w r is o.0) (fills.each (fact e p Depth r.0) r.1);
+      counted = room (length m) (length s.marks) (missing k) (missing s.rows) (most_marks a) settles.few fills.counted;
+    }
+      where
+        own : Contains m q
+        own = settles.own refl
+
+        retrieve_there : (n : ℕ) → Reached (Knows k) e q → awaited_at a q ≡ Some n → IsRetrieveAt x q n
+        retrieve_there n r is =
+            let least : IsLeast x (fact e q Depth r.0) = ⊎_elim (stands.least (fact e q Depth r.0)) (λ w. w.1) (fills.each (fact e q Depth r.0) r.1) in
+            let slot = least_slot x (fact e q Depth r.0) least in
+            retrieve_of x a are q n slot.place slot.stands is
+
+        still_reached : (p : ℕ) → Reached (Knows s.rows) e p → Reached (Knows k) e p
+        still_reached p r = (r.0, fills.more (fact e p Depth r.0) r.1)
+
+        -- a RETRIEVE that is reached only now
+        first_now : (n : ℕ) → IsRetrieveAt x q n → Reached (Knows k) e q → reached ≡ false → HasFirst q m firsts n
+        first_now n w r before = settles.found refl before r n (awaited_of x a are q n w) (let low = answer_low x a are q n kept w in let long = stands.long in omega (arith, low, long))
+
+        at_q : (n : ℕ) → IsRetrieveAt x q n → Reached (Knows k) e q → (b : Bool) → reached ≡ b → (first : ℕ) × (slice_get firsts n ≡ Some (Some first))
+        at_q n w r true is = (let f = stands.found n q w (test.0 is) in (f.0, settles.kept n f.0 f.1))
+        at_q n w r false is = (let f = first_now n w r is in (f.first, f.is))
+
+        found : (n p : ℕ) → IsRetrieveAt x p n → Reached (Knows k) e p → (first : ℕ) × (slice_get firsts n ≡ Some (Some first))
+        found n p w r =
+            ⊎_elim
+            (λ was. (let f = stands.found n p w (r.0, was) in (f.0, settles.kept n f.0 f.1)))
+            (λ o. at_q n (subst (λ z. IsRetrieveAt x z n) o.0 w) (subst (Reached (Knows k) e) o.0 r) reached refl)
+            (fills.each (fact e p Depth r.0) r.1)
+
+        newly_by : (n first : ℕ) → IsRetrieveAt x q n → Reached (Knows k) e q → slice_get firsts n ≡ Some (Some first) → (b : Bool) → reached ≡ b → Reached (Knows s.rows) e q ⊎ Contains m first
+        newly_by n first w r is true before = inl (test.0 before)
+        newly_by n first w r is false before =
+            let f = first_now n w r before in
+            let same : f.first ≡ first = same_Some f.first first (same_Some (Some f.first) (Some first) (sym f.is ∙ is)) in
+            inr (subst (Contains m) same (⊎_elim (λ e. subst (Contains m) (sym e) own) (λ c. c) f.handing))
+
+        newly : (n p first : ℕ) → IsRetrieveAt x p n → Reached (Knows k) e p → slice_get firsts n ≡ Some (Some first) → p ≡ q → Reached (Knows s.rows) e p ⊎ Contains m first
+        newly n p first w r is same =
+            ⊎_elim (λ was. inl (subst (Reached (Knows s.rows) e) (sym same) was)) inr
+            (newly_by n first (subst (λ z. IsRetrieveAt x z n) same w) (subst (Reached (Knows k) e) same r) is reached refl)
+
+    -- a point got some facts, and was settled
+    pub settled_goes : (grown reached : Bool) → Fills x q s.rows grown k → (IsTrue reached ↔ Reached (Knows s.rows) e q) → Settles a k e grown reached q s.marks s.firsts m firsts → Goes x t a e s made
+    settled_goes true reached fills test settles = grown_goes reached fills test settles
+    settled_goes false reached fills test settles =
+        let same = settles.same refl in
+        let rows : s.rows ≡ k = sym fills.counted in
+        let marks : s.marks ≡ m = sym same.0 in
+        let points : s.firsts ≡ firsts = sym same.1 in
+        subst (Goes x t a e s) (λ i. record { rows = rows i; marks = marks i; firsts = points i }) (goes_same s stands)
+
+-- ---- several steps
+
+-- what the items in front of a place give is known
+pub record WentAll {A : Type 0} (x : Exchange) (t : FlowTable) (a : AnswerTable) (e : ℕ) (G : A → Fact → Type 0) (xs : List A) (i : ℕ) (s new : Search) : Type 0 where
+  pub goes : Goes x t a e s new
+  pub all : (b : A) → Contains (take i xs) b → (f : Fact) → G b f → Knows new.rows f
+
+pub went_begin : {A : Type 0} (x : Exchange) (t : FlowTable) (a : AnswerTable) (e : ℕ) (G : A → Fact → Type 0) (xs : List A) (s : Search) → Stands x t e s → WentAll x t a e G xs 0 s s
+went_begin x t a e G xs s stands = record { goes = goes_same x t a e s stands; all = λ b c f g. absurd (none_yet xs b c) }
+
+pub went_more : {A : Type 0} (x : Exchange) (t : FlowTable) (a : AnswerTable) (e : ℕ) (G : A → Fact → Type 0) (H : Fact → Type 0) (xs : List A) (i : ℕ) (d : A) (s m n : Search) → i < length xs → ((f : Fact) → G (get_or xs i d) f → H f)
+    → Went x t a e H m n → WentAll x t a e G xs i s m → WentAll x t a e G xs (i + 1) s n
+went_more x t a e G H xs i d s m n lt over h g = record {
+  goes = goes_then x t a e s m n g.goes h.goes;
+  all = λ b c f own. ⊎_elim (λ before. h.goes.more f (g.all b before f own)) (λ here. h.all f (over f (subst (λ z. G z f) here own))) (before_or_here xs i d b lt c);
+}
+
+-- an item that is read by reference
+pub went_item : {A : Type 0} (x : Exchange) (t : FlowTable) (a : AnswerTable) (e : ℕ) (G : A → Fact → Type 0) (H : Fact → Type 0) (xs : List A) (i : ℕ) (b : A) (s m n : Search) → i < length xs → b ≡ get_or xs i b → ((f : Fact) → G b f → H f)
+    → Went x t a e H m n → WentAll x t a e G xs i s m → WentAll x t a e G xs (i + 1) s n
+went_item x t a e G H xs i b s m n lt is over h g = went_more x t a e G H xs i b s m n lt (λ f own. over f (subst (λ z. G z f) (sym is) own)) h g
+
+pub went_end : {A : Type 0} (x : Exchange) (t : FlowTable) (a : AnswerTable) (e : ℕ) (G : A → Fact → Type 0) (xs : List A) (i : ℕ) (s new : Search) → length xs ≤ i → WentAll x t a e G xs i s new → Went x t a e (OneGives G xs) s new
+went_end x t a e G xs i s new past g = record { goes = g.goes; all = λ f o. g.all o.one (subst (λ l. Contains l o.one) (sym (take_all i xs past)) o.among) f o.gives }
+
+pub facts_all : (x : Exchange) (t : FlowTable) (a : AnswerTable) (e : ℕ) (facts : List Fact) (i : ℕ) (s new : Search) → length facts ≤ i → WentAll x t a e IsFact facts i s new → Went x t a e (Contains facts) s new
+facts_all x t a e facts i s new past g = record { goes = g.goes; all = λ f c. g.all f (subst (λ l. Contains l f) (sym (take_all i facts past)) c) f refl }
+
+-- the same facts, said otherwise
+pub went_as : (x : Exchange) (t : FlowTable) (a : AnswerTable) (e : ℕ) (G H : Fact → Type 0) (s new : Search) → ((f : Fact) → H f → G f) → Went x t a e G s new → Went x t a e H s new
+went_as x t a e G H s new over g = record { goes = g.goes; all = λ f h. g.all f (over f h) }
+
+pub went_none : (x : Exchange) (t : FlowTable) (a : AnswerTable) (e : ℕ) (G : Fact → Type 0) (s : Search) → Stands x t e s → ((f : Fact) → G f → ⊥) → Went x t a e G s s
+went_none x t a e G s stands none = record { goes = goes_same x t a e s stands; all = λ f g. absurd (none f g) }
+
+-- ---- what goes on from a point that is not marked
+
+module _ (x : Exchange) (t : FlowTable) (a : AnswerTable) (e : ℕ) (are : AreAnswers x a) (s new : Search) (old : Stands x t e s) (g : Goes x t a e s new) (p : ℕ) (unmarked : Contains new.marks p → ⊥) where
+  -- all that is known there was known before
+  was_known : (u : Slot) (v : Value) → Knows new.rows (fact e p u v) → Knows s.rows (fact e p u v)
+  was_known u v c = ⊎_elim (λ was. was) (λ marked. absurd (unmarked marked)) (g.fresh (fact e p u v) c)
+
+  was_handed : (f : Fact) → HandedFrom x new.firsts (Knows new.rows) e p f → HandedFrom x s.firsts (Knows s.rows) e p f
+  was_handed f h = record {
+    answer = h.answer;
+    first = ⊎_elim (λ was. was) (λ (w : IsNew x new.marks h.answer p). absurd (unmarked w.own)) (g.firsts h.answer p h.first);
+    retrieve = h.retrieve;
+    entry = h.entry;
+    reached = ⊎_elim (λ was. was) (λ marked. absurd (unmarked marked)) (g.reached h.answer f.point p h.retrieve h.reached h.first);
+    k = h.k;
+    slot = h.slot;
+    has = h.has;
+    known = was_known f.slot f.value h.known;
+  }
+
+  -- the first RETRIEVE to which an answer goes was the first before, and was reached
+  was_first : (at : Place) → StandsAt x p at → (q : ℕ) (values : List Source) → LeadsTo x at q (Answers values) → IsFirst new.firsts q → IsFirst s.firsts q
+  was_first at stands q values leads f =
+      ⊎_elim
+      (λ was. record { answer = f.answer; is = was })
+      (λ (w : IsNew x new.marks f.answer q).
+      let from = answered x at.block at.point at.next at.layer q values leads in
+      let same : from.answer ≡ f.answer = one_answer x a are q from.answer f.answer from.awaits (g.stands.retrieve f.answer q f.is) in
+      absurd (unmarked (w.returns p (record { place = at; stands = stands; returns = from.returns ∙ ap Some same }))))
+      (g.firsts f.answer q f.is)
+
+  was_sent : (f : Fact) → SentFrom x new.firsts (Knows new.rows) e p f → SentFrom x s.firsts (Knows s.rows) e p f
+  was_sent f h = by h.given.gives.how refl
+    where
+      w : PointGives x (Knows new.rows) p f
+      w = h.given.gives
+
+      known_there : (u : Slot) (v : Value) → Knows new.rows (fact f.entry w.at.point u v) → Knows s.rows (fact f.entry w.at.point u v)
+      known_there u v c = subst (λ n. Knows s.rows (fact n w.at.point u v)) (sym h.given.entry) (subst (λ n. Knows s.rows (fact e n u v)) (sym w.stands.here) (was_known u v (subst (λ n. Knows new.rows (fact e n u v)) w.stands.here (subst (λ n. Knows new.rows (fact n w.at.point u v)) h.given.entry c))))
+
+      sent : (is_answer w.how ≡ true → Reached (Knows new.rows) f.entry f.point → Reached (Knows s.rows) f.entry f.point) → (is_answer w.how ≡ true → IsFirst s.firsts f.point) → SentFrom x s.firsts (Knows s.rows) e p f
+      sent reached first = record {
+        given = record {
+          entry = h.given.entry;
+          gives = record {
+            at = w.at;
+            stands = w.stands;
+            how = w.how;
+            flow = record {
+              leads = w.flow.leads;
+              reached = (w.flow.reached.0, known_there Depth w.flow.reached.0 w.flow.reached.1);
+              guarded = guard_by (Knows new.rows) (Knows s.rows) f.entry w.at.point f.point (λ c. known_there Depth (Const c)) w.how reached w.flow.guarded;
+              slot = w.flow.slot;
+              gives = source_alike (Knows new.rows) (Knows s.rows) f.entry w.at.point known_there (source_of w.how f.slot) f.value w.flow.gives;
+            };
+          };
+        };
+        first = first;
+      }
+
+      answer_first : (values : List Source) → w.how ≡ Answers values → IsFirst s.firsts f.point
+      answer_first values is = was_first w.at w.stands f.point values (subst (LeadsTo x w.at f.point) is w.flow.leads) (h.first (ap is_answer is))
+
+      no_answer : {B : Type 0} (how : Passing) → w.how ≡ how → is_answer how ≡ false → is_answer w.how ≡ true → B
+      no_answer how is none some = absurd (true≢false (sym some ∙ ap is_answer is ∙ none))
+
+      by : (how : Passing) → w.how ≡ how → SentFrom x s.firsts (Knows s.rows) e p f
+      by (Answers values) is =
+          let first = answer_first values is in
+          sent (λ o r. subst (λ n. Reached (Knows s.rows) n f.point) (sym h.given.entry) (old.reached first.answer f.point first.is)) (λ o. first)
+      by Kept is = sent (no_answer Kept is refl) (no_answer Kept is refl)
+      by (Sets temp u) is = sent (no_answer (Sets temp u) is refl) (no_answer (Sets temp u) is refl)
+      by (Takes temps) is = sent (no_answer (Takes temps) is refl) (no_answer (Takes temps) is refl)
+      by (Retrieves temps) is = sent (no_answer (Retrieves temps) is refl) (no_answer (Retrieves temps) is refl)
+      by (Begins values) is = sent (no_answer (Begins values) is refl) (no_answer (Begins values) is refl)
+      by (Passes count) is = sent (no_answer (Passes count) is refl) (no_answer (Passes count) is refl)
+      by (Calls values answer) is = sent (no_answer (Calls values answer) is refl) (no_answer (Calls values answer) is refl)
+
+  pub was_going : (f : Fact) → GoesOn x new.firsts (Knows new.rows) e p f → GoesOn x s.firsts (Knows s.rows) e p f
+  was_going f (inl h) = inl (was_sent f h)
+  was_going f (inr h) = inr (was_handed f h)
+
+-- ---- a point is looked at
+
+module _ (x : Exchange) (t : FlowTable) (a : AnswerTable) (e : ℕ) where
+  pub restand : (s : Search) (marks : List ℕ) → Stands x t e s → Stands x t e (without s marks)
+  restand s marks h = record { of_entry = h.of_entry; of_slots = h.of_slots; least = h.least; long = h.long; retrieve = h.retrieve; reached = h.reached; found = h.found }
+
+  start_was : (k new : Rows) (f : Fact) → GivenAtStart x (Knows new) e f → GivenAtStart x (Knows k) e f
+  start_was k new f g = record { entry = g.entry; gives = start_any x (Knows new) (Knows k) f g.gives }
+
+  pub visited : (are : AreAnswers x a) (s mid new : Search) (p : ℕ) (G : Fact → Type 0) → Searches x t e (without s (p ∷ s.marks)) → ((f : Fact) → SentFrom x s.firsts (Knows s.rows) e p f → G f)
+      → Went x t a e G s mid → Went x t a e (HandedFrom x mid.firsts (Knows mid.rows) e p) mid new → IsVisited x t a e s new
+  visited are s mid new p G searches sends sent handed = record {
+    searches = record {
+      stands = handed.goes.stands;
+      start = λ f g. whole.more f (searches.start f (start_was s.rows new.rows f g));
+      points = λ q. ⊎_elim inl (λ unmarked. inr (settled q unmarked)) (marked_or new.marks q);
+    };
+    counted = whole.counted;
+  }
+    where
+      stands : Stands x t e s
+      stands = restand (without s (p ∷ s.marks)) s.marks searches.stands
+
+      whole : Goes x t a e s new
+      whole = goes_then x t a e s mid new sent.goes handed.goes
+
+      own : (Contains new.marks p → ⊥) → (f : Fact) → GoesOn x new.firsts (Knows new.rows) e p f → Knows new.rows f
+      own unmarked f (inl h) = handed.goes.more f (sent.all f (sends f (was_sent x t a e are s new stands whole p unmarked f h)))
+      own unmarked f (inr h) = handed.all f (was_handed x t a e are mid new sent.goes.stands handed.goes p unmarked f h)
+
+      settled : (q : ℕ) → (Contains new.marks q → ⊥) → (f : Fact) → GoesOn x new.firsts (Knows new.rows) e q f → Knows new.rows f
+      settled q unmarked f h =
           ⊎_elim
-          (λ r. subst (λ m. Reached (Knows k) m q) (sym entry) (subst (λ m. Reached (Knows k) f.entry m) (sym point) r))
-          (λ all. absurd (n (all p (subst (λ m. ReturnsTo a m p) point (answers_return x a p q kept are to)))))
-          (fresh.answers (sym slot))
+          (λ c. ⊎_elim
+          (λ same. own (subst (λ n. Contains new.marks n → ⊥) (sym same) unmarked) f (subst (λ n. GoesOn x new.firsts (Knows new.rows) e n f) (sym same) h))
+          (λ later. absurd (unmarked (whole.still q later)))
+          (first_or_later p q s.marks c))
+          (λ was. whole.more f (was f (was_going x t a e are s new stands whole q unmarked f h)))
+          (searches.points q)
 
-      reaches : (q : ℕ) → AnswersTo x p q → Reached (Knows new_k) b.entry q → Reached (Knows k) b.entry q
-      reaches q to r = ⊎_elim (reached q r.0 to) (λ o. (r.0, o)) ((adds.knows (fact b.entry q Depth r.0)).0 r.1)
-
-  before : (k : Rows) (f : Fact) (new_k : Rows) (old new : List ℕ) → Adds f k new_k → IsSame k new_k old new ⊎ IsFresh a f k new_k new → (p : ℕ) → (Contains new p → ⊥) → (b : Fact) → PointGives x (Knows new_k) p b → PointGives x (Knows k) p b
-  before k f new_k old new adds (inl same) p n b c = subst (λ z. PointGives x (Knows z) p b) same.rows c
-  before k f new_k old new adds (inr fresh) p n b c = before_fresh k f new_k new adds fresh p n b c
-
-  added_more : (k : Rows) (f : Fact) (rest : List Fact) (new_k : Rows) (old new : List ℕ) → Grows x t e k old (f ∷ rest) → IsAdded a f k new_k old new → Grows x t e new_k new rest
-  added_more k f rest new_k old new g h = record {
-    of_entry = h.adds.entry ∙ g.of_entry;
-    of_slots = h.adds.slots ∙ g.of_slots;
-    least = λ b c. ⊎_elim (λ is. subst (IsLeast x) (sym is) (g.comes f (first_is f rest)).1) (g.least b) ((h.adds.knows b).0 c);
-    comes = λ b c. g.comes b (later_is f b rest c);
-    start = λ b s. known_or b (g.start b (record { entry = s.entry; gives = start_any x (Knows new_k) (Knows k) b s.gives }));
-    points = λ p. ⊎_elim (λ c. inl (h.still p c)) (λ s. ⊎_elim inl (λ n. inr (settled p s n)) (marked_or new p)) (g.points p);
-    below = λ p c. ⊎_elim (g.below p) (λ o. ⊎_elim (λ is. subst (λ n. n < length x.points) (sym is) (least_below t x kept table f (g.comes f (first_is f rest)).1)) (return_below x a f.point p are) o) (h.each p c);
+  pub visited_none : (s : Search) (p : ℕ) → Searches x t e (without s (p ∷ s.marks)) → ((f : Fact) → GoesOn x s.firsts (Knows s.rows) e p f → ⊥) → IsVisited x t a e s s
+  visited_none s p searches none = record {
+    searches = record {
+      stands = restand (without s (p ∷ s.marks)) s.marks searches.stands;
+      start = searches.start;
+      points = λ q. ⊎_elim (λ c. ⊎_elim (λ same. inr (λ f h. absurd (none f (subst (λ n. GoesOn x s.firsts (Knows s.rows) e n f) (sym same) h)))) inl (first_or_later p q s.marks c)) inr (searches.points q);
+    };
+    counted = omega arith;
   }
+
+  reached_by : (s : Search) (p : ℕ) → Stands x t e s → (f : Fact) → GoesOn x s.firsts (Knows s.rows) e p f → Reached (Knows s.rows) e p
+  reached_by s p stands f (inl h) = subst (λ n. Reached (Knows s.rows) n p) h.given.entry (subst (Reached (Knows s.rows) f.entry) h.given.gives.stands.here h.given.gives.flow.reached)
+  reached_by s p stands f (inr h) = stands.reached h.answer p h.first
+
+  pub unreached_visit : (s : Search) (p : ℕ) (b : Bool) → Searches x t e (without s (p ∷ s.marks)) → (IsTrue b ↔ Reached (Knows s.rows) e p) → b ≡ false → IsVisited x t a e s s
+  unreached_visit s p b searches test off = visited_none s p searches (λ f h. true≢false (sym (test.1 (reached_by s p (restand (without s (p ∷ s.marks)) s.marks searches.stands) f h)) ∙ off))
+
+  stands_by : (s : Search) (p : ℕ) → Stands x t e s → (f : Fact) → GoesOn x s.firsts (Knows s.rows) e p f → (at : Place) × StandsAt x p at
+  stands_by s p stands f (inl h) = (h.given.gives.at, h.given.gives.stands)
+  stands_by s p stands f (inr h) = (let w = stands.retrieve h.answer p h.first in (w.place, w.stands))
+
+  pub rowless_visit : (s : Search) (p : ℕ) → IsTable x t → Searches x t e (without s (p ∷ s.marks)) → length t.rows ≤ p → IsVisited x t a e s s
+  rowless_visit s p table searches past = visited_none s p searches (λ f h.
+      let at = stands_by s p (restand (without s (p ∷ s.marks)) s.marks searches.stands) f h in
+      let row = table.rows.each p at.0 at.1 in
+      none-some row.row (sym (slice_get_past t.rows p past) ∙ row.there))
+
+  pub visit_less : (s new : Search) (p : ℕ) (all : List ℕ) → all ≡ p ∷ s.marks → IsVisited x t a e s new → length new.marks + missing new.rows * most_marks a < length all + missing s.rows * most_marks a
+  visit_less s new p all is h = less (length new.marks) (length s.marks) (length all) (missing new.rows * most_marks a) (missing s.rows * most_marks a) h.counted (ap length is)
     where
-      known_or : (b : Fact) → Knows k b ⊎ Contains (f ∷ rest) b → Knows new_k b ⊎ Contains rest b
-      known_or b (inl c) = inl ((h.adds.knows b).1 (inr c))
-      known_or b (inr c) = ⊎_elim (λ is. inl ((h.adds.knows b).1 (inl (sym is)))) inr (first_or_later f b rest c)
+      less : (b c d v w : ℕ) → b + v ≤ c + w → d ≡ suc c → b + v < d + w
+      less b c d v w le is = omega (arith, le, is)
 
-      settled : (p : ℕ) → Settled x e k (f ∷ rest) p → (Contains new p → ⊥) → Settled x e new_k rest p
-      settled p s n b c = known_or b (s b (record { entry = c.entry; gives = before k f new_k old new h.adds h.change p n b c.gives }))
+  -- ---- the beginning
 
-  opens : (xs : List Fact) (i : ℕ) (d : Fact) → i < length xs → drop i xs ≡ get_or xs i d ∷ drop (i + 1) xs
-  opens xs i d lt = drop-cons xs i d lt ∙ ap (λ n. get_or xs i d ∷ drop n xs) (sym (add-one i))
+  abbrev no_first : Option ℕ
+  no_first = None
 
-  pub item_entry : (facts : List Fact) (k : Rows) (old : List ℕ) (i : ℕ) (d : Fact) (new_k : Rows) (new : List ℕ) → i < length facts → AddsGo x t e facts k old i new_k new → (get_or facts i d).entry ≡ new_k.entry
-  item_entry facts k old i d new_k new lt g = coming_entry new_k new (get_or facts i d) (drop (i + 1) facts) (subst (Grows x t e new_k new) (opens facts i d lt) g.grows)
+  none_first : (n i q : ℕ) → slice_get (replicate n no_first) i ≡ Some (Some q) → ⊥
+  none_first zero i q there = none-some (Some q) there
+  none_first (suc n) zero q there = none-some q (same_Some None (Some q) there)
+  none_first (suc n) (suc i) q there = none_first n i q there
 
-  pub item_fits : (facts : List Fact) (k : Rows) (old : List ℕ) (i : ℕ) (d : Fact) (new_k : Rows) (new : List ℕ) → i < length facts → AddsGo x t e facts k old i new_k new → Fits new_k.marks.slots (get_or facts i d)
-  item_fits facts k old i d new_k new lt g = coming_fits new_k new (get_or facts i d) (drop (i + 1) facts) (subst (Grows x t e new_k new) (opens facts i d lt) g.grows)
+  module _ (k : Rows) (slots : List Counts) (knows : KnowNothing e slots k) where
+    pub begun_stands : (m : List ℕ) (firsts : List (Option ℕ)) (n : ℕ) → slots ≡ slots_of t → firsts ≡ replicate n None → n ≡ length x.signals → Stands x t e (record { rows = k; marks = m; firsts = firsts })
+    begun_stands m firsts n own none many = record {
+      of_entry = knows.of_entry;
+      of_slots = knows.of_slots ∙ own;
+      least = λ f c. absurd (knows.nothing f c);
+      long = ap length none ∙ length-replicate n no_first ∙ many;
+      retrieve = λ i q there. absurd (none_first n i q (sym (ap (λ l. slice_get l i) none) ∙ there));
+      reached = λ i q there. absurd (none_first n i q (sym (ap (λ l. slice_get l i) none) ∙ there));
+      found = λ i q w r. absurd (knows.nothing (fact e q Depth r.0) r.1);
+    }
 
-  changed : (k mid_k new_k : Rows) (f : Fact) (old mid new : List ℕ) → IsSame k mid_k old mid ⊎ (missing mid_k < missing k) → IsSame mid_k new_k mid new ⊎ IsFresh a f mid_k new_k new → IsSame k new_k old new ⊎ (missing new_k < missing k)
-  changed k mid_k new_k f old mid new (inl s) (inl u) = inl (record { rows = u.rows ∙ s.rows; marks = u.marks ∙ s.marks })
-  changed k mid_k new_k f old mid new (inl s) (inr u) = inr (subst (λ z. missing new_k < missing z) s.rows u.fewer)
-  changed k mid_k new_k f old mid new (inr s) (inl u) = inr (subst (λ z. missing z < missing k) (sym u.rows) s)
-  changed k mid_k new_k f old mid new (inr s) (inr u) = inr (let less = u.fewer in omega (arith, s, less))
+    module _ (empty facts listed : List Fact) (none : empty ≡ []) (given : HasGiven empty facts (GivenAtStart x (Knows k) e)) (same : listed ≡ facts) where
+      all_added : listed ≡ given.added
+      all_added = same ∙ given.is ∙ ap (λ l. l ++ given.added) none
 
-  pub adds_more : (facts : List Fact) (k : Rows) (old : List ℕ) (i : ℕ) (d : Fact) (mid_k new_k : Rows) (mid new : List ℕ) → i < length facts → IsAdded a (get_or facts i d) mid_k new_k mid new → AddsGo x t e facts k old i mid_k mid → AddsGo x t e facts k old (i + 1) new_k new
-  adds_more facts k old i d mid_k new_k mid new lt h g = record {
-    grows = added_more mid_k (get_or facts i d) (drop (i + 1) facts) new_k mid new (subst (Grows x t e mid_k mid) (opens facts i d lt) g.grows) h;
-    change = changed k mid_k new_k (get_or facts i d) old mid new g.change h.change;
-  }
+      pub begun_least : (f : Fact) → Contains listed f → IsOwnLeast x e f
+      begun_least f c = (let g = given.each f (subst (λ l. Contains l f) all_added c) in record { entry = g.entry; least = least_closed x f (inl (start_any x (Knows k) (IsLeast x) f g.gives)) })
 
--- the end
+      pub begun_searches : (are : AreAnswers x a) (m : List ℕ) (firsts : List (Option ℕ)) (new : Search) → Stands x t e (record { rows = k; marks = m; firsts = firsts }) → m ≡ []
+          → Went x t a e (Contains listed) (record { rows = k; marks = m; firsts = firsts }) new → Searches x t e new
+      begun_searches are m firsts new stands unmarked went = record {
+        stands = went.goes.stands;
+        start = λ f g. went.all f (subst (λ l. Contains l f) (sym all_added) (given.listed f (start_was k new.rows f g)));
+        points = λ q. ⊎_elim inl (λ none_marked. inr (λ f h. absurd (nothing f q (was_going x t a e are (record { rows = k; marks = m; firsts = firsts }) new stands went.goes q none_marked f h)))) (marked_or new.marks q);
+      }
+        where
+          nothing : (f : Fact) (q : ℕ) → GoesOn x firsts (Knows k) e q f → ⊥
+          nothing f q (inl h) = knows.nothing _ h.given.gives.flow.reached.1
+          nothing f q (inr h) = knows.nothing _ h.known
 
-own_closed : (x : Exchange) (t : FlowTable) (e : ℕ) (k : Rows) → Grows x t e k [] [] → IsClosed x (λ f. f.entry ≡ e → Knows k f)
-own_closed x t e k g f (inl s) is = ⊎_elim (λ h. h) (λ c. absurd (none_in f c)) (g.start f (record { entry = is; gives = start_any x (λ f. f.entry ≡ e → Knows k f) (Knows k) f s }))
-own_closed x t e k g f (inr (p, s)) is =
-    let own : PointGives x (Knows k) p f = point_alike x (λ h. h.entry ≡ e → Knows k h) (Knows k) p f (λ s v h. h is) (λ q to r. (r.0, r.1 is)) s in
-    ⊎_elim (λ c. absurd (none_in p c)) (λ u. ⊎_elim (λ h. h) (λ c. absurd (none_in f c)) (u f (record { entry = is; gives = own }))) (g.points p)
+  -- ---- the end
 
-known_entry : (k : Rows) (f : Fact) → Knows k f → f.entry ≡ k.entry
-known_entry k f h = h.entry
+  module _ (are : AreAnswers x a) (s : Search) (searches : Searches x t e s) (unmarked : s.marks ≡ []) where
+    abbrev k : Rows
+    k = s.rows
 
-pub found_all : (x : Exchange) (t : FlowTable) (e : ℕ) (k : Rows) (marked : List ℕ) → marked ≡ [] → Grows x t e k marked [] → AreFound x t e k
-found_all x t e k marked none grows = (let g = subst (λ m. Grows x t e k m []) none grows in record {
-  of_slots = g.of_slots;
-  exact = λ f. (λ h. (known_entry k f h ∙ g.of_entry, g.least f h), λ h. least_in x (λ b. b.entry ≡ e → Knows k b) (own_closed x t e k g) f h.1 h.0);
-})
+    goes_on : (p : ℕ) (f : Fact) → GoesOn x s.firsts (Knows k) e p f → Knows k f
+    goes_on p f h = ⊎_elim (λ c. absurd (none_in p (subst (λ l. Contains l p) unmarked c))) (λ all. all f h) (searches.points p)
 
--- fewer facts are missing, or fewer points are marked
+    slot_moves : (q r n j : ℕ) → IsRetrieveAt x q n → IsRetrieveAt x r n → HasSlot x q (Answered j) → HasSlot x r (Answered j)
+    slot_moves q r n j w u has =
+        let same : retrieved has.place.layer ≡ Some n = same_Some (retrieved has.place.layer) (Some n) (sym (are.awaits q has.place has.stands) ∙ are.awaits q w.place w.stands ∙ ap Some w.retrieves) in
+        record { place = u.place; stands = u.stands; slot = subst (λ o. j < answer_count x o) (same ∙ sym u.retrieves) has.slot }
 
-all_below : (n : ℕ) (ms : List ℕ) → ((p : ℕ) → Contains ms p → p < n) → All (λ p. p < n) ms
-all_below n ms h = λ i d lt. h (get_or ms i d) (i, lt, same ms i d lt)
-  where
-    same : (xs : List ℕ) (j c : ℕ) → j < length xs → get_or xs j (get_or xs j c) ≡ get_or xs j c
-    same [] j c low = absurd (omega arith)
-    same (y ∷ ys) zero c low = refl
-    same (y ∷ ys) (suc j) c low = same ys j c (omega arith)
+    handed : (p q n first j : ℕ) (v : Value) (at : Place) → StandsAt x p at → (values : List Source) → ((r : ℕ) → IsRetrieveAt x r n → LeadsTo x at r (Answers values)) → IsRetrieveAt x q n → slice_get s.firsts n ≡ Some (Some first)
+        → Reached (Knows k) e at.point → Reached (Knows k) e q → HasSlot x q (Answered j) → SourceGives (Knows k) e at.point (source_of (Answers values) (Answered j)) v → Knows k (fact e q (Answered j) v)
+    handed p q n first j v at stands values leads w is here reached has gives =
+        let u = searches.stands.retrieve n first is in
+        goes_on first (fact e q (Answered j) v) (inr (record {
+          answer = n;
+          first = is;
+          retrieve = w;
+          entry = refl;
+          reached = reached;
+          k = j;
+          slot = refl;
+          has = has;
+          known = goes_on p (fact e first (Answered j) v) (inl (record {
+            given = record {
+              entry = refl;
+              gives = record {
+                at = at;
+                stands = stands;
+                how = Answers values;
+                flow = record { leads = leads first u; reached = here; guarded = searches.stands.reached n first is; slot = slot_moves q first n j w u has; gives = gives };
+              };
+            };
+            first = λ o. record { answer = n; is = is };
+          }));
+        }))
 
-one_more : (n m : ℕ) → n + m < n + suc m
-one_more n m = omega arith
+    answer_known : (p q : ℕ) (u : Slot) (v : Value) (at : Place) → StandsAt x p at → (values : List Source) → LeadsTo x at q (Answers values) → Reached (Knows k) e at.point → Reached (Knows k) e q → HasSlot x q u
+        → SourceGives (Knows k) e at.point (source_of (Answers values) u) v → Knows k (fact e q u v)
+    answer_known p q (Answered j) v at stands values leads here reached has gives =
+        let from = answered x at.block at.point at.next at.layer q values leads in
+        let first = searches.stands.found from.answer q from.awaits reached in
+        handed p q from.answer first.0 j v at stands values from.others from.awaits first.1 here reached has gives
+    answer_known p q (Temp t) v at stands values leads here reached has gives = absurd gives
+    answer_known p q (Given i) v at stands values leads here reached has gives = absurd gives
+    answer_known p q Depth v at stands values leads here reached has gives = absurd gives
+    answer_known p q Awaits v at stands values leads here reached has gives = absurd gives
 
-less_sum : (a b c m n : ℕ) → c ≡ a + (n + 1) → c ≤ b → m ≤ n → a + m < b + 0
-less_sum a b c m n is most few = omega (arith, is, most, few)
+    plain : (p : ℕ) (f : Fact) → f.entry ≡ e → (g : PointGives x (Knows k) p f) → is_answer g.how ≡ false → Knows k f
+    plain p f is g none = goes_on p f (inl (record { given = record { entry = is; gives = g }; first = λ some. absurd (true≢false (sym some ∙ none)) }))
 
-less_more : (a b m : ℕ) → a < b + 0 → a < b + m
-less_more a b m lt = omega (arith, lt)
+    flow_known : (p : ℕ) (f : Fact) → f.entry ≡ e → (g : PointGives x (Knows k) p f) → (how : Passing) → g.how ≡ how → Knows k f
+    flow_known p f is g (Answers values) own =
+        let flow = g.flow in
+        let path : f ≡ fact e f.point f.slot f.value = (λ i. record { entry = is i; point = f.point; slot = f.slot; value = f.value }) in
+        subst (Knows k) (sym path)
+        (answer_known p f.point f.slot f.value g.at g.stands values (subst (LeadsTo x g.at f.point) own flow.leads) (subst (λ n. Reached (Knows k) n g.at.point) is flow.reached)
+        (subst (λ (h : Passing). Guarded (Knows k) e g.at.point f.point h) own (subst (λ n. Guarded (Knows k) n g.at.point f.point g.how) is flow.guarded))
+        flow.slot
+        (subst (λ (h : Passing). SourceGives (Knows k) e g.at.point (source_of h f.slot) f.value) own (subst (λ n. SourceGives (Knows k) n g.at.point (source_of g.how f.slot) f.value) is flow.gives)))
+    flow_known p f is g Kept own = plain p f is g (ap is_answer own)
+    flow_known p f is g (Sets temp u) own = plain p f is g (ap is_answer own)
+    flow_known p f is g (Takes temps) own = plain p f is g (ap is_answer own)
+    flow_known p f is g (Retrieves temps) own = plain p f is g (ap is_answer own)
+    flow_known p f is g (Begins values) own = plain p f is g (ap is_answer own)
+    flow_known p f is g (Passes count) own = plain p f is g (ap is_answer own)
+    flow_known p f is g (Calls values answer) own = plain p f is g (ap is_answer own)
 
-pub visit_less : (x : Exchange) (t : FlowTable) (e : ℕ) (k new_k : Rows) (p : ℕ) (all old m r : List ℕ) → all ≡ p ∷ old → Went x t e k old new_k (m ++ r) → IsStrictlySortedBy nat_cmp m → IsStrictlySortedBy nat_cmp r
-    → missing new_k * (length x.points + length x.points + 1) + length (m ++ r) < missing k * (length x.points + length x.points + 1) + length all
-visit_less x t e k new_k p all old m r is went rising returning = subst (λ l. missing new_k * (n + 1) + length new < missing k * (n + 1) + length l) (sym is) (by went.change)
-  where
-    n : ℕ
-    n = length x.points + length x.points
+    own_closed : IsClosed x (λ f. f.entry ≡ e → Knows k f)
+    own_closed f (inl g) is = searches.start f (record { entry = is; gives = start_any x (λ h. h.entry ≡ e → Knows k h) (Knows k) f g })
+    own_closed f (inr (p, g)) is =
+        let own : PointGives x (Knows k) p f = point_alike x (λ h. h.entry ≡ e → Knows k h) (Knows k) p f (λ u v h. h is) (λ q to r. (r.0, r.1 is)) g in
+        flow_known p f is own own.how refl
 
-    new : List ℕ
-    new = m ++ r
+    known_entry : (f : Fact) → Knows k f → f.entry ≡ k.entry
+    known_entry f h = h.entry
 
-    few : length new ≤ n
-    few =
-        let a : length m ≤ length x.points = length-le_from_below (length x.points) m rising (all_below (length x.points) m (λ q c. went.grows.below q (Contains-append_left m r q c))) in
-        let b : length r ≤ length x.points = length-le_from_below (length x.points) r returning (all_below (length x.points) r (λ q c. went.grows.below q (Contains-append_right m r q c))) in
-        let long : length (m ++ r) ≡ length m + length r = length-append m r in
-        omega (arith, a, b, long)
-
-    by : IsSame k new_k old new ⊎ (missing new_k < missing k) → missing new_k * (n + 1) + length new < missing k * (n + 1) + length (p ∷ old)
-    by (inl s) =
-        subst (λ z. missing z * (n + 1) + length new < missing k * (n + 1) + length (p ∷ old)) (sym s.rows)
-        (subst (λ l. missing k * (n + 1) + length l < missing k * (n + 1) + length (p ∷ old)) (sym s.marks) (one_more (missing k * (n + 1)) (length old)))
-    by (inr lt) =
-        let up : suc (missing new_k) ≤ missing k = omega (arith, lt) in
-        less_more (missing new_k * (n + 1) + length new) (missing k * (n + 1)) (length (p ∷ old))
-        (less_sum (missing new_k * (n + 1)) (missing k * (n + 1)) (suc (missing new_k) * (n + 1)) (length new) n (suc-mul (missing new_k) (n + 1)) (mul-le-mul_right (n + 1) up) few)
+    pub found_all : AreFound x t e k
+    found_all = record {
+      of_slots = searches.stands.of_slots;
+      exact = λ f. (λ h. (known_entry f h ∙ searches.stands.of_entry, searches.stands.least f h), λ h. least_in x (λ b. b.entry ≡ e → Knows k b) own_closed f h.1 h.0);
+    }
 
 -- where there is no bound, all that is wanted is found
 

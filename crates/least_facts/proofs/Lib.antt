@@ -2,5 +2,6 @@ pub mod Numbering
 pub mod Fitting
 pub mod Answering
 pub mod Marking
-pub mod Searching
+pub mod Filling
 pub mod Growing
+pub mod Flowing

@@ -1,21 +1,25 @@
--- Points that are marked.
-use Rattle.std.proofs.Common.{◌≡◌, ◌⊎◌, inl, inr, ⊎_elim, ℕ, ◌+◌, ◌<◌, ◌≤◌, List, [], ◌∷◌, ◌++◌, length, drop, get_or, true, is_some, if◌then◌else◌, IfSome, Option, Some, None, slice_get, refl, sym, ap, ◌∙◌, subst, arith}
+-- Points that are marked, and the first RETRIEVEs of answers.
+use Rattle.std.proofs.Common.{◌≡◌, ◌⊎◌, inl, inr, ⊎_elim, ℕ, zero, suc, ◌+◌, ◌*◌, ◌<◌, ◌≤◌, ◌^◌, ◌↔◌, Bool, true, false, List, [], ◌∷◌, length, drop, get_or, map, is_some, if◌then◌else◌, IfSome, Option, Some, None, slice_get, slice_set, refl, sym, ap, ◌∙◌, subst, arith, length-set}
+use Rattle.std.specs.Prelude.{IsTrue}
 use Rattle.std.specs.declared.cmp.Ordering.{Ordering}
 use Rattle.std.specs.declared.cmp.Ordering.TheVariants.{Less, Equal, Greater}
 use Rattle.std.specs.BTreeSet.{insert_key}
 use Rattle.std.specs.Ordering.{match_ordering, nat_cmp}
-use Rattle.std.specs.List.{Contains}
+use Rattle.std.specs.List.{Contains, sum_by}
 use Rattle.std.proofs.Math.ListN.{drop_of_length-le}
-use Rattle.std.proofs.lemmas.Bool.{false≢true}
-use Rattle.std.proofs.lemmas.List.Elements.{Contains-append_left, Contains-append_right, Contains-append_cases}
+use Rattle.std.proofs.lemmas.Bool.{cases_eq, false≢true, true≢false}
 use Rattle.std.proofs.lemmas.Map.Lookups.{exact_unsigned}
 use Rattle.std.proofs.lemmas.Option.{none-some, same_Some, slice_get_past}
-use Rattle.std.proofs.lemmas.List.{get_or_default, drop_more}
+use Rattle.std.proofs.lemmas.List.{drop_more, length-map}
+use Rattle.std.proofs.lemmas.List.Sums.{sum_by-cons}
 use Rattle.plex_num.proofs.Members.{first_or_later, none_in}
 use Rattle.source_meaning.proofs.Lists.{first_is, later_is}
+use Rattle.flow_points.specs.Facts.{Reached}
+use Rattle.fact_rows.specs.Known.{Knows, Rows}
+use Rattle.fact_rows.proofs.Holding.{from_map, to_map}
 use Rattle.least_facts.specs.declared.answers.AnswerTable.{AnswerTable}
-use Rattle.least_facts.specs.Answers.{Returns, awaited_at, known_answer}
-use Rattle.least_facts.specs.Marks.{IsThis, Marks, Takes}
+use Rattle.least_facts.specs.Answers.{ReturnsOf, awaited_at, known_answer}
+use Rattle.least_facts.specs.Marks.{IsThis, Marks, Reaches, Settles, Takes, most_returns, point_in}
 
 -- one point
 
@@ -38,88 +42,210 @@ now_there (x ∷ xs) k = by (nat_cmp k x) refl (now_there xs k)
     by Equal is more = subst (λ y. Contains (y ∷ xs) k) (exact_unsigned k x is) (first_is k xs)
     by Greater is more = later_is x k (insert_key nat_cmp xs k) more
 
-was_there : (ks : List ℕ) (k q : ℕ) → Contains (insert_key nat_cmp ks k) q → Contains ks q ⊎ (q ≡ k)
-was_there [] k q c = ⊎_elim (λ e. inr (sym e)) (λ none. absurd (none_in q none)) (first_or_later k q [] c)
-was_there (x ∷ xs) k q c = by (nat_cmp k x) c (was_there xs k q)
+long_insert : (ks : List ℕ) (k : ℕ) → length (insert_key nat_cmp ks k) ≤ length ks + 1
+long_insert [] k = omega arith
+long_insert (x ∷ xs) k = by (nat_cmp k x) (long_insert xs k)
   where
-    by : (r : Ordering) → Contains (match_ordering r (k ∷ x ∷ xs) (x ∷ xs) (x ∷ insert_key nat_cmp xs k)) q → (Contains (insert_key nat_cmp xs k) q → Contains xs q ⊎ (q ≡ k)) → Contains (x ∷ xs) q ⊎ (q ≡ k)
-    by Less h more = ⊎_elim (λ e. inr (sym e)) inl (first_or_later k q (x ∷ xs) h)
-    by Equal h more = inl h
-    by Greater h more =
-        ⊎_elim
-        (λ e. inl (subst (Contains (x ∷ xs)) e (first_is x xs)))
-        (λ l. ⊎_elim (λ l. inl (later_is x q xs l)) inr (more l))
-        (first_or_later x q (insert_key nat_cmp xs k) h)
+    by : (r : Ordering) → length (insert_key nat_cmp xs k) ≤ length xs + 1 → length (match_ordering r (k ∷ x ∷ xs) (x ∷ xs) (x ∷ insert_key nat_cmp xs k)) ≤ length (x ∷ xs) + 1
+    by Less le = omega arith
+    by Equal le = omega arith
+    by Greater le = omega (arith, le)
 
-pub one_marked : (old new : List ℕ) (point : ℕ) → new ≡ insert_key nat_cmp old point → Marks old new (IsThis point)
-one_marked old new point is = record {
-  still = λ p c. subst (λ l. Contains l p) (sym is) (still_there old point p c);
-  each = λ p c. was_there old point p (subst (λ l. Contains l p) is c);
-  all = λ p e. subst (λ l. Contains l p) (sym is) (subst (Contains (insert_key nat_cmp old point)) (sym e) (now_there old point));
+pub one_marked : (old new : List ℕ) (mark point : ℕ) → new ≡ insert_key nat_cmp old mark → point_in mark ≡ point → Marks (map point_in old) (map point_in new) (IsThis point) 1
+one_marked old new mark point is own = record {
+  still = λ p c. (let there = from_map point_in old p c in subst (Contains (map point_in new)) there.2 (to_map point_in new there.0 (subst (λ l. Contains l there.0) (sym is) (still_there old mark there.0 there.1))));
+  all = λ p e. subst (Contains (map point_in new)) (own ∙ sym e) (to_map point_in new mark (subst (λ l. Contains l mark) (sym is) (now_there old mark)));
+  few = (let long = long_insert old mark in omega (arith, long, ap length is, length-map old point_in, length-map new point_in));
 }
+
+pub lower_half : (place point : ℕ) → point < 2 ^ 32 → point_in (place * 4294967296 + point) ≡ point
+lower_half place point lt = omega (arith, lt)
 
 -- several points
 
 pub record MarksGo (points : List ℕ) (i : ℕ) (old now : List ℕ) : Type 0 where
   pub still : (p : ℕ) → Contains old p → Contains now p
-  pub each : (p : ℕ) → Contains now p → Contains old p ⊎ Contains points p
   pub all : (p : ℕ) → Contains points p → Contains now p ⊎ Contains (drop i points) p
+  pub few : length now ≤ length old + i
+  pub within : i ≤ length points
 
 pub marks_begin : (points old : List ℕ) → MarksGo points 0 old old
-marks_begin points old = record { still = λ p c. c; each = λ p c. inl c; all = λ p c. inr c }
+marks_begin points old = record { still = λ p c. c; all = λ p c. inr c; few = omega arith; within = omega arith }
 
-pub marks_more : (points : List ℕ) (i d : ℕ) (old now new : List ℕ) → i < length points → Marks now new (IsThis (get_or points i d)) → MarksGo points i old now → MarksGo points (i + 1) old new
+pub marks_more : (points : List ℕ) (i d : ℕ) (old now new : List ℕ) → i < length points → Marks now new (IsThis (get_or points i d)) 1 → MarksGo points i old now → MarksGo points (i + 1) old new
 marks_more points i d old now new lt h g = record {
   still = λ p c. h.still p (g.still p c);
-  each = λ p c. ⊎_elim (g.each p) (λ e. inr (subst (Contains points) (sym e) (i, lt, get_or_default points i (get_or points i d) d lt))) (h.each p c);
   all = λ p c. ⊎_elim (λ n. inl (h.still p n)) (λ l. ⊎_elim (λ e. inl (h.all p (sym e))) inr (first_or_later (get_or points i d) p (drop (i + 1) points) (subst (λ xs. Contains xs p) (drop_more points i d lt) l))) (g.all p c);
+  few = (let a = g.few in let b = h.few in omega (arith, a, b));
+  within = omega (arith, lt);
 }
 
-pub marks_end : (points : List ℕ) (i : ℕ) (old now : List ℕ) → length points ≤ i → MarksGo points i old now → Marks old now (Contains points)
+pub marks_end : (points : List ℕ) (i : ℕ) (old now : List ℕ) → length points ≤ i → MarksGo points i old now → Marks old now (Contains points) (length points)
 marks_end points i old now past g = record {
   still = g.still;
-  each = g.each;
   all = λ p c. ⊎_elim (λ n. n) (λ l. absurd (none_in p (subst (λ xs. Contains xs p) (drop_of_length-le points past) l))) (g.all p c);
+  few = (let a = g.few in let b = g.within in omega (arith, a, b));
 }
 
 -- the RETURNs of an answer
 
-pub awaited_some : (t : AnswerTable) (point : ℕ) (o : Option ℕ) → slice_get t.awaited point ≡ Some o → o ≡ awaited_at t point
-awaited_some t point o there = sym (ap known_answer there)
+in_sum : (lists : List (List ℕ)) (i : ℕ) (l : List ℕ) → slice_get lists i ≡ Some l → length l ≤ sum_by length lists
+in_sum [] i l there = absurd (none-some l there)
+in_sum (k ∷ lists) zero l there = (let same : length k ≡ length l = ap length (same_Some k l there) in omega (arith, same, sum_by-cons length k lists))
+in_sum (k ∷ lists) (suc i) l there = (let rest = in_sum lists i l there in omega (arith, rest, sum_by-cons length k lists))
 
-pub awaited_none : (t : AnswerTable) (point : ℕ) → length t.awaited ≤ point → None ≡ awaited_at t point
-awaited_none t point past = sym (ap known_answer (slice_get_past t.awaited point past))
-
-pub no_answer : (t : AnswerTable) (point : ℕ) (o : Option ℕ) (old : List ℕ) → o ≡ awaited_at t point → o ≡ None → Marks old old (Returns t point)
-no_answer t point o old at none = record {
-  still = λ p c. c;
-  each = λ p c. inl c;
-  all = λ p r. absurd (none-some r.answer (sym none ∙ at ∙ r.awaits));
-}
-
-pub no_returns : (t : AnswerTable) (point answer : ℕ) (o : Option ℕ) (old : List ℕ) → o ≡ awaited_at t point → o ≡ Some answer → length t.returns ≤ answer → Marks old old (Returns t point)
-no_returns t point answer o old at some past = record {
-  still = λ p c. c;
-  each = λ p c. inl c;
-  all = λ p r.
-      let same : r.answer ≡ answer = same_Some r.answer answer (sym r.awaits ∙ sym at ∙ some) in
-      absurd (none-some r.points (sym (slice_get_past t.returns r.answer (subst (λ n. length t.returns ≤ n) (sym same) past)) ∙ r.there));
-}
-
-pub returns_marked : (t : AnswerTable) (point answer : ℕ) (o : Option ℕ) (listed points old new : List ℕ) → o ≡ awaited_at t point → o ≡ Some answer → slice_get t.returns answer ≡ Some listed → points ≡ listed → Marks old new (Contains points) → Marks old new (Returns t point)
-returns_marked t point answer o listed points old new at some there same h = record {
+pub returns_marked : (t : AnswerTable) (answer : ℕ) (listed points old new : List ℕ) → slice_get t.returns answer ≡ Some listed → points ≡ listed → Marks old new (Contains points) (length points) → Marks old new (ReturnsOf t answer) (most_returns t)
+returns_marked t answer listed points old new there same h = record {
   still = h.still;
-  each = λ p c. ⊎_elim inl (λ l. inr (record { answer = answer; awaits = sym at ∙ some; points = listed; there = there; among = subst (λ xs. Contains xs p) same l })) (h.each p c);
-  all = λ p r.
-      let own : r.answer ≡ answer = same_Some r.answer answer (sym r.awaits ∙ sym at ∙ some) in
-      let list : r.points ≡ listed = same_Some r.points listed (sym r.there ∙ ap (slice_get t.returns) own ∙ there) in
-      h.all p (subst (λ xs. Contains xs p) (list ∙ sym same) r.among);
+  all = λ p r. h.all p (subst (λ xs. Contains xs p) (same_Some r.points listed (sym r.there ∙ there) ∙ sym same) r.among);
+  few = (let a = h.few in let b = in_sum t.returns answer listed there in omega (arith, a, b, ap length same));
 }
+
+pub no_returns : (t : AnswerTable) (answer : ℕ) (old : List ℕ) → length t.returns ≤ answer → Marks old old (ReturnsOf t answer) (most_returns t)
+no_returns t answer old past = record {
+  still = λ p c. c;
+  all = λ p r. absurd (none-some r.points (sym (slice_get_past t.returns answer past) ∙ r.there));
+  few = omega arith;
+}
+
+-- what is known of answers
+
+pub known_some : (os : List (Option ℕ)) (i : ℕ) (o : Option ℕ) → slice_get os i ≡ Some o → o ≡ known_answer (slice_get os i)
+known_some os i o there = sym (ap known_answer there)
+
+pub known_none : (os : List (Option ℕ)) (i : ℕ) → length os ≤ i → None ≡ known_answer (slice_get os i)
+known_none os i past = sym (ap known_answer (slice_get_past os i past))
+
+pub known_is : (o : Option (Option ℕ)) (p : ℕ) → known_answer o ≡ Some p → o ≡ Some (Some p)
+known_is None p is = absurd (none-some p is)
+known_is (Some o) p is = ap Some is
+
+-- the first RETRIEVE of an answer
+
+get_set_same : {A : Type 0} (xs : List A) (i : ℕ) (a : A) → i < length xs → slice_get (slice_set xs i a) i ≡ Some a
+get_set_same [] i a lt = absurd (omega arith)
+get_set_same (x ∷ xs) zero a lt = refl
+get_set_same (x ∷ xs) (suc i) a lt = get_set_same xs i a (omega arith)
+
+get_set_other : {A : Type 0} (xs : List A) (i j : ℕ) (a : A) → (j ≡ i → ⊥) → slice_get (slice_set xs i a) j ≡ slice_get xs j
+get_set_other [] i j a apart = refl
+get_set_other (x ∷ xs) zero zero a apart = absurd (apart refl)
+get_set_other (x ∷ xs) zero (suc j) a apart = refl
+get_set_other (x ∷ xs) (suc i) zero a apart = refl
+get_set_other (x ∷ xs) (suc i) (suc j) a apart = get_set_other xs i j a (λ e. apart (ap suc e))
+
+pub reaches_none : (a : AnswerTable) (q : ℕ) (m : List ℕ) (firsts : List (Option ℕ)) (o : Option ℕ) → o ≡ awaited_at a q → o ≡ None → Reaches a q m firsts m firsts
+reaches_none a q m firsts o is none = record {
+  still = λ p c. c;
+  few = omega arith;
+  long = refl;
+  kept = λ i p there. there;
+  firsts = λ i p there. inl there;
+  found = λ n awaits lt. absurd (none-some n (sym none ∙ is ∙ awaits));
+}
+
+pub reaches_again : (a : AnswerTable) (q n first : ℕ) (m new : List ℕ) (firsts : List (Option ℕ)) (o u : Option ℕ) → o ≡ awaited_at a q → o ≡ Some n → u ≡ known_answer (slice_get firsts n) → u ≡ Some first → Marks m new (IsThis first) 1 → Reaches a q m firsts new firsts
+reaches_again a q n first m new firsts o u is some known there h = record {
+  still = h.still;
+  few = (let few = h.few in omega (arith, few));
+  long = refl;
+  kept = λ i p at. at;
+  firsts = λ i p at. inl at;
+  found = λ i awaits lt.
+      let own : n ≡ i = same_Some n i (sym some ∙ is ∙ awaits) in
+      record { first = first; is = subst (λ k. slice_get firsts k ≡ Some (Some first)) own (known_is (slice_get firsts n) first (sym known ∙ there)); handing = inr (h.all first refl) };
+}
+
+pub opens_none : (a : AnswerTable) (q n : ℕ) (m : List ℕ) (firsts : List (Option ℕ)) → awaited_at a q ≡ Some n → length firsts ≤ n → Reaches a q m firsts m firsts
+opens_none a q n m firsts is past = record {
+  still = λ p c. c;
+  few = omega arith;
+  long = refl;
+  kept = λ i p there. there;
+  firsts = λ i p there. inl there;
+  found = λ i awaits lt. absurd (let own : n ≡ i = same_Some n i (sym is ∙ awaits) in omega (arith, own, lt, past));
+}
+
+pub opens_first : (a : AnswerTable) (q n : ℕ) (m new : List ℕ) (firsts new_firsts : List (Option ℕ)) → awaited_at a q ≡ Some n → known_answer (slice_get firsts n) ≡ None → n < length firsts → new_firsts ≡ slice_set firsts n (Some q)
+    → Marks m new (ReturnsOf a n) (most_returns a) → Reaches a q m firsts new new_firsts
+opens_first a q n m new firsts new_firsts is none lt put h = record {
+  still = h.still;
+  few = (let few = h.few in omega (arith, few));
+  long = ap length put ∙ length-set firsts n (Some q);
+  kept = λ i p there. elim (cases_eq i n) as (λ _. slice_get new_firsts i ≡ Some (Some p)) [
+    | inl same ↦ absurd (none-some p (sym none ∙ ap known_answer (subst (λ k. slice_get firsts k ≡ Some (Some p)) same there)))
+    | inr apart ↦ ap (λ l. slice_get l i) put ∙ get_set_other firsts n i (Some q) apart ∙ there
+  ];
+  firsts = λ i p there. elim (cases_eq i n) [
+    | inl same ↦
+        inr (
+          is ∙ ap Some (sym same),
+          record {
+            own = refl;
+            this = same_Some p q (same_Some (Some p) (Some q) (sym there ∙ ap (slice_get new_firsts) same ∙ here));
+            returns = λ r of. h.all r (subst (λ k. ReturnsOf a k r) same of);
+          },
+        )
+    | inr apart ↦ inl (sym (get_set_other firsts n i (Some q) apart) ∙ sym (ap (λ l. slice_get l i) put) ∙ there)
+  ];
+  found = λ i awaits low. (let own : n ≡ i = same_Some n i (sym is ∙ awaits) in record { first = q; is = subst (λ k. slice_get new_firsts k ≡ Some (Some q)) own here; handing = inl refl });
+}
+  where
+    here : slice_get new_firsts n ≡ Some (Some q)
+    here = ap (λ l. slice_get l n) put ∙ get_set_same firsts n (Some q) lt
+
+-- a point at which something is new
+
+module _ (a : AnswerTable) (k : Rows) (e : ℕ) (grown reached : Bool) (q : ℕ) (m : List ℕ) (firsts : List (Option ℕ)) where
+  pub settles_same : grown ≡ false → Settles a k e grown reached q m firsts m firsts
+  settles_same none = record {
+    same = λ is. (refl, refl);
+    still = λ p c. c;
+    own = λ is. absurd (true≢false (sym is ∙ none));
+    few = omega arith;
+    long = refl;
+    kept = λ i p there. there;
+    firsts = λ i p there. inl there;
+    found = λ is. absurd (true≢false (sym is ∙ none));
+  }
+
+  pub settles_again : (mid : List ℕ) → grown ≡ true → reached ≡ true → Marks m mid (IsThis q) 1 → Settles a k e grown reached q m firsts mid firsts
+  settles_again mid some again h = record {
+    same = λ is. absurd (true≢false (sym some ∙ is));
+    still = h.still;
+    own = λ is. h.all q refl;
+    few = (let few = h.few in omega (arith, few));
+    long = refl;
+    kept = λ i p there. there;
+    firsts = λ i p there. inl there;
+    found = λ is before. absurd (true≢false (sym again ∙ before));
+  }
+
+  pub settles_unreached : (mid : List ℕ) (b : Bool) → grown ≡ true → (IsTrue b ↔ Reached (Knows k) e q) → b ≡ false → Marks m mid (IsThis q) 1 → Settles a k e grown reached q m firsts mid firsts
+  settles_unreached mid b some test off h = record {
+    same = λ is. absurd (true≢false (sym some ∙ is));
+    still = h.still;
+    own = λ is. h.all q refl;
+    few = (let few = h.few in omega (arith, few));
+    long = refl;
+    kept = λ i p there. there;
+    firsts = λ i p there. inl there;
+    found = λ is before now. absurd (true≢false (sym (test.1 now) ∙ off));
+  }
+
+  pub settles_reached : (mid new : List ℕ) (new_firsts : List (Option ℕ)) (b : Bool) → grown ≡ true → (IsTrue b ↔ Reached (Knows k) e q) → b ≡ true → Marks m mid (IsThis q) 1 → Reaches a q mid firsts new new_firsts → Settles a k e grown reached q m firsts new new_firsts
+  settles_reached mid new new_firsts b some test on h r = record {
+    same = λ is. absurd (true≢false (sym some ∙ is));
+    still = λ p c. r.still p (h.still p c);
+    own = λ is. r.still q (h.all q refl);
+    few = (let few = h.few in let more = r.few in omega (arith, few, more));
+    long = r.long;
+    kept = r.kept;
+    firsts = λ i p there. ⊎_elim inl (λ opened. inr (test.0 on, opened.0, opened.1)) (r.firsts i p there);
+    found = λ is before now. r.found;
+  }
 
 -- the next point
-
-pub none_marked : (m r : List ℕ) → m ≡ [] → r ≡ [] → m ++ r ≡ []
-none_marked m r empty none = ap (λ l. l ++ r) empty ∙ none
 
 no_length : (ms : List ℕ) → length ms ≡ 0 → ms ≡ []
 no_length [] e = refl
@@ -130,15 +256,11 @@ first_taken None [] new some removal long = (refl, no_length new (omega (arith, 
 first_taken None (m ∷ old) new some removal long = absurd (false≢true (some (omega arith)))
 first_taken (Some p) old new some removal long = removal
 
-pub point_taken : (m r new_m : List ℕ) (o : Option ℕ) (p : ℕ) → o ≡ Some p → Takes o m new_m → m ++ r ≡ p ∷ (new_m ++ r)
-point_taken m r new_m o p is h = (let first : m ≡ p ∷ new_m = subst (λ q. Takes q m new_m) is h in ap (λ l. l ++ r) first)
+pub point_taken : (o : Option ℕ) (mark : ℕ) (old new : List ℕ) → o ≡ Some mark → Takes o old new → map point_in old ≡ point_in mark ∷ map point_in new
+point_taken o mark old new is h = ap (map point_in) (subst (λ q. Takes q old new) is h)
 
-pub return_taken : (m r new_m new_r : List ℕ) (first o : Option ℕ) → first ≡ None → Takes first m new_m → Takes o r new_r → Takes o (m ++ r) (new_m ++ new_r)
-return_taken m r new_m new_r first o none f h = by o (subst (λ q. Takes q m new_m) none f) h
-  where
-    by : (q : Option ℕ) → Takes None m new_m → Takes q r new_r → Takes q (m ++ r) (new_m ++ new_r)
-    by None e g = (ap (λ l. l ++ r) e.0 ∙ g.0, ap (λ l. l ++ new_r) e.1 ∙ g.1)
-    by (Some p) e g = ap (λ l. l ++ r) e.0 ∙ g ∙ ap (λ l. p ∷ (l ++ new_r)) (sym e.1)
+pub no_point : (o : Option ℕ) (old new : List ℕ) → o ≡ None → Takes o old new → (map point_in old ≡ []) × (map point_in new ≡ [])
+no_point o old new is h = (let none = subst (λ q. Takes q old new) is h in (ap (map point_in) none.0, ap (map point_in) none.1))
 
 pub taken : (o : Option ℕ) (p : ℕ) (old new : List ℕ) → o ≡ Some p → Takes o old new → old ≡ p ∷ new
 taken o p old new is h = subst (λ q. Takes q old new) is h
@@ -146,12 +268,3 @@ taken o p old new is h = subst (λ q. Takes q old new) is h
 pub none_taken : (o : Option ℕ) (old new : List ℕ) → ((p : ℕ) → o ≡ Some p → ⊥) → Takes o old new → old ≡ []
 none_taken None old new not_some h = h.0
 none_taken (Some p) old new not_some h = absurd (not_some p refl)
-
--- marks of two lists
-
-pub left_marked : (m r new_m : List ℕ) (G : ℕ → Type 0) → Marks m new_m G → Marks (m ++ r) (new_m ++ r) G
-left_marked m r new_m G h = record {
-  still = λ p c. ⊎_elim (λ l. Contains-append_left new_m r p (h.still p l)) (λ l. Contains-append_right new_m r p l) (Contains-append_cases m r p c);
-  each = λ p c. ⊎_elim (λ l. ⊎_elim (λ o. inl (Contains-append_left m r p o)) inr (h.each p l)) (λ l. inl (Contains-append_right m r p l)) (Contains-append_cases new_m r p c);
-  all = λ p g. Contains-append_left new_m r p (h.all p g);
-}

@@ -27,41 +27,16 @@ use Rattle.source_meaning.proofs.Parts.{Parts, every_expr}
 use Rattle.flow_points.specs.declared.limits.TheConstants.{SMALL_NUMBERS}
 use Rattle.flow_points.specs.declared.fact.Slot.{Slot}
 use Rattle.flow_points.specs.declared.fact.Slot.TheVariants.{Temp, Given, Answered, Depth, Awaits}
-use Rattle.flow_points.specs.declared.fact.Value.{Value}
 use Rattle.flow_points.specs.declared.fact.Value.TheVariants.{Arg, Const, Any}
 use Rattle.flow_points.specs.declared.flow.Passing.{Passing}
 use Rattle.flow_points.specs.declared.flow.Passing.TheVariants.{Kept, Sets, Takes, Retrieves, Begins, Passes, Calls, Answers}
 use Rattle.flow_points.specs.declared.flow.Source.{Source}
-use Rattle.flow_points.specs.declared.flow.Source.TheVariants.{Of, Is, Deeper, Nothing}
+use Rattle.flow_points.specs.declared.flow.Source.TheVariants.{Of, Is, Nothing}
 use Rattle.flow_points.specs.Flows.{Leads, Goes, SendLeads}
 use Rattle.flow_points.specs.Sources.{alone, at_place, expr_source, kept, named, source_of, start_source}
 use Rattle.flow_table.specs.Alone.{term_source, joined_source, own_source}
 use Rattle.flow_table.proofs.Sourcing.{expr_source-out, term_source-out, joined_source-out, factor_as}
-use Rattle.fact_rows.specs.Values.{HasNumber, IsAwaited, IsNumbered}
-
--- sources of slots other than AWAITS, and of AWAITS
-
-abbrev pub Numbered : Source → Type 0
-Numbered (Of s) = (v : Value) → HasNumber s v → IsNumbered v
-Numbered (Is v) = IsNumbered v
-Numbered Deeper = Unit {0}
-Numbered Nothing = Unit {0}
-
-abbrev pub Awaited : Source → Type 0
-Awaited (Of s) = (v : Value) → HasNumber s v → IsAwaited v
-Awaited (Is v) = IsAwaited v
-Awaited Deeper = ⊥
-Awaited Nothing = Unit {0}
-
-abbrev pub SourceFits : Slot → Source → Type 0
-SourceFits (Temp t) source = Numbered source
-SourceFits (Given k) source = Numbered source
-SourceFits (Answered k) source = Numbered source
-SourceFits Depth source = Numbered source
-SourceFits Awaits source = Awaited source
-
-abbrev pub HowFits : Passing → Type 0
-HowFits how = (s : Slot) → SourceFits s (source_of how s)
+use Rattle.least_facts.specs.Fit.{HowFits, Numbered, SourceFits}
 
 no_number : Numbered (Is (Const 0))
 no_number = omega arith
@@ -177,7 +152,7 @@ calls_fit values answer each lt (Answered k) = tt
 calls_fit values answer each lt Depth = tt
 calls_fit values answer each lt Awaits = omega (arith, lt)
 
-answers_fit : (values : List Source) → AllByRecursion Numbered values → HowFits (Answers values)
+pub answers_fit : (values : List Source) → AllByRecursion Numbered values → HowFits (Answers values)
 answers_fit values each (Temp t) = tt
 answers_fit values each (Given k) = tt
 answers_fit values each (Answered k) = at_fits values k Nothing each tt

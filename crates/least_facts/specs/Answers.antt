@@ -56,10 +56,8 @@ known_answer (Some awaited) = awaited
 abbrev pub awaited_at : AnswerTable → ℕ → Option ℕ
 awaited_at t point = known_answer (slice_get t.awaited point)
 
--- a RETURN of the answer that is awaited at the point
-pub record Returns (t : AnswerTable) (point p : ℕ) : Type 0 where
-  pub answer : ℕ
-  pub awaits : awaited_at t point ≡ Some answer
+-- a RETURN of the answer, by the table
+pub record ReturnsOf (t : AnswerTable) (answer p : ℕ) : Type 0 where
   pub points : List ℕ
   pub there : slice_get t.returns answer ≡ Some points
   pub among : Contains points p

@@ -1,4 +1,6 @@
 pub mod Answers
+pub mod Fit
 pub mod Marks
+pub mod Giving
 pub mod Growing
 pub mod Least

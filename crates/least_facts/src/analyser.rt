@@ -12,6 +12,7 @@ ghost use Rattle.least_facts.specs.Least.{HasLearned, IsFor, KnowLeast};
 
 use crate::answers::{AnswerTable, answers_of};
 use crate::finding::find;
+use crate::order::order_of;
 use exchange_model::Exchange;
 use fact_rows::FactRows;
 use flow_points::Fact;
@@ -23,6 +24,7 @@ use std::alloc::Global;
 /// facts and of the flows between them.
 pub struct Analyser {
     answers: AnswerTable,
+    order: Seq<u32>,
     rows: FactRows,
 }
 
@@ -30,6 +32,7 @@ impl Drop for Analyser {
     fn drop(self) {
         let Analyser {
             answers: _,
+            order: _,
             rows: _,
         } = self;
     }
@@ -42,11 +45,12 @@ impl Analyser {
     {
         Ok(Analyser {
             answers: answers_of(alloc, exchange)?,
+            order: order_of(alloc, table)?,
             rows: FactRows::new(alloc, table)?,
         })
     }
 
-    /// Learns the least facts of an entry, in place of what it has learned before; how many facts it looked at for that, some of
+    /// Learns the least facts of an entry, in place of what it has learned before; how many slots it looked at for that, some of
     /// them again. `None` where there is a bound, `most`, and more are to be looked at: then nothing of use is learned. After
     /// `Memory` the analyser is of no more use.
     pub fn learn(
@@ -69,6 +73,7 @@ impl Analyser {
             exchange,
             table,
             &self.answers,
+            &self.order,
             entry,
             most,
             &mut self.rows,
@@ -104,6 +109,7 @@ impl Analyser {
             exchange,
             table,
             &self.answers,
+            &self.order,
             entry,
             None,
             &mut self.rows,

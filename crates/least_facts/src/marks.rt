@@ -1,97 +1,140 @@
-// The points that are to be looked at.
-ghost use Rattle.std.specs.Prelude.{◌≡◌, [], OnOk};
+// The points that are to be looked at, and the RETRIEVEs that answers come to first.
+ghost use Rattle.std.specs.Prelude.{◌≡◌, ◌<◌, [], length, map, replicate, slice_get, slice_set, IfOk, None, OnOk, Some};
 ghost use Rattle.std.specs.List.{Contains};
-ghost use Rattle.least_facts.specs.Answers.{Returns, awaited_at};
-ghost use Rattle.least_facts.specs.Marks.{IsThis, Marks, Takes, marks_of};
+ghost use Rattle.fact_rows.specs.Known.{Knows};
+ghost use Rattle.least_facts.specs.Answers.{ReturnsOf, awaited_at, known_answer};
+ghost use Rattle.least_facts.specs.Marks.{IsThis, Marks, Reaches, Settles, Takes, marks_of, most_returns, point_in};
 
 use crate::answers::AnswerTable;
-use plex_num::Memory;
+use fact_rows::FactRows;
+use flow_table::KnownFacts;
+use plex_num::{Memory, Seq};
 use std::alloc::Global;
 use std::collections::BTreeSet;
 
-/// The points that are to be looked at: those at which something new came to be known, the lowest first; and after them the
-/// RETURNs whose answers reach one more RETRIEVE, so that they are looked at once for many.
+/// The place of a point that is looked at after all others.
+pub(crate) const LAST: u32 = u32::MAX;
+
+/// The points that are to be looked at, and for each answer the RETRIEVE of it that was reached first.
 pub struct Marked {
-    pub points: BTreeSet<u32>,
-    pub returning: BTreeSet<u32>,
+    /// Of each point that is to be looked at its place in the order, and in the lower half the point.
+    pub marks: BTreeSet<u64>,
+    pub firsts: Vec<Option<u32>>,
 }
 
 impl Drop for Marked {
     fn drop(self) {
         let Marked {
-            points: _,
-            returning: _,
+            marks: _,
+            firsts: _,
         } = self;
     }
 }
 
 impl Marked {
-    /// Nothing is marked.
-    #[tactic(auto, using(crate::proofs::Marking::none_marked))]
-    pub(crate) fn new(alloc: Global) -> Marked
-        ensures { marks_of result ≡ [] }
+    /// Nothing is marked, and no RETRIEVE of so many answers is reached.
+    pub(crate) fn new(alloc: Global, count: usize) -> Result<Marked, Memory>
+        ensures marks { IfOk result (λ marked. marks_of marked ≡ []) }
+        ensures firsts { IfOk result (λ marked. marked.firsts.items ≡ replicate count None) }
     {
-        Marked {
-            points: BTreeSet::new(alloc),
-            returning: BTreeSet::new(alloc),
-        }
+        let firsts = no_firsts(alloc, count)?;
+        Ok(Marked {
+            marks: BTreeSet::new(alloc),
+            firsts: firsts.into_vec(),
+        })
     }
+}
+
+/// So many times no RETRIEVE.
+#[tactic(auto, using(crate::proofs::Answering::lists_more, crate::proofs::Answering::lists_end))]
+fn no_firsts(alloc: Global, count: usize) -> Result<Seq<Option<u32>>, Memory>
+    ensures { IfOk result (λ firsts. firsts ≡ replicate count None) }
+{
+    let mut firsts = Seq::with_capacity(alloc, count)?;
+    for _ in 0..count {
+        firsts.push(None)?;
+    }
+    Ok(firsts)
 }
 
 /// Takes the point that is to be looked at next; `None` exactly where none is marked.
-#[tactic(auto, using(crate::proofs::Marking::point_taken, crate::proofs::Marking::return_taken))]
+#[tactic(auto, using(crate::proofs::Marking::point_taken, crate::proofs::Marking::no_point))]
 pub(crate) fn take(marked: &mut Marked) -> Option<u32>
-    ensures { Takes result (marks_of marked.old) (marks_of marked.new) }
+    ensures takes { Takes result (marks_of marked.old) (marks_of marked.new) }
+    ensures firsts { marked.new.firsts.items ≡ marked.old.firsts.items }
 {
-    match take_first(&mut marked.points) {
-        Some(point) => Some(point),
-        None => take_first(&mut marked.returning),
+    match take_first(&mut marked.marks) {
+        Some(mark) => Some(point_of(mark)),
+        None => None,
     }
 }
 
-/// Takes the lowest of these points; `None` exactly where there is none.
-fn take_first(points: &mut BTreeSet<u32>) -> Option<u32>
-    ensures { Takes result points.old.keys points.new.keys }
+/// The point of a mark.
+fn point_of(mark: u64) -> u32
+    ensures { result ≡ point_in mark }
 {
-    points.pop_first()
+    (mark % 4_294_967_296) as u32
 }
 
-/// Marks a point.
-#[tactic(auto, using(crate::proofs::Marking::one_marked))]
-pub(crate) fn mark(marked: &mut BTreeSet<u32>, point: u32) -> Result<(), Memory>
-    ensures { OnOk result (Marks marked.old.keys marked.new.keys (IsThis point)) }
+/// Takes the lowest of these marks; `None` exactly where there is none.
+fn take_first(marks: &mut BTreeSet<u64>) -> Option<u64>
+    ensures { Takes result marks.old.keys marks.new.keys }
 {
-    match marked.insert(point) {
+    marks.pop_first()
+}
+
+/// The place of a point in the order.
+fn place_of(order: &Seq<u32>, point: u32) -> u32 {
+    match order.get(point as usize) {
+        Some(place) => *place,
+        None => LAST,
+    }
+}
+
+/// The mark of a point at a place.
+#[tactic(auto, using(crate::proofs::Marking::lower_half))]
+fn mark_at(place: u32, point: u32) -> u64
+    ensures { point_in result ≡ point }
+{
+    place as u64 * 4_294_967_296 + point as u64
+}
+
+/// Marks a point at a place.
+fn mark(marks: &mut BTreeSet<u64>, place: u32, point: u32) -> Result<(), Memory>
+    ensures { OnOk result
+        (Marks (map point_in marks.old.keys) (map point_in marks.new.keys) (IsThis point) 1) }
+{
+    match marks.insert(mark_at(place, point)) {
         Ok(_) => Ok(()),
         Err(_) => Err(Memory),
     }
 }
 
 /// Marks these points.
-fn mark_all(marked: &mut BTreeSet<u32>, points: &[u32]) -> Result<(), Memory>
-    ensures { OnOk result (Marks marked.old.keys marked.new.keys (Contains points.now)) }
+fn mark_all(order: &Seq<u32>, points: &[u32], marks: &mut BTreeSet<u64>) -> Result<(), Memory>
+    ensures { OnOk result (Marks (map point_in marks.old.keys) (map point_in marks.new.keys)
+        (Contains points.now) (length points.now)) }
 {
     for point in points {
-        mark(marked, *point)?;
+        mark(marks, place_of(order, *point), *point)?;
     }
     Ok(())
 }
 
-/// Marks the RETURNs of the answer that the statement at a point awaits, if it is a RETRIEVE.
-#[tactic(auto, using(crate::proofs::Marking::returns_marked, crate::proofs::Marking::no_returns, crate::proofs::Marking::no_answer))]
-pub(crate) fn mark_returns(
-    marked: &mut BTreeSet<u32>,
+/// Marks the RETURNs of an answer.
+#[tactic(auto, using(crate::proofs::Marking::returns_marked, crate::proofs::Marking::no_returns))]
+fn mark_returns(
     answers: &AnswerTable,
-    point: u32,
+    order: &Seq<u32>,
+    answer: u32,
+    marks: &mut BTreeSet<u64>,
 ) -> Result<(), Memory>
-    ensures { OnOk result (Marks marked.old.keys marked.new.keys (Returns answers.now point)) }
+    ensures { OnOk result (Marks (map point_in marks.old.keys) (map point_in marks.new.keys)
+        (ReturnsOf answers.now answer) (most_returns answers.now)) }
 {
-    let Some(answer) = awaited_in(answers, point) else {
-        return Ok(());
-    };
     match answers.returns.get(answer as usize) {
         Some(points) => {
-            mark_all(marked, points.as_slice())?;
+            mark_all(order, points.as_slice(), marks)?;
             Ok(())
         }
         None => Ok(()),
@@ -99,12 +142,116 @@ pub(crate) fn mark_returns(
 }
 
 /// The answer that the statement at a point awaits, if it is a RETRIEVE.
-#[tactic(auto, using(crate::proofs::Marking::awaited_some, crate::proofs::Marking::awaited_none))]
-fn awaited_in(answers: &AnswerTable, point: u32) -> Option<u32>
+#[tactic(auto, using(crate::proofs::Marking::known_some, crate::proofs::Marking::known_none))]
+pub(crate) fn awaited_in(answers: &AnswerTable, point: u32) -> Option<u32>
     ensures { result ≡ awaited_at answers.now point }
 {
     match answers.awaited.get(point as usize) {
         Some(awaited) => *awaited,
         None => None,
     }
+}
+
+/// The RETRIEVE of an answer that was reached first, if one is reached.
+#[tactic(auto, using(crate::proofs::Marking::known_some, crate::proofs::Marking::known_none))]
+pub(crate) fn first_of(firsts: &[Option<u32>], answer: u32) -> Option<u32>
+    ensures { result ≡ known_answer (slice_get firsts.now answer) }
+{
+    match firsts.get(answer as usize) {
+        Some(first) => *first,
+        None => None,
+    }
+}
+
+/// Puts the first RETRIEVE of an answer.
+fn put_first(firsts: &mut Vec<Option<u32>>, i: usize, point: u32)
+    requires { i < length firsts.old.items }
+    ensures { firsts.new.items ≡ slice_set firsts.old.items i (Some point) }
+{
+    firsts[i] = Some(point);
+}
+
+/// Notes that a point is reached. The RETRIEVE of an answer that is reached first has all RETURNs of the answer looked at; where another one
+/// is reached, the first is looked at again, to hand out what it has.
+#[tactic(auto, using(crate::proofs::Marking::reaches_none, crate::proofs::Marking::reaches_again))]
+fn reach(
+    answers: &AnswerTable,
+    order: &Seq<u32>,
+    point: u32,
+    marked: &mut Marked,
+) -> Result<(), Memory>
+    ensures { OnOk result (Reaches answers.now point
+        (marks_of marked.old) marked.old.firsts.items
+        (marks_of marked.new) marked.new.firsts.items) }
+{
+    let Some(answer) = awaited_in(answers, point) else {
+        return Ok(());
+    };
+    match first_of(&marked.firsts, answer) {
+        Some(first) => {
+            mark(&mut marked.marks, LAST, first)?;
+            Ok(())
+        }
+        None => {
+            open(answers, order, answer, point, marked)?;
+            Ok(())
+        }
+    }
+}
+
+/// Notes the RETRIEVE of an answer that is reached first.
+#[tactic(auto, using(crate::proofs::Marking::opens_none, crate::proofs::Marking::opens_first))]
+fn open(
+    answers: &AnswerTable,
+    order: &Seq<u32>,
+    answer: u32,
+    point: u32,
+    marked: &mut Marked,
+) -> Result<(), Memory>
+    requires awaits { awaited_at answers.now point ≡ Some answer }
+    requires none { known_answer (slice_get marked.old.firsts.items answer) ≡ None }
+    ensures { OnOk result (Reaches answers.now point
+        (marks_of marked.old) marked.old.firsts.items
+        (marks_of marked.new) marked.new.firsts.items) }
+{
+    let i = answer as usize;
+    if i >= marked.firsts.len() {
+        return Ok(());
+    }
+    put_first(&mut marked.firsts, i, point);
+    mark_returns(answers, order, answer, &mut marked.marks)?;
+    Ok(())
+}
+
+/// Settles a point at which something is new, unless nothing has grown: it is marked, at the end of all where it is late, and where it was not
+/// reached before, but is now, that is noted.
+#[tactic(auto, using(crate::proofs::Marking::settles_same, crate::proofs::Marking::settles_again, crate::proofs::Marking::settles_unreached, crate::proofs::Marking::settles_reached))]
+pub(crate) fn settle(
+    answers: &AnswerTable,
+    order: &Seq<u32>,
+    rows: &FactRows,
+    entry: u32,
+    grown: bool,
+    reached: bool,
+    late: bool,
+    point: u32,
+    marked: &mut Marked,
+) -> Result<(), Memory>
+    ensures { OnOk result (Settles answers.now rows.now entry grown reached point
+        (marks_of marked.old) marked.old.firsts.items
+        (marks_of marked.new) marked.new.firsts.items) }
+{
+    if !grown {
+        return Ok(());
+    }
+    let place = if late { LAST } else { place_of(order, point) };
+    mark(&mut marked.marks, place, point)?;
+    if reached {
+        return Ok(());
+    }
+    if !rows.is_reached(entry, point) {
+        return Ok(());
+    }
+    reach(answers, order, point, marked)?;
+    Ok(())
 }

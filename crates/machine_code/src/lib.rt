@@ -9,7 +9,7 @@
 
 mod code;
 mod crossing;
-mod fused;
+mod form;
 mod laws;
 mod op;
 mod permit;
@@ -19,7 +19,7 @@ mod words;
 
 pub use code::Code;
 pub use crossing::{code_crosses, permit_crosses};
-pub use fused::{Fused, Test};
+pub use form::Form;
 pub use laws::span_has_its_words_alone;
 pub use op::Op;
 pub use permit::{Permit, Span};

@@ -249,8 +249,8 @@ module _ (x : Exchange) (k : Kept) (books : Account) (top : Top) (start : JobSta
             omega (arith, few, ended, runs, before, limit)
 
         -- its events are Issue, its instructions, and Retire
-        led_alone : (code : Code) (workers : ℕ) (run : Private) → 0 < workers → NoLineBefore (books.state.ended + 1) books.state.lines → RunEnds code start top.values run mid → done ≡ done_of run.own run.over → (now : Top) → now.values ≡ words → IsLed (setting x code k workers) whole_turn books top [] last now []
-        led_alone code workers run some line comes leaves now values =
+        led_alone : (code : Code) (workers : ℕ) (run : Private) → 0 < workers → NoLineBefore (books.state.ended + 1) books.state.lines → RunEnds code start top.values run mid → done ≡ done_of run.own run.over → (now : Top) → now.values ≡ words → (made : ℕ) → made ≡ run.made → IsLed (setting x code k workers) whole_turn books top [] last now [] made
+        led_alone code workers run some line comes leaves now values made made_is =
             let mid_books = after_start (Some start) books in
             let lends = lender start no_permit top in
             let loan = lent top start no_permit in
@@ -261,14 +261,14 @@ module _ (x : Exchange) (k : Kept) (books : Account) (top : Top) (start : JobSta
             retired.state ∙ λ i. retires x start (same i) (with_words (begins i).state (comes.words_are i)) in
             let limit : next.limit ≡ mid_books.limit = retired.limit ∙ ap (λ (b : Account). b.limit) begins in
             let issue = is_issued x code k workers books top [] start no_permit none n.next some (subst (λ m. NoLineBefore m books.state.lines) count line) tt in
-            let turn = turn_led x code k workers mid_books lends start [] comes.end comes.ends next words left next_none limit now values loan refl in
-            subst (λ b. IsLed (setting x code k workers) whole_turn books top [] b now []) (sym last_is) (issue_then_turn (setting x code k workers) books mid_books (record next { state = arrived x next.running next.state }) top lends now [] (loan ∷ []) [] issue turn)
+            let turn = turn_led x code k workers mid_books lends start [] comes.end comes.ends next words left next_none limit now values loan refl made (made_is ∙ ap (λ (r : Private). r.made) comes.run_is) in
+            subst (λ b. IsLed (setting x code k workers) whole_turn books top [] b now [] made) (sym last_is) (issue_then_turn (setting x code k workers) books mid_books (record next { state = arrived x next.running next.state }) top lends now [] (loan ∷ []) [] made issue turn)
 
-        led_there : (y : Exchange) (code : Code) (w v : View) (run : Private) → x ≡ y → MayRunAlone books w start → v ≡ w → RunEnds code start top.values run mid → done ≡ done_of run.own run.over → (now : Top) → now.values ≡ words → IsLed (setting y code k w.room) whole_turn books top w.loans last now v.loans
-        led_there y code w v run same may kept_window comes leaves now values =
-            subst (λ (z : Exchange × (List Lent × List Lent)). IsLed (setting z.0 code k w.room) whole_turn books top z.1.0 last now z.1.1)
+        led_there : (y : Exchange) (code : Code) (w v : View) (run : Private) → x ≡ y → MayRunAlone books w start → v ≡ w → RunEnds code start top.values run mid → done ≡ done_of run.own run.over → (now : Top) → now.values ≡ words → (made : ℕ) → made ≡ run.made → IsLed (setting y code k w.room) whole_turn books top w.loans last now v.loans made
+        led_there y code w v run same may kept_window comes leaves now values made made_is =
+            subst (λ (z : Exchange × (List Lent × List Lent)). IsLed (setting z.0 code k w.room) whole_turn books top z.1.0 last now z.1.1 made)
             (λ i. (same i, (sym may.alone i, sym (ap (λ (u : View). u.loans) kept_window ∙ may.alone) i)))
-            (led_alone code w.room run may.room may.line comes leaves now values)
+            (led_alone code w.room run may.room may.line comes leaves now values made made_is)
 
         pub turned_alone : (y : Exchange) (code : Code) (store : StoreId) (w v : View) (left : Retired) (run : Private) → x ≡ y → MayRunAlone books w start → v ≡ w → left.root.1.values ≡ words → left.root.1.loans ≡ mid.loans → RunEnds code start top.values run mid → done ≡ done_of run.own run.over → left.steps ≡ run.made → left.root.0 ≡ store → AreCounted books w → HasTurned y k code store whole_turn books top w last left v
         turned_alone y code store w v left run same may kept_window values kept_loans comes leaves is home counted =
@@ -276,7 +276,7 @@ module _ (x : Exchange) (k : Kept) (books : Account) (top : Top) (start : JobSta
             record {
               fly = λ s fly. gone_alone y w.loans v.loans s left.root.1 same may.alone (ap (λ (u : View). u.loans) kept_window) fly values kept_loans;
               steps = λ s fly. makes_alone y w.loans code s run.made left.steps same may.alone fly makes is;
-              led = led_there y code w v run same may kept_window comes leaves left.root.1 values;
+              led = led_there y code w v run same may kept_window comes leaves left.root.1 values left.steps is;
               home = home;
               limit = limit_alone;
               room = ap (λ (u : View). u.room) kept_window;

@@ -47,8 +47,11 @@ may_fly_alone k books w start is none some line =
       pass = subst (λ (ls : List Lent). AllByRecursion (λ (older : JobStart). MayFollow k older start) (starts_of ls)) (sym empty) tt;
     }
 
-pub may_fly_beside : (k : Kept) (books : Account) (w : View) (start : JobStart) → Some start ≡ upcoming books → length w.loans < w.room → NoLineBefore (books.state.ended + length w.loans + 1) books.state.lines → AllByRecursion (λ (older : JobStart). MayFollow k older start) (starts_of w.loans) → MayFly k books w start
-may_fly_beside k books w start is lt line pass = record { next = is; room = lt; line = line; pass = pass }
+pub may_fly_beside : (k : Kept) (books : Account) (w : View) (start : JobStart) (behind : ℕ) → Some start ≡ upcoming books → length w.loans < w.room → NoLineBefore (books.state.ended + length w.loans + 1) books.state.lines → (behind ≡ 0 → AllByRecursion (λ (older : JobStart). MayFollow k older start) (starts_of w.loans)) → behind ≡ 0 → MayFly k books w start
+may_fly_beside k books w start behind is lt line pass none = record { next = is; room = lt; line = line; pass = pass none }
 
 pub some_fly : (w : View) (o : Option JobStart) → length w.loans ≢ 0 → w.loans ≡ [] → None ≡ o
 some_fly w o some is = absurd (some (ap length is))
+
+pub some_wait : (w : View) (o : Option JobStart) (r : Bool) → (IsTrue r → 0 < length w.loans) → IsTrue r → w.loans ≡ [] → None ≡ o
+some_wait w o r some t is = (let more = some t in let none : length w.loans ≡ 0 = ap length is in absurd (omega (arith, more, none)))

@@ -10,7 +10,6 @@ use Rattle.source_meaning.specs.Arrivals.{arrivals}
 use Rattle.source_meaning.specs.SingleRun.{Ending, after, ending_at}
 use Rattle.source_meaning.specs.State.{State}
 use Rattle.source_meaning.specs.Valid.{IsValid}
-use Rattle.start_permit.specs.declared.table.CellTable.{CellTable}
 use Rattle.checked.specs.Kept.{Kept}
 use Rattle.order_laws.specs.Keeps.{NoLineBefore}
 use Rattle.retire_order.specs.Accounts.{Account, upcoming, with_words}
@@ -35,9 +34,9 @@ module _ (x : Exchange) (k : Kept) (code : Code) (store : StoreId) (workers : �
   abbrev Here : Account → RootView → View → ℕ → Type 0
   Here books root w steps = IsDesk x k code store workers first limit books root w steps
 
-  module _ (j : Kept) (same : j ≡ k) (layout : Layout) (table : CellTable) (set : AreOf x layout table code j) where
-    pub of_kept : AreOf x layout table code k
-    of_kept = subst (AreOf x layout table code) same set
+  module _ (j : Kept) (same : j ≡ k) (layout : Layout) (set : AreOf x layout code j) where
+    pub of_kept : AreOf x layout code k
+    of_kept = subst (AreOf x layout code) same set
 
     -- ## The beginning
 
@@ -76,7 +75,7 @@ module _ (x : Exchange) (k : Kept) (code : Code) (store : StoreId) (workers : �
       pub desk_turned : (events : ℕ → ℕ → List CoreEvent) (next : Account) (left : Retired) (v : View) (total : ℕ) → HasTurned x j code store events books root.1 w next left v → total ≡ (steps + left.steps) % 2 ^ 64 → Here next left.root v total
       desk_turned events next left v total t sum = record {
         reached = reached_turn x k code workers first limit events books next root.1 left.root.1 w.loans v.loans steps left.steps total h.reached
-            (subst (λ (z : Kept × ℕ). IsLed (setting x code z.0 z.1) events books root.1 w.loans next left.root.1 v.loans) (λ i. (same i, h.room i)) t.led)
+            (subst (λ (z : Kept × ℕ). IsLed (setting x code z.0 z.1) events books root.1 w.loans next left.root.1 v.loans left.steps) (λ i. (same i, h.room i)) t.led)
             t.limit
             (subst (λ m. (s : State) → Fly x m s books root.1 w.loans → Fly x m (turn x s) next left.root.1 v.loans) same t.fly)
             (subst (λ m. (s : State) → Fly x m s books root.1 w.loans → JobMakes code s left.steps) same t.steps)

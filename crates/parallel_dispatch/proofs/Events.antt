@@ -1,5 +1,5 @@
 -- Each move of the dispatcher as events of the core.
-use Rattle.std.proofs.Common.{◌≡◌, ℕ, ◌+◌, ◌<◌, List, [], ◌∷◌, ◌++◌, length, Some, refl, sym, ap, ◌∙◌, subst, arith}
+use Rattle.std.proofs.Common.{◌≡◌, ℕ, ◌+◌, ◌%◌, ◌^◌, ◌<◌, List, [], ◌∷◌, ◌++◌, length, Some, refl, sym, ap, ◌∙◌, subst, arith}
 use Rattle.std.proofs.lemmas.List.{length-map, map-append}
 use Rattle.std.specs.List.{AllByRecursion}
 use Rattle.job_types.specs.declared.job.JobStart.{JobStart}
@@ -29,6 +29,7 @@ use Rattle.parallel_dispatch.specs.Flying.{arrived, starts_of}
 use Rattle.parallel_dispatch.proofs.Issuing.{upcoming_parts}
 use Rattle.parallel_dispatch.specs.Events.{IsIssued, IsLed, shown, standing, whole_turn}
 use Rattle.parallel_dispatch.specs.Turning.{at_machine, turn_of}
+use Rattle.parallel_dispatch.proofs.Counting.{steps_turn}
 use Rattle.parallel_dispatch.proofs.Turning.{HasTurn, has_turn, runs_append, runs_one}
 
 -- ## Issue
@@ -91,9 +92,10 @@ module _ (x : Exchange) (code : Code) (k : Kept) (workers : ℕ) (books : Accoun
   turn = has_turn k' start top.values end ends
 
   -- the job flew, and retires
-  pub turn_led : (l : Lent) → l.start ≡ start → IsLed (setting x code k workers) turn_of books top (l ∷ rest) last now rest
-  turn_led l is = record {
+  pub turn_led : (l : Lent) → l.start ≡ start → (made : ℕ) → made ≡ end.run.made → IsLed (setting x code k workers) turn_of books top (l ∷ rest) last now rest made
+  turn_led l is made made_is = record {
     count = turn.count;
+    counted = λ job. made_is ∙ turn.made ∙ ap (λ n. n % 2 ^ 64) (sym (steps_turn turn.count job));
     runs = λ retired.
         let c = shown code books top (l ∷ rest) retired in
         subst (Runs k' (turn_of turn.count (retired + 1)) c) (gone_is c retired refl refl refl)
@@ -102,9 +104,10 @@ module _ (x : Exchange) (code : Code) (k : Kept) (workers : ℕ) (books : Accoun
 
 -- ## A job runs alone: it is issued, and has its turn at once
 
-pub issue_then_turn : (k : Setting) (books mid next : Account) (top lends now : Top) (loans between left : List Lent) → IsIssued k books top loans mid lends between → IsLed k turn_of mid lends between next now left
-    → IsLed k whole_turn books top loans next now left
-issue_then_turn k books mid next top lends now loans between left issue turn = record {
+pub issue_then_turn : (k : Setting) (books mid next : Account) (top lends now : Top) (loans between left : List Lent) (made : ℕ) → IsIssued k books top loans mid lends between → IsLed k turn_of mid lends between next now left made
+    → IsLed k whole_turn books top loans next now left made
+issue_then_turn k books mid next top lends now loans between left made issue turn = record {
   count = turn.count;
+  counted = turn.counted;
   runs = λ retired. runs_append k (Issue ∷ []) (turn_of turn.count (retired + 1)) (shown k.code books top loans retired) (shown k.code mid lends between retired) (shown k.code next now left (retired + 1)) (issue retired) (turn.runs retired);
 }

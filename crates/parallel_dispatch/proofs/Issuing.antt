@@ -89,11 +89,8 @@ module _ (x : Exchange) (k : Kept) (kept : IsExchange x) (checked : IsChecked x 
     pub is_job : IsJob x start.job
     is_job = (start_fits x (with_words books.state s.store) start (subst (IsValid x) (sym fly.ahead.same) (begun_all_valid x (jobs_of starts) s fly.valid)) next).job
 
-    -- the books have the chains and the count of the state
-    pub same_chains : books.state.chains ≡ s.chains
-    same_chains = ap (λ (t : State). t.chains) fly.ahead.same
-
-    pub same_ended : books.state.ended ≡ s.ended
+    -- the books have the count of the state
+    same_ended : books.state.ended ≡ s.ended
     same_ended = ap (λ (t : State). t.ended) fly.ahead.same
 
     module _ (n : Summary) (told : IsSummaryOf k start n) (line : NoLineBefore (books.state.ended + length loans + 1) books.state.lines) (pass : AllByRecursion (λ (older : JobStart). PassBy k older start) (starts_of loans)) where

@@ -2,6 +2,7 @@ pub mod Bare
 pub mod Told
 pub mod True
 pub mod Lending
+pub mod Counting
 pub mod Turning
 pub mod Ending
 pub mod Issuing

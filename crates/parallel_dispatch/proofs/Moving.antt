@@ -150,15 +150,15 @@ module _ (x : Exchange) (k : Kept) (kept : IsExchange x) (checked : IsChecked x 
           omega (arith, ended, runs, limit)
 
       -- its events are those of its instructions, and Retire
-      led_then : (workers : ℕ) → IsLed (setting x code k workers) turn_of books top w.loans last left.root.1 v.loans
-      led_then workers =
-          let led = retired_led x k code workers flying.0 books top l rest (fly_here flying.0 flying.1) store seat run mid has mid_is done leaves next words (retired.state ∙ λ i. retires (same i) (start_is i) done (with_words books.state mid.values)) retired.running retired.limit left.root.1 values in
+      led_then : (workers : ℕ) → left.steps ≡ run.made → IsLed (setting x code k workers) turn_of books top w.loans last left.root.1 v.loans left.steps
+      led_then workers made =
+          let led = retired_led x k code workers flying.0 books top l rest (fly_here flying.0 flying.1) store seat run mid has mid_is done leaves next words (retired.state ∙ λ i. retires (same i) (start_is i) done (with_words books.state mid.values)) retired.running retired.limit left.root.1 values left.steps made in
           let is : last ≡ record next { state = arrived x next.running next.state } = last_is ∙ ap (λ e. record next { state = arrived e next.running next.state }) same in
-          subst (λ (z : List Lent × (Account × List Lent)). IsLed (setting x code k workers) turn_of books top z.0 z.1.0 left.root.1 z.1.1) (λ i. (sym loans_are i, (sym is i, sym left_is i))) led
+          subst (λ (z : List Lent × (Account × List Lent)). IsLed (setting x code k workers) turn_of books top z.0 z.1.0 left.root.1 z.1.1 left.steps) (λ i. (sym loans_are i, (sym is i, sym left_is i))) led
 
       pub turned_then : left.steps ≡ run.made → left.root.0 ≡ store → v.room ≡ w.room → v.flown ≡ w.flown → AreCounted books w → HasTurned x k code store turn_of books top w last left v
       turned_then made home room flown counted = record {
-        led = led_then w.room;
+        led = led_then w.room made;
         fly = λ s fly. gone s fly left.root.1 v.loans values loans_same left_is;
         steps = λ s fly. makes_here s fly left.steps made;
         home = home;

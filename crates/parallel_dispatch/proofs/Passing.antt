@@ -1,9 +1,8 @@
--- A job passes with each of several older ones.
-use Rattle.std.proofs.Common.{◌≡◌, ℕ, ◌+◌, ◌<◌, Bool, List, [], ◌∷◌, get_or, length, take, sym, subst, arith}
+-- A job passes with each of several older ones, of which the youngest is asked first.
+use Rattle.std.proofs.Common.{◌≡◌, ℕ, ◌+◌, ◌-◌, ◌<◌, Bool, List, get_or, length, drop, sym, ap, ◌∙◌, subst, arith}
 use Rattle.std.specs.Prelude.{◌↔◌, IsTrue}
 use Rattle.std.specs.List.{AllByRecursion}
-use Rattle.std.proofs.lemmas.List.{take_all, take_more}
-use Rattle.plex_num.proofs.Lists.{all_append}
+use Rattle.std.proofs.lemmas.List.{drop_all, drop_more}
 use Rattle.job_types.specs.declared.job.JobStart.{JobStart}
 use Rattle.pair_tests.specs.Pairs.{Passes}
 use Rattle.interference_check.specs.Pairs.{OfPair}
@@ -18,13 +17,16 @@ passes_by k a b r of t = record { one = of.one; other = of.other; of_first = of.
 abbrev pub PassAll : Kept → JobStart → List JobStart → Type 0
 PassAll k later starts = AllByRecursion (λ (older : JobStart). MayFollow k older later) starts
 
-pub passes_begin : (k : Kept) (later : JobStart) (starts : List JobStart) → PassAll k later (take 0 starts)
-passes_begin k later starts = tt
+pub passes_begin : (k : Kept) (later : JobStart) (starts : List JobStart) (n : ℕ) → n ≡ length starts → PassAll k later (drop (n - 0) starts)
+passes_begin k later starts n long = subst (PassAll k later) (sym (drop_all (n - 0) starts (omega (arith, long)))) tt
 
-pub passes_more : (k : Kept) (later : JobStart) (starts : List JobStart) (i : ℕ) (start : JobStart) → i < length starts → start ≡ get_or starts i start → MayFollow k start later → PassAll k later (take i starts) → PassAll k later (take (i + 1) starts)
-passes_more k later starts i start lt is one all =
-    subst (PassAll k later) (sym (take_more starts i start lt))
-    (all_append (λ (older : JobStart). MayFollow k older later) (take i starts) (get_or starts i start ∷ []) all (subst (λ a. MayFollow k a later) is one, tt))
+pub passes_more : (k : Kept) (later : JobStart) (starts : List JobStart) (n i place : ℕ) (start : JobStart) → n ≡ length starts → i < n → place ≡ n - 1 - i → start ≡ get_or starts place start → MayFollow k start later → PassAll k later (drop (n - i) starts) → PassAll k later (drop (n - (i + 1)) starts)
+passes_more k later starts n i place start long lt at is one all =
+    let within : place < length starts = omega (arith, long, lt, at) in
+    let here : n - (i + 1) ≡ place = omega (arith, at) in
+    let next : n - i ≡ place + 1 = omega (arith, lt, at) in
+    subst (PassAll k later) (sym (ap (λ m. drop m starts) here ∙ drop_more starts place start within))
+    (subst (λ a. MayFollow k a later) is one, subst (λ m. PassAll k later (drop m starts)) next all)
 
-pub passes_end : (k : Kept) (later : JobStart) (starts : List JobStart) → PassAll k later (take (length starts) starts) → PassAll k later starts
-passes_end k later starts all = subst (PassAll k later) (take_all (length starts) starts (omega arith)) all
+pub passes_end : (k : Kept) (later : JobStart) (starts : List JobStart) (n : ℕ) → PassAll k later (drop (n - n) starts) → PassAll k later starts
+passes_end k later starts n all = (let none : n - n ≡ 0 = omega arith in subst (λ m. PassAll k later (drop m starts)) none all)

@@ -39,7 +39,8 @@ use Rattle.parallel_dispatch.specs.Flying.{Fly, IsLent, arrived}
 use Rattle.parallel_dispatch.specs.Made.{AllMake, JobMakes, OneMore, RunEnds}
 use Rattle.parallel_dispatch.proofs.Retiring.{Leaves}
 use Rattle.parallel_dispatch.specs.Events.{IsIssued, IsLed, IsReached, first_core, shown}
-use Rattle.parallel_dispatch.specs.Turning.{turn_of}
+use Rattle.parallel_dispatch.specs.Turning.{steps_in, turn_of}
+use Rattle.parallel_dispatch.proofs.Counting.{steps_append, sum_made}
 use Rattle.parallel_dispatch.proofs.Ending.{run_ends, went_first, went_runs}
 use Rattle.parallel_dispatch.proofs.Events.{turn_led}
 use Rattle.parallel_dispatch.proofs.Turning.{runs_append}
@@ -64,14 +65,14 @@ ends_on_root x k code s top l store seat run mid values lent has mid_is =
 -- ## The oldest that flies retires
 
 pub retired_led : (x : Exchange) (k : Kept) (code : Code) (workers : ℕ) (s : State) (books : Account) (top : Top) (l : Lent) (rest : List Lent) → Fly x k s books top (l ∷ rest) → (store : StoreId) (seat : JobView) (run : Private) (mid : Top) → HasRun x code store l seat run → mid ≡ taken_back top seat.1
-    → (done : JobDone) → Leaves run done → (next : Account) (words : List ℕ) → with_words next.state words ≡ retires x l.start done (with_words books.state mid.values) → next.running + 1 ≡ books.running → next.limit ≡ books.limit → (now : Top) → now.values ≡ words
-    → IsLed (setting x code k workers) turn_of books top (l ∷ rest) (record next { state = arrived x next.running next.state }) now rest
-retired_led x k code workers s books top l rest fly store seat run mid has mid_is done leaves next words left running limit now values =
+    → (done : JobDone) → Leaves run done → (next : Account) (words : List ℕ) → with_words next.state words ≡ retires x l.start done (with_words books.state mid.values) → next.running + 1 ≡ books.running → next.limit ≡ books.limit → (now : Top) → now.values ≡ words → (made : ℕ) → made ≡ run.made
+    → IsLed (setting x code k workers) turn_of books top (l ∷ rest) (record next { state = arrived x next.running next.state }) now rest made
+retired_led x k code workers s books top l rest fly store seat run mid has mid_is done leaves next words left running limit now values made made_is =
     let e = ends_on_root x k code s top l store seat run mid fly.values fly.lent.0 has mid_is in
     let same : done ≡ done_of e.end.run.own e.end.run.over = done_is run.own run.over done leaves.sends leaves.chain leaves.outcome ∙ ap (λ (r : Private). done_of r.own r.over) e.run_is in
     let was = fly.running in
     let count : next.running ≡ length rest = omega (arith, was, running) in
-    turn_led x code k workers books top l.start rest e.end e.ends next words (left ∙ λ i. retires x l.start (same i) (with_words books.state (e.words_are i))) count limit now values l refl
+    turn_led x code k workers books top l.start rest e.end e.ends next words (left ∙ λ i. retires x l.start (same i) (with_words books.state (e.words_are i))) count limit now values l refl made (made_is ∙ ap (λ (r : Private). r.made) e.run_is)
 
 -- ## From move to move
 
@@ -87,12 +88,13 @@ module _ (x : Exchange) (k : Kept) (code : Code) (workers : ℕ) (first : State)
     retired = r.retired;
     events = r.events ++ Issue ∷ [];
     runs = runs_append at r.events (Issue ∷ []) (first_core x first limit) (shown code books top loans r.retired) (shown code next now left r.retired) r.runs (issue r.retired);
+    counted = (let none : steps_in (r.events ++ Issue ∷ []) ≡ steps_in r.events + 0 = steps_append r.events (Issue ∷ []) in let all : steps_in r.events ≡ steps_in (r.events ++ Issue ∷ []) = omega (arith, none) in r.counted ∙ ap (λ n. n % 2 ^ 64) all);
     limited = same ∙ r.limited;
     fly = fly (after x first r.retired) r.fly;
     made = r.made;
   }
 
-  pub reached_turn : (events : ℕ → ℕ → List CoreEvent) (books next : Account) (top now : Top) (loans left : List Lent) (steps made total : ℕ) → Here books top loans steps → IsLed at events books top loans next now left → next.limit ≡ books.limit → ((s : State) → Fly x k s books top loans → Fly x k (turn x s) next now left)
+  pub reached_turn : (events : ℕ → ℕ → List CoreEvent) (books next : Account) (top now : Top) (loans left : List Lent) (steps made total : ℕ) → Here books top loans steps → IsLed at events books top loans next now left made → next.limit ≡ books.limit → ((s : State) → Fly x k s books top loans → Fly x k (turn x s) next now left)
       → ((s : State) → Fly x k s books top loans → JobMakes code s made) → total ≡ (steps + made) % 2 ^ 64 → Here next now left total
   unfolding after
   reached_turn events books next top now loans left steps made total r led same fly makes sum =
@@ -104,6 +106,7 @@ module _ (x : Exchange) (k : Kept) (code : Code) (workers : ℕ) (first : State)
         events = r.events ++ more;
         runs = subst (λ n. Runs at (r.events ++ more) (first_core x first limit) (shown code next now left n)) one
             (runs_append at r.events more (first_core x first limit) (shown code books top loans r.retired) (shown code next now left (r.retired + 1)) r.runs (led.runs r.retired));
+        counted = sum ∙ sum_made r.events more steps made r.counted (led.counted (r.retired + 1));
         limited = same ∙ r.limited;
         fly = fly s r.fly;
         made = subst (AllMake x code first (suc r.retired)) (sym sum) (OneMore r.retired steps made r.made (makes s r.fly));
@@ -111,9 +114,10 @@ module _ (x : Exchange) (k : Kept) (code : Code) (workers : ℕ) (first : State)
 
   -- ## The end
 
-  pub reached_led : (books : Account) (top : Top) (steps : ℕ) → Here books top [] steps → AreLedTo at first limit books.state top.values
+  pub reached_led : (books : Account) (top : Top) (steps : ℕ) → Here books top [] steps → AreLedTo at first limit books.state top.values steps
   reached_led books top steps r = record {
     events = r.events;
+    counted = r.counted;
     core = shown code books top [] r.retired;
     runs = r.runs;
     state = refl;

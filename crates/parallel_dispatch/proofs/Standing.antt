@@ -73,6 +73,7 @@ module _ (x : Exchange) (k : Kept) (code : Code) (kept : IsExchange x) (checked 
         events = [];
         runs = ap (λ (t : State). record { state = t; limit = old.limit; window = []; retired = 0 }) (sym (arrivals_over x old.state top.values)) ∙ ap (first_core x first) same;
         fly = fly_none x k (arrivals x first) now top (after_valid x kept first 0 valid) (sym (arrivals_over x old.state top.values)) none (ap (λ (t : Top). t.loans) bare);
+        counted = refl;
         limited = same;
         made = NoJob;
       } in

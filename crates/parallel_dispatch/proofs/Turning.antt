@@ -1,5 +1,5 @@
 -- Lists of events, one list after the other; and the events by which the oldest job comes to its end and retires.
-use Rattle.std.proofs.Common.{◌≡◌, ℕ, suc, ◌+◌, List, [], ◌∷◌, ◌++◌, Some, refl, sym, ap, ◌∙◌, subst, slice_get, arith}
+use Rattle.std.proofs.Common.{◌≡◌, ℕ, suc, ◌+◌, ◌%◌, ◌^◌, List, [], ◌∷◌, ◌++◌, Some, refl, sym, ap, ◌∙◌, subst, slice_get, arith}
 use Rattle.std.proofs.lemmas.Option.{get_or_from_slice_get}
 use Rattle.job_types.specs.declared.job.JobStart.{JobStart}
 use Rattle.job_types.specs.Own.{World}
@@ -14,6 +14,7 @@ use Rattle.interleave_core.specs.Allowed.{CanRetire}
 use Rattle.interleave_core.specs.Cores.{Core, lets_go, steps}
 use Rattle.interleave_core.specs.Runs.{Allows, Runs, Setting, core_after}
 use Rattle.parallel_dispatch.specs.Turning.{at_machine, so_many_steps, turn_of}
+use Rattle.parallel_dispatch.proofs.Counting.{step_made}
 
 -- ## One list after the other
 
@@ -46,18 +47,24 @@ stepped_core k c start younger op m at =
     ap (λ (o : Op). at_machine c start younger (machine_step o (record { run = m.run; world = untouched m.world.store }))) is
     ∙ ap (λ ws. at_machine c start younger (record { run = (machine_step op m).run; world = untouched ws })) (touch_free (reach op m.run) m.world)
 
--- the machine goes to its end by so many events, whatever core the job is the oldest of
+-- the machine goes to its end by so many events, whatever core the job is the oldest of, and counts as many instructions more
 pub record GoesBySteps (k : Setting) (m end : Machine) : Type 0 where
   pub count : ℕ
+  pub made : (n : ℕ) → m.run.made ≡ n % 2 ^ 64 → end.run.made ≡ (n + count) % 2 ^ 64
   pub runs : (c : Core) (start : JobStart) (younger : List WindowJob) → Runs k (so_many_steps count (c.retired + 1)) (at_machine c start younger m) (at_machine c start younger end)
 
 pub goes_by_steps : (k : Setting) (m end : Machine) → Goes k.code.ops m end → GoesBySteps k m end
 unfolding Runs
-goes_by_steps k m end here = record { count = 0; runs = λ c start younger. refl }
+goes_by_steps k m end here = record {
+  count = 0;
+  made = λ n is. (let none : n ≡ n + 0 = omega arith in is ∙ ap (λ a. a % 2 ^ 64) none);
+  runs = λ c start younger. refl;
+}
 goes_by_steps k m end (by_op op running at allowed more) =
     let rest = goes_by_steps k (machine_step op m) end more in
     record {
       count = suc rest.count;
+      made = λ n is. (let more : n + 1 + rest.count ≡ n + suc rest.count = omega arith in rest.made (n + 1) (step_made op m n is) ∙ ap (λ a. a % 2 ^ 64) more);
       runs = λ c start younger. (
         record { place = 0; job = record { start = start; run = m.run }; numbered = omega arith; there = refl; runs = running },
         subst (λ (d : Core). Runs k (so_many_steps rest.count (c.retired + 1)) d (at_machine c start younger end)) (sym (stepped_core k c start younger op m at)) (rest.runs c start younger),
@@ -67,9 +74,10 @@ goes_by_steps k m end (by_op op running at allowed more) =
 -- ## The oldest job has its turn
 
 -- from a core of these words in which the oldest job stands at this start, these events lead to the core in which it has retired, which
--- had come to this end
+-- had come to this end, with as many instructions as are among them
 pub record HasTurn (k : Setting) (start : JobStart) (words : List ℕ) (end : Machine) : Type 0 where
   pub count : ℕ
+  pub made : end.run.made ≡ count % 2 ^ 64
   pub runs : (c : Core) (younger : List WindowJob) → c.window ≡ record { start = start; run = started k.code start } ∷ younger → c.state.store ≡ words
       → Runs k (turn_of count (c.retired + 1)) c (lets_go k.exchange (record { start = start; run = end.run }) younger (at_machine c start younger end))
 
@@ -79,6 +87,7 @@ has_turn k start words end ends =
     let steps = goes_by_steps k first end ends.goes in
     record {
       count = steps.count;
+      made = (let all : 0 + steps.count ≡ steps.count = omega arith in steps.made 0 refl ∙ ap (λ n. n % 2 ^ 64) all);
       runs = λ c younger is store.
           let here : c ≡ at_machine c start younger first = λ i. record c { state = record c.state { store = store i }; window = is i } in
           let there = at_machine c start younger end in

@@ -1,5 +1,5 @@
 -- The end of the run.
-use Rattle.std.specs.Prelude.{◌≡◌, ℕ, List, [], Some}
+use Rattle.std.specs.Prelude.{◌≡◌, ℕ, ◌%◌, ◌^◌, List, [], Some}
 use Rattle.machine_code.specs.Coded.{Code}
 use Rattle.exchange_model.specs.declared.exchange.Exchange.{Exchange}
 use Rattle.source_meaning.specs.SingleRun.{Ending, end_state, ending_at, jobs_at_end}
@@ -15,6 +15,7 @@ use Rattle.shared_store.specs.Seats.{RootView, StoreId}
 use Rattle.parallel_dispatch.specs.declared.driving.Over.{Over}
 use Rattle.parallel_dispatch.specs.Events.{first_core}
 use Rattle.parallel_dispatch.specs.Made.{AllMake}
+use Rattle.parallel_dispatch.specs.Turning.{steps_in}
 
 -- the books and the words are those in which the single run ends that begins in this first state, this is how it ends, and so many
 -- instructions were made by the runs of its jobs, modulo 2^64
@@ -24,9 +25,10 @@ pub record EndsAs (x : Exchange) (code : Code) (first : State) (limit : ℕ) (bo
   pub made : AllMake x code first (jobs_at_end x limit first) steps
 
 -- events, each as it is allowed, lead from this first state, once what was due has arrived, to these books and words, and no job is left
--- in the window
-pub record AreLedTo (k : Setting) (first : State) (limit : ℕ) (books : State) (words : List ℕ) : Type 0 where
+-- in the window; so many of them are instructions, modulo 2^64
+pub record AreLedTo (k : Setting) (first : State) (limit : ℕ) (books : State) (words : List ℕ) (steps : ℕ) : Type 0 where
   pub events : List CoreEvent
+  pub counted : steps ≡ steps_in events % 2 ^ 64
   pub core : Core
   pub runs : Runs k events (first_core k.exchange first limit) core
   pub state : core.state ≡ with_words books words
@@ -37,7 +39,7 @@ pub record IsOver (x : Exchange) (code : Code) (k : Kept) (workers : ℕ) (store
   pub nobody : books.running ≡ 0
   pub home : root.0 ≡ store
   pub bare : root.1 ≡ unlent root.1.values
-  pub led : AreLedTo (setting x code k workers) first limit books.state root.1.values
+  pub led : AreLedTo (setting x code k workers) first limit books.state root.1.values steps
   pub ends : EndsAs x code first limit books.state root.1.values ending steps
 
 -- the run is over, with these books

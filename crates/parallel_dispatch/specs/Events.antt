@@ -1,5 +1,5 @@
 -- The window of the dispatcher as a state of the core of events.
-use Rattle.std.specs.Prelude.{◌≡◌, ℕ, ◌+◌, List, [], ◌∷◌, map}
+use Rattle.std.specs.Prelude.{◌≡◌, ℕ, ◌+◌, ◌%◌, ◌^◌, List, [], ◌∷◌, map}
 use Rattle.machine_code.specs.Coded.{Code}
 use Rattle.exchange_model.specs.declared.exchange.Exchange.{Exchange}
 use Rattle.source_meaning.specs.Arrivals.{arrivals}
@@ -17,7 +17,7 @@ use Rattle.shared_store.specs.declared.view.Lent.{Lent}
 use Rattle.shared_store.specs.declared.view.Top.{Top}
 use Rattle.parallel_dispatch.specs.Flying.{Fly}
 use Rattle.parallel_dispatch.specs.Made.{AllMake}
-use Rattle.parallel_dispatch.specs.Turning.{turn_of}
+use Rattle.parallel_dispatch.specs.Turning.{steps_in, turn_of}
 
 -- the jobs of these loans, each before its first instruction
 abbrev pub standing : Code → List Lent → List WindowJob
@@ -41,18 +41,21 @@ abbrev pub IsIssued : Setting → Account → Top → List Lent → Account → 
 IsIssued k books top loans next now left = (retired : ℕ)
     → Runs k (Issue ∷ []) (shown k.code books top loans retired) (shown k.code next now left retired)
 
--- these events lead from what is shown to what is shown after one retirement more, whatever number of jobs retired before
-pub record IsLed (k : Setting) (events : ℕ → ℕ → List CoreEvent) (books : Account) (top : Top) (loans : List Lent) (next : Account) (now : Top) (left : List Lent) : Type 0 where
+-- these events lead from what is shown to what is shown after one retirement more, whatever number of jobs retired before, and so many
+-- of them are instructions, modulo 2^64
+pub record IsLed (k : Setting) (events : ℕ → ℕ → List CoreEvent) (books : Account) (top : Top) (loans : List Lent) (next : Account) (now : Top) (left : List Lent) (made : ℕ) : Type 0 where
   pub count : ℕ
+  pub counted : (job : ℕ) → made ≡ steps_in (events count job) % 2 ^ 64
   pub runs : (retired : ℕ) → Runs k (events count (retired + 1)) (shown k.code books top loans retired) (shown k.code next now left (retired + 1))
 
 -- what the type of the dispatcher's window keeps: its books, root values and loans are a state of the core, in which each loaned job
--- stands at its start, to which events lead from this first state, each as it is allowed; and beside it what the rule of the words
--- wants of the loans
+-- stands at its start, to which events lead from this first state, each as it is allowed, so many of them instructions, modulo 2^64; and
+-- beside it what the rule of the words wants of the loans
 pub record IsReached (x : Exchange) (k : Kept) (code : Code) (workers : ℕ) (first : State) (limit : ℕ) (books : Account) (top : Top) (loans : List Lent) (steps : ℕ) : Type 0 where
   pub retired : ℕ
   pub events : List CoreEvent
   pub runs : Runs (setting x code k workers) events (first_core x first limit) (shown code books top loans retired)
+  pub counted : steps ≡ steps_in events % 2 ^ 64
   pub limited : books.limit ≡ limit
   pub fly : Fly x k (after x first retired) books top loans
   pub made : AllMake x code first retired steps

@@ -11,8 +11,6 @@ use Rattle.store_layout.specs.Laid.{IsLayout}
 use Rattle.source_meaning.specs.SingleRun.{turn}
 use Rattle.source_meaning.specs.State.{State}
 use Rattle.source_meaning.specs.Valid.{IsValid}
-use Rattle.start_permit.specs.declared.table.CellTable.{CellTable}
-use Rattle.start_permit.specs.Granted.{IsTable}
 use Rattle.checked.specs.Kept.{IsChecked, Kept}
 use Rattle.order_laws.specs.Keeps.{NoLineBefore}
 use Rattle.register_machine.specs.Faithful.{Faithful}
@@ -36,11 +34,10 @@ use Rattle.parallel_dispatch.specs.Made.{JobMakes}
 use Rattle.parallel_dispatch.specs.Told.{AreTrue}
 use Rattle.parallel_dispatch.specs.Windows.{View}
 
--- the layout, the cells, the code and the summaries are of the exchange
-pub record AreOf (x : Exchange) (layout : Layout) (table : CellTable) (code : Code) (k : Kept) : Type 0 where
+-- the layout, the code and the summaries are of the exchange
+pub record AreOf (x : Exchange) (layout : Layout) (code : Code) (k : Kept) : Type 0 where
   pub exchange : IsExchange x
   pub laid : IsLayout x.blocks layout
-  pub table_is : IsTable x table
   pub faithful : Faithful x code
   pub checked : IsChecked x k
   pub true_of : AreTrue x k
@@ -49,9 +46,9 @@ pub record AreOf (x : Exchange) (layout : Layout) (table : CellTable) (code : Co
 abbrev pub HasNames : Exchange → Code → StoreId → BookId → Setting → Type 0
 HasNames x code store book s = (s.exchange.now ≡ x) × (s.code.now ≡ code) × (s.store.now ≡ store) × (s.book.now ≡ book)
 
--- the layout, the cells and the summaries of the setting are of this exchange, and so is this code
+-- the layout and the summaries of the setting are of this exchange, and so is this code
 abbrev pub IsSet : Exchange → Code → Setting → Type 0
-IsSet x code s = AreOf x s.layout.now s.table.now code s.checked.now
+IsSet x code s = AreOf x s.layout.now code s.checked.now
 
 -- a summary is kept of the entry of the start
 abbrev pub HasSummary : Kept → JobStart → Type 0
@@ -95,7 +92,7 @@ pub record AreCounted (books : Account) (w : View) : Type 0 where
 pub record HasTurned (x : Exchange) (k : Kept) (code : Code) (store : StoreId) (events : ℕ → ℕ → List CoreEvent) (books : Account) (top : Top) (w : View) (next : Account) (left : Retired) (v : View) : Type 0 where
   pub fly : (s : State) → Fly x k s books top w.loans → Fly x k (turn x s) next left.root.1 v.loans
   pub steps : (s : State) → Fly x k s books top w.loans → JobMakes code s left.steps
-  pub led : IsLed (setting x code k w.room) events books top w.loans next left.root.1 v.loans
+  pub led : IsLed (setting x code k w.room) events books top w.loans next left.root.1 v.loans left.steps
   pub home : left.root.0 ≡ store
   pub limit : next.limit ≡ books.limit
   pub room : v.room ≡ w.room

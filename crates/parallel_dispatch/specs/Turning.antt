@@ -3,7 +3,7 @@ use Rattle.std.specs.Prelude.{ℕ, zero, suc, List, [], ◌∷◌, ◌++◌}
 use Rattle.job_types.specs.declared.job.JobStart.{JobStart}
 use Rattle.register_machine.specs.Machine.{Machine}
 use Rattle.interleave_core.specs.declared.event.CoreEvent.{CoreEvent}
-use Rattle.interleave_core.specs.declared.event.CoreEvent.TheVariants.{Step, Retire}
+use Rattle.interleave_core.specs.declared.event.CoreEvent.TheVariants.{Issue, Step, Retire}
 use Rattle.interleave_core.specs.declared.window.WindowJob.{WindowJob}
 use Rattle.interleave_core.specs.Cores.{Core}
 
@@ -15,6 +15,13 @@ so_many_steps (suc n) job = Step job ∷ so_many_steps n job
 -- they are made, and the job retires
 abbrev pub turn_of : ℕ → ℕ → List CoreEvent
 turn_of n job = so_many_steps n job ++ Retire ∷ []
+
+-- how many of these events are instructions
+abbrev pub steps_in : List CoreEvent → ℕ
+steps_in [] = 0
+steps_in (Step job ∷ events) = suc (steps_in events)
+steps_in (Issue ∷ events) = steps_in events
+steps_in (Retire ∷ events) = steps_in events
 
 -- the core in which the oldest job has come so far, and the words with it
 abbrev pub at_machine : Core → JobStart → List WindowJob → Machine → Core

@@ -12,7 +12,7 @@ ghost use Rattle.parallel_dispatch.specs.Moves.{HasNames, IsLeft, IsSet, MayFly,
 use crate::course::Course;
 use crate::driving::Over;
 use crate::moves::{Left, Move, issue, next_move, retire, run_alone};
-use crate::pace::Pace;
+use crate::pace::{Pace, Way};
 use crate::setting::Setting;
 use crate::window::Window;
 use interference_check::PairTable;
@@ -94,12 +94,14 @@ impl<B: Course> Desk<B> {
         None
     }
 
-    /// The next job flies, which may. The root and the window are given back where memory is refused.
-    pub fn issue<R: Wait>(
+    /// The next job flies, which may, in this way. The root and the window are given back where memory is refused.
+    pub fn issue<R: Wait, G: Gate>(
         self,
         rt: &R,
         setting: &Setting<'_>,
         shop: &Shop<B>,
+        gate: &G,
+        way: Way,
         start: JobStart,
     ) -> Result<Desk<B>, Left<B>>
         requires named { HasNames B.exchange B.code B.store B.book setting.now }
@@ -118,7 +120,17 @@ impl<B: Course> Desk<B> {
         let mut books = books;
         let mut root = root;
         let mut window = window;
-        match issue(rt, setting, shop, &mut books, &mut root, &mut window, start) {
+        match issue(
+            rt,
+            setting,
+            shop,
+            gate,
+            way,
+            &mut books,
+            &mut root,
+            &mut window,
+            start,
+        ) {
             Ok(()) => Ok(Desk {
                 books,
                 root,
@@ -133,7 +145,6 @@ impl<B: Course> Desk<B> {
     pub fn run_alone<G: Gate>(
         self,
         setting: &Setting<'_>,
-        shop: &Shop<B>,
         gate: &G,
         pace: &mut Pace,
         start: JobStart,
@@ -154,16 +165,7 @@ impl<B: Course> Desk<B> {
         } = self;
         let mut books = books;
         let mut window = window;
-        match run_alone(
-            setting,
-            shop,
-            gate,
-            pace,
-            &mut books,
-            root,
-            &mut window,
-            start,
-        ) {
+        match run_alone(setting, gate, pace, &mut books, root, &mut window, start) {
             Ok(alone) => Ok(Desk {
                 books,
                 root: alone.root,
@@ -216,7 +218,8 @@ impl<B: Course> Desk<B> {
         &self,
         setting: &Setting<'_>,
         pairs: &PairTable<'_>,
-        worth_a_loan: bool,
+        shop: &Shop<B>,
+        pace: &mut Pace,
     ) -> Move
         requires set { IsSet B.exchange B.code setting.now }
         requires kept { setting.now.checked.now ≡ B.kept }
@@ -226,7 +229,7 @@ impl<B: Course> Desk<B> {
         ensures { MayMove B.kept self.now.books self.now.window result }
     {
         let _ = setting;
-        next_move(&self.books, &self.window, pairs, worth_a_loan)
+        next_move(&self.books, &self.window, pairs, shop, pace)
     }
 
     /// The jobs that fly.

@@ -22,7 +22,6 @@ use plex_io::Gate;
 use plex_num::{Memory, Seq};
 use retire_order::{Books, Ending};
 use shared_store::{RootSeat, SharedStore};
-use start_permit::table_of;
 use std::alloc::Global;
 use std::marker::Brand;
 use std::sync::Wait;
@@ -70,7 +69,8 @@ pub fn dispatch<R: Threads + Wait + Sync, G: Gate + Sync>(
         end.books.state end.words (ending_of end.ending) end.steps) }
     ensures events { IfOk result (λ end. AreLedTo
         (core_setting exchange.now code.now checked.now workers)
-        (with_words books.state root.1.values) books.limit end.books.state end.words) }
+        (with_words books.state root.1.values) books.limit
+        end.books.state end.words end.steps) }
     ensures nobody { IfOk result (λ end. end.books.running ≡ 0) }
 {
     let end = dispatch_or_root(
@@ -110,14 +110,12 @@ pub fn dispatch_or_root<R: Threads + Wait + Sync, G: Gate + Sync>(
         end.books.state end.words (ending_of end.ending) end.steps) }
     ensures events { IfOk result (λ end. AreLedTo
         (core_setting exchange.now code.now checked.now workers)
-        (with_words books.state root.1.values) books.limit end.books.state end.words) }
+        (with_words books.state root.1.values) books.limit
+        end.books.state end.words end.steps) }
     ensures joined { IfErr result (λ back. IsBare store back) }
     ensures nobody { IfOk result (λ end. end.books.running ≡ 0) }
 {
     exchange.kept();
-    let Ok(table) = table_of(alloc, exchange) else {
-        return Err(root);
-    };
     let Ok((book, pen)) = TicketBook::new(alloc) else {
         return Err(root);
     };
@@ -125,7 +123,6 @@ pub fn dispatch_or_root<R: Threads + Wait + Sync, G: Gate + Sync>(
         alloc,
         exchange,
         layout,
-        table: &table,
         code,
         checked,
         store: &store,

@@ -10,7 +10,7 @@ ghost use Rattle.parallel_dispatch.specs.Moves.{HasNames, IsLeft, IsSet};
 use crate::course::Course;
 use crate::desk::Desk;
 use crate::moves::{Left, Move};
-use crate::pace::Pace;
+use crate::pace::{Pace, Way};
 use crate::setting::Setting;
 use crate::window::Window;
 use interference_check::PairTable;
@@ -29,8 +29,8 @@ pub(crate) struct Over {
     pub steps: u64,
 }
 
-/// What is due arrives, and then jobs run alone, or fly and retire, until the run is over. Workers are started for the jobs that fly
-/// beside others. Where memory is refused the root and the window are given back.
+/// What is due arrives, and then jobs run alone, or fly and retire, until the run is over. Workers are started for the jobs that are
+/// brought to them. Where memory is refused the root and the window are given back.
 pub(crate) fn run_jobs<
     's,
     'e: 's,
@@ -44,6 +44,7 @@ pub(crate) fn run_jobs<
     shop: &'e Shop<B>,
     gate: &'e G,
     pairs: &PairTable<'_>,
+    pace: Pace,
     books: Books,
     root: RootSeat,
     window: Window<B>,
@@ -64,42 +65,85 @@ pub(crate) fn run_jobs<
     ensures left { IfErr result (λ left. IsLeft B.store left.root left.window.loans) }
 {
     let mut desk = Desk::open(setting, books, root, window)?;
-    let mut pace = Pace::new();
+    let mut pace = pace;
     'jobs: loop {
         if let Some(ending) = desk.ending() {
             return Ok(desk.finish(setting, ending));
         }
-        let worth_a_loan = may_be_worth_a_loan(&pace, shop, desk.window());
-        desk = match desk.next_move(setting, pairs, worth_a_loan) {
-            Move::RunAlone(start) => desk.run_alone(setting, shop, gate, &mut pace, start)?,
+        relieve(rt, setting, shop, gate, &pace, desk.window());
+        desk = match desk.next_move(setting, pairs, shop, &mut pace) {
+            Move::RunAlone(start) => desk.run_alone(setting, gate, &mut pace, start)?,
             Move::Issue(start) => {
-                hire(rt, scope, setting, shop, gate, desk.window().len());
-                desk.issue(rt, setting, shop, start)?
+                let entry = start.job.entry;
+                let way = pace.way(pairs, entry, desk.window().len());
+                let wanted = calls_for(way, entry, &mut pace, shop, desk.window());
+                hire(rt, scope, setting, shop, gate, wanted);
+                desk.issue(rt, setting, shop, gate, way, start)?
             }
-            Move::Retire => desk.retire(rt, setting, shop, gate, &mut pace)?,
+            Move::Retire => {
+                let wanted = wanted_meanwhile(&pace, shop, desk.window());
+                hire(rt, scope, setting, shop, gate, wanted);
+                desk.retire(rt, setting, shop, gate, &mut pace)?
+            }
         };
     }
 }
 
-/// Whether the next job may be worth a loan: others may fly beside it, and the last jobs have been long enough.
-fn may_be_worth_a_loan<B: Naming>(pace: &Pace, shop: &Shop<B>, window: &Window<B>) -> bool {
-    window.room() > 1 && pace.is_worth_a_loan(shop.mean())
+/// Runs a job that waits for a thread, where enough do, each worker has one, and the oldest that flies is not in hand.
+fn relieve<B: Naming, R: Wait, G: Gate>(
+    rt: &R,
+    setting: &Setting<'_>,
+    shop: &Shop<B>,
+    gate: &G,
+    pace: &Pace,
+    window: &Window<B>,
+)
+    requires named { HasNames B.exchange B.code B.store B.book setting.now }
+{
+    if pace.are_enough(shop.waiting()) && shop.are_all_busy() && !window.oldest_is_in_hand() {
+        shop.help(rt, setting.exchange, setting.code, setting.store, gate);
+    }
 }
 
-/// Starts workers, so that there is one for each of so many jobs and for one more, where some fly.
+/// How many workers are wanted where the next job, of this entry, flies in this way. Where it is brought to them, it and the oldest
+/// have company.
+fn calls_for<B: Naming>(
+    way: Way,
+    entry: u32,
+    pace: &mut Pace,
+    shop: &Shop<B>,
+    window: &Window<B>,
+) -> u64 {
+    let Way::Brought = way else {
+        return 0;
+    };
+    pace.has_company(entry);
+    if let Some(oldest) = window.oldest_entry() {
+        pace.has_company(oldest);
+    }
+    shop.wakes_for(pace.batch(entry));
+    pace.threads_for(entry, window.len())
+}
+
+/// How many workers are wanted while the dispatcher waits for the oldest that flies, or runs it: one more where a job waits.
+fn wanted_meanwhile<B: Naming>(pace: &Pace, shop: &Shop<B>, window: &Window<B>) -> u64 {
+    if shop.waiting() == 0 || window.oldest_has_ended(shop) {
+        return 0;
+    }
+    pace.threads_beside(shop.started())
+}
+
+/// Starts workers, so that there are so many.
 fn hire<'s, 'e: 's, B: Naming + Send + Sync, R: Threads + Wait + Sync, G: Gate + Sync>(
     rt: &'e R,
     scope: &'s Scope<'s, &'e ()>,
     setting: &Setting<'e>,
     shop: &'e Shop<B>,
     gate: &'e G,
-    flying: usize,
+    wanted: u64,
 )
     requires named { HasNames B.exchange B.code B.store B.book setting.now }
 {
-    if flying == 0 || flying == usize::MAX {
-        return;
-    }
     start_workers(
         rt,
         scope,
@@ -108,6 +152,6 @@ fn hire<'s, 'e: 's, B: Naming + Send + Sync, R: Threads + Wait + Sync, G: Gate +
         setting.code,
         setting.store,
         gate,
-        flying as u64 + 1,
+        wanted,
     );
 }

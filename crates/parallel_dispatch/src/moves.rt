@@ -15,7 +15,7 @@ ghost use Rattle.parallel_dispatch.specs.Turning.{turn_of};
 ghost use Rattle.parallel_dispatch.specs.Made.{HasRunAlone};
 ghost use Rattle.parallel_dispatch.specs.Moves.{AreCounted, Flying, HasNames, HasSummary, HasTurned, IsBare, IsLeft, IsSet, MayFly, MayMove, MayRunAlone, to_do};
 
-use crate::pace::Pace;
+use crate::pace::{Pace, Way};
 use crate::setting::Setting;
 use crate::window::{Oldest, Window};
 use exchange_model::Exchange;
@@ -30,7 +30,7 @@ use retire_order::{Books, let_arrive};
 use shared_store::{RootSeat, SharedStore};
 use std::marker::Brand;
 use std::sync::Wait;
-use worker_pool::{Naming, Shop};
+use worker_pool::{Flight, Naming, Shop};
 
 /// What the dispatcher does next.
 #[derive(Drop)]
@@ -50,14 +50,15 @@ pub(crate) struct Retired {
     pub steps: u64,
 }
 
-/// The next move. Where none flies the next job runs alone, or flies where it is worth a loan; beside others it flies where it may,
-/// and else the oldest retires.
-#[tactic(auto, using(crate::proofs::Choosing::may_run_alone, crate::proofs::Choosing::may_fly_alone, crate::proofs::Choosing::may_fly_beside, crate::proofs::Choosing::some_fly))]
+/// The next move. Where none flies the next job runs alone, or flies where it is worth a loan. Beside others it flies where it may, once
+/// those in front that have ended have retired; else the oldest retires.
+#[tactic(auto, using(crate::proofs::Choosing::may_run_alone, crate::proofs::Choosing::may_fly_alone, crate::proofs::Choosing::may_fly_beside, crate::proofs::Choosing::some_fly, crate::proofs::Choosing::some_wait))]
 pub(crate) fn next_move<B: Naming>(
     books: &Books,
     window: &Window<B>,
     pairs: &PairTable<'_>,
-    worth_a_loan: bool,
+    shop: &Shop<B>,
+    pace: &mut Pace,
 ) -> Move
     requires room { 0 < window.now.room }
     requires line { window.now.loans ≡ []
@@ -67,11 +68,15 @@ pub(crate) fn next_move<B: Naming>(
     requires window { AllByRecursion (HasSummary pairs.now) (starts_of window.now.loans) }
     ensures { MayMove pairs.now books.now window.now result }
 {
+    if waits_for_oldest(window, shop, pace) {
+        return Move::Retire;
+    }
     let Some(start) = books.peek() else {
         return Move::Retire;
     };
+    let entry = start.job.entry;
     if window.len() == 0 {
-        if worth_a_loan {
+        if pace.may_fly_first(pairs, entry) {
             return Move::Issue(start);
         }
         return Move::RunAlone(start);
@@ -79,10 +84,28 @@ pub(crate) fn next_move<B: Naming>(
     if window.len() >= window.room() || !retire_before_line(books, window.len()) {
         return Move::Retire;
     }
-    if window.lets_pass(pairs, &start) {
+    if !pace.may_ask(entry, window.asking(pairs, entry), window.len()) {
+        pace.waits_for(1);
+        return Move::Retire;
+    }
+    let behind = window.blockers(pairs, &start);
+    pace.waits_for(behind);
+    if behind == 0 {
         return Move::Issue(start);
     }
     Move::Retire
+}
+
+/// Whether the oldest retires before the next job is looked at: it has ended, or the next job is known to wait for it, or enough others
+/// wait for a thread and the oldest is in hand.
+fn waits_for_oldest<B: Naming>(window: &Window<B>, shop: &Shop<B>, pace: &Pace) -> bool
+    ensures { IsTrue result → 0 < length window.now.loans }
+{
+    window.len() > 0
+        && (pace.must_wait()
+            || window.len() >= window.room()
+            || window.oldest_has_ended(shop)
+            || (pace.are_enough(shop.waiting()) && window.oldest_is_in_hand()))
 }
 
 /// Whether so many jobs and one more have retired before the next line comes.
@@ -112,11 +135,13 @@ fn number_of_next(books: &Books) -> u64
     books.ended() + books.running() + 1
 }
 
-/// One more job flies, which may.
-pub(crate) fn issue<B: Naming, R: Wait>(
+/// One more job flies, which may, in this way.
+pub(crate) fn issue<B: Naming, R: Wait, G: Gate>(
     rt: &R,
     setting: &Setting<'_>,
     shop: &Shop<B>,
+    gate: &G,
+    way: Way,
     books: &mut Books,
     root: &mut RootSeat,
     window: &mut Window<B>,
@@ -148,15 +173,34 @@ pub(crate) fn issue<B: Naming, R: Wait>(
     let job = number_of_next(books);
     let _begun = books.next_job();
     let seat = setting.store.lend_as::<Brand>(root, &start);
-    let task = window.push(setting.book, seat, run, start, job);
-    shop.bring(rt, task);
+    let flight = window.launch(setting.book, seat, run, job);
+    let flight = set_out(rt, setting, shop, gate, way, flight);
+    window.push(flight, start);
     Ok(())
+}
+
+/// A flight that is in hand goes this way.
+fn set_out<B: Naming, R: Wait, G: Gate>(
+    rt: &R,
+    setting: &Setting<'_>,
+    shop: &Shop<B>,
+    gate: &G,
+    way: Way,
+    flight: Flight<B>,
+) -> Flight<B>
+    requires named { HasNames B.exchange B.code B.store B.book setting.now }
+    ensures { result ≡ flight }
+{
+    match way {
+        Way::InHand => flight,
+        Way::Brought => flight.bring(rt, shop),
+        Way::Here => flight.run_here(setting.exchange, setting.code, setting.store, gate),
+    }
 }
 
 /// The next job runs to its end on the root's own words, where none flies. It retires at once, and what is due arrives.
 pub(crate) fn run_alone<B: Naming, G: Gate>(
     setting: &Setting<'_>,
-    shop: &Shop<B>,
     gate: &G,
     pace: &mut Pace,
     books: &mut Books,
@@ -193,9 +237,8 @@ pub(crate) fn run_alone<B: Naming, G: Gate>(
     );
     let steps = run.steps();
     gate.at(job, Place::After { steps });
-    shop.note(steps);
     let done = run.done();
-    pace.retires(&start, done);
+    pace.has_ended(start.job.entry, steps);
     let mut words = RootWords::new(setting.store, root);
     let retired = books.retire(setting.exchange, setting.layout, &start, done, &mut words);
     let root = words.into_root();
@@ -258,6 +301,7 @@ pub(crate) fn retire<B: Naming, R: Wait, G: Gate>(
         unreachable!()
     };
     let Oldest { flight, start } = oldest;
+    pace.sets_down(start.job.entry, is_alone(window, &flight));
     let (seat, run) = flight.finish(
         rt,
         shop,
@@ -269,7 +313,8 @@ pub(crate) fn retire<B: Naming, R: Wait, G: Gate>(
     );
     let steps = run.steps();
     let done = run.done();
-    pace.retires(&start, done);
+    pace.has_ended(start.job.entry, steps);
+    pace.has_retired();
     let mut root = root;
     setting.store.take_back(&mut root, seat);
     let mut words = RootWords::new(setting.store, root);
@@ -283,6 +328,11 @@ pub(crate) fn retire<B: Naming, R: Wait, G: Gate>(
         return Err(root);
     };
     Ok(Retired { root, steps })
+}
+
+/// Whether a flight that has left the window is in hand, and no other flies.
+fn is_alone<B: Naming>(window: &Window<B>, flight: &Flight<B>) -> bool {
+    window.len() == 0 && flight.is_in_hand()
 }
 
 /// What is due arrives, where no job runs.

@@ -1,42 +1,281 @@
-// Whether jobs are worth a loan. Nothing here has a contract: what comes out of a run is the same whatever is answered.
-use job_types::{JobDone, JobStart, Outcome};
+// What the dispatcher has learned of its jobs, and which of them are worth a loan by that. Nothing here has a contract: what comes out of
+// a run is the same whatever is answered.
+use interference_check::PairTable;
+use plex_num::Memory;
+use std::alloc::Global;
 
-/// What a loan costs where no record is held, in instructions: a permit, a ticket, and a thread that is told.
-const LOAN: u64 = 4000;
+/// Jobs of an entry begin to fly where they make so many instructions.
+const LONG: u64 = 2000;
 
-/// What each record that is held adds to it: a permit is made by a walk through all of them.
-const RECORD: u64 = 16;
+/// They run alone again where they make fewer than that.
+const SHORT: u64 = 1200;
 
-/// How many records are held, about, and so what a loan costs.
+/// What a job counts for at most in the mean of its entry, in instructions, so that a long one among short ones does not make them fly.
+const MOST: u64 = 32_000;
+
+/// Jobs of so many instructions in all are worth a wake-up.
+const WAKE: u64 = 20_000;
+
+/// A worker is woken where so many jobs wait, whatever they are worth; where few may fly, half of those are enough.
+const MOST_WAIT: u64 = 8;
+
+/// So many jobs that wait are enough for a thread.
+const ENOUGH: u64 = 2;
+
+/// After so many jobs of an entry that flew with nobody beside them the next ones rest: they run alone.
+const LONELY: u32 = 4;
+
+/// How many jobs of an entry rest at first, and at most: twice as many each time.
+const FIRST_REST: u64 = 16;
+
+const LONGEST_REST: u64 = 1024;
+
+/// What a test of two jobs costs, in instructions, about.
+const TEST: u64 = 4;
+
+/// The part of a mean that a new job makes.
+const PART: u64 = 64;
+
+/// Whether some job may run at once with those of an entry.
+#[derive(Clone, Copy)]
+enum Partner {
+    /// It was not asked.
+    Unknown,
+    Nobody,
+    Somebody,
+}
+
+/// What is known of the jobs of an entry.
+#[derive(Clone, Copy)]
+struct Known {
+    /// Whether one has ended.
+    ended: bool,
+    /// How many instructions they make, about, those above `MOST` of a job not counted.
+    mean: u64,
+    /// The same with all counted.
+    whole: u64,
+    /// Whether they are long enough for a loan.
+    long: bool,
+    /// Whether it costs too much to ask whether they pass: then they never fly.
+    costly: bool,
+    partner: Partner,
+    /// How many flew one after the other with nobody beside them.
+    lonely: u32,
+    /// How many of the next ones rest, and how many the next time.
+    rest: u64,
+    next_rest: u64,
+}
+
+/// Nothing is known, so that the first job of an entry flies.
+fn unknown() -> Known {
+    Known {
+        ended: false,
+        mean: 0,
+        whole: 0,
+        long: true,
+        costly: false,
+        partner: Partner::Unknown,
+        lonely: 0,
+        rest: 0,
+        next_rest: FIRST_REST,
+    }
+}
+
+/// How a job flies.
+#[derive(Clone, Copy)]
+pub(crate) enum Way {
+    /// The dispatcher keeps it in hand, and runs it once no other job can set out.
+    InHand,
+    /// It is brought to the workers.
+    Brought,
+    /// The dispatcher runs it at once, since it is short.
+    Here,
+}
+
+/// What is known of the jobs of each entry, how many threads may run jobs beside the dispatcher, how many jobs may wait before one of them
+/// is woken, and how many of the jobs that fly must retire before the next job is looked at again.
 #[derive(Drop)]
 pub(crate) struct Pace {
-    held: u64,
+    entries: Vec<Known>,
+    helpers: u64,
+    most_wait: u64,
+    behind: usize,
 }
 
 impl Pace {
-    /// Before the first job.
-    pub fn new() -> Pace {
-        Pace { held: 0 }
+    /// Before the first job, for so many entries and so many threads beside the dispatcher, where so many jobs may fly. Memory is the
+    /// only reason for an error.
+    pub fn new(alloc: Global, entries: u32, helpers: u64, room: u32) -> Result<Pace, Memory> {
+        match Vec::from_elem(alloc, unknown(), entries as usize) {
+            Ok(entries) => Ok(Pace {
+                entries,
+                helpers,
+                most_wait: u64::from(room / 2).max(1).min(MOST_WAIT),
+                behind: 0,
+            }),
+            Err(_) => Err(Memory),
+        }
     }
 
-    /// Whether a job of so many instructions is worth a loan.
-    pub fn is_worth_a_loan(&self, steps: u64) -> bool {
-        steps >= LOAN.saturating_add(RECORD.saturating_mul(self.held))
+    /// Whether the next job, of this entry, is worth a loan where none flies.
+    pub fn may_fly_first(&mut self, pairs: &PairTable<'_>, entry: u32) -> bool {
+        if self.helpers == 0 {
+            return false;
+        }
+        let mut known = self.asked_partner(pairs, entry);
+        if known.rest > 0 {
+            known.rest -= 1;
+            self.put(entry, known);
+            return false;
+        }
+        flies(known)
     }
 
-    /// A job of this start retires, which left this. A fault opens the records of its forlopp, and those of all where it has none.
-    pub fn retires(&mut self, start: &JobStart, done: &JobDone) {
-        let faulted = done.outcome != Outcome::Ended;
-        if faulted && start.job.forlopp == 0 {
-            self.held = 0;
+    /// How the next job flies, which is of this entry, beside so many.
+    pub fn way(&mut self, pairs: &PairTable<'_>, entry: u32, flying: usize) -> Way {
+        if flying == 0 {
+            return Way::InHand;
+        }
+        if flies(self.asked_partner(pairs, entry)) {
+            return Way::Brought;
+        }
+        Way::Here
+    }
+
+    /// Whether it may be asked if a job of this entry passes with so many that fly, which takes so many tests: no more than a quarter of
+    /// what its jobs take. An entry for which it takes more beside one job never flies.
+    pub fn may_ask(&mut self, entry: u32, tests: u64, flying: usize) -> bool {
+        let mut known = self.known(entry);
+        let length = if known.ended { known.whole } else { LONG };
+        if tests.saturating_mul(4 * TEST) <= length {
+            return true;
+        }
+        if flying == 1 {
+            known.costly = true;
+            self.put(entry, known);
+        }
+        false
+    }
+
+    /// Whether the next job need not be looked at before one more has retired.
+    pub fn must_wait(&self) -> bool {
+        self.behind > 0
+    }
+
+    /// The next job is not looked at before so many have retired.
+    pub fn waits_for(&mut self, behind: usize) {
+        self.behind = behind;
+    }
+
+    /// How many threads are wanted beside the dispatcher where so many jobs fly, and one more of this entry.
+    pub fn threads_for(&self, entry: u32, flying: usize) -> u64 {
+        if self.known(entry).ended {
+            return self.helpers.min(flying as u64);
+        }
+        self.helpers.min(1)
+    }
+
+    /// How many are wanted beside the dispatcher where one more is than have been started.
+    pub fn threads_beside(&self, started: u64) -> u64 {
+        self.helpers.min(started.saturating_add(1))
+    }
+
+    /// Whether enough jobs wait for a thread, where so many do: the dispatcher runs one of them before it lets more set out.
+    pub fn are_enough(&self, waiting: u64) -> bool {
+        waiting >= self.helpers.saturating_mul(ENOUGH).max(1)
+    }
+
+    /// How many jobs of this entry are worth a wake-up.
+    pub fn batch(&self, entry: u32) -> u64 {
+        let known = self.known(entry);
+        if known.ended {
+            return (WAKE / known.mean.max(1)).max(1).min(self.most_wait);
+        }
+        1
+    }
+
+    /// A job of this entry flies, or flew, beside another one.
+    pub fn has_company(&mut self, entry: u32) {
+        let mut known = self.known(entry);
+        known.lonely = 0;
+        known.next_rest = FIRST_REST;
+        self.put(entry, known);
+    }
+
+    /// A job of this entry that flew is to end, with nobody beside it from first to last or not.
+    pub fn sets_down(&mut self, entry: u32, alone: bool) {
+        if !alone {
             return;
         }
-        let before = start.chain.as_slice().len() as u64;
-        let after = if faulted {
-            0
-        } else {
-            done.chain.as_slice().len() as u64
-        };
-        self.held = self.held.saturating_sub(before).saturating_add(after);
+        let mut known = self.known(entry);
+        known.lonely = known.lonely.saturating_add(1);
+        if known.lonely >= LONELY {
+            known.lonely = 0;
+            known.rest = known.next_rest;
+            known.next_rest = known.next_rest.saturating_mul(2).min(LONGEST_REST);
+        }
+        self.put(entry, known);
     }
+
+    /// A job of this entry has ended, which made so many instructions.
+    pub fn has_ended(&mut self, entry: u32, steps: u64) {
+        let mut known = self.known(entry);
+        if known.ended {
+            known.mean = mean_after(known.mean, steps.min(MOST));
+            known.whole = mean_after(known.whole, steps);
+            let bound = if known.long { SHORT } else { LONG };
+            known.long = known.mean >= bound;
+        } else {
+            known.ended = true;
+            known.mean = steps.min(MOST);
+            known.whole = steps;
+            known.long = known.mean >= LONG;
+        }
+        self.put(entry, known);
+    }
+
+    /// One that flew has retired.
+    pub fn has_retired(&mut self) {
+        self.behind = self.behind.saturating_sub(1);
+    }
+
+    /// What is known of this entry, and whether it has a partner.
+    fn asked_partner(&mut self, pairs: &PairTable<'_>, entry: u32) -> Known {
+        let mut known = self.known(entry);
+        if let Partner::Unknown = known.partner {
+            known.partner = if pairs.has_partner(entry) {
+                Partner::Somebody
+            } else {
+                Partner::Nobody
+            };
+            self.put(entry, known);
+        }
+        known
+    }
+
+    fn known(&self, entry: u32) -> Known {
+        match self.entries.get(entry as usize) {
+            Some(known) => *known,
+            None => unknown(),
+        }
+    }
+
+    fn put(&mut self, entry: u32, known: Known) {
+        if let Some(place) = self.entries.get_mut(entry as usize) {
+            *place = known;
+        }
+    }
+}
+
+/// Whether jobs of an entry of which this is known are worth a loan.
+fn flies(known: Known) -> bool {
+    match known.partner {
+        Partner::Somebody => known.long && !known.costly,
+        _ => false,
+    }
+}
+
+/// The mean after a job of so many instructions.
+fn mean_after(mean: u64, steps: u64) -> u64 {
+    (mean - mean / PART).saturating_add(steps / PART)
 }

@@ -3,7 +3,6 @@ use checked::Checked;
 use exchange_model::Exchange;
 use machine_code::Code;
 use shared_store::SharedStore;
-use start_permit::CellTable;
 use std::alloc::Global;
 use store_layout::Layout;
 use ticket_book::TicketBook;
@@ -14,7 +13,6 @@ pub(crate) struct Setting<'e> {
     pub alloc: Global,
     pub exchange: &'e Exchange,
     pub layout: &'e Layout,
-    pub table: &'e CellTable,
     pub code: &'e Code,
     pub checked: &'e Checked,
     pub store: &'e SharedStore,

@@ -6,6 +6,7 @@ ghost use Rattle.parallel_dispatch.specs.Moves.{AreOf, HasNames, IsBare, IsSet, 
 use crate::course::Course;
 use crate::driving::{Over, run_jobs};
 use crate::moves::drain;
+use crate::pace::Pace;
 use crate::setting::Setting;
 use crate::window::Window;
 use checked::Checked;
@@ -15,11 +16,10 @@ use machine_code::Code;
 use plex_io::Gate;
 use retire_order::Books;
 use shared_store::{RootSeat, SharedStore};
-use start_permit::CellTable;
 use std::alloc::Global;
 use std::sync::Wait;
 use std::thread;
-use std::thread::{Scope, Threads};
+use std::thread::{Scope, Threads, available_parallelism};
 use store_layout::Layout;
 use ticket_book::{Pen, TicketBook};
 use worker_pool::Shop;
@@ -62,7 +62,6 @@ pub(crate) fn run_named<B: Course + Send + Sync, R: Threads + Wait + Sync, G: Ga
         setting.alloc,
         setting.exchange,
         setting.layout,
-        setting.table,
         setting.code,
         setting.checked,
         setting.store,
@@ -79,7 +78,6 @@ fn run_shop<'x, B: Course + Send + Sync, R: Threads + Wait + Sync, G: Gate + Syn
     alloc: Global,
     exchange: &'x Exchange,
     layout: &'x Layout,
-    table: &'x CellTable,
     code: &'x Code,
     checked: &'x Checked,
     store: &'x SharedStore,
@@ -90,7 +88,7 @@ fn run_shop<'x, B: Course + Send + Sync, R: Threads + Wait + Sync, G: Gate + Syn
 ) -> Result<(Books, Over), RootSeat>
     requires named { (exchange.now ≡ B.exchange) × (code.now ≡ B.code)
         × (store.now ≡ B.store) × (book.now ≡ B.book) }
-    requires set { AreOf B.exchange layout.now table.now B.code checked.now }
+    requires set { AreOf B.exchange layout.now B.code checked.now }
     requires kept { checked.now ≡ B.kept }
     requires begin { MayBegin B.exchange B.store B.book B.workers B.first B.limit beginning }
     ensures over { IfOk result (λ end. IsOverFrom B.exchange B.code B.kept B.workers B.store
@@ -103,7 +101,7 @@ fn run_shop<'x, B: Course + Send + Sync, R: Threads + Wait + Sync, G: Gate + Syn
         |scope| -> Result<(Books, Over), RootSeat>
             requires { ((exchange.now ≡ B.exchange) × (code.now ≡ B.code)
                 × (store.now ≡ B.store) × (book.now ≡ B.book))
-                × AreOf B.exchange layout.now table.now B.code checked.now
+                × AreOf B.exchange layout.now B.code checked.now
                 × (checked.now ≡ B.kept)
                 × MayBegin B.exchange B.store B.book B.workers B.first B.limit beginning }
             ensures { IfOk result
@@ -112,7 +110,7 @@ fn run_shop<'x, B: Course + Send + Sync, R: Threads + Wait + Sync, G: Gate + Syn
                 × IfErr result (λ root. IsBare B.store root) }
         {
             drive(
-                rt, scope, alloc, exchange, layout, table, code, checked, store, book, shop, gate,
+                rt, scope, alloc, exchange, layout, code, checked, store, book, shop, gate,
                 beginning,
             )
         },
@@ -126,7 +124,6 @@ fn drive<'s, 'e: 's, B: Course + Send + Sync, R: Threads + Wait + Sync, G: Gate 
     alloc: Global,
     exchange: &'e Exchange,
     layout: &'e Layout,
-    table: &'e CellTable,
     code: &'e Code,
     checked: &'e Checked,
     store: &'e SharedStore,
@@ -137,7 +134,7 @@ fn drive<'s, 'e: 's, B: Course + Send + Sync, R: Threads + Wait + Sync, G: Gate 
 ) -> Result<(Books, Over), RootSeat>
     requires named { (exchange.now ≡ B.exchange) × (code.now ≡ B.code)
         × (store.now ≡ B.store) × (book.now ≡ B.book) }
-    requires set { AreOf B.exchange layout.now table.now B.code checked.now }
+    requires set { AreOf B.exchange layout.now B.code checked.now }
     requires kept { checked.now ≡ B.kept }
     requires begin { MayBegin B.exchange B.store B.book B.workers B.first B.limit beginning }
     ensures over { IfOk result (λ end. IsOverFrom B.exchange B.code B.kept B.workers B.store
@@ -148,7 +145,6 @@ fn drive<'s, 'e: 's, B: Course + Send + Sync, R: Threads + Wait + Sync, G: Gate 
         alloc,
         exchange,
         layout,
-        table,
         code,
         checked,
         store,
@@ -163,18 +159,30 @@ fn drive<'s, 'e: 's, B: Course + Send + Sync, R: Threads + Wait + Sync, G: Gate 
     let Ok(pairs) = PairTable::new(alloc, checked) else {
         return Err(root);
     };
+    let Ok(pace) = Pace::new(alloc, checked.entries(), helpers(rt, workers), workers) else {
+        return Err(root);
+    };
     let Ok(window) = Window::<B>::new(alloc, pen, workers) else {
         return Err(root);
     };
-    match run_jobs(rt, scope, &setting, shop, gate, &pairs, books, root, window) {
-        Ok(over) => {
-            shop.close();
-            Ok(over)
-        }
-        Err(left) => {
-            let root = drain(rt, &setting, shop, gate, left);
-            shop.close();
-            Err(root)
-        }
+    let _closing = shop.closing();
+    match run_jobs(
+        rt, scope, &setting, shop, gate, &pairs, pace, books, root, window,
+    ) {
+        Ok(over) => Ok(over),
+        Err(left) => Err(drain(rt, &setting, shop, gate, left)),
     }
+}
+
+/// How many threads may run jobs beside the dispatcher, where so many jobs may run at once: no more than there are processors, of which
+/// two are taken to be there, and many where nobody knows.
+fn helpers<R: Threads>(rt: &R, workers: u32) -> u64 {
+    if workers < 2 {
+        return 0;
+    }
+    let processors = match available_parallelism(rt) {
+        Ok(count) => count.get() as u64,
+        Err(_) => u64::MAX,
+    };
+    u64::from(workers).min(processors.max(2)).saturating_sub(1)
 }

@@ -17,7 +17,7 @@ use std::alloc::Global;
 use std::collections::VecDeque;
 use std::marker::Model;
 use ticket_book::{Pen, TicketBook};
-use worker_pool::{Flight, Naming, Task, launch};
+use worker_pool::{Flight, Naming, Shop, launch};
 
 /// The window: the jobs that have begun and not retired, the oldest first, and what writes their tickets. Runs that are over wait
 /// here for the next job. Contracts see the loans, for how many there is room, and how many jobs have flown so far. It cannot be dropped: it
@@ -81,14 +81,45 @@ impl<B: Naming> Window<B> {
         self.flights.capacity()
     }
 
-    /// Whether a job passes with each that flies, as the later one.
-    pub fn lets_pass(&self, pairs: &PairTable<'_>, later: &JobStart) -> bool
+    /// How many of the oldest must retire before a job passes with each that flies, as the later one: it does so now where none must.
+    pub fn blockers(&self, pairs: &PairTable<'_>, later: &JobStart) -> usize
         requires window { AllByRecursion (HasSummary pairs.now) (starts_of self.now.loans) }
         requires later { HasSummary pairs.now later.now }
-        ensures { IsTrue result → AllByRecursion
+        ensures { result ≡ 0 → AllByRecursion
             (λ (older : StartType). MayFollow pairs.now older later.now) (starts_of self.now.loans) }
     {
-        passes_with_all(pairs, &self.starts, later)
+        blockers_among(pairs, &self.starts, later)
+    }
+
+    /// How many tests it takes, about, to ask whether a job of this entry passes with each that flies.
+    pub fn asking(&self, pairs: &PairTable<'_>, entry: u32) -> u64 {
+        let mut tests: u64 = 0;
+        for start in self.starts.iter() {
+            tests = tests.saturating_add(pairs.asking(start.job.entry, entry));
+        }
+        tests
+    }
+
+    /// Whether the oldest that flies has come to its end, if one flies.
+    pub fn oldest_has_ended(&self, shop: &Shop<B>) -> bool {
+        match self.flights.front() {
+            Some(flight) => flight.has_ended(shop),
+            None => false,
+        }
+    }
+
+    /// Whether the oldest that flies is in the dispatcher's hand.
+    pub fn oldest_is_in_hand(&self) -> bool {
+        match self.flights.front() {
+            Some(flight) => flight.is_in_hand(),
+            None => false,
+        }
+    }
+
+    /// The entry of the oldest that flies.
+    pub fn oldest_entry(&self) -> Option<u32> {
+        let start = self.starts.front()?;
+        Some(start.job.entry)
     }
 
     /// A run in which a job may begin: one that is over, or a new one.
@@ -111,30 +142,32 @@ impl<B: Naming> Window<B> {
         let _ = self.idle.push(run);
     }
 
-    /// One more job flies, which the gate knows by this number: it is to be brought to the pool.
-    pub fn push(
+    /// Makes a flight of a seat and a run that are ready, which the gate knows by this number. It is to come into the window.
+    pub fn launch(
         &mut self,
         book: &TicketBook,
         seat: JobSeat,
         run: Box<JobRun>,
-        start: JobStart,
         job: u64,
-    ) -> Task<B>
+    ) -> Flight<B>
         requires book { book.now ≡ B.book }
-        requires room { length self.old.loans < self.old.room }
         requires flown { self.old.flown + 1 < 2 ^ 64 }
         requires faithful { Faithful B.exchange B.code }
         requires ready { IsReady B.exchange B.code B.store seat run.value }
-        requires start { start ≡ seat.1.lent.start }
-        ensures { self.new ≡ record self.old {
-          loans = self.old.loans ++ seat.1.lent ∷ [];
-          flown = self.old.flown + 1;
-        } }
+        ensures flight { result ≡ seat.1.lent }
+        ensures window { self.new ≡ record self.old { flown = self.old.flown + 1 } }
     {
-        let (flight, task) = launch::<B>(book, &mut self.pen, seat, run, job);
+        launch::<B>(book, &mut self.pen, seat, run, job)
+    }
+
+    /// One more job flies, which starts so.
+    pub fn push(&mut self, flight: Flight<B>, start: JobStart)
+        requires room { length self.old.loans < self.old.room }
+        requires start { start ≡ flight.start }
+        ensures { self.new ≡ record self.old { loans = self.old.loans ++ flight ∷ [] } }
+    {
         self.flights.push_back_reserved(flight);
         self.starts.push_back_reserved(start);
-        task
     }
 
     /// The oldest job leaves the window, if one flies.
@@ -165,20 +198,22 @@ impl<B: Naming> Window<B> {
     }
 }
 
-/// Whether a job passes with each of these, as the later one.
+/// How many of these, the first ones, end with one with which a job does not pass, as the later one: it passes with all where there is
+/// none.
 #[tactic(auto, using(crate::proofs::Passing::passes_begin, crate::proofs::Passing::passes_more, crate::proofs::Passing::passes_end))]
-fn passes_with_all(pairs: &PairTable<'_>, older: &VecDeque<JobStart>, later: &JobStart) -> bool
+fn blockers_among(pairs: &PairTable<'_>, older: &VecDeque<JobStart>, later: &JobStart) -> usize
     requires older { AllByRecursion (HasSummary pairs.now) older.now.items }
     requires later { HasSummary pairs.now later.now }
-    ensures { IsTrue result → AllByRecursion
+    ensures { result ≡ 0 → AllByRecursion
         (λ (start : StartType). MayFollow pairs.now start later.now) older.now.items }
 {
-    for place in 0..older.len() {
+    for behind in 0..older.len() {
+        let place = older.len() - 1 - behind;
         if !passes_with(pairs, &older[place], later) {
-            return false;
+            return place + 1;
         }
     }
-    true
+    0
 }
 
 /// Whether a job passes with an older one.

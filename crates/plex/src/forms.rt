@@ -1,6 +1,13 @@
 // The commands: what stands behind the name of each, and what it does.
 use command_words::MOST_CALLS;
 use plex_limits::{MOST_JOBS, MOST_WORKERS};
+use process_ends::Program;
+
+/// The program.
+pub const PROGRAM: Program = Program {
+    name: "plex",
+    no_memory: "out of memory: give it more, or run a smaller text; --workers 1 takes less",
+};
 
 /// The name of the program and its version. The manual page has it too.
 pub const VERSION: &str = "plex 1.0.0";

@@ -2,55 +2,30 @@
 // What the standard output does not tell, lines on the standard error do.
 #![tactic(auto)]
 
-mod complaint;
 mod forms;
-mod names;
-mod noting_shelf;
-mod noting_sink;
-mod progress;
-mod sentences;
-mod told;
 mod usage;
 
-use complaint::{Known, complain};
-use noting_shelf::NotingShelf;
-use noting_sink::NotingSink;
+use forms::PROGRAM;
 use plex_io::{FileShelf, NoGate, OutSink, Word};
-use plex_num::{Memory, Seq};
+use plex_num::Memory;
 use plex_program::{Status, plex};
-use progress::{Progress, is_asked};
+use process_ends::{
+    Known, NotingShelf, NotingSink, Progress, complain, is_asked, no_memory, words_of,
+};
 use std::alloc::Global;
-use std::env;
-use std::io::ErrorKind;
 use std::process::ExitCode;
 use std::rt::{Clock, Env, Files};
 use std::sync::Wait;
 use std::thread::Threads;
+use usage::say_wrong;
 
 fn main(rt: HostRuntime) -> ExitCode {
     let status = match words_of(&rt, rt.alloc()) {
         Ok(Some(words)) => run(&rt, rt.alloc(), &words, true),
         Ok(None) => run(&rt, rt.alloc(), &[], false),
-        Err(Memory) => no_memory(&rt),
+        Err(Memory) => no_memory(&rt, PROGRAM),
     };
     ExitCode::from(status.number())
-}
-
-/// The words of the command; none, where they are no text.
-fn words_of(rt: &(impl Env + AllocGlobal), alloc: Global) -> Result<Option<Vec<Word>>, Memory> {
-    let mut words = Vec::new(alloc);
-    let args = match env::args(rt) {
-        Ok(args) => args,
-        Err(error) if error.kind() == ErrorKind::OutOfMemory => return Err(Memory),
-        Err(_) => return Ok(None),
-    };
-    for arg in args.skip(1) {
-        let word = Seq::from_vec(arg.into_bytes());
-        if words.push(word).is_err() {
-            return Err(Memory);
-        }
-    }
-    Ok(Some(words))
 }
 
 /// The program over real files and the standard output, and what is to be said of its end. Words that are no text are none here.
@@ -70,9 +45,12 @@ fn run<R: Threads + Wait + Sync + Files + Print + Eprint + Clock + Env>(
     if let Some(progress) = &progress {
         progress.clear();
     }
+    if status == Status::Usage {
+        let _ = say_wrong(rt, words, are_text);
+    }
     let known = Known {
-        words,
-        are_text,
+        program: PROGRAM,
+        files: files_in(words),
         unread: shelf.unread(),
         read_failure: shelf.inner().cause(),
         write_failure: sink.inner().cause(),
@@ -90,15 +68,10 @@ fn asked_progress<R: Clock + Eprint + Env>(rt: &R) -> Option<Progress<'_, R>> {
     }
 }
 
-/// The end where memory was refused for the words.
-fn no_memory<R: Eprint>(rt: &R) -> Status {
-    let known = Known {
-        words: &[],
-        are_text: true,
-        unread: None,
-        read_failure: None,
-        write_failure: None,
-        front: &[],
-    };
-    complain(rt, Status::Memory, &known)
+/// The words from the first file on, which stand behind the name of the command.
+fn files_in(words: &[Word]) -> &[Word] {
+    match words.split_first() {
+        Some((_, files)) => files,
+        None => words,
+    }
 }

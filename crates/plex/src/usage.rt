@@ -1,13 +1,13 @@
 // What is wrong with words that are no command.
-use crate::forms::{Choice, Form, NAMES, form_of};
-use crate::names::{Named, Quoted, text_of};
+use crate::forms::{Choice, FORMS, Form, NAMES, VERSION, form_of};
 use plex_io::Word;
 use plex_num::read_number;
-use std::fmt;
+use process_ends::{Named, Quoted, text_of};
+use std::{fmt, io};
 
 /// What is wrong with the words, or what they ask for in place of a command.
 #[derive(Drop)]
-pub enum Wrong<'a> {
+enum Wrong<'a> {
     /// They ask what each command does.
     Help,
     /// They ask for the version.
@@ -32,8 +32,27 @@ pub enum Wrong<'a> {
     Nothing,
 }
 
+/// Says on the standard error what is wrong with words that are no command, or what they ask for.
+pub fn say_wrong<R: Eprint>(rt: &R, words: &[Word], are_text: bool) -> io::Result<()> {
+    match &wrong_in(words, are_text) {
+        Wrong::Help => say_help(rt),
+        Wrong::Version => eprintln!(rt; "{VERSION}"),
+        Wrong::Nothing => Ok(()),
+        wrong => eprintln!(rt; "plex: {wrong}"),
+    }
+}
+
+/// What each command does.
+fn say_help<R: Eprint>(rt: &R) -> io::Result<()> {
+    for form in &FORMS {
+        let does = form.does;
+        eprintln!(rt; "plex {does}")?;
+    }
+    eprintln!(rt; "man plex tells all options, files and statuses")
+}
+
 /// What is wrong with the words; `are_text` tells whether all words were text.
-pub fn wrong_in(words: &[Word], are_text: bool) -> Wrong<'_> {
+fn wrong_in(words: &[Word], are_text: bool) -> Wrong<'_> {
     if !are_text {
         return Wrong::NoText;
     }

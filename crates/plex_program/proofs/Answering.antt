@@ -1,5 +1,5 @@
 -- The answer of a run that has come to its end.
-use Rattle.std.proofs.Common.{◌≡◌, ℕ, List, map, refl, sym, ap, ◌∙◌}
+use Rattle.std.proofs.Common.{◌≡◌, ℕ, List, ◌++◌, map, refl, sym, ap, ◌∙◌}
 use Rattle.std.specs.Prelude.{unwrap_or}
 use Rattle.exchange_model.specs.declared.exchange.Exchange.{Exchange}
 use Rattle.signal_file.specs.declared.line.Line.{Line}
@@ -14,7 +14,7 @@ use Rattle.machine_code.specs.Coded.{Code}
 use Rattle.stmt_code.specs.Whole.{entry_addresses, whole_code}
 use Rattle.listing.specs.Listing.{IsListing, code_text}
 use Rattle.plex_program.specs.declared.program.Status.TheVariants as status
-use Rattle.plex_program.specs.Answer.{code_of, end_of, ended_answer, ended_status, ending_of, listing_answer, run_answer, summed_answer}
+use Rattle.plex_program.specs.Answer.{behind, code_of, end_of, ended_answer, ended_status, ending_of, listing_answer, run_answer, summed_answer}
 use Rattle.plex_program.specs.Program.{IsEnding}
 use Rattle.plex_program.specs.declared.perform.Answer.{Answer}
 use Rattle.plex_program.specs.declared.program.Status.{Status}
@@ -27,6 +27,10 @@ status_ends Limited s is = rw is tt
 -- the report of an end, and the status of its ending
 pub told_at : (x : Exchange) (s : State) (e : Ending) (a : Answer) → a.status ≡ ended_status e → a.text ≡ report_text x s e → a ≡ ended_answer x s e
 told_at x s e a status_is text_is = λ i. record { status = status_is i; text = text_is i }
+
+-- the same behind a text
+pub told_behind : (x : Exchange) (s : State) (e : Ending) (front : List ℕ) (a : Answer) → a.status ≡ ended_status e → a.text ≡ front ++ report_text x s e → a ≡ behind front (ended_answer x s e)
+told_behind x s e front a status_is text_is = λ i. record { status = status_is i; text = text_is i }
 
 -- the answer at the end of the single run is that of the run
 pub answer_is : (x : Exchange) (lines : List Line) (jobs : ℕ) (s : State) (words : List ℕ) (e : Ending) (a : Answer) → ComesTo x (map coming_of lines) jobs s words e → a ≡ ended_answer x (with_words s words) e → a ≡ run_answer x lines jobs

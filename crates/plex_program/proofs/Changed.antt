@@ -1,5 +1,5 @@
 -- A run that goes on with another exchange.
-use Rattle.std.proofs.Common.{◌≡◌, ℕ, ◌+◌, ◌<◌, ◌≤◌, Bool, true, false, not, ◌&&◌, List, ◌++◌, map, Option, Some, None, Result, Ok, Err, refl, sym, ap, ◌∙◌, subst, arith}
+use Rattle.std.proofs.Common.{◌≡◌, ℕ, ◌<◌, ◌≤◌, Bool, true, false, not, ◌&&◌, List, ◌++◌, map, Option, Some, None, Result, Ok, Err, refl, sym, ap, ◌∙◌, subst, arith}
 use Rattle.std.specs.Prelude.{IfOk, IfSome, nat_le, unwrap_or}
 use Rattle.std.proofs.lemmas.Bool.Decides.{nat_tests}
 use Rattle.plex_io.specs.Files.{Files}
@@ -237,9 +237,9 @@ pub carried_few : (x y : Exchange) (p q : BookParts) (words carried : List ℕ) 
 carried_few x y p q words carried jobs is few = (let same : q.ended ≡ p.ended = ap (λ (t : State). t.ended) is.books in omega (arith, same, few))
 
 -- the answer of a change
-pub changes : (x y : Exchange) (before : State) (q : BookParts) (carried : List ℕ) (jobs at : ℕ) (s : State) (left : List ℕ) (e : Ending) (front : List ℕ) (report a : Answer) → IsCarried x y before (with_words (account_of q).state carried)
-    → RunsTo y (with_words (account_of q).state carried) jobs s left e → front ≡ text_of (event_lines x before.events) ++ change_text at → report ≡ ended_answer y (with_words s left) e → a.status ≡ report.status → a.text ≡ front ++ report.text → IsChanged x y before jobs at a
-changes x y before q carried jobs at s left e front report a is runs begins told status_is text_is = record { carried = t; is = is; answers = answers }
+pub changes : (x y : Exchange) (before : State) (q : BookParts) (carried : List ℕ) (jobs at : ℕ) (s : State) (left : List ℕ) (e : Ending) (front : List ℕ) (a : Answer) → IsCarried x y before (with_words (account_of q).state carried)
+    → RunsTo y (with_words (account_of q).state carried) jobs s left e → front ≡ text_of (event_lines x before.events) ++ change_text at → a ≡ behind front (ended_answer y (with_words s left) e) → IsChanged x y before jobs at a
+changes x y before q carried jobs at s left e front a is runs begins told = record { carried = t; is = is; answers = answers }
   where
     t : State
     t = with_words (account_of q).state carried
@@ -247,11 +247,8 @@ changes x y before q carried jobs at s left e front report a is runs begins told
     ends : e ≡ ending_of jobs (end_state y jobs t)
     ends = ap (λ o. unwrap_or o Limited) (sym runs.ends)
 
-    further : report ≡ further_answer y t jobs
-    further = told ∙ ap (λ u. ended_answer y u e) runs.state ∙ ap (ended_answer y (end_state y jobs t)) ends
-
-    own : a ≡ behind front report
-    own = λ i. record { status = status_is i; text = text_is i }
+    further : ended_answer y (with_words s left) e ≡ further_answer y t jobs
+    further = ap (λ u. ended_answer y u e) runs.state ∙ ap (ended_answer y (end_state y jobs t)) ends
 
     answers : a ≡ changed_answer x y before t jobs at
-    answers = own ∙ ap (λ f. behind f report) begins ∙ ap (behind (text_of (event_lines x before.events) ++ change_text at)) further
+    answers = told ∙ ap (λ f. behind f (ended_answer y (with_words s left) e)) begins ∙ ap (behind (text_of (event_lines x before.events) ++ change_text at)) further

@@ -38,25 +38,25 @@ ends_as Is a before after status.Table is ends = record { answer = a; is = is; e
 ends_as Is a before after status.Change is ends = record { answer = a; is = is; ends = ends }
 ends_as Is a before after status.Filter is ends = record { answer = a; is = is; ends = ends }
 
-pub ends_held : (held : Option Files) (words : List Word) (a : Answer) (before after : Option (List ℕ)) (s : Status) → IfSome held (λ files. IsAnswer words files a) → Ends a before after s → IfSome held (λ files. EndsAs (IsAnswer words files) before after s)
-ends_held None words a before after s is ends = tt
-ends_held (Some files) words a before after s is ends = ends_as (IsAnswer words files) a before after s is ends
+pub ends_held : (Is : Files → Answer → Type 0) (held : Option Files) (a : Answer) (before after : Option (List ℕ)) (s : Status) → IfSome held (λ files. Is files a) → Ends a before after s → IfSome held (λ files. EndsAs (Is files) before after s)
+ends_held Is None a before after s is ends = tt
+ends_held Is (Some files) a before after s is ends = ends_as (Is files) a before after s is ends
 
 -- the answer was written, and then its status comes but where a write failed
-pub complete_written : (held : Option Files) (words : List Word) (a : Answer) (size : Option ℕ) (written : Option (List ℕ)) (shelf shelf' sink sink' : ℕ) (s : Status) → IfSome held (λ files. IsAnswer words files a) → (s ≡ status.Write → WriteCause size written sink sink') → (s ≡ status.Write) ⊎ (s ≡ a.status) → IfSome held (λ files. IsComplete (IsAnswer words files) shelf shelf' sink sink' s)
-complete_written None words a size written shelf shelf' sink sink' s is cause either = tt
-complete_written (Some files) words a size written shelf shelf' sink sink' s is cause (inl failed) = λ no_read no_write. absurd (no_write ((cause failed).cause))
-complete_written (Some files) words a size written shelf shelf' sink sink' s is cause (inr same) = λ no_read no_write. inl (record { answer = a; is = is; status = same })
+pub complete_written : (Is : Files → Answer → Type 0) (held : Option Files) (a : Answer) (size : Option ℕ) (written : Option (List ℕ)) (shelf shelf' sink sink' : ℕ) (s : Status) → IfSome held (λ files. Is files a) → (s ≡ status.Write → WriteCause size written sink sink') → (s ≡ status.Write) ⊎ (s ≡ a.status) → IfSome held (λ files. IsComplete (Is files) shelf shelf' sink sink' s)
+complete_written Is None a size written shelf shelf' sink sink' s is cause either = tt
+complete_written Is (Some files) a size written shelf shelf' sink sink' s is cause (inl failed) = λ no_read no_write. absurd (no_write ((cause failed).cause))
+complete_written Is (Some files) a size written shelf shelf' sink sink' s is cause (inr same) = λ no_read no_write. inl (record { answer = a; is = is; status = same })
 
 -- a read failed, or a file is not held
-pub complete_read : (held : Option Files) (words : List Word) (shelf shelf' sink sink' : ℕ) → QuitsBy held words shelf shelf' quit.Read → IfSome held (λ files. IsComplete (IsAnswer words files) shelf shelf' sink sink' status.Read)
-complete_read None words shelf shelf' sink sink' quits = tt
-complete_read (Some files) words shelf shelf' sink sink' (inl rose) = λ no_read no_write. absurd (no_read rose)
-complete_read (Some files) words shelf shelf' sink sink' (inr is) = λ no_read no_write. inl (record { answer = not_held; is = is; status = refl })
+pub complete_read : (Is : Files → Answer → Type 0) (held : Option Files) (shelf shelf' sink sink' : ℕ) → QuitsBy Is held shelf shelf' quit.Read → IfSome held (λ files. IsComplete (Is files) shelf shelf' sink sink' status.Read)
+complete_read Is None shelf shelf' sink sink' quits = tt
+complete_read Is (Some files) shelf shelf' sink sink' (inl rose) = λ no_read no_write. absurd (no_read rose)
+complete_read Is (Some files) shelf shelf' sink sink' (inr is) = λ no_read no_write. inl (record { answer = not_held; is = is; status = refl })
 
-pub complete_memory : (held : Option Files) (words : List Word) (shelf shelf' sink sink' : ℕ) → IfSome held (λ files. IsComplete (IsAnswer words files) shelf shelf' sink sink' status.Memory)
-complete_memory None words shelf shelf' sink sink' = tt
-complete_memory (Some files) words shelf shelf' sink sink' = λ no_read no_write. inr refl
+pub complete_memory : (Is : Files → Answer → Type 0) (held : Option Files) (shelf shelf' sink sink' : ℕ) → IfSome held (λ files. IsComplete (Is files) shelf shelf' sink sink' status.Memory)
+complete_memory Is None shelf shelf' sink sink' = tt
+complete_memory Is (Some files) shelf shelf' sink sink' = λ no_read no_write. inr refl
 
 -- the answer to these words, where they are a command that comes to this
 answer_is : (words : List Word) (c : Command) (files : Files) (o : Out Answer) → Some c ≡ shape words → performed c files o → IsAnswer words files (answer_of o)
@@ -101,21 +101,21 @@ no_usage_ending : (s : Status) → IsEnding s → s ≡ status.Usage → ⊥
 no_usage_ending s e is = subst IsEnding is e
 
 -- a report
-pub answered_report : (held : Option Files) (words : List Word) (c : Command) (b a : ℕ) (ans : Answer) → Some c ≡ shape words → Performs held (performed c) b a (Ok ans) → IsEnding ans.status → IsMade held words ans
+pub answered_report : (held : Option Files) (words : List Word) (c : Command) (b a : ℕ) (ans : Answer) → Some c ≡ shape words → Performs held (performed c) b a (Ok ans) → IsEnding ans.status → IsMade (IsAnswer words) (shape words ≡ None) usage_answer held ans
 answered_report held words c b a ans e comes ends = record { same = same held comes.ok; plain = plain_ending ans.status ends; usage = λ u. absurd (no_usage_ending ans.status ends u); unshaped = λ none. absurd (some_none c (e ∙ none)) } where
   same : (h : Option Files) → IfSome h (λ files. performed c files (Ok ans)) → IfSome h (λ files. IsAnswer words files ans)
   same None p = tt
   same (Some files) p = answer_is words c files (Ok ans) e p
 
 -- a file that is not held
-pub answered_not_held : (held : Option Files) (words : List Word) (c : Command) (b a : ℕ) → Some c ≡ shape words → Performs held (performed c) b a (Err stop.NotHeld) → QuitsBy held words b a quit.Read
+pub answered_not_held : (held : Option Files) (words : List Word) (c : Command) (b a : ℕ) → Some c ≡ shape words → Performs held (performed c) b a (Err stop.NotHeld) → QuitsBy (IsAnswer words) held b a quit.Read
 answered_not_held held words c b a e comes = inr (same held comes.halts) where
   same : (h : Option Files) → IsSomeAnd h (λ files. performed c files (Err None)) → IsSomeAnd h (λ files. IsAnswer words files not_held)
   same None p = absurd p
   same (Some files) p = answer_is words c files (Err None) e p
 
 -- a status of a refusal
-plain_refused : (r : Refused) → IsPlain (refused_status r)
+pub plain_refused : (r : Refused) → IsPlain (refused_status r)
 plain_refused (Source f) = tt
 plain_refused (Signals f) = tt
 plain_refused (Certificate f) = tt
@@ -123,7 +123,7 @@ plain_refused (Table f) = tt
 plain_refused (NewSource f) = tt
 plain_refused (Filter f) = tt
 
-no_usage_refused : (r : Refused) → refused_status r ≡ status.Usage → ⊥
+pub no_usage_refused : (r : Refused) → refused_status r ≡ status.Usage → ⊥
 unfolding IsUsage
 no_usage_refused (Source f) e = other status.Source (λ u. u) e
 no_usage_refused (Signals f) e = other status.Signals (λ u. u) e

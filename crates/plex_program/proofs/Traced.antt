@@ -1,5 +1,5 @@
 -- The lines of a filter, and the jobs that it shows of a run.
-use Rattle.std.proofs.Common.{◌≡◌, ℕ, List, ◌++◌, map, Result, Ok, Err, ap, sym, ◌∙◌}
+use Rattle.std.proofs.Common.{◌≡◌, ℕ, List, map, Result, Ok, Err, refl, ap, sym, ◌∙◌}
 use Rattle.exchange_model.specs.declared.exchange.Exchange.{Exchange}
 use Rattle.exchange_model.specs.Opening.{opening_store}
 use Rattle.signal_file.specs.declared.line.Line.{Line}
@@ -10,10 +10,9 @@ use Rattle.retire_order.specs.Lines.{coming_of}
 use Rattle.exchange_run.specs.Runs.{ComesTo}
 use Rattle.signal_trace.specs.declared.fault.FilterFault.{FilterFault as ShowFault}
 use Rattle.signal_trace.specs.declared.show.Show.{Show}
-use Rattle.signal_trace.specs.declared.tracer.TracedJob.{TracedJob}
 use Rattle.signal_trace.specs.Text.{trace_text}
 use Rattle.signal_trace.specs.Trace.{trace}
-use Rattle.plex_program.specs.Answer.{behind, ended_answer, or_unshown, run_answer, trace_answer, Reads}
+use Rattle.plex_program.specs.Answer.{behind, ended_answer, or_unshown, trace_answer, Reads}
 use Rattle.plex_program.specs.Reading.{filter_fault}
 use Rattle.plex_program.specs.declared.perform.Answer.{Answer}
 use Rattle.plex_program.specs.declared.perform.Refused.TheVariants.{Filter}
@@ -27,20 +26,19 @@ filter_read said shows is = ap or_unshown (sym is)
 pub filter_refused : (said : Result (List Show) ShowFault) (f : ShowFault) → Err f ≡ said → Reads (or_unshown said) (Err (stop.Refused (Filter (filter_fault f))))
 filter_refused said f is = ap or_unshown (sym is)
 
--- the jobs that are shown of a run from its opening
-pub shown_of : (x : Exchange) (lines : List Line) (limit : ℕ) (b : Account) (words : List ℕ) (shows : List Show) (jobs : List TracedJob) → b ≡ opened (map coming_of lines) limit → words ≡ opening_store x.blocks → jobs ≡ trace x b.limit (with_words b.state words) shows → jobs ≡ trace x limit (opening x (map coming_of lines)) shows
-shown_of x lines limit b words shows jobs books is shown =
+-- the text of the jobs that are shown of a run from its opening
+pub shown_of : (x : Exchange) (lines : List Line) (limit : ℕ) (b : Account) (words : List ℕ) (shows : List Show) (text : List ℕ) → b ≡ opened (map coming_of lines) limit → words ≡ opening_store x.blocks → text ≡ trace_text x (trace x b.limit (with_words b.state words) shows) → text ≡ trace_text x (trace x limit (opening x (map coming_of lines)) shows)
+shown_of x lines limit b words shows text books is shown =
     shown
-    ∙ ap (λ f. trace x b.limit f shows) (begins x (map coming_of lines) limit b words books is)
-    ∙ ap (λ n. trace x n (opening x (map coming_of lines)) shows) (limit_is (map coming_of lines) limit b books)
+    ∙ ap (λ f. trace_text x (trace x b.limit f shows)) (begins x (map coming_of lines) limit b words books is)
+    ∙ ap (λ n. trace_text x (trace x n (opening x (map coming_of lines)) shows)) (limit_is (map coming_of lines) limit b books)
 
--- the jobs that are shown, and then the report
-pub trace_is : (x : Exchange) (lines : List Line) (limit : ℕ) (shows : List Show) (s : State) (words : List ℕ) (e : Ending) (jobs : List TracedJob) (text : List ℕ) (report a : Answer) → ComesTo x (map coming_of lines) limit s words e
-    → jobs ≡ trace x limit (opening x (map coming_of lines)) shows → text ≡ trace_text x jobs → report ≡ ended_answer x (with_words s words) e → a.status ≡ report.status → a.text ≡ text ++ report.text → a ≡ trace_answer x lines shows limit
-trace_is x lines limit shows s words e jobs text report a comes shown written here status_is text_is =
-    let same : report ≡ run_answer x lines limit = answer_is x lines limit s words e report comes here in
-    let front : text ≡ trace_text x (trace x limit (opening x (map coming_of lines)) shows) = written ∙ ap (trace_text x) shown in
-    let own : a ≡ behind text report = λ i. record { status = status_is i; text = text_is i } in
-    own ∙ ap (λ t. behind t report) front ∙ ap (behind (trace_text x (trace x limit (opening x (map coming_of lines)) shows))) same
+-- that text, and then the report
+pub trace_is : (x : Exchange) (lines : List Line) (limit : ℕ) (shows : List Show) (s : State) (words : List ℕ) (e : Ending) (text : List ℕ) (a : Answer) → ComesTo x (map coming_of lines) limit s words e
+    → text ≡ trace_text x (trace x limit (opening x (map coming_of lines)) shows) → a ≡ behind text (ended_answer x (with_words s words) e) → a ≡ trace_answer x lines shows limit
+trace_is x lines limit shows s words e text a comes shown told =
+    let report : Answer = ended_answer x (with_words s words) e in
+    told ∙ ap (λ t. behind t report) shown
+    ∙ ap (behind (trace_text x (trace x limit (opening x (map coming_of lines)) shows))) (answer_is x lines limit s words e report comes refl)
 
 pub ruleset traced_rules = (nobody_runs, none_ended, begins_valid, runs_to, shown_of)

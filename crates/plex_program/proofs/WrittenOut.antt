@@ -1,5 +1,6 @@
 -- A run with a table is the run of the signal file to which the merged lines are written out.
-use Rattle.std.proofs.Common.{◌≡◌, ℕ, ◌≤◌, ◌<◌, ◌^◌, List, length, Option, Some, None, Result, Ok, Err, refl, sym, ap, subst, ◌∙◌, arith}
+use Rattle.std.proofs.Common.{◌≡◌, ℕ, ◌≤◌, ◌<◌, ◌^◌, List, [], length, map, Option, Some, None, Result, Ok, Err, refl, sym, ap, subst, ◌∙◌, arith}
+use Rattle.std.specs.List.{AllByRecursion}
 use Rattle.std.specs.Result.{result_ok}
 use Rattle.std.proofs.lemmas.Option.{none-some, same_Some}
 use Rattle.plex_io.specs.Files.{Files}
@@ -8,9 +9,12 @@ use Rattle.exchange_model.specs.declared.exchange.Exchange.{Exchange}
 use Rattle.signal_file.specs.declared.fault.SignalFault.{SignalFault}
 use Rattle.signal_file.specs.declared.line.Line.{Line}
 use Rattle.signal_file.specs.Lines.{signal_lines}
+use Rattle.source_meaning.specs.Valid.{LinesFit}
+use Rattle.retire_order.specs.Lines.{coming_of}
 use Rattle.retire_order.proofs.Fitting.{signal_lines_few}
 use Rattle.job_table.specs.declared.fault.TableFault.{TableFault as ReadFault}
 use Rattle.job_table.specs.declared.period.Period.{Period}
+use Rattle.job_table.specs.Fit.{AreNumberedFrom}
 use Rattle.job_table.specs.Merged.{all_lines, by_count, line_count, merged, number_in}
 use Rattle.job_table.specs.Table.{table_periods}
 use Rattle.job_table.specs.Writing.{written_out}
@@ -80,10 +84,17 @@ lines_again x name others all held short are =
     ∙ ap (λ (o : Option (List ℕ)). lines_of_file x o) (sym (is_fitting (written_out x all) short))
     ∙ ap or_unread are
 
+pub lines_of_text : (name : Word) (files : Files) (x : Exchange) (lines : List Line) → exchange_at name files ≡ Ok x → LinesFit x [] (map coming_of lines) → AreNumberedFrom 1 lines
+    → AllByRecursion (λ (l : Line). l.after < 2 ^ 32) lines → length lines < 2 ^ 32 → signal_lines x (written_out x lines) ≡ Ok lines
+lines_of_text name files x lines is fit numbers small few = let a = accepted name files x is in written_read x lines a.kept a.words fit numbers small few
+
+pub merged_again : (w : TimedWords) (files : Files) (x : Exchange) (lines all : List Line) → exchange_at w.run.exchange files ≡ Ok x → lines_at x w.run.signals files ≡ Ok lines → merged_at x lines w.table files ≡ Ok all → signal_lines x (written_out x all) ≡ Ok all
+merged_again w files x lines all is reads merges_to = read_again x lines all (accepted w.run.exchange files x is) (has_lines x w.run.signals files lines reads) (has_table x lines w.table files all merges_to)
+
 pub timed_is_run : (w : TimedWords) (files others : Files) (name : Word) (x : Exchange) (lines all : List Line) → exchange_at w.run.exchange files ≡ Ok x → lines_at x w.run.signals files ≡ Ok lines → merged_at x lines w.table files ≡ Ok all
     → exchange_at w.run.exchange others ≡ Ok x → others name ≡ Some (written_out x all) → length (written_out x all) ≤ MOST_BYTES → run_of (record w.run { signals = name }) others ≡ timed_of w files
 timed_is_run w files others name x lines all is reads merges_to again held short =
-    let are = read_again x lines all (accepted w.run.exchange files x is) (has_lines x w.run.signals files lines reads) (has_table x lines w.table files all merges_to) in
+    let are = merged_again w files x lines all is reads merges_to in
     let there : lines_at x name others ≡ Ok all = lines_again x name others all held short are in
     ap (λ o. goes_on o (λ y. goes_on (lines_at y name others) (λ ls. Ok (run_answer y ls w.run.bounds.jobs)))) again
     ∙ ap (λ o. goes_on o (λ ls. Ok (run_answer x ls w.run.bounds.jobs))) there

@@ -39,10 +39,14 @@ EndsAs Is before after s = EndsBy Is before after s
 abbrev pub not_held : Answer
 not_held = record { status = status.Read; text = [] }
 
--- a read failed in this call, or the shelf tells its files and the answer is that one is not held; nothing was written
-pub record ReadCause (held : Option Files) (words : List Word) (faults faults' : ℕ) (before after : Option (List ℕ)) : Type 0 where
-  pub cause : Rose faults faults' ⊎ IsSomeAnd held (λ files. IsAnswer words files not_held)
+-- a read failed in this call, or the shelf tells its files and such an answer is that one is not held; nothing was written
+pub record ReadCauseOf (Is : Files → Answer → Type 0) (held : Option Files) (faults faults' : ℕ) (before after : Option (List ℕ)) : Type 0 where
+  pub cause : Rose faults faults' ⊎ IsSomeAnd held (λ files. Is files not_held)
   pub silent : after ≡ before
+
+-- the same of the answer to these words
+abbrev pub ReadCause : Option Files → List Word → (faults faults' : ℕ) → (before after : Option (List ℕ)) → Type 0
+ReadCause held words faults faults' before after = ReadCauseOf (IsAnswer words) held faults faults' before after
 
 -- a write failed in this call, and a sink that tells its size is full
 pub record WriteCause (size : Option ℕ) (written : Option (List ℕ)) (faults faults' : ℕ) : Type 0 where
@@ -66,21 +70,25 @@ IsPlain status.Write = ⊥
 IsPlain status.Memory = ⊥
 IsPlain s = Unit {0}
 
--- what is written, or why nothing is
-abbrev pub QuitsBy : Option Files → List Word → ℕ → ℕ → Quit → Type 0
-QuitsBy held words faults faults' quit.Read = Rose faults faults' ⊎ IsSomeAnd held (λ files. IsAnswer words files not_held)
-QuitsBy held words faults faults' quit.Memory = Unit {0}
+-- why nothing is written
+abbrev pub QuitsBy : (Files → Answer → Type 0) → Option Files → (faults faults' : ℕ) → Quit → Type 0
+QuitsBy Is held faults faults' quit.Read = Rose faults faults' ⊎ IsSomeAnd held (λ files. Is files not_held)
+QuitsBy Is held faults faults' quit.Memory = Unit {0}
 
--- an answer that is to be written
-pub record IsMade (held : Option Files) (words : List Word) (a : Answer) : Type 0 where
-  pub same : IfSome held (λ files. IsAnswer words files a)
+-- such an answer is to be written; that of no shape is the usage line, and no other is
+pub record IsMade (Is : Files → Answer → Type 0) (Unshaped : Type 0) (usage_line : Answer) (held : Option Files) (a : Answer) : Type 0 where
+  pub same : IfSome held (λ files. Is files a)
   pub plain : IsPlain a.status
-  pub usage : a.status ≡ status.Usage → shape words ≡ None
-  pub unshaped : shape words ≡ None → a ≡ usage_answer
+  pub usage : a.status ≡ status.Usage → Unshaped
+  pub unshaped : Unshaped → a ≡ usage_line
 
-abbrev pub Answers : Option Files → List Word → ℕ → ℕ → Result Answer Quit → Type 0
-Answers held words faults faults' (Ok a) = IsMade held words a
-Answers held words faults faults' (Err q) = QuitsBy held words faults faults' q
+-- what is written, or why nothing is
+abbrev pub AnswersOf : (Files → Answer → Type 0) → Type 0 → Answer → Option Files → (faults faults' : ℕ) → Result Answer Quit → Type 0
+AnswersOf Is Unshaped usage_line held faults faults' (Ok a) = IsMade Is Unshaped usage_line held a
+AnswersOf Is Unshaped usage_line held faults faults' (Err q) = QuitsBy Is held faults faults' q
+
+abbrev pub Answers : Option Files → List Word → (faults faults' : ℕ) → Result Answer Quit → Type 0
+Answers held words faults faults' result = AnswersOf (IsAnswer words) (shape words ≡ None) usage_answer held faults faults' result
 
 -- this answer is made, or memory was refused
 abbrev pub Makes : Answer → Result Answer Quit → Type 0

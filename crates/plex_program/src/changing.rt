@@ -17,7 +17,7 @@ ghost use Rattle.plex_program.specs.Text.{change_text, file_words, misfit_text};
 use crate::going::{go_on, kept_for, run_first};
 use crate::perform::{Answer, Refused, Stop, exchange_in, lines_in};
 use crate::program::Status;
-use crate::running::{answer_at, code_answer};
+use crate::running::{answer_at, answer_behind, code_answer};
 use block_change::{Misfit, carry, misfit_of};
 use command_words::{Bounds, ChangeWords};
 use exchange_model::Exchange;
@@ -285,15 +285,11 @@ fn changed_answer<R: Threads + Wait + Sync, G: Gate + Sync>(
         (with_words (account_of parts).state words.now) bounds.jobs change.now.at) }
     ensures ending { IfOk result (λ a. IsEnding a.status) }
 {
-    let mut text = text_before(alloc, change.old, &parts, change.at)?;
+    let text = text_before(alloc, change.old, &parts, change.at)?;
     let (moved, carried) = carried_over(alloc, change, parts, words)?;
     let end = run_further(rt, alloc, change.new, moved, carried, bounds, gate)?;
-    let report = answer_at(alloc, change.new, &end.books, &end.words, end.ending)?;
-    text.append(report.text.as_slice())?;
-    Ok(Answer {
-        status: report.status,
-        text,
-    })
+    let answer = answer_behind(text, change.new, &end.books, &end.words, end.ending)?;
+    Ok(answer)
 }
 
 /// The events up to the change, and the change.

@@ -84,7 +84,8 @@ pub fn go_on<R: Threads + Wait + Sync, G: Gate + Sync>(
     )
 }
 
-/// The same, as far as what is kept of a certificate lets jobs run at once; one job after the other where nothing is kept.
+/// The same, as far as what is kept of a certificate lets jobs run at once; one job after the other where nothing is kept, and where one
+/// may run at a time.
 fn go_on_by<R: Threads + Wait + Sync, G: Gate + Sync>(
     rt: &R,
     alloc: Global,
@@ -107,7 +108,7 @@ fn go_on_by<R: Threads + Wait + Sync, G: Gate + Sync>(
     ensures nobody { IfOk result (λ end. end.books.running ≡ 0) }
 {
     match kept {
-        Some(checked) => {
+        Some(checked) if workers > 1 => {
             let end = dispatch_from(
                 rt, alloc, exchange, layout, &checked, books, &words, workers, gate,
             )?;
@@ -117,7 +118,7 @@ fn go_on_by<R: Threads + Wait + Sync, G: Gate + Sync>(
                 ending: end.ending,
             })
         }
-        None => go_on_in_turn(alloc, exchange, layout, books, words, gate),
+        _ => go_on_in_turn(alloc, exchange, layout, books, words, gate),
     }
 }
 

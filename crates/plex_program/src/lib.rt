@@ -26,7 +26,8 @@ pub use fault::{
     CertificateFault, FilterFault, FilterRule, Rule, SignalsFault, SignalsRule, SourceFault,
     TableFault, TableRule,
 };
-pub use laws::timed_runs_are_runs;
-pub use perform::{Answer, Refused, Stop};
-pub use program::{Quit, Status, plex};
+pub use laws::{timed_runs_are_runs, written_lines_of_texts_are_read};
+pub use perform::{Answer, Refused, Stop, exchange_in, lines_in};
+pub use program::{Quit, Status, plex, refused_answer, write_answer};
 pub use steady::plex_steady;
+pub use timing::merged_in;

@@ -103,13 +103,9 @@ pub(crate) fn text_in<S: Shelf>(
     }
 }
 
-/// The exchange of a file.
+/// The exchange of a file, or the first fault of its text. It stops where the file cannot be read, and wherever memory is refused.
 #[tactic(auto, using(crate::proofs::Stages::comes_stop, crate::proofs::Stages::comes_go, crate::proofs::Stages::comes_reads))]
-pub(crate) fn exchange_in<S: Shelf>(
-    alloc: Global,
-    shelf: &mut S,
-    name: &Word,
-) -> Result<Exchange, Stop>
+pub fn exchange_in<S: Shelf>(alloc: Global, shelf: &mut S, name: &Word) -> Result<Exchange, Stop>
     ensures comes { Comes (S.held shelf.old) (exchange_at name.now) (S.faults shelf.old)
         (S.faults shelf.new) result }
     ensures kept { S.held shelf.new ≡ S.held shelf.old }
@@ -141,9 +137,9 @@ fn exchange_of_tree(alloc: Global, tree: &Tree) -> Result<Exchange, Stop>
     }
 }
 
-/// The signal lines of a file.
+/// The signal lines of a file, or its first faulty line. It stops where the file cannot be read, and wherever memory is refused.
 #[tactic(auto, using(crate::proofs::Stages::comes_stop, crate::proofs::Stages::comes_go, crate::proofs::Stages::comes_reads))]
-pub(crate) fn lines_in<S: Shelf>(
+pub fn lines_in<S: Shelf>(
     alloc: Global,
     shelf: &mut S,
     exchange: &Exchange,
@@ -205,7 +201,12 @@ fn unread(line: u32, rule: SignalsRule) -> Stop
 
 /// `single`.
 #[tactic(auto, using(crate::proofs::Stages::comes_stop, crate::proofs::Stages::comes_go, crate::proofs::Stages::comes_reads))]
-fn perform_single<S: Shelf>(alloc: Global, shelf: &mut S, words: &RunWords) -> Result<Answer, Stop>
+fn perform_single<S: Shelf, G: Gate>(
+    alloc: Global,
+    shelf: &mut S,
+    words: &RunWords,
+    gate: &G,
+) -> Result<Answer, Stop>
     requires { words.now.bounds.jobs ≤ MOST_JOBS }
     ensures comes { Comes (S.held shelf.old) (run_of words.now) (S.faults shelf.old)
         (S.faults shelf.new) result }
@@ -213,22 +214,23 @@ fn perform_single<S: Shelf>(alloc: Global, shelf: &mut S, words: &RunWords) -> R
 {
     let exchange = exchange_in(alloc, shelf, &words.exchange)?;
     let lines = lines_in(alloc, shelf, &exchange, &words.signals)?;
-    answer_single(alloc, &exchange, lines, words.bounds.jobs)
+    answer_single(alloc, &exchange, lines, words.bounds.jobs, gate)
 }
 
 /// The answer of a run by the source, as a stage.
-fn answer_single(
+fn answer_single<G: Gate>(
     alloc: Global,
     exchange: &Exchange,
     lines: Seq<Line>,
     jobs: u32,
+    gate: &G,
 ) -> Result<Answer, Stop>
     requires lines { AreRead exchange.now lines }
     requires jobs { jobs ≤ MOST_JOBS }
     ensures reads { Reads (Ok (run_answer exchange.now lines jobs)) result }
     ensures ending { IfOk result (λ a. IsEnding a.status) }
 {
-    match source_answer(alloc, exchange, lines, jobs) {
+    match source_answer(alloc, exchange, lines, jobs, gate) {
         Ok(answer) => Ok(answer),
         Err(Memory) => Err(Stop::Memory),
     }
@@ -497,7 +499,7 @@ pub fn perform<R: Threads + Wait + Sync, S: Shelf, G: Gate + Sync>(
 {
     match command {
         Command::Run(words) => perform_code(rt, alloc, shelf, words, gate),
-        Command::Single(words) => perform_single(alloc, shelf, words),
+        Command::Single(words) => perform_single(alloc, shelf, words, gate),
         Command::Analyse(name) => perform_analysis(alloc, shelf, name),
         Command::Certify(name) => perform_certificate(alloc, shelf, name),
         Command::List(name) => perform_list(alloc, shelf, name),

@@ -156,8 +156,8 @@ fn commanded<R: Threads + Wait + Sync, S: Shelf, G: Gate + Sync>(
     }
 }
 
-/// The answer of a refusal.
-fn refused_answer(alloc: Global, refused: Refused) -> Result<Answer, Quit>
+/// The answer of a refusal: its line, and the status of what is refused.
+pub fn refused_answer(alloc: Global, refused: Refused) -> Result<Answer, Quit>
     ensures { Makes (refused_answer refused) result }
 {
     match refusal_line(alloc, refused) {
@@ -195,8 +195,8 @@ fn usage_answer(alloc: Global) -> Result<Answer, Quit>
     }
 }
 
-/// Writes the answer.
-fn write_answer<K: Sink>(sink: &mut K, answer: &Answer) -> Status
+/// Writes the answer, and gives its status back, or `Write` where a write failed.
+pub fn write_answer<K: Sink>(sink: &mut K, answer: &Answer) -> Status
     requires { IsPlain answer.now.status }
     ensures ends { Ends answer.now (K.written sink.old) (K.written sink.new) result }
     ensures write { result ≡ Status.Write →

@@ -7,7 +7,7 @@ ghost use Rattle.retire_order.specs.Accounts.{with_words};
 ghost use Rattle.retire_order.specs.Events.{ending_of};
 ghost use Rattle.retire_order.specs.Lines.{coming_of};
 ghost use Rattle.exchange_run.specs.Runs.{ComesTo};
-ghost use Rattle.plex_program.specs.Answer.{ended_answer, ended_status, listing_answer, load_answer, run_answer};
+ghost use Rattle.plex_program.specs.Answer.{behind, ended_answer, ended_status, listing_answer, load_answer, run_answer};
 ghost use Rattle.plex_program.specs.Program.{IsEnding};
 ghost use Rattle.plex_program.specs.Runs.{AreRead};
 ghost use Rattle.command_words.specs.Bounded.{AreWithin};
@@ -23,7 +23,7 @@ use exchange_run::{BySource, Ended, run_lines};
 use listing::print_code;
 use plex_io::Gate;
 use plex_num::{Memory, Seq};
-use report_text::{load_summary, report};
+use report_text::{add_report, load_summary, report};
 use retire_order::{Books, Ending};
 use signal_file::Line;
 use std::alloc::Global;
@@ -31,20 +31,22 @@ use std::sync::Wait;
 use std::thread::Threads;
 use store_layout::layout_of;
 
-/// The answer of the single run of these lines by the source itself, which ends after so many jobs at the latest.
+/// The answer of the single run of these lines by the source itself, which ends after so many jobs at the latest. It calls the gate before
+/// and after each job.
 #[tactic(auto, using(crate::proofs::Answering::answer_is))]
-pub fn source_answer(
+pub fn source_answer<G: Gate>(
     alloc: Global,
     exchange: &Exchange,
     lines: Seq<Line>,
     jobs: u32,
+    gate: &G,
 ) -> Result<Answer, Memory>
     requires lines { AreRead exchange.now lines }
     requires jobs { jobs ≤ MOST_JOBS }
     ensures answer { IfOk result (λ a. a ≡ run_answer exchange.now lines jobs) }
     ensures ending { IfOk result (λ a. IsEnding a.status) }
 {
-    let end = run_by_source(alloc, exchange, lines, jobs)?;
+    let end = run_by_source(alloc, exchange, lines, jobs, gate)?;
     let answer = answer_at(alloc, exchange, &end.books, &end.words, end.ending)?;
     Ok(answer)
 }
@@ -111,6 +113,27 @@ pub(crate) fn answer_at(
     })
 }
 
+/// The same report behind a text, and the status of its ending.
+#[tactic(auto, using(crate::proofs::Answering::told_behind, crate::proofs::Answering::status_ends))]
+pub(crate) fn answer_behind(
+    text: Seq<u8>,
+    exchange: &Exchange,
+    books: &Books,
+    words: &Seq<u32>,
+    ending: Ending,
+) -> Result<Answer, Memory>
+    ensures answer { IfOk result (λ a. a ≡ behind text (ended_answer exchange.now
+        (with_words books.now.state words.now) (ending_of ending))) }
+    ensures ending { IfOk result (λ a. IsEnding a.status) }
+{
+    let mut text = text;
+    add_report(&mut text, exchange, books, words, ending)?;
+    Ok(Answer {
+        status: status_of(ending),
+        text,
+    })
+}
+
 /// The answer of the single run of these lines of a load, as far as the exchange's own certificate lets jobs run at once.
 #[tactic(auto, using(crate::proofs::Answering::status_ends))]
 pub fn load_answer<R: Threads + Wait + Sync, G: Gate + Sync>(
@@ -139,11 +162,12 @@ pub fn load_answer<R: Threads + Wait + Sync, G: Gate + Sync>(
 }
 
 /// The single run of these lines by the source itself to its end, which comes after so many jobs at the latest.
-fn run_by_source(
+fn run_by_source<G: Gate>(
     alloc: Global,
     exchange: &Exchange,
     lines: Seq<Line>,
     jobs: u32,
+    gate: &G,
 ) -> Result<Ended, Memory>
     requires lines { AreRead exchange.now lines }
     requires jobs { jobs ≤ MOST_JOBS }
@@ -151,7 +175,7 @@ fn run_by_source(
         end.books.state end.words (ending_of end.ending)) }
 {
     let layout = layout_of(alloc, exchange)?;
-    let mut runner = BySource::new(alloc);
+    let mut runner = BySource::new(alloc, gate);
     run_lines(
         alloc,
         exchange,

@@ -41,9 +41,10 @@ pub fn perform_timed<R: Threads + Wait + Sync, S: Shelf, G: Gate + Sync>(
     answer_plain(rt, alloc, &exchange, all, words.run.bounds, gate)
 }
 
-/// The lines of a signal file and the signals of a table's file, as one list.
+/// The lines of a signal file and the signals of a table's file, as one list, or the first faulty line of the table. It stops where the
+/// file cannot be read, and wherever memory is refused.
 #[tactic(auto, using(crate::proofs::Stages::comes_stop, crate::proofs::Stages::comes_go, crate::proofs::Stages::comes_reads))]
-fn merged_in<S: Shelf>(
+pub fn merged_in<S: Shelf>(
     alloc: Global,
     shelf: &mut S,
     exchange: &Exchange,

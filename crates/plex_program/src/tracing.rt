@@ -6,6 +6,7 @@ ghost use Rattle.retire_order.specs.Events.{ending_of};
 ghost use Rattle.retire_order.specs.Lines.{coming_of};
 ghost use Rattle.exchange_run.specs.Runs.{ComesTo};
 ghost use Rattle.signal_trace.specs.Filter.{filter_of};
+ghost use Rattle.signal_trace.specs.Text.{trace_text};
 ghost use Rattle.signal_trace.specs.Trace.{trace};
 ghost use Rattle.plex_program.specs.Answer.{Comes, Reads, or_unshown, shows_at, shows_of_file, trace_answer, trace_of};
 ghost use Rattle.plex_program.specs.Program.{IsEnding};
@@ -13,7 +14,7 @@ ghost use Rattle.plex_program.specs.Runs.{AreRead};
 
 use crate::fault::{FilterFault, FilterRule};
 use crate::perform::{Answer, Refused, Stop, exchange_in, lines_in, text_in};
-use crate::running::answer_at;
+use crate::running::answer_behind;
 use code_gen::compile;
 use command_words::TraceWords;
 use exchange_model::Exchange;
@@ -21,7 +22,7 @@ use plex_io::{Shelf, Word};
 use plex_num::{Memory, Seq};
 use retire_order::Books;
 use signal_file::Line;
-use signal_trace::{FilterFault as ShowFault, Show, Traced, read_filter, trace_run, trace_text};
+use signal_trace::{FilterFault as ShowFault, Show, Traced, read_filter, trace_run};
 use std::alloc::Global;
 use store_layout::{layout_of, opening};
 
@@ -130,16 +131,11 @@ fn trace_answer(
     ensures ending { IfOk result (λ a. IsEnding a.status) }
 {
     let end = run_traced(alloc, exchange, lines, shows, jobs)?;
-    let mut text = trace_text(alloc, exchange, &end.jobs)?;
-    let report = answer_at(alloc, exchange, &end.books, &end.words, end.ending)?;
-    text.append(report.text.as_slice())?;
-    Ok(Answer {
-        status: report.status,
-        text,
-    })
+    let answer = answer_behind(end.text, exchange, &end.books, &end.words, end.ending)?;
+    Ok(answer)
 }
 
-/// The single run of these lines by compiled code, one job after the other, and the jobs of it that the filter shows.
+/// The single run of these lines by compiled code, one job after the other, and the text of the jobs of it that the filter shows.
 #[tactic(auto, using(crate::proofs::Traced::traced_rules))]
 fn run_traced(
     alloc: Global,
@@ -152,8 +148,8 @@ fn run_traced(
     requires jobs { jobs ≤ MOST_JOBS }
     ensures end { IfOk result (λ t. ComesTo exchange.now (map coming_of lines) jobs
         t.books.state t.words (ending_of t.ending)) }
-    ensures jobs { IfOk result (λ t. t.jobs
-        ≡ trace exchange.now jobs (opening exchange.now (map coming_of lines)) shows.now) }
+    ensures text { IfOk result (λ t. t.text ≡ trace_text exchange.now
+        (trace exchange.now jobs (opening exchange.now (map coming_of lines)) shows.now)) }
 {
     exchange.kept();
     let layout = layout_of(alloc, exchange)?;

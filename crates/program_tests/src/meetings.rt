@@ -4,10 +4,11 @@ use plex_io::{Gate, MeetGate, Place, SlideGate, SteadyShelf, SteadySink};
 use plex_num::Memory;
 use plex_program::{Status, plex_steady};
 use std::alloc::Global;
+use std::hint;
 use std::sync::Wait;
 use std::sync::atomic::{AtomicU64, Ordering};
 use std::test::Fail;
-use std::thread::Threads;
+use std::thread::{Threads, available_parallelism};
 
 /// Jobs of this exchange may run at once: each shows what it was asked, in nine instructions.
 const QUESTIONS: &str = "SIGNAL ASK SINGLE BUFFERED B DATA 1;
@@ -59,6 +60,48 @@ impl Gate for StepsGate {
         self.meet.at(job, place);
         if let Place::After { steps } = place {
             self.steps.fetch_add(steps, Ordering::SeqCst);
+        }
+    }
+}
+
+/// A gate that holds each job from one number to another before its first step until so many jobs have begun.
+#[derive(Drop)]
+struct CrowdGate {
+    first: u64,
+    last: u64,
+    wanted: u64,
+    begun: AtomicU64,
+    /// How many jobs that were held found that so many had begun.
+    seen: AtomicU64,
+}
+
+impl CrowdGate {
+    fn new(first: u64, last: u64, wanted: u64) -> CrowdGate {
+        CrowdGate {
+            first,
+            last,
+            wanted,
+            begun: AtomicU64::new(0),
+            seen: AtomicU64::new(0),
+        }
+    }
+}
+
+impl Gate for CrowdGate {
+    fn at(&self, job: u64, place: Place) {
+        let Place::Before = place else {
+            return;
+        };
+        self.begun.fetch_add(1, Ordering::SeqCst);
+        if job < self.first || self.last < job {
+            return;
+        }
+        for _ in 0..TURNS {
+            if self.begun.load(Ordering::SeqCst) >= self.wanted {
+                self.seen.fetch_add(1, Ordering::SeqCst);
+                return;
+            }
+            hint::spin_loop();
         }
     }
 }
@@ -118,5 +161,65 @@ fn slides<R: Threads + Wait + Sync>(rt: &R, alloc: Global, workers: &str) -> Res
 fn a_job_begins_while_an_older_one_runs(rt: HostRuntime) -> Result<(), Fail> {
     assert_eq!(rt; slides(&rt, rt.alloc(), "2")?, 1);
     assert_eq!(rt; slides(&rt, rt.alloc(), "1")?, 0);
+    Ok(())
+}
+
+const TWELVE_ASKS: &str = "AFTER 0 ASK Q 1 NONE
+AFTER 0 ASK Q 2 NONE
+AFTER 0 ASK Q 3 NONE
+AFTER 0 ASK Q 4 NONE
+AFTER 0 ASK Q 5 NONE
+AFTER 0 ASK Q 6 NONE
+AFTER 0 ASK Q 7 NONE
+AFTER 0 ASK Q 8 NONE
+AFTER 0 ASK Q 9 NONE
+AFTER 0 ASK Q 10 NONE
+AFTER 0 ASK Q 11 NONE
+AFTER 0 ASK Q 12 NONE
+";
+
+const TWELVE_SHOWN: &str = "OUT 1 SHOW 1 F0
+OUT 2 SHOW 2 F0
+OUT 3 SHOW 3 F0
+OUT 4 SHOW 4 F0
+OUT 5 SHOW 5 F0
+OUT 6 SHOW 6 F0
+OUT 7 SHOW 7 F0
+OUT 8 SHOW 8 F0
+OUT 9 SHOW 9 F0
+OUT 10 SHOW 10 F0
+OUT 11 SHOW 11 F0
+OUT 12 SHOW 12 F0
+JOBS 12
+END DONE
+";
+
+/// Three jobs begin before any of them goes on where there are three threads, and two where there are two: two workers are used, or one.
+#[test]
+fn each_worker_is_used(rt: HostRuntime) -> Result<(), Fail> {
+    let threads = match available_parallelism(&rt) {
+        Ok(count) => count.get() as u64,
+        Err(_) => 2,
+    };
+    let gate = CrowdGate::new(1, 3, threads.max(2).min(3));
+    let report = "OUT 1 SHOW 7 F0\nOUT 2 SHOW 8 F0\nOUT 3 SHOW 9 F0\nJOBS 3\nEND DONE\n";
+    writes(&rt, rt.alloc(), (QUESTIONS, THREE_ASKS), "3", &gate, report)?;
+    assert_eq!(rt; gate.seen.load(Ordering::SeqCst), 3);
+    Ok(())
+}
+
+/// The second job goes on when all twelve have begun: so eleven fly, whatever number of threads runs them.
+#[test]
+fn more_jobs_fly_than_threads_run(rt: HostRuntime) -> Result<(), Fail> {
+    let gate = CrowdGate::new(2, 2, 12);
+    writes(
+        &rt,
+        rt.alloc(),
+        (QUESTIONS, TWELVE_ASKS),
+        "64",
+        &gate,
+        TWELVE_SHOWN,
+    )?;
+    assert_eq!(rt; gate.seen.load(Ordering::SeqCst), 1);
     Ok(())
 }

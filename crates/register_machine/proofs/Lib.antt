@@ -6,3 +6,4 @@ pub mod Meaning
 pub mod Returning
 pub mod Searching
 pub mod Stopping
+pub mod Framing

@@ -1,8 +1,7 @@
 // The callers that wait for an answer.
-ghost use Rattle.std.specs.Prelude.{◌≡◌, ◌<◌, ◌≤◌, ◌∷◌, [], false, length, MatchOption};
+ghost use Rattle.std.specs.Prelude.{◌≡◌, ◌<◌, ◌∷◌, [], drop, length};
 ghost use Rattle.register_machine.specs.Private.{awaits};
 
-use arrayvec::ArrayVec;
 use plex_limits::MOST_CALLERS;
 use std::marker::Model;
 
@@ -15,31 +14,32 @@ pub struct Frame {
     pub awaits: u32,
 }
 
-/// What an unused place holds; no list of frames ever shows it.
-impl Default for Frame {
-    fn default() -> Frame {
-        Frame {
-            back: 0,
-            locals: [0; 50],
-            given: [0; 8],
-            awaits: 0,
-        }
-    }
-}
+/// What a place holds that was never used; no list of frames ever shows it.
+const UNUSED: Frame = Frame {
+    back: 0,
+    locals: [0; 50],
+    given: [0; 8],
+    awaits: 0,
+};
 
-/// The callers that wait: at most eight, which contracts see as a list, the latest first.
+/// The callers that wait: at most eight, which contracts see as a list, the latest first. A place that is left keeps what it
+/// held, so that to leave it costs no more than to count one fewer.
 #[derive(Drop)]
 pub struct Frames {
-    waiting: ArrayVec<Frame, MOST_CALLERS>,
+    waiting: [Frame; MOST_CALLERS],
+    count: usize,
 }
 
 impl Model for Frames {
-    ghost use Rattle.std.specs.Prelude.{List, reverse};
+    ghost use Rattle.std.specs.Prelude.{List, reverse, take, ◌≤◌};
+    ghost use Rattle.plex_limits.specs.declared.limits.TheConstants.{MOST_CALLERS};
     ghost use Rattle.register_machine.specs.declared.frames.Frame.{Frame};
 
     ghost Value = { List Frame };
 
-    ghost view = { λ f. reverse f.waiting.items };
+    ghost view = { λ f. reverse (take f.count f.waiting) };
+
+    ghost invariant = { λ f. f.count ≤ MOST_CALLERS };
 }
 
 impl Frames {
@@ -48,7 +48,8 @@ impl Frames {
         ensures { result ≡ [] }
     {
         Frames {
-            waiting: ArrayVec::new(),
+            waiting: [UNUSED; MOST_CALLERS],
+            count: 0,
         }
     }
 
@@ -56,33 +57,58 @@ impl Frames {
     pub fn clear(&mut self)
         ensures { self.new ≡ [] }
     {
-        self.waiting.clear();
+        self.count = 0;
     }
 
     /// How many callers wait.
     pub fn len(&self) -> usize
         ensures { result ≡ length self.now }
     {
-        self.waiting.len()
+        let places: &[Frame] = &self.waiting;
+        let _ = places;
+        self.count
     }
 
     /// One more caller waits; there must be room for it.
-    pub fn push(&mut self, frame: Frame)
+    #[tactic(auto, using(crate::proofs::Framing::how_many, crate::proofs::Framing::one_more))]
+    pub fn push(&mut self, back: usize, locals: &[u32; 50], given: &[u32; 8], awaits: u32)
         requires { length self.old < MOST_CALLERS }
-        ensures { self.new ≡ frame ∷ self.old }
+        ensures { self.new ≡ record { back = back; locals = locals.now; given = given.now; awaits = awaits } ∷ self.old }
     {
-        self.waiting.push(frame);
+        let frame = &mut self.waiting[self.count];
+        frame.back = back;
+        frame.locals = *locals;
+        frame.given = *given;
+        frame.awaits = awaits;
+        self.count += 1;
     }
 
-    /// Takes back the latest caller, if it waits for this answer; else all wait on.
-    pub fn take(&mut self, answer: u32) -> Option<Frame>
-        ensures { MatchOption result ((self.new ≡ self.old) × (awaits self.old answer ≡ false))
-            (λ f. (self.old ≡ f ∷ self.new) × (f.awaits ≡ answer)) }
+    /// Whether the latest caller waits for this answer.
+    #[tactic(auto, using(crate::proofs::Framing::none_awaits, crate::proofs::Framing::last_awaits))]
+    pub fn awaits(&self, answer: u32) -> bool
+        ensures { result ≡ awaits self.now answer }
     {
-        let last = self.waiting.last()?;
-        if last.awaits != answer {
-            return None;
+        if self.count == 0 {
+            return false;
         }
-        self.waiting.pop()
+        self.waiting[self.count - 1].awaits == answer
+    }
+
+    /// The latest caller; there must be one.
+    #[tactic(auto, using(crate::proofs::Framing::how_many, crate::proofs::Framing::last_of))]
+    pub fn latest(&self) -> &Frame
+        requires { 0 < length self.now }
+        ensures { self.now ≡ result.now ∷ drop 1 self.now }
+    {
+        &self.waiting[self.count - 1]
+    }
+
+    /// The latest caller waits no more; there must be one.
+    #[tactic(auto, using(crate::proofs::Framing::how_many, crate::proofs::Framing::one_fewer))]
+    pub fn leave(&mut self)
+        requires { 0 < length self.old }
+        ensures { self.new ≡ drop 1 self.old }
+    {
+        self.count -= 1;
     }
 }

@@ -1,5 +1,7 @@
 // What a job has of its own.
 mod effects;
+pub(crate) mod plain;
+pub(crate) mod row;
 pub(crate) mod search;
 pub(crate) mod stand;
 pub(crate) mod table;

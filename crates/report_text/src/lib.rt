@@ -15,4 +15,4 @@ mod whole;
 pub use events::{add_values, event_lines};
 pub use load::load_summary;
 pub use names::fault_word;
-pub use whole::report;
+pub use whole::{add_report, report};

@@ -24,13 +24,28 @@ pub fn report(
         ≡ report_text exchange.now (with_words books.now.state words.now) (ending_of ending)) }
 {
     let mut text = Seq::new(alloc);
-    add_events(&mut text, exchange, books.events())?;
-    add_jobs(&mut text, books.ended())?;
-    add_variables(&mut text, exchange, words.as_slice())?;
-    add_fields(&mut text, exchange, words.as_slice())?;
-    add_holders(&mut text, exchange, books.chains())?;
-    add_ending(&mut text, ending)?;
+    add_report(&mut text, exchange, books, words, ending)?;
     Ok(text)
+}
+
+/// Appends the same text.
+pub fn add_report(
+    text: &mut Seq<u8>,
+    exchange: &Exchange,
+    books: &Books,
+    words: &Seq<u32>,
+    ending: Ending,
+) -> Result<(), Memory>
+    ensures { OnOk result (text.new ≡ text.old
+        ++ report_text exchange.now (with_words books.now.state words.now) (ending_of ending)) }
+{
+    add_events(text, exchange, books.events())?;
+    add_jobs(text, books.ended())?;
+    add_variables(text, exchange, words.as_slice())?;
+    add_fields(text, exchange, words.as_slice())?;
+    add_holders(text, exchange, books.chains())?;
+    add_ending(text, ending)?;
+    Ok(())
 }
 
 /// `JOBS n`.

@@ -1,6 +1,8 @@
 mod Behind
+mod Deciding
 mod Filters
 pub mod Numbered
 mod Tabling
 mod Tracing
 mod Written
+pub mod Telling

@@ -17,8 +17,10 @@ use Rattle.exchange_run.specs.Runs.{RunsTo, Stands, left_by}
 use Rattle.exchange_run.proofs.Turning.{stands_begin, stands_end, stands_fewer, stands_more, stands_valid, turn_ended, turn_starts, upcoming_is}
 use Rattle.signal_trace.specs.declared.show.Show.{Show}
 use Rattle.signal_trace.specs.declared.tracer.TracedJob.{TracedJob}
+use Rattle.signal_trace.specs.Text.{trace_text}
 use Rattle.signal_trace.specs.Trace.{first_jobs, is_shown, next_job, trace, traced}
 use Rattle.signal_trace.specs.Turns.{one_if_shown, shown_next}
+use Rattle.signal_trace.proofs.Telling.{none_told, told_both}
 
 -- one more number at the end of a range
 pub range_more : (a n : ℕ) → range_with_len a (suc n) ≡ range_with_len a n ++ (a + n) ∷ []
@@ -39,35 +41,39 @@ one_filtered : (x : Exchange) (ls : List Show) (o : Option TracedJob) → filter
 one_filtered x ls None = refl
 one_filtered x ls (Some t) = refl
 
--- the jobs so far that a filter shows
-pub record Traces (x : Exchange) (first : State) (limit : ℕ) (ls : List Show) (b : Account) (words : List ℕ) (list : List TracedJob) : Type 0 where
+-- the text so far is that of the jobs that a filter shows
+pub record Traces (x : Exchange) (first : State) (limit : ℕ) (ls : List Show) (b : Account) (words text : List ℕ) : Type 0 where
   pub turns : ℕ
   pub stands : Stands x first limit turns b words
-  pub jobs : list ≡ filter (is_shown x ls) (first_jobs x first turns)
+  pub told : text ≡ trace_text x (filter (is_shown x ls) (first_jobs x first turns))
 
-pub traces_begin : (x : Exchange) (ls : List Show) (before b : Account) (words : List ℕ) (jobs : List TracedJob) → IsExchange x → IsValid x (with_words before.state words) → before.state.ended ≡ 0 → before.running ≡ 0 → jobs ≡ [] → b ≡ record before { state = arrivals x before.state } → Traces x (with_words before.state words) before.limit ls b words jobs
+pub traces_begin : (x : Exchange) (ls : List Show) (before b : Account) (words text : List ℕ) → IsExchange x → IsValid x (with_words before.state words) → before.state.ended ≡ 0 → before.running ≡ 0 → text ≡ [] → b ≡ record before { state = arrivals x before.state } → Traces x (with_words before.state words) before.limit ls b words text
 unfolding first_jobs
-traces_begin x ls before b words jobs kept valid none nobody empty arrived = record {
+traces_begin x ls before b words text kept valid none nobody empty arrived = record {
   turns = 0;
   stands = stands_begin x kept (with_words before.state words) before.limit valid before b words refl none nobody refl arrived;
-  jobs = empty;
+  told = empty ∙ sym (none_told x);
 }
 
-module _ (x : Exchange) (first : State) (limit : ℕ) (ls : List Show) (b : Account) (words : List ℕ) (jobs : List TracedJob) (kept : IsExchange x) (valid : IsValid x first) (t : Traces x first limit ls b words jobs) where
+module _ (x : Exchange) (first : State) (limit : ℕ) (ls : List Show) (b : Account) (words text : List ℕ) (kept : IsExchange x) (valid : IsValid x first) (t : Traces x first limit ls b words text) where
   pub traces_valid : IsValid x (with_words b.state words)
   traces_valid = stands_valid x kept first limit valid t.turns b words t.stands
 
-  pub traces_more : (next : Account) (now : List ℕ) (more : List TracedJob) → ending_at b.limit b.state ≡ None → with_words next.state now ≡ turn x (with_words b.state words) → next.running ≡ 0 → next.limit ≡ b.limit → more ≡ jobs ++ shown_next x ls (with_words b.state words) → Traces x first limit ls next now more
-  traces_more next now more goes turned nobody same is = record {
-    turns = suc t.turns;
-    stands = stands_more x kept first limit valid t.turns b words t.stands next now goes turned nobody same;
-    jobs =
-        is
-        ∙ (λ i. t.jobs i ++ shown_next x ls (t.stands.state i))
-        ∙ sym (ap (filter (is_shown x ls)) (jobs_more x first t.turns)
-        ∙ filter-append (is_shown x ls) (first_jobs x first t.turns) (cons_option (next_job x (after x first t.turns)) [])
-        ∙ ap (λ ts. filter (is_shown x ls) (first_jobs x first t.turns) ++ ts) (one_filtered x ls (next_job x (after x first t.turns))));
-  }
+  pub traces_more : (next : Account) (now more : List ℕ) → ending_at b.limit b.state ≡ None → with_words next.state now ≡ turn x (with_words b.state words) → next.running ≡ 0 → next.limit ≡ b.limit → more ≡ text ++ trace_text x (shown_next x ls (with_words b.state words)) → Traces x first limit ls next now more
+  traces_more next now more goes turned nobody same is =
+      let next_jobs : filter (is_shown x ls) (first_jobs x first t.turns) ++ shown_next x ls (after x first t.turns) ≡ filter (is_shown x ls) (first_jobs x first (suc t.turns)) =
+      sym (ap (filter (is_shown x ls)) (jobs_more x first t.turns)
+      ∙ filter-append (is_shown x ls) (first_jobs x first t.turns) (cons_option (next_job x (after x first t.turns)) [])
+      ∙ ap (λ ts. filter (is_shown x ls) (first_jobs x first t.turns) ++ ts) (one_filtered x ls (next_job x (after x first t.turns)))) in
+      record {
+        turns = suc t.turns;
+        stands = stands_more x kept first limit valid t.turns b words t.stands next now goes turned nobody same;
+        told =
+            is
+            ∙ (λ i. t.told i ++ trace_text x (shown_next x ls (t.stands.state i)))
+            ∙ sym (told_both x (filter (is_shown x ls) (first_jobs x first t.turns)) (shown_next x ls (after x first t.turns)))
+            ∙ ap (trace_text x) next_jobs;
+      }
 
   pub traces_fewer : (next : Account) (now : List ℕ) → ending_at b.limit b.state ≡ None → with_words next.state now ≡ turn x (with_words b.state words) → next.running ≡ 0 → next.limit ≡ b.limit → limit - next.state.ended < limit - b.state.ended
   traces_fewer next now goes turned nobody same =
@@ -77,10 +83,10 @@ module _ (x : Exchange) (first : State) (limit : ℕ) (ls : List Show) (b : Acco
   pub traces_end : (e : Ending) → Some e ≡ ending_at b.limit b.state → RunsTo x first limit b.state words e
   traces_end e is = stands_end x kept first limit valid t.turns b words t.stands e is
 
-  pub traces_all : (e : Ending) → Some e ≡ ending_at b.limit b.state → jobs ≡ trace x limit first ls
+  pub traces_all : (e : Ending) → Some e ≡ ending_at b.limit b.state → text ≡ trace_text x (trace x limit first ls)
   traces_all e is =
       let count : t.turns ≡ (end_state x limit first).ended = sym t.stands.ended ∙ ap (λ (s : State). s.ended) (traces_end e is).state in
-      t.jobs ∙ ap (λ n. filter (is_shown x ls) (first_jobs x first n)) count
+      t.told ∙ ap (λ n. trace_text x (filter (is_shown x ls) (first_jobs x first n))) count
 
 -- the job that has run in a turn
 pub shown_is : (x : Exchange) (ls : List Show) (b next : Account) (words now : List ℕ) (start : JobStart) (done : JobDone) (number : ℕ) → Some start ≡ upcoming b → b.running ≡ 0 → ending_at b.limit b.state ≡ None → with_words next.state now ≡ turn x (with_words b.state words) → number ≡ next.state.ended → done ≡ left_by x start words → one_if_shown x ls (traced number start done) ≡ shown_next x ls (with_words b.state words)
@@ -89,7 +95,7 @@ shown_is x ls b next words now start done number is nobody goes turned number_is
     (λ i. one_if_shown x ls (traced (count i) start (done_is i)))
     ∙ sym (ap (λ o. option_map_or (one_if_shown x ls) (option_map (λ begins. traced (b.state.ended + 1) begins (left_by x begins words)) o) []) (turn_starts b start is nobody goes))
 
--- where none has run, there is none to be shown
-pub none_shown : (x : Exchange) (ls : List Show) (b : Account) (words : List ℕ) (jobs : List TracedJob) → None ≡ upcoming b → b.running ≡ 0 → ending_at b.limit b.state ≡ None → jobs ≡ jobs ++ shown_next x ls (with_words b.state words)
-none_shown x ls b words jobs is nobody goes =
-    sym (ap (λ o. jobs ++ option_map_or (one_if_shown x ls) (option_map (λ begins. traced (b.state.ended + 1) begins (left_by x begins words)) o) []) (sym (is ∙ upcoming_is b nobody goes)) ∙ append-nil jobs)
+-- where none has run, there is none to be told of
+pub none_shown : (x : Exchange) (ls : List Show) (b : Account) (words text : List ℕ) → None ≡ upcoming b → b.running ≡ 0 → ending_at b.limit b.state ≡ None → text ≡ text ++ trace_text x (shown_next x ls (with_words b.state words))
+none_shown x ls b words text is nobody goes =
+    sym (ap (λ o. text ++ trace_text x (option_map_or (one_if_shown x ls) (option_map (λ begins. traced (b.state.ended + 1) begins (left_by x begins words)) o) [])) (sym (is ∙ upcoming_is b nobody goes)) ∙ ap (λ t. text ++ t) (none_told x) ∙ append-nil text)

@@ -7,12 +7,13 @@ ghost use Rattle.source_meaning.specs.Valid.{IsValid};
 ghost use Rattle.retire_order.specs.Accounts.{with_words};
 ghost use Rattle.retire_order.specs.Events.{ending_of};
 ghost use Rattle.exchange_run.specs.Runs.{RunsTo};
+ghost use Rattle.signal_trace.specs.Text.{trace_text};
 ghost use Rattle.signal_trace.specs.Trace.{trace};
 ghost use Rattle.signal_trace.specs.Turns.{shown_next};
 
 use crate::show::Show;
 use crate::table::ShowTable;
-use crate::tracer::{TracedJob, Tracer};
+use crate::tracer::Tracer;
 use exchange_model::Exchange;
 use exchange_run::{ByCode, Runner, make_turn};
 use machine_code::Code;
@@ -22,27 +23,17 @@ use retire_order::{Books, Ending, let_arrive};
 use std::alloc::Global;
 use store_layout::Layout;
 
-/// The end of a run that was traced: the jobs that the filter shows, the books, the stored words, one for each cell, and how it
-/// ended.
+/// The end of a run that was traced: the text of the jobs that the filter shows, the books, the stored words, one for each cell, and how
+/// it ended.
+#[derive(Drop)]
 pub struct Traced {
-    pub jobs: Seq<TracedJob>,
+    pub text: Seq<u8>,
     pub books: Books,
     pub words: Seq<u32>,
     pub ending: Ending,
 }
 
-impl Drop for Traced {
-    fn drop(self) {
-        let Traced {
-            jobs: _,
-            books: _,
-            words: _,
-            ending: _,
-        } = self;
-    }
-}
-
-/// Runs the jobs of an exchange to the end of the single run, one at a time, and keeps those that a filter shows. No job may
+/// Runs the jobs of an exchange to the end of the single run, one at a time, and tells of those that a filter shows. No job may
 /// have ended or run in the books, and books and words must stand for a valid state. Memory is the only reason for an error.
 pub fn trace_run(
     alloc: Global,
@@ -58,8 +49,8 @@ pub fn trace_run(
     requires layout { IsLayout exchange.now.blocks layout.now }
     requires faithful { Faithful exchange.now code.now }
     requires valid { IsValid exchange.now (with_words books.state words) }
-    ensures jobs { IfOk result (λ t. t.jobs
-        ≡ trace exchange.now books.limit (with_words books.state words) shows.now) }
+    ensures text { IfOk result (λ t. t.text ≡ trace_text exchange.now
+        (trace exchange.now books.limit (with_words books.state words) shows.now)) }
     ensures end { IfOk result (λ t. RunsTo exchange.now
         (with_words books.state words) books.limit t.books.state t.words (ending_of t.ending)) }
 {
@@ -71,13 +62,13 @@ pub fn trace_run(
     let mut tracer = Tracer {
         alloc,
         shows: &table,
-        jobs: Seq::new(alloc),
+        text: Seq::new(alloc),
     };
     let_arrive(exchange, &mut books)?;
     'jobs: loop {
         if let Some(ending) = books.finished() {
             return Ok(Traced {
-                jobs: tracer.jobs,
+                text: tracer.text,
                 books,
                 words,
                 ending,
@@ -94,7 +85,7 @@ pub fn trace_run(
     }
 }
 
-/// The next job runs and retires, what is due arrives, and the job is kept if the filter shows it.
+/// The next job runs and retires, what is due arrives, and the job is told of if the filter shows it.
 fn trace_turn(
     exchange: &Exchange,
     layout: &Layout,
@@ -114,8 +105,8 @@ fn trace_turn(
     ensures limit { OnOk result (books.new.limit ≡ books.old.limit) }
     ensures faithful { Faithful exchange.now runner.new.code.now }
     ensures lines { tracer.new.shows.now ≡ tracer.old.shows.now }
-    ensures jobs { OnOk result (tracer.new.jobs ≡ tracer.old.jobs
-        ++ shown_next exchange.now tracer.old.shows.now (with_words books.old.state words.old)) }
+    ensures text { OnOk result (tracer.new.text ≡ tracer.old.text ++ trace_text exchange.now
+        (shown_next exchange.now tracer.old.shows.now (with_words books.old.state words.old))) }
 {
     let start = books.peek();
     make_turn(exchange, layout, books, words, runner)?;

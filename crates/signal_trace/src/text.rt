@@ -1,34 +1,16 @@
-// The text of the jobs that a filter shows.
-ghost use Rattle.std.specs.Prelude.{◌≡◌, ◌++◌, IfOk, OnOk};
+// The text of a job that a filter shows.
+ghost use Rattle.std.specs.Prelude.{◌≡◌, ◌++◌, OnOk};
 ghost use Rattle.report_text.specs.Report.{written};
-ghost use Rattle.signal_trace.specs.Text.{forlopp_word, job_line, job_text, outcome_word, place_words, send_text, sends_text, trace_text};
+ghost use Rattle.signal_trace.specs.Text.{forlopp_word, job_line, job_text, outcome_word, place_words, send_text, sends_text};
 
 use crate::tracer::TracedJob;
 use exchange_model::Exchange;
 use job_types::{Outcome, SendTo, Sent};
 use plex_num::{Memory, Seq, add_number};
 use report_text::{add_values, fault_word};
-use std::alloc::Global;
 
-/// The text of these jobs of an exchange: for each of them its line, and then a line for each signal that it sent. Memory is the
-/// only reason for an error.
-#[tactic(auto, unfolding(crate::specs::Text::trace_text))]
-pub fn trace_text(
-    alloc: Global,
-    exchange: &Exchange,
-    jobs: &Seq<TracedJob>,
-) -> Result<Seq<u8>, Memory>
-    ensures { IfOk result (λ text. text ≡ trace_text exchange.now jobs.now) }
-{
-    let mut text = Seq::new(alloc);
-    for job in jobs.as_slice() {
-        add_job(&mut text, exchange, job)?;
-    }
-    Ok(text)
-}
-
-/// The lines of a job.
-fn add_job(text: &mut Seq<u8>, exchange: &Exchange, job: &TracedJob) -> Result<(), Memory>
+/// The lines of a job: its own, and then one for each signal that it sent. Memory is the only reason for an error.
+pub fn add_job(text: &mut Seq<u8>, exchange: &Exchange, job: &TracedJob) -> Result<(), Memory>
     ensures { OnOk result (text.new ≡ text.old ++ job_text exchange.now job.now) }
 {
     add_start(text, exchange, job)?;

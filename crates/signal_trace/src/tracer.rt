@@ -1,9 +1,11 @@
 // The jobs that a filter shows, as they end.
 ghost use Rattle.std.specs.Prelude.{◌≡◌, ◌++◌, IfOk, OnOk};
+ghost use Rattle.signal_trace.specs.Text.{trace_text};
 ghost use Rattle.signal_trace.specs.Trace.{shows_job, traced};
 ghost use Rattle.signal_trace.specs.Turns.{one_if_shown};
 
 use crate::table::ShowTable;
+use crate::text::add_job;
 use exchange_model::Exchange;
 use job_types::{JobDone, JobStart, Outbox, Outcome, Sent};
 use plex_num::{Memory, Seq};
@@ -29,16 +31,16 @@ impl Drop for TracedJob {
     }
 }
 
-/// The lines of a filter, and the jobs so far that they show.
+/// The lines of a filter, and the text of the jobs so far that they show.
 #[derive(Drop)]
 pub(crate) struct Tracer<'a> {
     pub alloc: Global,
     pub shows: &'a ShowTable<'a>,
-    pub jobs: Seq<TracedJob>,
+    pub text: Seq<u8>,
 }
 
 impl Tracer<'_> {
-    /// Keeps a job that has ended, if some line shows it.
+    /// Tells of a job that has ended, if some line shows it.
     pub fn note(
         &mut self,
         exchange: &Exchange,
@@ -47,19 +49,20 @@ impl Tracer<'_> {
         done: &JobDone,
     ) -> Result<(), Memory>
         ensures lines { self.new.shows.now ≡ self.old.shows.now }
-        ensures jobs { OnOk result (self.new.jobs ≡ self.old.jobs
-            ++ one_if_shown exchange.now self.old.shows.now (traced number start done.now)) }
+        ensures text { OnOk result (self.new.text ≡ self.old.text ++ trace_text exchange.now
+            (one_if_shown exchange.now self.old.shows.now (traced number start done.now))) }
     {
         if !is_shown(exchange, self.shows, number, &start, done.outcome) {
             return Ok(());
         }
         let sends = sends_of(self.alloc, &done.sends)?;
-        self.jobs.push(TracedJob {
+        let job = TracedJob {
             number,
             start,
             sends,
             outcome: done.outcome,
-        })?;
+        };
+        add_job(&mut self.text, exchange, &job)?;
         Ok(())
     }
 }

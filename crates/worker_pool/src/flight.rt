@@ -1,12 +1,11 @@
-// A job that was handed to the pool, and its end.
+// A job that was lent its words, and its end.
 ghost use Rattle.std.specs.Prelude.{◌≡◌, ◌+◌, ◌<◌, ◌^◌};
 ghost use Rattle.job_runner.specs.Runs.{IsReady, HasRun};
 ghost use Rattle.register_machine.specs.Faithful.{Faithful};
-ghost use Rattle.ticket_book.specs.Pages.{claim};
 
 use crate::naming::Naming;
 use crate::shop::Shop;
-use crate::task::Task;
+use crate::task::{Ended, Task};
 use exchange_model::Exchange;
 use machine_code::Code;
 use plex_io::Gate;
@@ -16,10 +15,21 @@ use std::marker::{Model, PhantomData};
 use std::sync::Wait;
 use ticket_book::{Pen, Ticket, TicketBook};
 
+/// Where the job of a flight is.
+#[derive(Drop)]
+enum Whereabouts<B: Naming> {
+    /// It has not begun, and no other thread knows of it.
+    InHand(Task<B>),
+    /// It was brought to the shop, under this number.
+    AtShop(u64),
+    /// It has run to its end here.
+    Over(Ended<B>),
+}
+
 /// A job that waits, runs or has run, wherever it is. Contracts see the loan that it is of. It cannot be dropped: it must be finished.
 pub struct Flight<B: Naming> {
     ticket: Ticket,
-    of: PhantomData<B>,
+    at: Whereabouts<B>,
 }
 
 impl<B: Naming> Model for Flight<B> {
@@ -33,43 +43,88 @@ impl<B: Naming> Model for Flight<B> {
     ghost invariant = { λ f. f.ticket.0 ≡ B.book };
 }
 
-/// Makes a job of a seat and a run that are ready: what the dispatcher keeps of it, and what a thread is to run. Its ticket's number is how
-/// many tickets the pen wrote before; there must be fewer than 2^64 - 1. `job` is the number by which the gate knows the job.
+/// Makes a job of a seat and a run that are ready, and takes it in hand. Its ticket's number is how many tickets the pen wrote before;
+/// there must be fewer than 2^64 - 1. `job` is the number by which the gate knows the job.
 pub fn launch<B: Naming>(
     book: &TicketBook,
     pen: &mut Pen,
     seat: JobSeat,
     run: Box<JobRun>,
     job: u64,
-) -> (Flight<B>, Task<B>)
+) -> Flight<B>
     requires book { (book.now ≡ B.book) × (pen.old.0 ≡ B.book) }
     requires room { pen.old.1 + 1 < 2 ^ 64 }
     requires faithful { Faithful B.exchange B.code }
     requires ready { IsReady B.exchange B.code B.store seat run.value }
-    ensures flight { result.0 ≡ seat.1.lent }
-    ensures task { result.1 ≡ claim pen.old.1 seat.1.lent }
+    ensures flight { result ≡ seat.1.lent }
     ensures pen { pen.new ≡ (B.book, pen.old.1 + 1) }
 {
     let mut mine = book.write(pen, &seat);
     let ticket = book.copy(&mut mine);
-    (
-        Flight {
-            ticket: mine,
-            of: PhantomData,
-        },
-        Task {
-            ticket,
-            seat,
-            run,
-            job,
-            of: PhantomData,
-        },
-    )
+    let task = Task {
+        ticket,
+        seat,
+        run,
+        job,
+        of: PhantomData,
+    };
+    Flight {
+        ticket: mine,
+        at: Whereabouts::InHand(task),
+    }
 }
 
 impl<B: Naming> Flight<B> {
-    /// The end of the job, which must have been brought to this shop: it is run here where no worker has it, and else waited for. The seat
-    /// comes back with the touches of its loan's job, and the run at its end.
+    /// Whether the job has not begun and no other thread knows of it.
+    pub fn is_in_hand(&self) -> bool {
+        match &self.at {
+            Whereabouts::InHand(_) => true,
+            _ => false,
+        }
+    }
+
+    /// Whether the job has come to its end. Where it was brought to a shop, it is this one.
+    pub fn has_ended(&self, shop: &Shop<B>) -> bool {
+        match &self.at {
+            Whereabouts::InHand(_) => false,
+            Whereabouts::AtShop(number) => shop.has_ended(*number),
+            Whereabouts::Over(_) => true,
+        }
+    }
+
+    /// The job is brought to the shop, if it is in hand.
+    pub fn bring<R: Wait>(self, rt: &R, shop: &Shop<B>) -> Flight<B>
+        ensures { result ≡ self }
+    {
+        let Flight { ticket, at } = self;
+        let at = match at {
+            Whereabouts::InHand(task) => Whereabouts::AtShop(shop.bring(rt, task)),
+            elsewhere => elsewhere,
+        };
+        Flight { ticket, at }
+    }
+
+    /// The job is run to its end in the thread that calls, if it is in hand.
+    pub fn run_here<G: Gate>(
+        self,
+        exchange: &Exchange,
+        code: &Code,
+        store: &SharedStore,
+        gate: &G,
+    ) -> Flight<B>
+        requires named { (exchange.now ≡ B.exchange) × (code.now ≡ B.code) × (store.now ≡ B.store) }
+        ensures { result ≡ self }
+    {
+        let Flight { ticket, at } = self;
+        let at = match at {
+            Whereabouts::InHand(task) => Whereabouts::Over(task.run(exchange, code, store, gate)),
+            elsewhere => elsewhere,
+        };
+        Flight { ticket, at }
+    }
+
+    /// The end of the job: it is run here where it is in hand, and waited for where it was brought to a shop, which must be this one.
+    /// The seat comes back with the touches of its loan's job, and the run at its end.
     pub fn finish<R: Wait, G: Gate>(
         self,
         rt: &R,
@@ -84,21 +139,16 @@ impl<B: Naming> Flight<B> {
         requires book { book.now ≡ B.book }
         ensures { HasRun B.exchange B.code B.store self result.0 result.1.value }
     {
-        let Flight { ticket, of: _ } = self;
-        let number = ticket.number();
-        for _ in rt.forever() {
-            let seen = shop.ended();
-            match shop.fetch(rt, number, exchange, code, store, gate) {
-                Some(ended) => {
-                    if ended.number() == number {
-                        let (seat, run) = ended.settle(book, ticket);
-                        shop.note(run.steps());
-                        return (seat, run);
-                    }
-                }
-                None => shop.pause(rt, seen),
-            }
+        let Flight { ticket, at } = self;
+        let ended = match at {
+            Whereabouts::InHand(task) => task.run(exchange, code, store, gate),
+            Whereabouts::AtShop(number) => shop.end_of(rt, number, exchange, code, store, gate),
+            Whereabouts::Over(ended) => ended,
+        };
+        if ended.number() == ticket.number() {
+            return ended.settle(book, ticket);
         }
+        for _ in rt.forever() {}
         unreachable!()
     }
 }

@@ -1,6 +1,8 @@
-// What the dispatcher and its workers share: a slot for each job that may fly, and counts by which threads sleep and are woken.
+// What the dispatcher and its workers share: a row of places for jobs, which are filled and emptied in turn, and a few counts by which
+// threads find jobs, sleep and are woken.
 ghost use Rattle.std.specs.Prelude.{◌≡◌, ◌<◌, IfOk, vec_len};
 
+use crate::line::Line;
 use crate::naming::Naming;
 use crate::task::{Ended, Task};
 use exchange_model::Exchange;
@@ -10,53 +12,62 @@ use plex_num::Memory;
 use shared_store::SharedStore;
 use std::alloc::{AllocError, Global};
 use std::marker::Model;
-use std::sync::atomic::{AtomicU64, Ordering};
 use std::sync::{Mutex, Wait};
-use std::time::Duration;
 use std::{hint, mem};
 
-/// What stands in a slot.
+/// What stands in a place.
 #[derive(Drop)]
 enum Slot<B: Naming> {
+    /// Nothing, or a job that a thread runs.
     Free,
     Waits(Task<B>),
-    /// A worker runs the job.
-    Taken,
     Has(Ended<B>),
 }
 
+/// A place for a job.
+#[derive(Drop)]
+struct Place<B: Naming> {
+    slot: Mutex<Slot<B>>,
+    /// One more than the number of the last job that ended here.
+    ended: Line,
+}
+
 /// How often a thread looks again before it sleeps.
-pub(crate) const LOOKS: u64 = 400;
+const LOOKS: u32 = 120;
 
-/// How long a thread sleeps before it looks again, in microseconds, where nobody wakes it.
-const NAP: u64 = 1000;
+/// How often a thread tries to take a job before it looks for another one.
+const TRIES: u32 = 64;
 
-/// A job of so many instructions is worth a wake-up.
-const LONG: u64 = 1000;
+/// How long a thread sleeps at first before it looks again, in microseconds, where nobody wakes it.
+const NAP: u64 = 20_000;
 
-/// Jobs count as long until so many instructions' worth of short ones has been seen.
-const FIRST_MEAN: u64 = 1 << 32;
+/// How long it sleeps at most: a worker that finds nothing sleeps twice as long each time.
+const LONGEST_NAP: u64 = 2_000_000;
 
-/// The meeting place of the dispatcher, which brings jobs and fetches their ends, and of its workers. Contracts see how many jobs it has
-/// room for.
+/// The meeting place of the dispatcher, which brings jobs and fetches their ends, and of its workers. Jobs are taken in the order in
+/// which they were brought. Contracts see how many jobs it has room for.
 #[derive(Drop)]
 pub struct Shop<B: Naming> {
-    /// Job k is at slot k modulo their number.
-    slots: Vec<Mutex<Slot<B>>>,
-    /// Counts the jobs that were brought. Workers sleep on it.
-    bell: AtomicU64,
+    /// How many jobs were brought. The dispatcher alone changes it.
+    brought: Line,
+    /// How many were taken.
+    taken: Line,
+    /// How many workers look for a job, those among them that are being started.
+    searching: Line,
     /// How many workers sleep.
-    asleep: AtomicU64,
-    /// Counts the jobs that workers have run. The dispatcher sleeps on it.
-    ended: AtomicU64,
-    /// 1 where the dispatcher sleeps.
-    waits: AtomicU64,
-    /// How many instructions the last jobs made, about.
-    mean: AtomicU64,
+    asleep: Line,
+    /// Counts wake-ups. Workers sleep on it.
+    bell: Line,
+    /// One more than the number of the job for whose end the dispatcher sleeps, on this very word; 0 where it does not.
+    waits_for: Line,
+    /// So many jobs have to wait before a worker is woken for them.
+    batch: Line,
     /// 1 once no more jobs come.
-    closed: AtomicU64,
-    /// How many workers were started; `NO_MORE` once one could not be.
-    started: AtomicU64,
+    closed: Line,
+    /// How many workers were started; `NO_MORE` once one could not be. The dispatcher alone uses it.
+    started: Line,
+    /// The job of number k is at place k modulo their number.
+    places: Vec<Place<B>>,
 }
 
 /// Stands for more workers than will ever be wanted.
@@ -67,9 +78,9 @@ impl<B: Naming> Model for Shop<B> {
 
     ghost Value = { ℕ };
 
-    ghost view = { λ s. vec_len s.slots };
+    ghost view = { λ s. vec_len s.places };
 
-    ghost invariant = { λ s. 0 < vec_len s.slots };
+    ghost invariant = { λ s. 0 < vec_len s.places };
 }
 
 impl<B: Naming> Shop<B> {
@@ -78,41 +89,82 @@ impl<B: Naming> Shop<B> {
         requires { 0 < room }
         ensures { IfOk result (λ shop. shop ≡ room) }
     {
-        let Ok(slots) = free_slots(alloc, room) else {
+        let Ok(places) = free_places(alloc, room) else {
             return Err(Memory);
         };
         Ok(Shop {
-            slots,
-            bell: AtomicU64::new(0),
-            asleep: AtomicU64::new(0),
-            ended: AtomicU64::new(0),
-            waits: AtomicU64::new(0),
-            mean: AtomicU64::new(FIRST_MEAN),
-            closed: AtomicU64::new(0),
-            started: AtomicU64::new(0),
+            brought: Line::new(),
+            taken: Line::new(),
+            searching: Line::new(),
+            asleep: Line::new(),
+            bell: Line::new(),
+            waits_for: Line::new(),
+            batch: Line::new(),
+            closed: Line::new(),
+            started: Line::new(),
+            places,
         })
     }
 
-    /// Brings a job, and wakes a worker for it where jobs have been long. No more jobs may be there at once than the shop has room for, and
-    /// jobs come in the order of their numbers: else one takes the slot of another, whose flight then never ends.
-    pub fn bring<R: Wait>(&self, rt: &R, task: Task<B>) {
-        let number = task.number();
-        *self.slot(number).lock(rt) = Slot::Waits(task);
-        self.bell.fetch_add(1, Ordering::SeqCst);
-        if self.jobs_are_long() && self.asleep.load(Ordering::SeqCst) > 0 {
+    /// Brings a job, and wakes a worker for it where that is worth it. Its number here. No more jobs may be there at once than the shop
+    /// has room for: else one takes the place of another, whose flight then never ends.
+    pub fn bring<R: Wait>(&self, rt: &R, task: Task<B>) -> u64 {
+        let number = self.brought.get();
+        *self.place(number).slot.lock(rt) = Slot::Waits(task);
+        self.brought.set(number.wrapping_add(1));
+        self.call();
+        number
+    }
+
+    /// So many jobs have to wait before a worker is woken for them.
+    pub fn wakes_for(&self, batch: u64) {
+        if self.batch.get() != batch {
+            self.batch.set(batch);
+        }
+    }
+
+    /// How many jobs were brought and wait for a thread.
+    pub fn waiting(&self) -> u64 {
+        let taken = self.taken.get();
+        self.brought.get().wrapping_sub(taken)
+    }
+
+    /// Wakes a worker where one sleeps, none looks for a job, and enough jobs wait.
+    fn call(&self) {
+        if self.waiting() < self.batch.get() || self.searching.get() > 0 {
+            return;
+        }
+        if self.asleep.get() > 0 {
+            self.bell.add_one();
             self.bell.wake_one();
         }
     }
 
-    /// No more jobs come: the workers end. It must be called before the end of the workers' scope, which else waits for ever.
-    pub fn close(&self) {
-        self.closed.store(1, Ordering::SeqCst);
-        self.bell.fetch_add(1, Ordering::SeqCst);
+    /// What closes the shop when it goes: no more jobs come then, and the workers end. It must go before the end of the workers' scope,
+    /// which else waits for ever.
+    pub fn closing(&self) -> Closing<'_, B> {
+        Closing { shop: self }
+    }
+
+    fn close(&self) {
+        self.closed.set(1);
+        self.bell.add_one();
         self.bell.wake_all();
     }
 
-    /// The end of the job of this number, which is run here if no worker has it. None: a worker is at it.
-    pub(crate) fn fetch<R: Wait, G: Gate>(
+    /// Whether no more jobs come.
+    pub(crate) fn is_closed(&self) -> bool {
+        self.closed.get() > 0
+    }
+
+    /// Whether the job of this number has ended.
+    pub(crate) fn has_ended(&self, number: u64) -> bool {
+        self.place(number).ended.get() == number.wrapping_add(1)
+    }
+
+    /// The end of the job of this number. Until it has ended other jobs that wait are run here, the oldest first; where none waits the
+    /// caller does.
+    pub(crate) fn end_of<R: Wait, G: Gate>(
         &self,
         rt: &R,
         number: u64,
@@ -120,50 +172,99 @@ impl<B: Naming> Shop<B> {
         code: &Code,
         store: &SharedStore,
         gate: &G,
-    ) -> Option<Ended<B>>
+    ) -> Ended<B>
         requires named { (exchange.now ≡ B.exchange) × (code.now ≡ B.code) × (store.now ≡ B.store) }
     {
-        let found = take(&mut *self.slot(number).lock(rt));
-        match found {
-            Slot::Waits(task) => Some(task.run(exchange, code, store, gate)),
-            Slot::Has(ended) => Some(ended),
-            _ => None,
+        for _ in rt.forever() {
+            if self.has_ended(number) {
+                let found = take(&mut *self.place(number).slot.lock(rt));
+                if let Slot::Has(ended) = found {
+                    return ended;
+                }
+            }
+            if !self.help(rt, exchange, code, store, gate) {
+                self.wait_for(rt, number);
+            }
+        }
+        unreachable!()
+    }
+
+    /// The number of the oldest job that waits, which is then taken.
+    fn claim(&self) -> Option<u64> {
+        for _ in 0..TRIES {
+            let taken = self.taken.get();
+            if self.brought.get() == taken {
+                return None;
+            }
+            if self.taken.follows(taken) {
+                return Some(taken);
+            }
+        }
+        None
+    }
+
+    /// Runs the oldest job that waits, if there is one, in the thread that calls. Whether there was.
+    pub fn help<R: Wait, G: Gate>(
+        &self,
+        rt: &R,
+        exchange: &Exchange,
+        code: &Code,
+        store: &SharedStore,
+        gate: &G,
+    ) -> bool
+        requires named { (exchange.now ≡ B.exchange) × (code.now ≡ B.code) × (store.now ≡ B.store) }
+    {
+        let Some(number) = self.claim() else {
+            return false;
+        };
+        self.run_taken(rt, number, exchange, code, store, gate);
+        true
+    }
+
+    /// Runs the job of this number, which the caller has taken.
+    fn run_taken<R: Wait, G: Gate>(
+        &self,
+        rt: &R,
+        number: u64,
+        exchange: &Exchange,
+        code: &Code,
+        store: &SharedStore,
+        gate: &G,
+    )
+        requires named { (exchange.now ≡ B.exchange) × (code.now ≡ B.code) × (store.now ≡ B.store) }
+    {
+        let place = self.place(number);
+        let found = take(&mut *place.slot.lock(rt));
+        let Slot::Waits(task) = found else {
+            return;
+        };
+        let ended = task.run(exchange, code, store, gate);
+        *place.slot.lock(rt) = Slot::Has(ended);
+        let after = number.wrapping_add(1);
+        place.ended.set(after);
+        if self.waits_for.get() == after {
+            self.waits_for.set(0);
+            self.waits_for.wake_one();
         }
     }
 
-    /// How many jobs workers have run.
-    pub(crate) fn ended(&self) -> u64 {
-        self.ended.load(Ordering::SeqCst)
-    }
-
-    /// Waits until workers have run more jobs than were seen, or for the length of a nap.
-    pub(crate) fn pause<R: Wait>(&self, rt: &R, seen: u64) {
+    /// The dispatcher waits until the job of this number has ended, or for the length of a nap.
+    fn wait_for<R: Wait>(&self, rt: &R, number: u64) {
         for _ in 0..LOOKS {
-            if self.ended() != seen {
+            if self.has_ended(number) {
                 return;
             }
             hint::spin_loop();
         }
-        self.waits.store(1, Ordering::SeqCst);
-        if self.ended() == seen {
-            self.ended
-                .park_timeout(rt, low_half(seen), Duration::from_micros(NAP));
+        let after = number.wrapping_add(1);
+        self.waits_for.set(after);
+        if !self.has_ended(number) {
+            self.waits_for.sleep(rt, after, NAP);
         }
-        self.waits.store(0, Ordering::SeqCst);
+        self.waits_for.set(0);
     }
 
-    /// Takes note of how many instructions a job made, which may have run elsewhere. The dispatcher alone does.
-    pub fn note(&self, steps: u64) {
-        let mean = self.mean();
-        self.mean.store(mean_after(mean, steps), Ordering::SeqCst);
-    }
-
-    /// How many instructions the last jobs made, about: those of which note was taken. It begins at 2^32.
-    pub fn mean(&self) -> u64 {
-        self.mean.load(Ordering::SeqCst)
-    }
-
-    /// Runs a job that waits, if there is one. Whether there was.
+    /// A worker that looks for jobs runs those that wait, the oldest first, until none has come for some time. Whether it ran any.
     pub(crate) fn serve<R: Wait, G: Gate>(
         &self,
         rt: &R,
@@ -174,103 +275,113 @@ impl<B: Naming> Shop<B> {
     ) -> bool
         requires named { (exchange.now ≡ B.exchange) × (code.now ≡ B.code) × (store.now ≡ B.store) }
     {
-        for slot in &self.slots {
-            let Some(mut here) = slot.try_lock() else {
-                continue;
-            };
-            let Slot::Waits(task) = grab(&mut *here) else {
-                continue;
-            };
-            drop(here);
-            let ended = task.run(exchange, code, store, gate);
-            *slot.lock(rt) = Slot::Has(ended);
-            self.ended.fetch_add(1, Ordering::SeqCst);
-            if self.waits.load(Ordering::SeqCst) > 0 {
-                self.ended.wake_one();
+        let mut served = false;
+        let mut looks: u32 = 0;
+        for _ in rt.forever() {
+            if let Some(number) = self.claim() {
+                self.searching.take_one();
+                if self.waiting() > 0 {
+                    self.call();
+                }
+                self.run_taken(rt, number, exchange, code, store, gate);
+                self.searching.add_one();
+                served = true;
+                looks = 0;
+            } else if looks < LOOKS && self.searching.get() <= 1 {
+                looks += 1;
+                hint::spin_loop();
+            } else {
+                return served;
             }
-            return true;
         }
-        false
+        unreachable!()
     }
 
-    /// How many jobs were brought.
-    pub(crate) fn brought(&self) -> u64 {
-        self.bell.load(Ordering::SeqCst)
+    /// A worker that looks for jobs sleeps until one is brought, or for so many microseconds, and looks again.
+    pub(crate) fn nap<R: Wait>(&self, rt: &R, micros: u64) {
+        let bell = self.bell.get();
+        self.asleep.add_one();
+        self.searching.take_one();
+        if self.waiting() == 0 && !self.is_closed() {
+            self.bell.sleep(rt, bell, micros);
+        }
+        self.searching.add_one();
+        self.asleep.take_one();
     }
 
-    /// Whether no more jobs come.
-    pub(crate) fn is_closed(&self) -> bool {
-        self.closed.load(Ordering::SeqCst) > 0
+    /// One more worker looks for jobs: it is being started.
+    pub(crate) fn looks_more(&self) {
+        self.searching.add_one();
     }
 
-    /// Whether a job is worth a wake-up, by what the last ones made.
-    pub(crate) fn jobs_are_long(&self) -> bool {
-        self.mean() >= LONG
+    /// One worker fewer looks for jobs: it ends, or could not be started.
+    pub(crate) fn looks_less(&self) {
+        self.searching.take_one();
     }
 
-    /// Sleeps until more jobs were brought than were seen, or for the length of a nap.
-    pub(crate) fn nap<R: Wait>(&self, rt: &R, seen: u64) {
-        self.asleep.fetch_add(1, Ordering::SeqCst);
-        self.bell
-            .park_timeout(rt, low_half(seen), Duration::from_micros(NAP));
-        self.asleep.fetch_sub(1, Ordering::SeqCst);
+    /// Whether each worker that was started runs a job.
+    pub fn are_all_busy(&self) -> bool {
+        self.searching.get() == 0 && self.asleep.get() == 0
     }
 
-    /// How many workers were started, or `NO_MORE`.
-    pub(crate) fn started(&self) -> u64 {
-        self.started.load(Ordering::SeqCst)
+    /// How many workers were started; 2^64 - 1 once one could not be.
+    pub fn started(&self) -> u64 {
+        self.started.get()
     }
 
     /// So many workers were started. The dispatcher alone starts them.
     pub(crate) fn has_started(&self, workers: u64) {
-        self.started.store(workers, Ordering::SeqCst);
+        self.started.set(workers);
     }
 
     /// A worker could not be started: none is tried again.
     pub(crate) fn starts_no_more(&self) {
-        self.started.store(NO_MORE, Ordering::SeqCst);
+        self.started.set(NO_MORE);
     }
 
-    fn slot(&self, number: u64) -> &Mutex<Slot<B>> {
-        let many = self.slots.len() as u64;
-        &self.slots[(number % many) as usize]
+    fn place(&self, number: u64) -> &Place<B> {
+        let many = self.places.len() as u64;
+        &self.places[(number % many) as usize]
     }
 }
 
-/// So many slots that are free.
-fn free_slots<B: Naming>(alloc: Global, room: u32) -> Result<Vec<Mutex<Slot<B>>>, AllocError>
-    ensures { IfOk result (λ slots. vec_len slots ≡ room) }
+/// Closes a shop when it goes, on whichever way out that is.
+pub struct Closing<'e, B: Naming> {
+    shop: &'e Shop<B>,
+}
+
+impl<B: Naming> Drop for Closing<'_, B> {
+    fn drop(self) {
+        let Closing { shop } = self;
+        shop.close();
+    }
+}
+
+/// How long a worker sleeps first, in microseconds.
+pub(crate) fn first_nap() -> u64 {
+    NAP
+}
+
+/// How long a worker sleeps that found nothing after a nap of so many microseconds.
+pub(crate) fn longer_nap(nap: u64) -> u64 {
+    nap.saturating_mul(2).min(LONGEST_NAP)
+}
+
+/// So many places that are free.
+fn free_places<B: Naming>(alloc: Global, room: u32) -> Result<Vec<Place<B>>, AllocError>
+    ensures { IfOk result (λ places. vec_len places ≡ room) }
 {
-    let mut slots = Vec::with_capacity(alloc, room as usize)?;
+    let mut places = Vec::with_capacity(alloc, room as usize)?;
     for _ in 0..room {
-        slots.push_reserved(Mutex::new(Slot::Free));
+        places.push_reserved(Place {
+            slot: Mutex::new(Slot::Free),
+            ended: Line::new(),
+        });
     }
-    Ok(slots)
+    Ok(places)
 }
 
-/// What is there, if no worker is at it.
+/// What is there, which is then free.
 fn take<B: Naming>(here: &mut Slot<B>) -> Slot<B> {
-    match here {
-        Slot::Taken => Slot::Taken,
-        _ => mem::replace(here, Slot::Free),
-    }
-}
-
-/// The job that waits there, which is then taken.
-fn grab<B: Naming>(here: &mut Slot<B>) -> Slot<B> {
-    match here {
-        Slot::Waits(_) => mem::replace(here, Slot::Taken),
-        _ => Slot::Free,
-    }
-}
-
-/// The half of a count that a thread sleeps on.
-fn low_half(count: u64) -> u32 {
-    (count % (1 << 32)) as u32
-}
-
-/// The mean after a job of so many instructions, of which those above 2^32 do not count: an eighth of the way to them.
-fn mean_after(mean: u64, steps: u64) -> u64 {
-    let now = mean - mean / 8 + steps.min(FIRST_MEAN) / 8;
-    now.min(FIRST_MEAN)
+    mem::replace(here, Slot::Free)
 }

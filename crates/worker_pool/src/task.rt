@@ -55,13 +55,6 @@ impl<B: Naming> Model for Ended<B> {
 }
 
 impl<B: Naming> Task<B> {
-    /// The number of its ticket.
-    pub fn number(&self) -> u64
-        ensures { result ≡ self.now.number }
-    {
-        self.ticket.number()
-    }
-
     /// Runs the job in the thread that calls. The gate is told before and after it, by the job's number there; after it also how many
     /// instructions the run made.
     pub fn run<G: Gate>(

@@ -2,12 +2,11 @@
 ghost use Rattle.std.specs.Prelude.{◌≡◌};
 
 use crate::naming::Naming;
-use crate::shop::{LOOKS, Shop};
+use crate::shop::{Shop, first_nap, longer_nap};
 use exchange_model::Exchange;
 use machine_code::Code;
 use plex_io::Gate;
 use shared_store::SharedStore;
-use std::hint;
 use std::sync::Wait;
 use std::thread::{Scope, Threads};
 
@@ -33,7 +32,9 @@ pub fn start_workers<'s, 'e: 's, B: Naming + Send + Sync, R: Threads + Wait + Sy
         let worker = move ||
             requires { (exchange.now ≡ B.exchange) × (code.now ≡ B.code) × (store.now ≡ B.store) }
         { work(rt, shop, exchange, code, store, gate) };
+        shop.looks_more();
         if scope.spawn(worker).is_err() {
+            shop.looks_less();
             shop.starts_no_more();
             return;
         }
@@ -52,19 +53,15 @@ fn work<R: Wait, B: Naming, G: Gate>(
 )
     requires named { (exchange.now ≡ B.exchange) × (code.now ≡ B.code) × (store.now ≡ B.store) }
 {
-    let mut looks = 0;
+    let mut nap = first_nap();
     for _ in rt.forever() {
-        let seen = shop.brought();
         if shop.is_closed() {
+            shop.looks_less();
             return;
         }
-        if shop.serve(rt, exchange, code, store, gate) {
-            looks = if shop.jobs_are_long() { 0 } else { LOOKS };
-        } else if looks < LOOKS {
-            looks += 1;
-            hint::spin_loop();
-        } else {
-            shop.nap(rt, seen);
-        }
+        let served = shop.serve(rt, exchange, code, store, gate);
+        nap = if served { first_nap() } else { nap };
+        shop.nap(rt, nap);
+        nap = longer_nap(nap);
     }
 }

@@ -11,7 +11,6 @@ ghost use Rattle.register_machine.specs.Private.{counted_of};
 
 use super::stand::{Spot, Way};
 use super::{JobRun, eight_of};
-use crate::frames::Frame;
 use job_types::{Chain, Fault, Held, Outcome, SendTo, Sent};
 use plex_limits::{MOST_CALLERS, MOST_HELD, MOST_SENT, MOST_VALUES};
 use plex_num::Values;
@@ -271,48 +270,33 @@ impl JobRun {
         ensures over { (at address : ℕ) → is_some (leads at address result) ≡ not (is_some self.new.over) }
     {
         if self.frames.len() < MOST_CALLERS {
-            self.frames.push(Frame {
-                back: from.at() + 1,
-                locals: self.locals,
-                given: self.given,
-                awaits: answer,
-            });
+            self.frames
+                .push(from.at() + 1, &self.locals, &self.given, answer);
             self.enter(a)
         } else {
             self.fail(Fault::Depth)
         }
     }
 
-    /// A caller goes on, and the outgoing values are the answer.
-    fn resume(&mut self, frame: &Frame) -> Way
-        ensures next { result ≡ To }
-        ensures run { self.new ≡ record self.old {
-          pc = frame.now.back;
-          regs = replicate 16 0;
-          locals = frame.now.locals;
-          out = [];
-          own = record self.old.own { given = frame.now.given; answers = eight self.old.out };
-        } }
-    {
-        self.answers = eight_of(self.outgoing.as_slice());
-        self.outgoing = Values::new();
-        self.registers = [0; 16];
-        self.locals = frame.locals;
-        self.given = frame.given;
-        self.address = frame.back;
-        Way::To
-    }
-
     /// Answers the caller that waits.
-    #[tactic(auto, using(crate::proofs::Returning::returns_to, crate::proofs::Returning::returns_none))]
+    #[tactic(auto, using(crate::proofs::Returning::some_waits, crate::proofs::Returning::returns_first, crate::proofs::Returning::returns_none))]
     pub(super) fn give_back(&mut self, answer: u32, from: Spot) -> Way
         requires runs { self.old.over ≡ None }
         ensures run { stood (beyond from) (leads (beyond from).at self.new.pc result) self.new ≡ returns self.old.frames answer (standing (beyond from) self.old) }
         ensures over { (at address : ℕ) → is_some (leads at address result) ≡ not (is_some self.new.over) }
     {
-        match self.frames.take(answer) {
-            Some(frame) => self.resume(&frame),
-            None => self.fail(Fault::BadEnd),
+        if self.frames.awaits(answer) {
+            self.answers = eight_of(self.outgoing.as_slice());
+            self.outgoing = Values::new();
+            self.registers = [0; 16];
+            let frame = self.frames.latest();
+            self.locals = frame.locals;
+            self.given = frame.given;
+            self.address = frame.back;
+            self.frames.leave();
+            Way::To
+        } else {
+            self.fail(Fault::BadEnd)
         }
     }
 

@@ -138,7 +138,7 @@ pub(crate) fn read_at<W: Words>(words: &mut W, w: u32, n: u32, i: u32) -> u32
 }
 
 /// Gives the word w + n * i its value.
-fn write_at<W: Words>(words: &mut W, w: u32, n: u32, i: u32, value: u32)
+pub(super) fn write_at<W: Words>(words: &mut W, w: u32, n: u32, i: u32, value: u32)
     requires { W.may_write words.old (w + n * i) ≡ true }
     ensures values { W.values words.new ≡ slice_set (W.values words.old) (w + n * i) value }
     ensures allowed { (W.may_read words.new ≡ W.may_read words.old) × (W.may_write words.new ≡ W.may_write words.old) }
@@ -156,7 +156,7 @@ fn place_of(w: u32, n: u32, i: u32) -> u64
 }
 
 /// Whether the value is below 2^width.
-fn fits_width(value: u32, width: u8) -> bool
+pub(super) fn fits_width(value: u32, width: u8) -> bool
     ensures { result ≡ nat_lt value (2 ^ width) }
 {
     fits(value, width)

@@ -6,4 +6,4 @@ use Rattle.entry_accesses.proofs.Adding.{AddsGo}
 use Rattle.entry_accesses.proofs.accesses.accesses_of.Given as goal
 
 abbrev pub invariant-loop-at : goal.invariant-loop-at
-invariant-loop-at g l = AddsGo (λ (at : PlaceAt). HasAccess l.exchange (g.K.KnownFacts.knows l.known) l.entry (seen at)) l.places l.at-index [] l.found
+invariant-loop-at g l = AddsGo (λ (at : PlaceAt). HasAccess l.exchange (g.K.KnownFacts.knows l.known) l.entry (seen at)) l.places l.at-index [] l.found.accesses

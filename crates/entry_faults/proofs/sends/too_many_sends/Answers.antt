@@ -2,7 +2,7 @@ use Rattle.entry_faults.proofs.Sending.{sends_begin, sends_more, sends_end, few_
 use Rattle.entry_faults.proofs.sends.too_many_sends.Goals as goal
 
 pub loop-at-init : goal.loop-at-init
-loop-at-init g c = sends_begin c.args.exchange.now (g.K.KnownFacts.knows c.args.known.now) c.args.entry
+loop-at-init g c = sends_begin c.args.exchange.now (g.K.KnownFacts.knows c.args.known.now) c.args.entry c.args.places.now
 
 pub counted-sends-requires : goal.counted-sends-requires
 counted-sends-requires g c = few_sends c.args.exchange.now (g.K.KnownFacts.knows c.args.known.now) c.args.entry c.loop-at.at-index c.loop-at.sends c.args.places.now c.kept.ensures c.requires c.loop-at-test.true c.loop-at.invariant

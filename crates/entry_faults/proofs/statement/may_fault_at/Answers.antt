@@ -1,8 +1,9 @@
-use Rattle.std.proofs.Common.{◌≡◌, true, map, ap, subst, ◌∙◌}
+use Rattle.std.proofs.Common.{◌≡◌, true, map, ap, subst, sym, ◌∙◌}
 use Rattle.std.specs.Prelude.{◌↔◌}
 use Rattle.exchange_model.specs.declared.stmt.StmtKind.{out-StmtKind}
 use Rattle.entry_faults.specs.Asking.{MayAnswer}
 use Rattle.entry_faults.specs.Exprs.{expr_seen}
+use Rattle.entry_faults.specs.Statements.{AnyMisses}
 use Rattle.entry_faults.proofs.Faulting.{faults_is}
 use Rattle.entry_faults.proofs.statement.may_fault_at.Goals as goal
 
@@ -20,7 +21,7 @@ returns g c =
       seizing = c.is_seize-seizes.ensures;
       dividing = c.any_divides-divides.ensures;
       forlopp = c.any_forlopp-forlopp.ensures;
-      missing = c.in_ok-misses.ensures;
+      missing = subst (λ ps. (c.in_ok-misses.misses ≡ true) ↔ AnyMisses x P e p ps) (sym c.as_slice-pointing.ensures) c.in_ok-misses.ensures;
       lost = subst (λ o. (c.in_ok-lost.lost ≡ true) ↔ MayAnswer x P e p o) c.receiver_question-receiver.ensures c.in_ok-lost.ensures;
       wide = subst (λ o. (c.in_ok-wide.wide ≡ true) ↔ MayAnswer x P e p o) c.width_question-width.ensures c.in_ok-wide.ensures;
       ending = subst (λ o. (c.in_ok-waits.waits ≡ true) ↔ MayAnswer x P e p o) c.end_question-end.ensures c.in_ok-waits.ensures;

@@ -1,10 +1,13 @@
 use Rattle.std.proofs.Common.{◌∙◌, ap, length}
 use Rattle.exchange_model.specs.Parts.{Parts}
-use Rattle.flow_table.proofs.Tabling.{all_more, all_end}
+use Rattle.flow_table.proofs.Tabling.{retrieves_begin, retrieves_more, retrieves_end}
 use Rattle.flow_table.proofs.table.all_retrieves.Goals as goal
 
-pub loop-answer-preserved : goal.loop-answer-preserved
-loop-answer-preserved c = all_more c.args.exchange.now c.loop-answer.answer c.in_ok-retrieves_of.field-0 c.loop-answer.all c.push.new.self c.in_ok-retrieves_of.ensures c.in_ok-push.ensures c.loop-answer.invariant
+pub loop-at-init : goal.loop-at-init
+loop-at-init c = retrieves_begin c.len-count.result c.args.places.now c.into_vec-retrieves.result.items (c.into_vec-retrieves.ensures ∙ c.in_ok-lists.ensures)
+
+pub loop-at-preserved : goal.loop-at-preserved
+loop-at-preserved c = retrieves_more c.len-count.result c.args.places.now c.loop-at.at-index c.at-item.result c.loop-at.retrieves.items c.push_retrieve.new.retrieves.items c.loop-at-test.true c.at-item.is c.in_ok-push_retrieve.ensures c.loop-at.invariant
 
 pub returns : goal.returns
-returns c = all_end c.args.exchange.now c.loop-answer.answer c.len-count.result c.loop-answer.all (c.len-count.ensures ∙ ap (λ (v : Parts). length v.signals) c.exchange.view_is) c.loop-answer.auto.answer-end c.loop-answer-test.false c.loop-answer.invariant
+returns c = retrieves_end c.args.exchange.now c.len-count.result c.args.places.now c.loop-at.at-index c.loop-at.retrieves.items c.from_vec.result c.requires (c.len-count.ensures ∙ ap (λ (v : Parts). length v.signals) c.exchange.view_is) c.loop-at-test.false c.from_vec.ensures c.loop-at.invariant

@@ -1,5 +1,5 @@
-use Rattle.flow_table.proofs.Tabling.{AllGo}
+use Rattle.flow_table.proofs.Tabling.{RetrievesGo}
 use Rattle.flow_table.proofs.table.all_retrieves.Given as goal
 
-abbrev pub invariant-loop-answer : goal.invariant-loop-answer
-invariant-loop-answer l = AllGo l.exchange l.answer l.all
+abbrev pub invariant-loop-at : goal.invariant-loop-at
+invariant-loop-at l = RetrievesGo l.count l.places l.at-index l.retrieves.items

@@ -1,9 +1,14 @@
-use Rattle.std.proofs.Common.{rules}
-use Rattle.least_facts.proofs.Searching.{added_again, added_first}
+use Rattle.least_facts.specs.Growing.{search_of}
+use Rattle.least_facts.proofs.Flowing.{added, own_entry, own_fits}
 use Rattle.least_facts.proofs.finding.add.Goals as goal
 
-pub returns-then-reached : goal.returns-then-reached
-returns-then-reached c = added_again c.args.answers.now c.args.fact c.args.rows.now c.add.new.self c.args.marked.now.points.keys c.args.marked.now.returning.keys c.mark.new.marked.keys c.in_ok-add.ensures.adds (search rules) c.in_ok-mark.ensures (c.is_reached-reached.ensures.0 c.if-reached.true)
+pub add-requires-clause-entry : goal.add-requires-clause-entry
+add-requires-clause-entry c = own_entry c.args.exchange.now c.args.table.now c.args.entry (search_of c.args.rows.now c.args.marked.now) c.args.fact c.requires.stands c.requires.least
+
+pub add-requires-clause-place : goal.add-requires-clause-place
+add-requires-clause-place c = own_fits c.args.exchange.now c.args.table.now c.args.entry (search_of c.args.rows.now c.args.marked.now) c.args.fact c.kept.ensures c.requires.table c.requires.stands c.requires.least
 
 pub returns : goal.returns
-returns c = added_first c.args.answers.now c.args.fact c.args.rows.now c.add.new.self c.args.marked.now.points.keys c.args.marked.now.returning.keys c.mark.new.marked.keys c.mark_awaiting.new.marked.keys c.in_ok-add.ensures.adds (search rules) c.in_ok-mark.ensures c.in_ok-mark_awaiting.ensures
+returns c =
+    added c.args.exchange.now c.args.table.now c.args.answers.now c.args.entry c.kept.ensures c.requires.answers (search_of c.args.rows.now c.args.marked.now) c.requires.stands c.args.fact c.requires.least c.in_ok-grown.grown c.is_reached-reached.result c.add.new.self _ _
+    c.is_reached-reached.ensures c.in_ok-grown.ensures.adds c.in_ok-grown.ensures.counted c.in_ok-settle.ensures

@@ -1,30 +1,47 @@
-use Rattle.std.proofs.Common.{[], subst}
-use Rattle.least_facts.specs.Growing.{Grows}
+use Rattle.std.proofs.Common.{◌≡◌, ◌∷◌, ◌∙◌, ap, length, subst, sym}
+use Rattle.exchange_model.specs.Parts.{Parts}
+use Rattle.least_facts.specs.Growing.{Searches, search_of}
 use Rattle.least_facts.specs.Marks.{marks_of}
-use Rattle.least_facts.proofs.Growing.{start_begin, visit_less, found_all}
+use Rattle.least_facts.proofs.Growing.{begun_least, begun_searches, begun_stands, found_all, visit_less}
 use Rattle.least_facts.proofs.Marking.{none_taken, taken}
 use Rattle.least_facts.proofs.finding.find.Goals as goal
 
-pub add_all-requires-clause-grows : goal.add_all-requires-clause-grows
-add_all-requires-clause-grows c =
-    start_begin c.args.exchange.now c.args.table.now c.args.entry c.args.rows.now.marks.slots c.begin.new.self (marks_of c.new-marked.result) c.new-facts.result c.push_given_at_start.new.facts c.as_slice.result.now c.begin.ensures c.requires.slots c.new-marked.ensures c.new-facts.ensures c.in_ok-push_given_at_start.ensures c.as_slice.ensures
+pub add_all-requires-clause-stands : goal.add_all-requires-clause-stands
+add_all-requires-clause-stands c = (begun_stands c.args.exchange.now c.args.table.now c.args.answers.now c.args.entry c.begin.new.self c.args.rows.now.marks.slots c.begin.ensures (marks_of c.in_ok-marked.marked) c.in_ok-marked.marked.firsts.items c.len.result c.requires.slots c.in_ok-marked.ensures.firsts (c.len.ensures ∙ ap (λ (v : Parts). length v.signals) c.exchange.view_is))
+
+pub add_all-requires-clause-least : goal.add_all-requires-clause-least
+add_all-requires-clause-least c = begun_least c.args.exchange.now c.args.table.now c.args.answers.now c.args.entry c.begin.new.self c.args.rows.now.marks.slots c.begin.ensures c.new-facts.result c.push_given_at_start.new.facts c.as_slice-begun.result.now c.new-facts.ensures c.in_ok-push_given_at_start.ensures c.as_slice-begun.ensures
 
 pub loop-point-init : goal.loop-point-init
-loop-point-init c = c.in_ok-add_all.ensures.grows
+loop-point-init c =
+    begun_searches c.args.exchange.now c.args.table.now c.args.answers.now c.args.entry c.begin.new.self c.args.rows.now.marks.slots c.begin.ensures c.new-facts.result c.push_given_at_start.new.facts c.as_slice-begun.result.now c.new-facts.ensures c.in_ok-push_given_at_start.ensures c.as_slice-begun.ensures c.requires.answers (marks_of c.in_ok-marked.marked) c.in_ok-marked.marked.firsts.items (search_of c.add_all.new.rows c.add_all.new.marked)
+    (begun_stands c.args.exchange.now c.args.table.now c.args.answers.now c.args.entry c.begin.new.self c.args.rows.now.marks.slots c.begin.ensures (marks_of c.in_ok-marked.marked) c.in_ok-marked.marked.firsts.items c.len.result c.requires.slots c.in_ok-marked.ensures.firsts (c.len.ensures ∙ ap (λ (v : Parts). length v.signals) c.exchange.view_is))
+    c.in_ok-marked.ensures.marks c.in_ok-add_all.ensures
 
-pub visit-requires-clause-grows : goal.visit-requires-clause-grows
-visit-requires-clause-grows c =
-    subst (λ m. Grows c.args.exchange.now c.args.table.now c.args.entry c.loop-point.rows m []) (taken c.take.result c.in-Some.point (marks_of c.loop-point.marked) (marks_of c.take.new.marked) c.in-Some.is c.take.ensures) c.loop-point.invariant
+pub visit-requires-clause-searches : goal.visit-requires-clause-searches
+visit-requires-clause-searches c =
+    let marks : marks_of c.loop-point.marked ≡ c.in-Some.point ∷ marks_of c.take.new.marked = (taken c.take.result c.in-Some.point (marks_of c.loop-point.marked) (marks_of c.take.new.marked) c.in-Some.is c.take.ensures.takes) in
+    let firsts : c.loop-point.marked.firsts.items ≡ c.take.new.marked.firsts.items = sym c.take.ensures.firsts in
+    subst (Searches c.args.exchange.now c.args.table.now c.args.entry) (λ i. record { rows = c.loop-point.rows; marks = marks i; firsts = firsts i }) c.loop-point.invariant
+
+pub loop-point-preserved : goal.loop-point-preserved
+loop-point-preserved c = c.in_ok-more.ensures.searches
 
 pub loop-point-smaller : goal.loop-point-smaller
 loop-point-smaller c =
-    visit_less c.args.exchange.now c.args.table.now c.args.entry c.loop-point.rows c.visit.new.rows c.in-Some.point (marks_of c.loop-point.marked) (marks_of c.take.new.marked) c.visit.new.marked.points.keys c.visit.new.marked.returning.keys
-    (taken c.take.result c.in-Some.point (marks_of c.loop-point.marked) (marks_of c.take.new.marked) c.in-Some.is c.take.ensures) c.in_ok-more.ensures.went c.in_ok-more.ensures.points c.in_ok-more.ensures.returning
+    visit_less c.args.exchange.now c.args.table.now c.args.answers.now c.args.entry (search_of c.loop-point.rows c.take.new.marked) (search_of c.visit.new.rows c.visit.new.marked) c.in-Some.point (marks_of c.loop-point.marked)
+    (taken c.take.result c.in-Some.point (marks_of c.loop-point.marked) (marks_of c.take.new.marked) c.in-Some.is c.take.ensures.takes) c.in_ok-more.ensures
 
 pub returns-then-is_over-clause-all : goal.returns-then-is_over-clause-all
 returns-then-is_over-clause-all c = λ none. absurd (c.is_over.ensures c.if-is_over.true none)
 
+pub returns-then-is_over-clause-slots : goal.returns-then-is_over-clause-slots
+returns-then-is_over-clause-slots c = c.loop-point.invariant.stands.of_slots
+
 pub returns-clause-found : goal.returns-clause-found
 returns-clause-found c =
-    found_all c.args.exchange.now c.args.table.now c.args.entry c.loop-point.rows (marks_of c.loop-point.marked)
-    (none_taken c.take.result (marks_of c.loop-point.marked) (marks_of c.take.new.marked) c.in_default.not-Some c.take.ensures) c.loop-point.invariant
+    found_all c.args.exchange.now c.args.table.now c.args.answers.now c.args.entry c.requires.answers (search_of c.loop-point.rows c.loop-point.marked) c.loop-point.invariant
+    (none_taken c.take.result (marks_of c.loop-point.marked) (marks_of c.take.new.marked) c.in_default.not-Some c.take.ensures.takes)
+
+pub returns-clause-slots : goal.returns-clause-slots
+returns-clause-slots c = c.loop-point.invariant.stands.of_slots

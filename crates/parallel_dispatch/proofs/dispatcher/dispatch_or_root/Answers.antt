@@ -7,7 +7,6 @@ pub run_named-requires-clause-set : goal.run_named-requires-clause-set
 run_named-requires-clause-set g c κs within = record {
   exchange = c.kept.ensures;
   laid = c.requires.layout;
-  table_is = c.in-Ok.ensures;
   faithful = c.requires.faithful;
   checked = c.requires.checked;
   true_of = they_are_true c.args.exchange.now c.args.checked.now c.kept.ensures c.requires.checked;

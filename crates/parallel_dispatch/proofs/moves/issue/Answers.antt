@@ -28,8 +28,8 @@ lend_as-seat-requires-clause-permit g c =
     beside g.B.Naming.exchange c.args.setting.now.checked.now set.exchange set.checked set.true_of c.args.books.now c.args.root.now c.args.window.now c.args.start c.requires.next c.requires.flying
     c.summary-told.result.now c.summary-told.ensures.it (bare (trace_of g.B.Naming.exchange c.args.start c.args.root.now.1.values)) refl
 
-pub push-task-requires-clause-ready : goal.push-task-requires-clause-ready
-push-task-requires-clause-ready g c =
+pub launch-flight-requires-clause-ready : goal.launch-flight-requires-clause-ready
+launch-flight-requires-clause-ready g c =
     let set = c.requires.set in
     ready g.B.Naming.exchange c.args.setting.now.checked.now set.exchange set.checked set.true_of c.args.books.now c.args.root.now c.args.window.now c.args.start c.requires.next c.requires.flying
     c.summary-told.result.now c.summary-told.ensures.it (bare (trace_of g.B.Naming.exchange c.args.start c.args.root.now.1.values)) refl
@@ -41,7 +41,9 @@ returns-clause-fly g c = λ s fly.
     issued g.B.Naming.exchange c.args.setting.now.checked.now set.exchange set.checked set.true_of c.args.books.now c.args.root.now c.args.window.now c.args.start c.requires.next c.requires.flying
     c.summary-told.result.now c.summary-told.ensures.it (bare (trace_of g.B.Naming.exchange c.args.start c.args.root.now.1.values)) refl
     s _ _ _ _ fly c.next_job-begun.ensures.start c.next_job-begun.ensures.left (ap (λ (r : RootView). r.1) c.lend_as-seat.ensures.root)
-    (ap (λ (v : View). v.loans) c.push-task.ensures ∙ λ i. ap (λ (v : View). v.loans) c.idle_run.ensures i ++ ap (λ (j : JobView). j.1.lent) c.lend_as-seat.ensures.seat i ∷ [])
+    (ap (λ (v : View). v.loans) c.push.ensures
+    ∙ λ i. (ap (λ (v : View). v.loans) c.launch-flight.ensures.window ∙ ap (λ (v : View). v.loans) c.idle_run.ensures) i
+    ++ (c.set_out-flight.ensures ∙ c.launch-flight.ensures.flight ∙ ap (λ (j : JobView). j.1.lent) c.lend_as-seat.ensures.seat) i ∷ [])
 
 pub returns-clause-events : goal.returns-clause-events
 returns-clause-events g c =
@@ -49,4 +51,6 @@ returns-clause-events g c =
     issued_event g.B.Naming.exchange c.args.setting.now.checked.now set.exchange set.checked set.true_of c.args.books.now c.args.root.now c.args.window.now c.args.start c.requires.next c.requires.flying
     c.summary-told.result.now c.summary-told.ensures.it (bare (trace_of g.B.Naming.exchange c.args.start c.args.root.now.1.values)) refl
     g.B.Naming.code _ _ _ _ c.next_job-begun.ensures.start c.next_job-begun.ensures.left (ap (λ (r : RootView). r.1) c.lend_as-seat.ensures.root)
-    (ap (λ (v : View). v.loans) c.push-task.ensures ∙ λ i. ap (λ (v : View). v.loans) c.idle_run.ensures i ++ ap (λ (j : JobView). j.1.lent) c.lend_as-seat.ensures.seat i ∷ [])
+    (ap (λ (v : View). v.loans) c.push.ensures
+    ∙ λ i. (ap (λ (v : View). v.loans) c.launch-flight.ensures.window ∙ ap (λ (v : View). v.loans) c.idle_run.ensures) i
+    ++ (c.set_out-flight.ensures ∙ c.launch-flight.ensures.flight ∙ ap (λ (j : JobView). j.1.lent) c.lend_as-seat.ensures.seat) i ∷ [])

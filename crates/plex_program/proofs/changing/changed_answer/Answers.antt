@@ -1,4 +1,3 @@
-use Rattle.std.proofs.Common.{◌++◌, ap, refl, ◌∙◌}
 use Rattle.retire_order.specs.Accounts.{with_words}
 use Rattle.retire_order.specs.Events.{ending_of}
 use Rattle.retire_order.specs.Parts.{account_of}
@@ -11,5 +10,4 @@ run_further-requires-clause-few g c κs within = carried_few c.args.change.now.o
 pub returns-clause-answer : goal.returns-clause-answer
 returns-clause-answer g c =
     let end = c.in_ok-end.end in
-    let text_is = c.in_ok-append.ensures ∙ ap (λ l. c.in_ok-text.text ++ l) c.as_slice.ensures in
-    changes c.args.change.now.old.now c.args.change.now.new.now (with_words (account_of c.args.parts).state c.args.words.now) c.in_ok-moved.moved c.in_ok-moved.carried c.args.bounds.jobs c.args.change.now.at end.books.state end.words (ending_of end.ending) c.in_ok-text.text c.in_ok-report.report _ c.in_ok-moved.ensures.carried c.in_ok-end.ensures c.in_ok-text.ensures c.in_ok-report.ensures.answer refl text_is
+    changes c.args.change.now.old.now c.args.change.now.new.now (with_words (account_of c.args.parts).state c.args.words.now) c.in_ok-moved.moved c.in_ok-moved.carried c.args.bounds.jobs c.args.change.now.at end.books.state end.words (ending_of end.ending) c.in_ok-text.text c.in_ok-answer.answer c.in_ok-moved.ensures.carried c.in_ok-end.ensures c.in_ok-text.ensures c.in_ok-answer.ensures.answer

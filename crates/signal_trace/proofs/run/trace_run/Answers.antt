@@ -4,6 +4,7 @@ use Rattle.register_machine.specs.Faithful.{Faithful}
 use Rattle.source_meaning.specs.SingleRun.{ending_at}
 use Rattle.retire_order.specs.Accounts.{with_words}
 use Rattle.retire_order.specs.Events.{ending_of}
+use Rattle.signal_trace.specs.Text.{trace_text}
 use Rattle.signal_trace.specs.Turns.{shown_next}
 use Rattle.signal_trace.proofs.Tracing.{traces_all, traces_begin, traces_end, traces_fewer, traces_more, traces_valid}
 use Rattle.signal_trace.proofs.run.trace_run.Goals as goal
@@ -22,9 +23,9 @@ jobs-preserved c =
     let inv = c.jobs.invariant in
     let turn = c.in_ok-trace_turn.ensures in
     let goes : ending_at c.jobs.books.limit c.jobs.books.state ≡ None = search (rules, common_steps) in
-    let more = turn.jobs ∙ ap (λ ls. c.jobs.tracer.jobs ++ shown_next x ls (with_words c.jobs.books.state c.jobs.words)) inv.lines in
+    let more = turn.text ∙ ap (λ ls. c.jobs.tracer.text ++ trace_text x (shown_next x ls (with_words c.jobs.books.state c.jobs.words))) inv.lines in
     record {
-      traces = traces_more x first c.args.books.limit c.args.shows.now c.jobs.books c.jobs.words c.jobs.tracer.jobs c.kept.ensures c.requires.valid inv.traces c.trace_turn.new.books c.trace_turn.new.words c.trace_turn.new.tracer.jobs goes turn.state turn.nobody turn.limit more;
+      traces = traces_more x first c.args.books.limit c.args.shows.now c.jobs.books c.jobs.words c.jobs.tracer.text c.kept.ensures c.requires.valid inv.traces c.trace_turn.new.books c.trace_turn.new.words c.trace_turn.new.tracer.text goes turn.state turn.nobody turn.limit more;
       lines = turn.lines ∙ inv.lines;
       faithful = turn.faithful;
     }
@@ -35,16 +36,16 @@ jobs-smaller c =
     let first = with_words c.args.books.state c.args.words in
     let turn = c.in_ok-trace_turn.ensures in
     let goes : ending_at c.jobs.books.limit c.jobs.books.state ≡ None = search (rules, common_steps) in
-    traces_fewer x first c.args.books.limit c.args.shows.now c.jobs.books c.jobs.words c.jobs.tracer.jobs c.kept.ensures c.requires.valid c.jobs.invariant.traces c.trace_turn.new.books c.trace_turn.new.words goes turn.state turn.nobody turn.limit
+    traces_fewer x first c.args.books.limit c.args.shows.now c.jobs.books c.jobs.words c.jobs.tracer.text c.kept.ensures c.requires.valid c.jobs.invariant.traces c.trace_turn.new.books c.trace_turn.new.words goes turn.state turn.nobody turn.limit
 
 pub trace_turn-requires-clause-valid : goal.trace_turn-requires-clause-valid
 trace_turn-requires-clause-valid c =
-    traces_valid c.args.exchange.now (with_words c.args.books.state c.args.words) c.args.books.limit c.args.shows.now c.jobs.books c.jobs.words c.jobs.tracer.jobs c.kept.ensures c.requires.valid c.jobs.invariant.traces
+    traces_valid c.args.exchange.now (with_words c.args.books.state c.args.words) c.args.books.limit c.args.shows.now c.jobs.books c.jobs.words c.jobs.tracer.text c.kept.ensures c.requires.valid c.jobs.invariant.traces
 
-pub returns-in-Some-clause-jobs : goal.returns-in-Some-clause-jobs
-returns-in-Some-clause-jobs c =
-    traces_all c.args.exchange.now (with_words c.args.books.state c.args.words) c.args.books.limit c.args.shows.now c.jobs.books c.jobs.words c.jobs.tracer.jobs c.kept.ensures c.requires.valid c.jobs.invariant.traces (ending_of c.in-Some.ending) c.in-Some.ensures
+pub returns-in-Some-clause-text : goal.returns-in-Some-clause-text
+returns-in-Some-clause-text c =
+    traces_all c.args.exchange.now (with_words c.args.books.state c.args.words) c.args.books.limit c.args.shows.now c.jobs.books c.jobs.words c.jobs.tracer.text c.kept.ensures c.requires.valid c.jobs.invariant.traces (ending_of c.in-Some.ending) c.in-Some.ensures
 
 pub returns-in-Some-clause-end : goal.returns-in-Some-clause-end
 returns-in-Some-clause-end c =
-    traces_end c.args.exchange.now (with_words c.args.books.state c.args.words) c.args.books.limit c.args.shows.now c.jobs.books c.jobs.words c.jobs.tracer.jobs c.kept.ensures c.requires.valid c.jobs.invariant.traces (ending_of c.in-Some.ending) c.in-Some.ensures
+    traces_end c.args.exchange.now (with_words c.args.books.state c.args.words) c.args.books.limit c.args.shows.now c.jobs.books c.jobs.words c.jobs.tracer.text c.kept.ensures c.requires.valid c.jobs.invariant.traces (ending_of c.in-Some.ending) c.in-Some.ensures

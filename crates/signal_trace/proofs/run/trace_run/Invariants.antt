@@ -6,7 +6,7 @@ use Rattle.signal_trace.proofs.run.trace_run.Given as goal
 
 abbrev pub invariant-jobs : goal.invariant-jobs
 invariant-jobs l = record {
-  traces : Traces l.exchange (with_words l.fn.books.state l.fn.words) l.fn.books.limit l.shows l.books l.words l.tracer.jobs;
+  traces : Traces l.exchange (with_words l.fn.books.state l.fn.words) l.fn.books.limit l.shows l.books l.words l.tracer.text;
   lines : l.tracer.shows.now ≡ l.shows;
   faithful : Faithful l.exchange l.runner.code.now;
 }

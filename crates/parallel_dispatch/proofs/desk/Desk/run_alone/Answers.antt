@@ -6,12 +6,12 @@ use Rattle.parallel_dispatch.proofs.desk.Desk.run_alone.Goals as goal
 pub run_alone-requires-clause-flying : goal.run_alone-requires-clause-flying
 run_alone-requires-clause-flying g c =
     desk_flies g.B.Naming.exchange g.B.Course.kept g.B.Naming.code g.B.Naming.store g.B.Course.workers g.B.Course.first g.B.Course.limit
-    c.args.setting.now.checked.now c.requires.kept c.args.setting.now.layout.now c.args.setting.now.table.now c.requires.set
+    c.args.setting.now.checked.now c.requires.kept c.args.setting.now.layout.now c.requires.set
     c.self.inside.books c.self.inside.root c.self.inside.window c.self.inside.steps c.self.invariant
 
 pub invariant_of-result : goal.invariant_of-result
 invariant_of-result g c =
     desk_turned g.B.Naming.exchange g.B.Course.kept g.B.Naming.code g.B.Naming.store g.B.Course.workers g.B.Course.first g.B.Course.limit
-    c.args.setting.now.checked.now c.requires.kept c.args.setting.now.layout.now c.args.setting.now.table.now c.requires.set
+    c.args.setting.now.checked.now c.requires.kept c.args.setting.now.layout.now c.requires.set
     c.self.inside.books c.self.inside.root c.self.inside.window c.self.inside.steps c.self.invariant
     whole_turn c.run_alone.new.books c.in-Ok.alone c.run_alone.new.window _ c.in-Ok.ensures.turned refl

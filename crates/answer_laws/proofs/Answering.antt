@@ -1,0 +1,122 @@
+-- Each stage comes to one outcome, and so the words and the files have one answer.
+use Rattle.std.proofs.Common.{◌≡◌, ℕ, Bool, true, false, List, Option, Some, None, Ok, Err, refl, sym, ap, ◌∙◌, subst}
+use Rattle.std.specs.Result.{result_ok}
+use Rattle.std.proofs.lemmas.Option.{none-some, same_Some}
+use Rattle.plex_io.specs.Files.{Files}
+use Rattle.exchange_model.specs.declared.exchange.Exchange.{Exchange}
+use Rattle.exchange_model.specs.Kept.{IsExchange}
+use Rattle.signal_file.specs.declared.line.Line.{Line}
+use Rattle.analysis_text.specs.Analysis.{IsAnalysis}
+use Rattle.certificate_text.specs.Text.{certificate_text}
+use Rattle.block_change.specs.declared.misfit.Misfit.{Misfit}
+use Rattle.block_change.specs.Misfits.{misfit}
+use Rattle.block_change.proofs.Once.{state_once}
+use Rattle.command_words.specs.Words.{Word, shape}
+use Rattle.command_words.specs.declared.command.Command.{Command}
+use Rattle.command_words.specs.declared.command.Command.TheVariants.{Run, Single, Analyse, Certify, List as Listing, Load, Timed, Change, Trace}
+use Rattle.command_words.specs.declared.command.ChangeWords.{ChangeWords}
+use Rattle.command_words.specs.declared.command.RunWords.{RunWords}
+use Rattle.analysis_laws.proofs.Certifying.{certificate_once}
+use Rattle.analysis_laws.proofs.Summing.{all_summaries_once}
+use Rattle.analysis_laws.proofs.Telling.{analysis_once}
+use Rattle.plex_program.specs.Answer.{AnswersAnalysis, AnswersCertificate, AnswersChange, ChangeAnswers, ChangeComes, ChangesOrNot, FromExchange, GoesOn, IsAnAnswer, IsAnswer, IsAnswerBy, IsCertifiedRun, Out, RunComes, answer_of, as_new, changed_answer, exchange_at, is_changed, lines_at, new_exchange_at, or_uncertified, performed, run_answer, state_at, text_at}
+use Rattle.plex_program.specs.declared.perform.Answer.{Answer}
+use Rattle.plex_program.proofs.Accepted.{accepted}
+use Rattle.answer_laws.proofs.Judging.{judged_once}
+
+-- a stage that is followed by one that comes to one outcome comes to one
+goes_once : {A : Type 0} (s : Out A) (Go : A → Out Answer → Type 0) (o p : Out Answer) → ((a : A) → s ≡ Ok a → Go a o → Go a p → o ≡ p) → GoesOn s Go o → GoesOn s Go p → o ≡ p
+goes_once (Ok a) Go o p once one other = once a refl one other
+goes_once (Err r) Go o p once one other = sym one ∙ other
+
+-- a run with a certificate
+
+certified_once : (x : Exchange) (text : Option (List ℕ)) (a : Answer) (o p : Out Answer) → IsCertifiedRun x text a o → IsCertifiedRun x text a p → o ≡ p
+certified_once x text a o p one other = sym one.comes ∙ ap (λ f. or_uncertified f a) (judged_once x text one.fault other.fault one.judged other.judged) ∙ other.comes
+
+run_once : (w : RunWords) (name : Option Word) (files : Files) (o p : Out Answer) → RunComes w name files o → RunComes w name files p → o ≡ p
+run_once w None files o p one other = sym one ∙ other
+run_once w (Some name) files o p one other =
+    goes_once (exchange_at w.exchange files) _ o p (λ x comes.
+    goes_once (lines_at x w.signals files) _ o p (λ lines told.
+    goes_once (text_at name files) _ o p (λ text held.
+    certified_once x text (run_answer x lines w.bounds.jobs) o p))) one other
+
+-- an analysis, and a certificate
+
+analysed_once : (x : Exchange) (a b : Answer) → AnswersAnalysis x a → AnswersAnalysis x b → a ≡ b
+analysed_once x a b one other =
+    let status : a.status ≡ b.status = one.status ∙ sym other.status in
+    let summaries : one.summaries ≡ other.summaries = all_summaries_once x one.summaries other.summaries one.are other.are in
+    let text : a.text ≡ b.text = analysis_once x other.summaries a.text b.text (subst (λ s. IsAnalysis x s a.text) summaries one.told) other.told in
+    λ i. record { status = status i; text = text i }
+
+certified_of_once : (x : Exchange) (a b : Answer) → AnswersCertificate x a → AnswersCertificate x b → a ≡ b
+certified_of_once x a b one other =
+    let status : a.status ≡ b.status = one.status ∙ sym other.status in
+    let text : a.text ≡ b.text = one.told ∙ ap certificate_text (certificate_once x one.certificate other.certificate one.is other.is) ∙ sym other.told in
+    λ i. record { status = status i; text = text i }
+
+same_exchange : (r : Out Exchange) (x y : Exchange) → r ≡ Ok x → r ≡ Ok y → x ≡ y
+same_exchange r x y one other = same_Some x y (ap result_ok (sym one ∙ other))
+
+from_once : (name : Word) (Is : Exchange → Answer → Type 0) (files : Files) (o p : Out Answer) → ((x : Exchange) (a b : Answer) → Is x a → Is x b → a ≡ b) → FromExchange name Is files o → FromExchange name Is files p → o ≡ p
+from_once name Is files (Ok a) (Ok b) once one other =
+    let x = same_exchange (exchange_at name files) one.exchange other.exchange one.comes other.comes in
+    ap (λ c. Ok c) (once other.exchange a b (subst (λ y. Is y a) x one.answers) other.answers)
+from_once name Is files (Ok a) (Err r) once one other = absurd (none-some one.exchange (ap result_ok (sym other ∙ one.comes)))
+from_once name Is files (Err r) (Ok b) once one other = absurd (none-some other.exchange (ap result_ok (sym one ∙ other.comes)))
+from_once name Is files (Err r) (Err q) once one other = ap (λ e. Err e) (let same = sym one ∙ other in cc)
+
+-- a change
+
+taken_as_new : (r : Out Exchange) (x : Exchange) → as_new r ≡ Ok x → r ≡ Ok x
+taken_as_new (Ok y) x is = is
+taken_as_new (Err q) x is = absurd (none-some x (ap result_ok is))
+
+changed_once : (old new : Exchange) (lines : List Line) (jobs at : ℕ) (b : Bool) (a c : Answer) → IsExchange new → ChangesOrNot old new lines jobs at b a → ChangesOrNot old new lines jobs at b c → a ≡ c
+changed_once old new lines jobs at true a c kept one other =
+    let carried = state_once old new (state_at old lines at) one.carried other.carried kept one.is other.is in
+    one.answers ∙ ap (λ s. changed_answer old new (state_at old lines at) s jobs at) carried ∙ sym other.answers
+changed_once old new lines jobs at false a c kept one other = one ∙ sym other
+
+change_once : (old new : Exchange) (lines : List Line) (jobs at : ℕ) (m : Option Misfit) (a b : Answer) → IsExchange new → AnswersChange old new lines jobs at m a → AnswersChange old new lines jobs at m b → a ≡ b
+change_once old new lines jobs at None a b kept one other = changed_once old new lines jobs at (is_changed old lines jobs at) a b kept one other
+change_once old new lines jobs at (Some m) a b kept one other = one ∙ sym other
+
+an_answer_once : (Is : Answer → Type 0) (o p : Out Answer) → ((a b : Answer) → Is a → Is b → a ≡ b) → IsAnAnswer Is o → IsAnAnswer Is p → o ≡ p
+an_answer_once Is (Ok a) (Ok b) once one other = ap (λ c. Ok c) (once a b one other)
+an_answer_once Is (Ok a) (Err q) once one other = absurd other
+an_answer_once Is (Err r) p once one other = absurd one
+
+new_kept : (name : Word) (files : Files) (new : Exchange) → new_exchange_at name files ≡ Ok new → IsExchange new
+new_kept name files new comes = (accepted name files new (taken_as_new (exchange_at name files) new comes)).kept
+
+changes_once : (w : ChangeWords) (files : Files) (o p : Out Answer) → ChangeComes w files o → ChangeComes w files p → o ≡ p
+changes_once w files o p one other =
+    goes_once (exchange_at w.run.exchange files) _ o p (λ old comes.
+    goes_once (lines_at old w.run.signals files) _ o p (λ lines told.
+    goes_once (new_exchange_at w.new files) _ o p (λ new also.
+    an_answer_once (ChangeAnswers old new lines w.run.bounds.jobs w.at) o p (λ a b.
+    change_once old new lines w.run.bounds.jobs w.at (misfit old new) a b (new_kept w.new files new also))))) one other
+
+-- all commands
+
+performed_once : (c : Command) (files : Files) (o p : Out Answer) → performed c files o → performed c files p → o ≡ p
+performed_once (Run w) files o p one other = run_once w w.certificate files o p one other
+performed_once (Single w) files o p one other = sym one ∙ other
+performed_once (Analyse name) files o p one other = from_once name AnswersAnalysis files o p analysed_once one other
+performed_once (Certify name) files o p one other = from_once name AnswersCertificate files o p certified_of_once one other
+performed_once (Listing name) files o p one other = sym one ∙ other
+performed_once (Load calls) files o p one other = sym one ∙ other
+performed_once (Timed w) files o p one other = sym one ∙ other
+performed_once (Change w) files o p one other = changes_once w files o p one other
+performed_once (Trace w) files o p one other = sym one ∙ other
+
+answer_by_once : (c : Option Command) (files : Files) (a b : Answer) → IsAnswerBy c files a → IsAnswerBy c files b → a ≡ b
+answer_by_once None files a b one other = sym one ∙ other
+answer_by_once (Some c) files a b one other = sym one.told ∙ ap answer_of (performed_once c files one.outcome other.outcome one.comes other.comes) ∙ other.told
+
+pub answer_once : (words : List Word) (files : Files) (a b : Answer) → IsAnswer words files a → IsAnswer words files b → a ≡ b
+unfolding IsAnswer
+answer_once words files a b one other = answer_by_once (shape words) files a b one other

@@ -1,0 +1,63 @@
+-- One judgement on the text of a certificate.
+use Rattle.std.proofs.Common.{◌≡◌, ℕ, List, Option, Some, None, Ok, Err, refl, ap, subst}
+use Rattle.exchange_model.specs.declared.exchange.Exchange.{Exchange}
+use Rattle.certificate_text.specs.declared.certificate.Certificate.{Certificate}
+use Rattle.certificate_text.specs.declared.fault.TextFault.TheVariants as text_fault
+use Rattle.certificate_text.specs.Lines.{HasBadLine, IsTextOf}
+use Rattle.certificate_text.proofs.Once.{bad_line_told, one_certificate}
+use Rattle.checked.specs.declared.fault.CertFault.TheVariants as fault
+use Rattle.checked.proofs.Checking.{never_closed}
+use Rattle.analysis_laws.proofs.Refusing.{refused_once}
+use Rattle.plex_program.specs.Certificates.{IsJudged, Judges, large, bad, read}
+use Rattle.plex_program.specs.declared.fault.CertificateFault.{CertificateFault}
+use Rattle.plex_program.specs.declared.fault.CertificateFault.TheVariants.{TooLarge, BadText, WrongExchange, Strange, Missing}
+
+-- a text with a bad line is that of no certificate, and has one first bad line
+
+bad_is_none : (text : List ℕ) (l : ℕ) (c : Certificate) → HasBadLine text l → IsTextOf text c → ⊥
+bad_is_none text l c bad_line is = let clash = bad_line_told text (Ok c) l is bad_line in cc
+
+bad_once : (text : List ℕ) (l m : ℕ) → HasBadLine text l → HasBadLine text m → l ≡ m
+bad_once text l m one other = let same = bad_line_told text (Err (text_fault.BadText l)) m one other in cc
+
+-- one verdict on a certificate
+
+refused_not_closed : (x : Exchange) (c : Certificate) (f : CertificateFault) → Judges x c (Some f) → Judges x c None → ⊥
+refused_not_closed x c TooLarge r is = r
+refused_not_closed x c (BadText line) r is = r
+refused_not_closed x c (WrongExchange s t) r is = let e = never_closed x c (fault.WrongExchange s t) r is in cc
+refused_not_closed x c (Strange f) r is = let e = never_closed x c (fault.StrangeFact f) r is in cc
+refused_not_closed x c (Missing f) r is = let e = never_closed x c (fault.MissingFact f) r is in cc
+
+fault_once : (x : Exchange) (c : Certificate) (f g : CertificateFault) → Judges x c (Some f) → Judges x c (Some g) → f ≡ g
+fault_once x c TooLarge g a b = absurd a
+fault_once x c (BadText line) g a b = absurd a
+fault_once x c (WrongExchange s t) TooLarge a b = absurd b
+fault_once x c (WrongExchange s t) (BadText line) a b = absurd b
+fault_once x c (WrongExchange s t) (WrongExchange u v) a b = let e = refused_once x c (fault.WrongExchange s t) (fault.WrongExchange u v) (λ e. cc) (λ e. cc) a b in cc
+fault_once x c (WrongExchange s t) (Strange g) a b = let e = refused_once x c (fault.WrongExchange s t) (fault.StrangeFact g) (λ e. cc) (λ e. cc) a b in cc
+fault_once x c (WrongExchange s t) (Missing g) a b = let e = refused_once x c (fault.WrongExchange s t) (fault.MissingFact g) (λ e. cc) (λ e. cc) a b in cc
+fault_once x c (Strange f) TooLarge a b = absurd b
+fault_once x c (Strange f) (BadText line) a b = absurd b
+fault_once x c (Strange f) (WrongExchange u v) a b = let e = refused_once x c (fault.StrangeFact f) (fault.WrongExchange u v) (λ e. cc) (λ e. cc) a b in cc
+fault_once x c (Strange f) (Strange g) a b = let e = refused_once x c (fault.StrangeFact f) (fault.StrangeFact g) (λ e. cc) (λ e. cc) a b in cc
+fault_once x c (Strange f) (Missing g) a b = let e = refused_once x c (fault.StrangeFact f) (fault.MissingFact g) (λ e. cc) (λ e. cc) a b in cc
+fault_once x c (Missing f) TooLarge a b = absurd b
+fault_once x c (Missing f) (BadText line) a b = absurd b
+fault_once x c (Missing f) (WrongExchange u v) a b = let e = refused_once x c (fault.MissingFact f) (fault.WrongExchange u v) (λ e. cc) (λ e. cc) a b in cc
+fault_once x c (Missing f) (Strange g) a b = let e = refused_once x c (fault.MissingFact f) (fault.StrangeFact g) (λ e. cc) (λ e. cc) a b in cc
+fault_once x c (Missing f) (Missing g) a b = let e = refused_once x c (fault.MissingFact f) (fault.MissingFact g) (λ e. cc) (λ e. cc) a b in cc
+
+verdict_once : (x : Exchange) (c : Certificate) (o p : Option CertificateFault) → Judges x c o → Judges x c p → o ≡ p
+verdict_once x c None None a b = refl
+verdict_once x c None (Some g) a b = absurd (refused_not_closed x c g b a)
+verdict_once x c (Some f) None a b = absurd (refused_not_closed x c f a b)
+verdict_once x c (Some f) (Some g) a b = ap (λ h. Some h) (fault_once x c f g a b)
+
+-- and on its text
+pub judged_once : (x : Exchange) (text : Option (List ℕ)) (o p : Option CertificateFault) → IsJudged x text o → IsJudged x text p → o ≡ p
+judged_once x _ _ _ large large = refl
+judged_once x _ _ _ (bad text l one) (bad _ m other) = ap (λ n. Some (BadText n)) (bad_once text l m one other)
+judged_once x _ _ _ (bad text l one) (read _ c p is b) = absurd (bad_is_none text l c one is)
+judged_once x _ _ _ (read text c o is a) (bad _ m other) = absurd (bad_is_none text m c other is)
+judged_once x _ _ _ (read text c o is a) (read _ d p also b) = verdict_once x d o p (subst (λ k. Judges x k o) (one_certificate text c d is also) a) b

@@ -1,0 +1,22 @@
+// What holds of the answers to all words, said by a clause.
+ghost use Rattle.std.specs.Prelude.{◌≡◌, ◌≤◌, [], ◌∷◌, Some, length};
+ghost use Rattle.plex_limits.specs.declared.limits.TheConstants.{MOST_BYTES};
+ghost use Rattle.plex_io.specs.Files.{Files};
+ghost use Rattle.plex_program.specs.Answer.{exchange_at, run_of, timed_of};
+ghost use Rattle.plex_program.specs.declared.perform.Answer.{Answer};
+ghost use Rattle.plex_program.specs.declared.program.Status.TheVariants.{Done};
+ghost use Rattle.command_words.specs.Words.{Word};
+ghost use Rattle.command_words.specs.declared.command.TimedWords.{TimedWords};
+ghost use Rattle.merge_program.specs.Merge.{IsMergeAnswer};
+
+/// Where the answer to an exchange, a signal file and a table is `Done` and its text is not too large for a file, `run` of a file with
+/// that text in place of the signal file is answered as `timed` of all three.
+pub fn merged_files_run()
+    ensures { (w : TimedWords) (files others : Files) (name : Word) (a : Answer)
+        → IsMergeAnswer (w.run.exchange ∷ w.run.signals ∷ w.table ∷ []) files a
+        → a.status ≡ Done
+        → exchange_at w.run.exchange others ≡ exchange_at w.run.exchange files
+        → others name ≡ Some a.text
+        → length a.text ≤ MOST_BYTES
+        → run_of (record w.run { signals = name }) others ≡ timed_of w files }
+{}

@@ -1,0 +1,130 @@
+// The program as one call.
+ghost use Rattle.std.specs.Prelude.{◌≡◌, Ok, IfOk, IfSome};
+ghost use Rattle.plex_program.specs.Answer.{Comes, Reads};
+ghost use Rattle.plex_program.specs.Program.{AnswersOf, Ends, EndsAs, IsComplete, Makes, ReadCauseOf, WriteCause};
+ghost use Rattle.plex_program.specs.Runs.{AreRead};
+ghost use Rattle.merge_program.specs.Merge.{AreOthers, IsAnswerToNames, IsMergeAnswer, lines_answer, merge_of, usage_answer, usage_text};
+
+use exchange_model::Exchange;
+use job_table::write_out;
+use plex_io::{Shelf, Sink, Word};
+use plex_num::{Memory, Seq};
+use plex_program::{
+    Answer, Quit, Status, Stop, exchange_in, lines_in, merged_in, refused_answer, write_answer,
+};
+use signal_file::Line;
+use std::alloc::Global;
+
+/// The program: reads the three files that the words name, and writes the answer.
+///
+/// `words` are the command's words without the program's name. Where the shelf tells its files, the status and the text are those of
+/// the answer (`IsMergeAnswer`), but for `Read` where a read failed, `Write` where the sink failed or is full, and then a proper front
+/// of the text was written, and `Memory`.
+#[tactic(auto, using(plex_program::proofs::Endings::ending))]
+pub fn plex_merge<S: Shelf, K: Sink>(
+    alloc: Global,
+    words: &[Word],
+    shelf: &mut S,
+    sink: &mut K,
+) -> Status
+    ensures answers { IfSome (S.held shelf.old)
+        (λ files. EndsAs (IsMergeAnswer words.now files)
+        (K.written sink.old) (K.written sink.new) result) }
+    ensures unshaped { AreOthers words.now →
+        Ends usage_answer (K.written sink.old) (K.written sink.new) result }
+    ensures usage { result ≡ Status.Usage → AreOthers words.now }
+    ensures read { result ≡ Status.Read → ReadCauseOf (IsMergeAnswer words.now) (S.held shelf.old)
+        (S.faults shelf.old) (S.faults shelf.new) (K.written sink.old) (K.written sink.new) }
+    ensures write { result ≡ Status.Write →
+        WriteCause (K.size sink.old) (K.written sink.new) (K.faults sink.old) (K.faults sink.new) }
+    ensures memory { result ≡ Status.Memory → K.written sink.new ≡ K.written sink.old }
+    ensures complete { IfSome (S.held shelf.old)
+        (λ files. IsComplete (IsMergeAnswer words.now files)
+        (S.faults shelf.old) (S.faults shelf.new) (K.faults sink.old) (K.faults sink.new) result) }
+{
+    match answered(alloc, words, shelf) {
+        Ok(answer) => write_answer(sink, &answer),
+        Err(Quit::Read) => Status::Read,
+        Err(Quit::Memory) => Status::Memory,
+    }
+}
+
+/// The answer to the words.
+#[tactic(auto, using(crate::proofs::Merging::made_usage))]
+fn answered<S: Shelf>(alloc: Global, words: &[Word], shelf: &mut S) -> Result<Answer, Quit>
+    ensures answers { AnswersOf (IsMergeAnswer words.now) (AreOthers words.now) usage_answer
+        (S.held shelf.old) (S.faults shelf.old) (S.faults shelf.new) result }
+{
+    match words {
+        [exchange, signals, table] => answered_of(alloc, shelf, exchange, signals, table),
+        _ => usage_answer(alloc),
+    }
+}
+
+/// The answer to three names.
+#[tactic(auto, using(crate::proofs::Merging::merging))]
+fn answered_of<S: Shelf>(
+    alloc: Global,
+    shelf: &mut S,
+    exchange: &Word,
+    signals: &Word,
+    table: &Word,
+) -> Result<Answer, Quit>
+    ensures answers { AnswersOf (IsAnswerToNames exchange.now signals.now table.now) ⊥ usage_answer
+        (S.held shelf.old) (S.faults shelf.old) (S.faults shelf.new) result }
+{
+    match merge_files(alloc, shelf, exchange, signals, table) {
+        Ok(answer) => Ok(answer),
+        Err(Stop::NotHeld) => Err(Quit::Read),
+        Err(Stop::Refused(refused)) => refused_answer(alloc, refused),
+        Err(Stop::Failed) => Err(Quit::Read),
+        Err(Stop::Memory) => Err(Quit::Memory),
+    }
+}
+
+/// What the files of these names come to.
+#[tactic(auto, using(plex_program::proofs::Stages::comes_stop, plex_program::proofs::Stages::comes_go, plex_program::proofs::Stages::comes_reads))]
+fn merge_files<S: Shelf>(
+    alloc: Global,
+    shelf: &mut S,
+    exchange: &Word,
+    signals: &Word,
+    table: &Word,
+) -> Result<Answer, Stop>
+    ensures comes { Comes (S.held shelf.old) (merge_of exchange.now signals.now table.now)
+        (S.faults shelf.old) (S.faults shelf.new) result }
+    ensures done { IfOk result (λ a. a.status ≡ Status.Done) }
+{
+    let exchange = exchange_in(alloc, shelf, exchange)?;
+    let lines = lines_in(alloc, shelf, &exchange, signals)?;
+    let all = merged_in(alloc, shelf, &exchange, &lines, table)?;
+    lines_answer(alloc, &exchange, &all)
+}
+
+/// The text of the signal file that has these lines, as a stage.
+fn lines_answer(alloc: Global, exchange: &Exchange, lines: &Seq<Line>) -> Result<Answer, Stop>
+    ensures reads { Reads (Ok (lines_answer exchange.now lines.now)) result }
+    ensures done { IfOk result (λ a. a.status ≡ Status.Done) }
+{
+    match write_out(alloc, exchange, lines) {
+        Ok(text) => Ok(Answer {
+            status: Status::Done,
+            text,
+        }),
+        Err(Memory) => Err(Stop::Memory),
+    }
+}
+
+/// The usage line.
+#[tactic(auto, unfolding(crate::specs::Merge::usage_text))]
+fn usage_answer(alloc: Global) -> Result<Answer, Quit>
+    ensures { Makes usage_answer result }
+{
+    match Seq::copied(alloc, b"usage: plex-merge E S T\n") {
+        Ok(text) => Ok(Answer {
+            status: Status::Usage,
+            text,
+        }),
+        Err(_) => Err(Quit::Memory),
+    }
+}

@@ -1,0 +1,47 @@
+// What the program says of itself, and of words that are not three names.
+use plex_io::Word;
+use process_ends::{Program, Quoted, text_of};
+use std::io;
+
+/// The program.
+pub const PROGRAM: Program = Program {
+    name: "plex-merge",
+    no_memory: "out of memory: give it more, or merge smaller files",
+};
+
+/// The name of the program and its version. The manual page has it too.
+const VERSION: &str = "plex-merge 1.0.0";
+
+/// What the program wants, as a sentence tells it.
+const WANTS: &str = "three files: an exchange text, a signal file and a table";
+
+/// Says on the standard error what is wrong with words that are not three names, or what they ask for.
+pub fn say_wrong<R: Eprint>(rt: &R, words: &[Word], are_text: bool) -> io::Result<()> {
+    if !are_text {
+        return eprintln!(rt; "plex-merge: a word is no UTF-8 text");
+    }
+    match words.first().map(text_of) {
+        Some("--help" | "-h") => say_help(rt),
+        Some("--version") => eprintln!(rt; "{VERSION}"),
+        _ => say_number(rt, words),
+    }
+}
+
+/// What the program does.
+fn say_help<R: Eprint>(rt: &R) -> io::Result<()> {
+    eprintln!(rt;
+        "plex-merge E S T: the signal file that the signal file S and the table T stand for"
+    )?;
+    eprintln!(rt; "man plex-merge tells all files and statuses")
+}
+
+/// That there are too few words, or the first one that is too many.
+fn say_number<R: Eprint>(rt: &R, words: &[Word]) -> io::Result<()> {
+    match words.get(3) {
+        Some(word) => {
+            let word = Quoted(text_of(word));
+            eprintln!(rt; "plex-merge: {word} is a word too many; it wants {WANTS}")
+        }
+        None => eprintln!(rt; "plex-merge: it wants {WANTS}"),
+    }
+}

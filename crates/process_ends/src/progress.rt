@@ -1,0 +1,137 @@
+// How far a run has come, told on the standard error while it runs.
+use plex_io::{Gate, Place};
+use plex_limits::MOST_WORKERS;
+use std::env::FillError;
+use std::rt::{Clock, Env};
+use std::sync::atomic::{AtomicBool, AtomicU64, Ordering};
+use std::time::{Duration, Instant};
+
+/// The variable that asks for it.
+const VARIABLE: &str = "PLEX_PROGRESS";
+
+/// The clock is looked at after each job whose number is a multiple of this one.
+const JOBS_A_LOOK: u64 = 256;
+
+/// The clock is looked at after each job of so many instructions.
+const LONG: u64 = 4096;
+
+/// The clock is looked at after each job whose number is a multiple of this one, where no steps are counted.
+const UNCOUNTED_A_LOOK: u64 = 16;
+
+/// How many milliseconds pass between two lines.
+const PAUSE: u64 = 1000;
+
+/// A gate that tells, once a second, how many jobs have ended and how many end in a second, on one line that it writes over.
+#[derive(Drop)]
+pub struct Progress<'a, R> {
+    rt: &'a R,
+    begun: Instant,
+    /// The number of the job that was seen last.
+    seen: AtomicU64,
+    /// How many jobs had ended when the numbers began anew: a run that goes on with another exchange may count from 1 again.
+    before: AtomicU64,
+    /// When the line was told last, in milliseconds since the beginning.
+    told: AtomicU64,
+    /// How many jobs had ended then.
+    ended: AtomicU64,
+    /// Whether a line stands there.
+    shown: AtomicBool,
+}
+
+/// Whether the environment asks for it: the variable is set, and not empty.
+pub fn is_asked<R: Env>(rt: &R) -> bool {
+    let mut value = [0; 16];
+    match rt.var(VARIABLE, &mut value) {
+        Ok(length) => length > 0,
+        Err(FillError::TooLong) => true,
+        Err(FillError::NotPresent) => false,
+    }
+}
+
+impl<'a, R: Clock + Eprint> Progress<'a, R> {
+    /// That of a run that begins now; none where there is no clock.
+    pub fn begin(rt: &'a R) -> Option<Progress<'a, R>> {
+        let begun = Instant::now(rt).ok()?;
+        Some(Progress {
+            rt,
+            begun,
+            seen: AtomicU64::new(0),
+            before: AtomicU64::new(0),
+            told: AtomicU64::new(0),
+            ended: AtomicU64::new(0),
+            shown: AtomicBool::new(false),
+        })
+    }
+
+    /// The job of this number has ended: tells the line where a second has passed. Of jobs that run at once a later one may have been seen
+    /// before; a number that is farther below is one of numbers that began anew.
+    #[cold]
+    #[inline(never)]
+    fn look(&self, job: u64) {
+        let seen = self.seen.swap(job, Ordering::SeqCst);
+        if job.saturating_add(MOST_WORKERS as u64) < seen {
+            self.before.fetch_add(seen, Ordering::SeqCst);
+        }
+        let Ok(passed) = self.begun.elapsed(self.rt) else {
+            return;
+        };
+        let now = milliseconds(passed);
+        let told = self.told.load(Ordering::SeqCst);
+        let since = now.saturating_sub(told);
+        if since < PAUSE {
+            return;
+        }
+        let turn = self
+            .told
+            .compare_exchange(told, now, Ordering::SeqCst, Ordering::SeqCst);
+        if turn.is_ok() {
+            let jobs = self.before.load(Ordering::SeqCst).saturating_add(job);
+            self.tell(jobs, since);
+        }
+    }
+
+    /// Tells that so many jobs have ended, so long after the last line.
+    fn tell(&self, jobs: u64, since: u64) {
+        let ended = self.ended.swap(jobs, Ordering::SeqCst);
+        let more = jobs.saturating_sub(ended);
+        let rate = more.saturating_mul(1000) / since.max(1);
+        self.shown.store(true, Ordering::SeqCst);
+        let _ = eprint!(self.rt; "\rplex: {jobs} jobs done, {rate} jobs a second\x1b[K");
+    }
+}
+
+impl<R: Eprint> Progress<'_, R> {
+    /// Clears the line, where one stands there.
+    pub fn clear(&self) {
+        if self.shown.swap(false, Ordering::SeqCst) {
+            let _ = eprint!(self.rt; "\r\x1b[K");
+        }
+    }
+}
+
+impl<R: Clock + Eprint> Gate for Progress<'_, R> {
+    #[inline]
+    fn at(&self, job: u64, place: Place) {
+        if let Place::After { steps } = place
+            && is_due(job, steps)
+        {
+            self.look(job);
+        }
+    }
+}
+
+/// Whether the clock is to be looked at after the job of this number, which ran so many steps; none of them where they are not counted.
+#[inline]
+fn is_due(job: u64, steps: u64) -> bool {
+    if steps == 0 {
+        job % UNCOUNTED_A_LOOK == 0
+    } else {
+        job % JOBS_A_LOOK == 0 || steps >= LONG
+    }
+}
+
+fn milliseconds(time: Duration) -> u64 {
+    time.as_secs()
+        .saturating_mul(1000)
+        .saturating_add(u64::from(time.subsec_millis()))
+}
