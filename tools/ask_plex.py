@@ -10,6 +10,7 @@ import pathlib
 import shutil
 import subprocess
 import sys
+import threading
 
 HERE = pathlib.Path(__file__).resolve().parent
 LONGEST = 600
@@ -61,12 +62,16 @@ def ended(process, words, wrote):
     raise Wrong(f"plex {words[0]} ended with the status {process.returncode}")
 
 
+def late(words):
+    return Wrong(f"plex {words[0]} did not end within {LONGEST} seconds")
+
+
 def answer(words, accepted=(0,)):
     """What plex writes, in bytes, with one of the accepted statuses."""
     try:
         done = subprocess.run([program(), *words], stdin=subprocess.DEVNULL, stdout=subprocess.PIPE, timeout=LONGEST)
-    except subprocess.TimeoutExpired as late:
-        raise Wrong(f"plex {words[0]} did not end within {LONGEST} seconds") from late
+    except subprocess.TimeoutExpired as wrong:
+        raise late(words) from wrong
     if done.returncode not in accepted:
         ended(done, words, done.stdout)
     return done.stdout
@@ -75,11 +80,18 @@ def answer(words, accepted=(0,)):
 def lines_of(words):
     """The lines that plex writes, in bytes and without their ends, as they come."""
     with subprocess.Popen([program(), *words], stdin=subprocess.DEVNULL, stdout=subprocess.PIPE) as process:
-        first = b""
-        for line in process.stdout:
-            first = first or line
-            yield line[:-1]
-        process.wait(LONGEST)
+        first, timer = b"", threading.Timer(LONGEST, process.kill)
+        timer.daemon = True
+        timer.start()
+        try:
+            for line in process.stdout:
+                first = first or line
+                yield line[:-1]
+            process.wait()
+            if not timer.is_alive():
+                raise late(words)
+        finally:
+            timer.cancel()
         ended(process, words, first)
 
 

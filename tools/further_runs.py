@@ -1,6 +1,7 @@
 """Runs of `timed`, `trace` and `change` on an exchange that was made by chance, beside the report of `single`.
 
-  timed   with a table made by chance: as `single` on the file to which this module writes out the merged lines
+  timed   with a table made by chance: as `single` on the file to which this module writes out the merged lines, which
+          is what plex-merge writes
   trace   an empty filter adds nothing to the report; SHOW adds a job for each one that ended, with the signals that
           left and the faults as the report has them; and a filter made by chance adds those of them that this
           module finds shown
@@ -58,7 +59,9 @@ def timed(fuzzer, place, case, _, chance):
     wanted = fuzzer.answer(["single", place / "exchange", place / "merged", *limit])
     if wanted[0] not in (0, 4, 5):
         return [f"single of the merged lines: status {wanted[0]}, it wrote {wanted[1][:80]!r}"]
-    told, words = [], ["timed", place / "exchange", place / "signals", place / "table"]
+    words = ["timed", place / "exchange", place / "signals", place / "table"]
+    merged = program.answer(program.find_merger(), words[1:])
+    told = compared("plex-merge", (merged.status, merged.wrote), (0, (place / "merged").read_bytes()))
     for workers in (1, chance.choice(MANY)):
         told += compared(f"timed --workers {workers}", fuzzer.answer([*words, "--workers", workers, *limit]), wanted)
     return told

@@ -2,7 +2,7 @@
 
 `tree(reader, data)` gives the signals and the blocks of a text in bytes as nodes. A block has `decls`, `surveys`,
 `items` and `end`; a statement that holds others has `lists`, and a CASE the `numbers` of its WHENs. A class over `Tree`
-reads expressions in a way of its own, by `expr`, and conditions by `cond`.
+reads expressions in a way of its own, by `expr`, which stands on `factor`, and conditions by `cond`.
 """
 from plex_phrases import Node
 from plex_reader import Reader
@@ -33,6 +33,26 @@ class Tree(Reader):
             found.append(self.expr())
             if not (self.maybe("AND") or self.maybe("OR")):
                 return found
+
+    def factor(self, depth):
+        """What stands alone in an expression: its kind, and its parts."""
+        if self.maybe("("):
+            inside = self.expr(depth + 1)
+            self.take(")")
+            return self.bracket(inside)
+        if self.maybe("REFERENCE"):
+            return "block", self.name().text
+        if not self.is_name():
+            return "number", int(self.number().text)
+        name = self.name().text
+        if not self.maybe("("):
+            return "name", name
+        pointer = self.name().text
+        self.take(")")
+        return "field", name, pointer
+
+    def bracket(self, inside):
+        return "bracket", inside
 
     def exprs(self):
         found = [self.expr()]

@@ -1,14 +1,18 @@
-"""Where the program is, whether it is stale, and one call of it with a time limit. For the other tools.
+"""Where the programs are, whether they are stale, and one call of one with a time limit. For the other tools.
 
-`find()` gives the path of the program: the one that is named, or else that of the variable PLEX, or else the built
-one. It ends the tool where there is no such program, or where the built one is older than one of its sources.
-`answer()` calls it, `wrong()` tells what an answer should not be, and `verdict()` ends a tool: with a last line,
-and with 1 where a case failed or fewer cases ran than the least. `seed()` is that of cases made by chance: each
-commit has another one.
+`find()` gives the path of plex: the one that is named, or else that of the variable PLEX, or else the built one.
+`find_merger()` does the same for plex-merge, with the variable PLEX_MERGE. They end the tool where there is no such
+program, or where the built one is older than one of its sources.
+`answer()` calls it, and `wrong()` tells what an answer should not be. `verdict()` and `summed()` end a tool: with a
+last line, and with 1 where a case failed, where fewer cases ran than the least, and where more was left out than
+may be. `is_there()` tells whether a command of the system is there; where it is not, what needs it is left out, which
+is told and counted. How much may be is said by the variable MOST_LEFT_OUT, and anything where that is not set; the
+gate sets it to 0. `seed()` is that of cases made by chance: each commit has another one.
 """
 import os
 import pathlib
 import resource
+import shutil
 import signal
 import subprocess
 import sys
@@ -16,9 +20,11 @@ from collections import namedtuple
 
 ROOT = pathlib.Path(__file__).resolve().parent.parent
 BUILT = ROOT / "crates" / "plex" / "out" / "plex"
+BUILT_MERGER = ROOT / "crates" / "plex_merge" / "out" / "plex_merge"
 LONGEST, WHILE = 60, 600
 SHOWN = 120
 LATE, MOST_LATE = [], 2
+LEFT_OUT = []
 SILENT = (0, 4, 5)
 
 Answer = namedtuple("Answer", "status wrote complaint")
@@ -28,7 +34,7 @@ Answer = namedtuple("Answer", "status wrote complaint")
 
 
 def sources():
-    """All files that the program is built of, as the launcher `plex` looks at them."""
+    """All files that the programs are built of, as the launcher `plex` looks at them."""
     yield ROOT / "crates.txt"
     for folder, folders, names in os.walk(ROOT / "crates"):
         folders[:] = [name for name in folders if name != "out"]
@@ -36,20 +42,30 @@ def sources():
 
 
 def newer_source(plex):
-    """A source that has changed since the program was built, or None."""
+    """A source that has changed since a program was built, or None."""
     built = plex.stat().st_mtime_ns
     return next((path for path in sources() if path.stat().st_mtime_ns > built), None)
 
 
 def find(named=None):
-    """The path of the program. It ends the tool where that cannot be run, or is stale."""
-    plex = pathlib.Path(named or os.environ.get("PLEX") or BUILT).resolve()
-    if not plex.is_file() or not os.access(plex, os.X_OK):
-        sys.exit(f"{plex} is no program that can be run; {ROOT / 'plex'} builds it")
-    newer = newer_source(plex) if plex == BUILT else None
+    """The path of plex. It ends the tool where that cannot be run, or is stale."""
+    return fresh(named or os.environ.get("PLEX"), BUILT, ROOT / "plex")
+
+
+def find_merger(named=None):
+    """The path of plex-merge, in the same way."""
+    return fresh(named or os.environ.get("PLEX_MERGE"), BUILT_MERGER, ROOT / "plex-merge")
+
+
+def fresh(named, built, launcher):
+    """The path of a program, or of the built one; the launcher builds that."""
+    path = pathlib.Path(named or built).resolve()
+    if not path.is_file() or not os.access(path, os.X_OK):
+        sys.exit(f"{path} is no program that can be run; {launcher} builds it")
+    newer = newer_source(path) if path == built else None
     if newer:
-        sys.exit(f"{plex} is older than {newer.relative_to(ROOT)}; {ROOT / 'plex'} builds it anew")
-    return plex
+        sys.exit(f"{path} is older than {newer.relative_to(ROOT)}; {launcher} builds it anew")
+    return path
 
 
 # one call
@@ -150,9 +166,45 @@ def seed():
     return told.decode().strip() or "1"
 
 
+# what is left out
+
+
+def is_there(command, needed_for):
+    """Whether a command of the system is there; where it is not, what it is needed for is left out."""
+    if shutil.which(command):
+        return True
+    left_out(f"{needed_for}, as there is no {command}")
+    return False
+
+
+def left_out(told):
+    """Tells and counts what a tool does not try on this machine."""
+    LEFT_OUT.append(told)
+    print(f"left out: {told}", flush=True)
+
+
+def is_too_much_left_out():
+    return len(LEFT_OUT) > int(os.environ.get("MOST_LEFT_OUT", len(LEFT_OUT)))
+
+
+# the end of a tool
+
+
 def verdict(name, passed, failed, least, more=""):
     """The last line of a tool, and its exit status."""
     few = passed + failed < least
     more += f"; fewer than {least} cases" if few else ""
+    more += f"; {len(LEFT_OUT)} left out" if LEFT_OUT else ""
     print(f"{name}: {passed} passed, {failed} failed{more}", flush=True)
-    return 1 if failed or few else 0
+    return 1 if failed or few or is_too_much_left_out() else 0
+
+
+def summed(name, wrong, counts, more=""):
+    """The same for a tool that counts several kinds of things, each beside its least; first it tells what is wrong."""
+    few = [f"{number} {kind}, and {least} is the least" for kind, (number, least) in counts.items() if number < least]
+    for line in [*wrong, *few]:
+        print(line)
+    counted = ", ".join(f"{number} {kind}" for kind, (number, _) in counts.items()) or "nothing tried"
+    more += f"; {len(LEFT_OUT)} left out" if LEFT_OUT else ""
+    print(f"{name}: {counted}; {len(wrong) + len(few)} wrong{more}", flush=True)
+    return 1 if wrong or few or is_too_much_left_out() else 0

@@ -6,7 +6,7 @@ import re
 
 ROOT = pathlib.Path(__file__).resolve().parent.parent
 DOCUMENT = ROOT / "docs" / "FORMATS.md"
-PROGRAM = ROOT / "crates" / "plex" / "src" / "sentences.rt"
+PROGRAM = ROOT / "crates" / "process_ends" / "src" / "sentences.rt"
 
 # Each table of the program, with the heading under which the document has it, and which of the tables there it is.
 TABLES = {

@@ -5,7 +5,8 @@ certify` writes, and `refusal(text, facts)` the line with which a certificate of
 docs/ANALYSIS.md and share nothing with the program: the tree is that of `plex_tree`, and the least facts are found by going
 round all statements until nothing is new. Texts must break no rule, and are meant to be short.
 """
-from plex_phrases import Node
+import plex_points
+from plex_points import first_in
 from plex_tree import Tree, tree
 
 ANY, DEPTH, AWAITS = ("ANY", 0), ("DEPTH", 0), ("AWAITS", 0)
@@ -53,22 +54,6 @@ class Reader(Tree):
             factors.append((operator, self.factor(depth)))
         return factors
 
-    def factor(self, depth):
-        if self.maybe("("):
-            inside = self.expr(depth + 1)
-            self.take(")")
-            return "bracket", inside
-        if self.maybe("REFERENCE"):
-            return "block", self.name().text
-        if not self.is_name():
-            return "number", int(self.number().text)
-        name = self.name().text
-        if not self.maybe("("):
-            return "name", name
-        pointer = self.name().text
-        self.take(")")
-        return "field", name, pointer
-
 
 class Signal:
     def __init__(self, kind, node, level=None, answer=None):
@@ -91,43 +76,20 @@ class Exchange:
         self.signal_number = {signal.name: number for number, signal in enumerate(self.signals)}
         self.block_number = {block.name.text: number for number, block in enumerate(self.blocks)}
         self.files = [(number, decl) for number, block in enumerate(self.blocks) for decl in block.decls if decl.kind == "file"]
-        self.points = []
-        for number, block in enumerate(self.blocks):
-            self.place_block(number, block)
+        self.points = plex_points.place(self.blocks)
+        for block in self.blocks:
+            self.declare(block)
         self.entries = [node for node in self.points if node.kind == "ENTER" and self.signal_of(node).level]
 
-    # where statements stand
-
-    def place_block(self, number, block):
+    def declare(self, block):
         block.temps = [decl.name.text for decl in block.decls if decl.kind == "temporary"]
         block.variables = [decl for decl in block.decls if decl.kind == "variable"]
         block.receives = [line.name.text for line in block.surveys if line.kind == "RECEIVE"]
-        block.labels, block.body = {}, []
-        for item in block.items:
-            if item.kind == "label":
-                block.labels[item.first.text] = len(block.body)
-            else:
-                block.body.append(item)
-        block.body.append(Node(block.end, "FINISH"))
-        self.number_list(number, block.body)
-        self.chain_list(block.body, None)
 
-    def number_list(self, block, items):
-        for item in items:
-            item.block, item.point = block, len(self.points)
-            self.points.append(item)
-            for inner in getattr(item, "lists", []):
-                self.number_list(block, inner)
-
-    def chain_list(self, items, end):
-        for place, item in enumerate(items):
-            item.next = first_of(items[place + 1:], end)
-            for inner in getattr(item, "lists", []):
-                self.chain_list(inner, item.point if item.kind == "ON" else item.next)
+    # where statements lead
 
     def label_point(self, node):
-        block = self.blocks[node.block]
-        return first_of(block.body[block.labels[node.label.text]:], None)
+        return self.blocks[node.block].labels[node.label.text]
 
     def signal_of(self, node):
         return self.signals[self.signal_number[node.signal.text]]
@@ -196,10 +158,6 @@ class Exchange:
         cells += sum(int(decl.size.text) * (len(decl.fields) + decl.forlopp) for _, decl in self.files)
         held = sum(bool(getattr(node, "reference", None) and node.reference.kind == "held") for node in self.points)
         return [len(self.signals), len(self.blocks), len(self.points), cells, len(self.entries), held]
-
-
-def first_of(items, end):
-    return next((item.point for item in items if item.kind != "ENTER"), end)
 
 
 def exprs_of(node):
@@ -299,10 +257,10 @@ class Facts:
         elif node.kind in ("IF", "CASE"):
             branches = node.lists + [[]] if node.kind == "IF" and len(node.lists) == 1 else node.lists
             for branch in branches:
-                to = first_of(branch, node.next)
+                to = first_in(branch, node.next)
                 yield to, self.kept(node, to)
         elif node.kind == "ON":
-            to, temp = first_of(node.lists[0], here), exchange.temp(node, node.temporary.text)
+            to, temp = first_in(node.lists[0], here), exchange.temp(node, node.temporary.text)
             yield to, self.kept(node, to, {temp: {ANY}})
             yield node.next, self.kept(node, node.next)
         elif node.kind in ("FOR", "SEIZE"):

@@ -6,7 +6,8 @@ statements inside it, its `next`, and its `uses`.
 """
 from collections import namedtuple
 
-from text_tree import KEYWORDS, Node, Tree, tree, words_from
+from plex_points import first_in, place
+from text_tree import KEYWORDS, Tree, tree, words_from
 
 LIST_WORDS = ("THEN", "IS", "DO")
 # What a statement does to stored data: READ or WRITE with VAR, FIELD or OWN; SEIZE; FREE. `pointer` is the temporary
@@ -26,22 +27,6 @@ class Reader(Tree):
             operator = self.take("+", "-", "*", "/", "MOD").text
             parts.append((operator, self.factor(depth)))
         return parts
-
-    def factor(self, depth):
-        if self.maybe("("):
-            inside = self.expr(depth + 1)
-            self.take(")")
-            return "bracket", inside
-        if self.maybe("REFERENCE"):
-            return "block", self.name().text
-        if not self.is_name():
-            return "number", int(self.number().text)
-        name = self.name().text
-        if not self.maybe("("):
-            return "name", name
-        pointer = self.name().text
-        self.take(")")
-        return "field", name, pointer
 
 
 def factors_of(expr):
@@ -79,12 +64,14 @@ class Text:
     def __init__(self, name, content):
         self.name = name
         signals, self.blocks = tree(Reader, content)
-        self.signals, self.points, self.names, self.declared = {}, [], [], {}
+        self.signals, self.names, self.declared = {}, [], {}
         self.number_signals(signals)
         self.block_number = {block.name.text: number for number, block in enumerate(self.blocks)}
-        for number, block in enumerate(self.blocks):
+        for block in self.blocks:
             self.declare(block)
-            self.place(number, block)
+        self.points = place(self.blocks)
+        for node in self.points:
+            node.line = node.first.line
         self.find_ways()
         self.entries = [node for node in self.points if node.kind == "ENTER" and self.signals[node.signal.text].level]
 
@@ -128,40 +115,7 @@ class Text:
                 field.file = decl
                 block.fields[field.name.text] = field
 
-    # where statements stand
-
-    def place(self, number, block):
-        block.labels, body = {}, []
-        for item in block.items:
-            if item.kind == "label":
-                block.labels[item.first.text] = len(body)
-            else:
-                body.append(item)
-        body.append(Node(block.end, "FINISH"))
-        self.number_list(number, body)
-        self.chain(body, None)
-        after, ends = None, [None] * (len(body) + 1)
-        for place in range(len(body) - 1, -1, -1):
-            after = body[place].point if body[place].kind != "ENTER" else after
-            ends[place] = after
-        block.labels = {name: ends[place] for name, place in block.labels.items()}
-
-    def number_list(self, block, items):
-        for item in items:
-            item.block, item.point, item.line = block, len(self.points), item.first.line
-            self.points.append(item)
-            for inner in getattr(item, "lists", []):
-                self.number_list(block, inner)
-
-    def chain(self, items, end):
-        """The next of each statement of a list, behind which `end` follows."""
-        follows = end
-        for item in reversed(items):
-            item.next = follows
-            for inner in getattr(item, "lists", []):
-                self.chain(inner, item.point if item.kind == "ON" else item.next)
-            if item.kind != "ENTER":
-                follows = item.point
+    # where statements lead
 
     def find_ways(self):
         """Where each signal is entered, and where each answer arrives."""
@@ -199,9 +153,6 @@ class Text:
             return [enters[self.block_number[node.reference.first.text]]]
         return list(enters.values())
 
-    def first_in(self, statements, end):
-        return statements[0].point if statements else end
-
     def leads(self, node):
         """The points to which a statement leads."""
         kind = node.kind
@@ -213,9 +164,9 @@ class Text:
             return [self.label_point(node), node.next]
         if kind in ("IF", "CASE"):
             lists = node.lists + [[]] if kind == "IF" and len(node.lists) == 1 else node.lists
-            return [self.first_in(some, node.next) for some in lists]
+            return [first_in(some, node.next) for some in lists]
         if kind == "ON":
-            return [self.first_in(node.lists[0], node.point), node.next]
+            return [first_in(node.lists[0], node.point), node.next]
         if kind == "SEND":
             sent = self.signals[node.signal.text].kind
             ways = self.receivers(node) if sent in ("DIRECT", "COMBINED") else []

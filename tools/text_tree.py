@@ -4,11 +4,10 @@
 have their `level`. `words_from(token)` gives the words of the text from a token on, up to the next semicolon, which
 is the last of them.
 """
-from plex_phrases import Node
 from plex_text import KEYWORDS
 from plex_tree import Tree, tree
 
-__all__ = ["KEYWORDS", "Node", "Tree", "tree", "words_from"]
+__all__ = ["KEYWORDS", "Tree", "tree", "words_from"]
 
 
 def words_from(token):
