@@ -19,6 +19,7 @@ use entry_summary::Summary;
 use exchange_model::Exchange;
 use flow_points::Fact;
 use flow_table::{FlowTable, PlaceAt, places_of, table_of};
+use kept_summaries::Summaries;
 use least_facts::Analyser;
 use plex_num::{Memory, Seq};
 use std::alloc::Global;
@@ -30,7 +31,7 @@ const MOST_LOOKS: usize = 524_288;
 const MOST_OF_ENTRY: usize = 32_768;
 
 /// The summary of each entry, by the least facts.
-pub fn summaries_of(alloc: Global, exchange: &Exchange) -> Result<Seq<Summary>, Memory>
+pub fn summaries_of(alloc: Global, exchange: &Exchange) -> Result<Summaries, Memory>
     ensures { IfOk result (AreSummaries exchange.now) }
 {
     let told = summaries_within(alloc, exchange, None)?;
@@ -38,7 +39,7 @@ pub fn summaries_of(alloc: Global, exchange: &Exchange) -> Result<Seq<Summary>, 
 }
 
 /// The same where the entries have few facts; `None` where so many are to be looked at that it would take long, or much memory.
-pub fn summaries_if_few(alloc: Global, exchange: &Exchange) -> Result<Option<Seq<Summary>>, Memory>
+pub fn summaries_if_few(alloc: Global, exchange: &Exchange) -> Result<Option<Summaries>, Memory>
     ensures { IfOk result (λ told. IfSome told (AreSummaries exchange.now)) }
 {
     summaries_within(alloc, exchange, Some(MOST_LOOKS))
@@ -49,7 +50,7 @@ fn summaries_within(
     alloc: Global,
     exchange: &Exchange,
     most: Option<usize>,
-) -> Result<Option<Seq<Summary>>, Memory>
+) -> Result<Option<Summaries>, Memory>
     ensures told { IfOk result (λ told. IfSome told (AreSummaries exchange.now)) }
     ensures all { IfOk result (λ told. most ≡ None → IsSome told) }
 {
@@ -58,7 +59,7 @@ fn summaries_within(
     let places = places_of(alloc, exchange)?;
     let numbers = numbers_of(alloc, exchange)?;
     let mut analyser = Analyser::new(alloc, exchange, &table)?;
-    let mut summaries = Seq::new(alloc);
+    let mut summaries = Summaries::new(alloc);
     let mut left = most;
     for entry in 0..exchange.entries.len() {
         let told = analyser.learn(alloc, exchange, &table, entry as u32, most_of_entry(left))?;

@@ -3,3 +3,5 @@ pub mod Named
 pub mod Turns
 pub mod Joined
 pub mod Numbered
+pub mod Listing
+pub mod Telling

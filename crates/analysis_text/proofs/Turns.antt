@@ -1,19 +1,19 @@
 -- The texts of pairs, one after the other.
-use Rattle.std.proofs.Common.{◌≡◌, ◌↔◌, ⊎_elim, ℕ, ◌+◌, ◌<◌, ◌≤◌, List, [], ◌∷◌, ◌++◌, length, map, get_or, refl, sym, ap, ◌∙◌, subst, arith, append_assoc, append-nil, length-append}
-use Rattle.std.specs.List.{Contains, concat}
-use Rattle.std.specs.List.Sorted.{IsStrictlySortedBy}
+use Rattle.std.proofs.Common.{◌≡◌, ⊎_elim, ℕ, ◌+◌, ◌<◌, ◌≤◌, List, [], ◌∷◌, ◌++◌, length, map, get_or, Some, slice_get, refl, sym, ap, ◌∙◌, subst, arith, append_assoc, append-nil, length-append}
+use Rattle.std.specs.List.{concat}
 use Rattle.std.proofs.lemmas.Bool.{cases_lt}
 use Rattle.std.proofs.lemmas.List.{get_or_append_left, get_or-append-add}
-use Rattle.std.proofs.lemmas.Option.{slice_get_read}
+use Rattle.std.proofs.lemmas.Option.{same_Some}
+use Rattle.plex_num.proofs.Lists.{some_at}
 use Rattle.entry_summary.specs.declared.summary.Summary.{Summary}
-use Rattle.entry_summary.specs.Orders.{access_order}
 use Rattle.pair_tests.specs.declared.pair.Conflict.{Conflict}
 use Rattle.pair_tests.specs.declared.pair.Test.{Test}
-use Rattle.pair_tests.specs.Orders.{test_order}
-use Rattle.pair_tests.specs.Pairs.{HasNoConflict, IsFirstConflict, IsTest}
 use Rattle.analysis_text.specs.declared.names.Names.{Names}
-use Rattle.analysis_text.specs.Analysis.{AreInOrder}
 use Rattle.analysis_text.specs.Lines.{if_line, never_line, text_of, written}
+use Rattle.analysis_text.specs.declared.told.Told.{Told}
+use Rattle.analysis_text.specs.declared.told.Told.TheVariants.{Never, Asks}
+use Rattle.analysis_text.specs.declared.told.ToldPair.{ToldPair}
+use Rattle.analysis_text.specs.Telling.{IsToldOf, Tells}
 use Rattle.analysis_text.specs.Pairs.{IsPairText, never, tested, InTurn, IsTextWith, IsTextOf, Grows}
 
 concat-append : (xs ys : List (List ℕ)) → concat (xs ++ ys) ≡ concat xs ++ concat ys
@@ -52,51 +52,52 @@ module _ (P : ℕ → List ℕ → Type 0) where
     tells = turn_more n before.added here.added before.tells here.tells;
   }
 
-  pub turns_end : (n m : ℕ) (old new : List ℕ) → n ≤ m → m ≤ n → Grows (InTurn P n) old new → Grows (InTurn P m) old new
-  turns_end n m old new most least h = (let same : n ≡ m = omega arith in subst (λ k. Grows (InTurn P k) old new) same h)
+  pub turns_end : (n m count : ℕ) (old new : List ℕ) → m ≡ count → n ≤ m → m ≤ n → Grows (InTurn P n) old new → Grows (InTurn P count) old new
+  turns_end n m count old new is most least h = (let same : n ≡ count = omega (arith, is, most, least) in subst (λ k. Grows (InTurn P k) old new) same h)
 
-pub item_in_order : (summaries : List Summary) (i : ℕ) (s : Summary) → AreInOrder summaries → i < length summaries → s ≡ get_or summaries i s → IsStrictlySortedBy access_order s.accesses
-item_in_order summaries i s all lt is = subst (λ (t : Summary). IsStrictlySortedBy access_order t.accesses) (sym is) (all i s lt)
+-- a row of pairs, as far as it is written
+pub record RowGoes (names : Names) (summaries : List Summary) (i n : ℕ) (old new : List ℕ) : Type 0 where
+  pub first : Summary
+  pub there : slice_get summaries i ≡ Some first
+  pub grown : Grows (InTurn (IsTextWith names summaries i first) n) old new
 
--- one pair more
+pub row_begin : (names : Names) (summaries : List Summary) (i : ℕ) (old : List ℕ) → i < length summaries → RowGoes names summaries i 0 old old
+row_begin names summaries i old lt = (let s = some_at summaries i lt in record { first = s.0; there = s.1; grown = turns_begin (IsTextWith names summaries i s.0) old })
 
-told_with : (names : Names) (summaries : List Summary) (i : ℕ) (first : Summary) (j : ℕ) (later : Summary) (old new : List ℕ) → j < length summaries → later ≡ get_or summaries j later
-    → Grows (IsPairText names i j first later) old new → Grows (IsTextWith names summaries i first j) old new
-told_with names summaries i first j later old new lt is h = record {
-  added = h.added;
-  is = h.is;
-  tells = record { later = later; there = slice_get_read summaries (length summaries) j later refl lt is; tells = h.tells };
-}
+pub row_more : (names : Names) (summaries : List Summary) (i j : ℕ) (pair : ToldPair) (old now new : List ℕ) → IsToldOf summaries i j pair
+    → ((first later : Summary) → Tells first later pair.told → Grows (IsPairText names i j first later) now new) → RowGoes names summaries i j old now → RowGoes names summaries i (j + 1) old new
+row_more names summaries i j pair old now new of written_so before =
+    let same : of.told.first ≡ before.first = same_Some of.told.first before.first (sym of.told.of_first ∙ of.like_first ∙ before.there) in
+    let tells : Tells before.first of.told.later pair.told = subst (λ (s : Summary). Tells s of.told.later pair.told) same of.told.tells in
+    let here = written_so before.first of.told.later tells in
+    record {
+      first = before.first;
+      there = before.there;
+      grown = turns_more (IsTextWith names summaries i before.first) j old now new before.grown (record {
+        added = here.added;
+        is = here.is;
+        tells = record { later = of.told.later; there = sym of.like_later ∙ of.told.of_later; tells = here.tells };
+      });
+    }
 
-pub row_more : (names : Names) (summaries : List Summary) (i : ℕ) (first : Summary) (j : ℕ) (later : Summary) (old now new : List ℕ) → j < length summaries → later ≡ get_or summaries j later
-    → Grows (InTurn (IsTextWith names summaries i first) j) old now → Grows (IsPairText names i j first later) now new → Grows (InTurn (IsTextWith names summaries i first) (j + 1)) old new
-row_more names summaries i first j later old now new lt is before here =
-    turns_more (IsTextWith names summaries i first) j old now new before (told_with names summaries i first j later now new lt is here)
-
-told_of : (names : Names) (summaries : List Summary) (i : ℕ) (first : Summary) (old new : List ℕ) → i < length summaries → first ≡ get_or summaries i first
-    → Grows (InTurn (IsTextWith names summaries i first) (length summaries)) old new → Grows (IsTextOf names summaries i) old new
-told_of names summaries i first old new lt is h = record {
-  added = h.added;
-  is = h.is;
-  tells = record { first = first; there = slice_get_read summaries (length summaries) i first refl lt is; tells = h.tells };
-}
-
-pub rows_more : (names : Names) (summaries : List Summary) (i : ℕ) (first : Summary) (old now new : List ℕ) → i < length summaries → first ≡ get_or summaries i first
-    → Grows (InTurn (IsTextOf names summaries) i) old now → Grows (InTurn (IsTextWith names summaries i first) (length summaries)) now new → Grows (InTurn (IsTextOf names summaries) (i + 1)) old new
-rows_more names summaries i first old now new lt is before here =
-    turns_more (IsTextOf names summaries) i old now new before (told_of names summaries i first now new lt is here)
+pub row_end : (names : Names) (summaries : List Summary) (i n m : ℕ) (old new : List ℕ) → m ≡ length summaries → n ≤ m → m ≤ n → RowGoes names summaries i n old new → Grows (IsTextOf names summaries i) old new
+row_end names summaries i n m old new is most least h =
+    let all = turns_end (IsTextWith names summaries i h.first) n m (length summaries) old new is most least h.grown in
+    record { added = all.added; is = all.is; tells = record { first = h.first; there = h.there; tells = all.tells } }
 
 -- what is told of a pair
 
-pub never_told : (names : Names) (i j : ℕ) (first later : Summary) (c : Conflict) (old new : List ℕ) → IsFirstConflict first later c → new ≡ old ++ written (never_line names i j c)
-    → Grows (IsPairText names i j first later) old new
-never_told names i j first later c old new is wrote = record { added = written (never_line names i j c); is = wrote; tells = never c is }
+pub never_told : (names : Names) (i j : ℕ) (told : Told) (c : Conflict) (old new : List ℕ) → told ≡ Never c → new ≡ old ++ written (never_line names i j c)
+    → (first later : Summary) → Tells first later told → Grows (IsPairText names i j first later) old new
+never_told names i j told c old new is wrote first later tells =
+    record { added = written (never_line names i j c); is = wrote; tells = never c (subst (Tells first later) is tells) }
 
-pub tests_told : (names : Names) (i j : ℕ) (first later : Summary) (tests listed : List Test) (old new : List ℕ) → HasNoConflict first later
-    → ((t : Test) → Contains tests t ↔ IsTest first later t) → IsStrictlySortedBy test_order tests → listed ≡ tests → new ≡ old ++ text_of (map (if_line names i j) listed)
-    → Grows (IsPairText names i j first later) old new
-tests_told names i j first later tests listed old new none exact rising same wrote = record {
-  added = text_of (map (if_line names i j) tests);
-  is = wrote ∙ ap (λ l. old ++ text_of (map (if_line names i j) l)) same;
-  tells = tested tests none (record { exact = exact; rising = rising });
-}
+pub tests_told : (names : Names) (i j : ℕ) (told : Told) (tests listed : List Test) (old new : List ℕ) → told ≡ Asks tests → listed ≡ tests → new ≡ old ++ text_of (map (if_line names i j) listed)
+    → (first later : Summary) → Tells first later told → Grows (IsPairText names i j first later) old new
+tests_told names i j told tests listed old new is same wrote first later tells =
+    let both : Tells first later (Asks tests) = subst (Tells first later) is tells in
+    record {
+      added = text_of (map (if_line names i j) tests);
+      is = wrote ∙ ap (λ l. old ++ text_of (map (if_line names i j) l)) same;
+      tells = tested tests both.0 both.1;
+    }

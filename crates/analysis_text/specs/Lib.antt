@@ -1,4 +1,5 @@
 pub mod Names
 pub mod Lines
 pub mod Pairs
+pub mod Telling
 pub mod Analysis

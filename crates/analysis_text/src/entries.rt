@@ -5,6 +5,7 @@ ghost use Rattle.analysis_text.specs.Lines.{access_line, entries_text, entry_lin
 use crate::names::{Names, add_value, level_word, name_at};
 use entry_summary::{Access, Summary};
 use exchange_model::Exchange;
+use kept_summaries::Summaries;
 use plex_num::{Level, Memory, Seq, add_number};
 
 /// What the jobs of each entry may do.
@@ -12,13 +13,13 @@ pub fn add_entries(
     text: &mut Seq<u8>,
     exchange: &Exchange,
     names: &Names,
-    summaries: &[Summary],
+    summaries: &Summaries,
 ) -> Result<(), Memory>
     ensures { OnOk result
         (text.new ≡ text.old ++ entries_text exchange.now names.now summaries.now) }
 {
-    for (number, summary) in summaries.iter().enumerate() {
-        add_summary(text, exchange, names, number, summary)?;
+    for number in 0..summaries.len() {
+        add_summary(text, exchange, names, number, summaries.at(number))?;
     }
     Ok(())
 }

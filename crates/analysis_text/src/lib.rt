@@ -9,6 +9,7 @@ mod entries;
 mod laws;
 mod names;
 mod pairs;
+mod told;
 mod whole;
 
 pub use laws::names_stand_by_their_numbers;

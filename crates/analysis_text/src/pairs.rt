@@ -1,77 +1,77 @@
 // The lines of the pairs.
-ghost use Rattle.std.specs.Prelude.{◌≡◌, ◌++◌, OnOk, map, length};
-ghost use Rattle.std.specs.List.Sorted.{IsStrictlySortedBy};
-ghost use Rattle.entry_summary.specs.Orders.{access_order};
+ghost use Rattle.std.specs.Prelude.{◌≡◌, ◌<◌, ◌++◌, OnOk, map, length};
+ghost use Rattle.entry_summary.specs.declared.summary.Summary.{Summary};
 ghost use Rattle.analysis_text.specs.Analysis.{AreInOrder};
 ghost use Rattle.analysis_text.specs.Lines.{conflict_words, if_line, never_line, pair_words, test_words, text_of, written};
-ghost use Rattle.analysis_text.specs.Pairs.{ArePairs, Grows, InTurn, IsPairText, IsTextWith};
+ghost use Rattle.analysis_text.specs.Pairs.{ArePairs, Grows, IsPairText, IsTextOf};
+ghost use Rattle.analysis_text.specs.Telling.{AreTold, Tells};
 
 use crate::names::{Names, add_value, level_word, name_at};
-use entry_summary::Summary;
-use pair_tests::{Conflict, Test, Verdict, tests_of, verdict_of};
+use crate::told::{Told, ToldPairs};
+use kept_summaries::Summaries;
+use pair_tests::{Conflict, Test};
 use plex_num::{Memory, Seq, add_number};
 use std::alloc::Global;
 
 /// What is told of each pair.
-#[tactic(auto, using(crate::proofs::Turns::turns_begin, crate::proofs::Turns::rows_more, crate::proofs::Turns::turns_end))]
 pub fn add_pairs(
     text: &mut Seq<u8>,
     alloc: Global,
     names: &Names,
-    summaries: &[Summary],
+    summaries: &Summaries,
 ) -> Result<(), Memory>
     requires { AreInOrder summaries.now }
     ensures { OnOk result (Grows (ArePairs names.now summaries.now) text.old text.new) }
 {
-    for (number, first) in summaries.iter().enumerate() {
-        add_row(text, alloc, names, number, first, summaries)?;
+    let mut told = ToldPairs::new(alloc, summaries.len())?;
+    for number in 0..summaries.len() {
+        add_row(text, alloc, names, number, summaries, &mut told)?;
     }
     Ok(())
 }
 
 /// What is told of a first with each later one.
-#[tactic(auto, using(crate::proofs::Turns::turns_begin, crate::proofs::Turns::row_more, crate::proofs::Turns::turns_end, crate::proofs::Turns::item_in_order))]
 fn add_row(
     text: &mut Seq<u8>,
     alloc: Global,
     names: &Names,
     number: usize,
-    first: &Summary,
-    summaries: &[Summary],
+    summaries: &Summaries,
+    told: &mut ToldPairs,
 ) -> Result<(), Memory>
-    requires { AreInOrder summaries.now }
-    ensures { OnOk result (Grows
-        (InTurn (IsTextWith names.now summaries.now number first.now) (length summaries.now))
-        text.old text.new) }
+    requires number { number < length summaries.now }
+    requires order { AreInOrder summaries.now }
+    requires told { AreTold summaries.now told.old.pairs.items }
+    ensures row { OnOk result
+        (Grows (IsTextOf names.now summaries.now number) text.old text.new) }
+    ensures told { OnOk result (AreTold summaries.now told.new.pairs.items) }
 {
-    for (other, later) in summaries.iter().enumerate() {
-        add_pair(text, alloc, names, number, other, first, later)?;
+    for other in 0..summaries.len() {
+        let pair = told.pair(alloc, summaries, number, other)?;
+        add_told(text, names, number, other, &pair.told)?;
+        told.keep(pair);
     }
     Ok(())
 }
 
-/// What is told of a pair.
+/// The lines of a pair, by what is told of it.
 #[tactic(auto, using(crate::proofs::Turns::never_told, crate::proofs::Turns::tests_told))]
-fn add_pair(
+fn add_told(
     text: &mut Seq<u8>,
-    alloc: Global,
     names: &Names,
     number: usize,
     other: usize,
-    first: &Summary,
-    later: &Summary,
+    told: &Told,
 ) -> Result<(), Memory>
-    requires { IsStrictlySortedBy access_order later.now.accesses }
-    ensures { OnOk result (Grows (IsPairText names.now number other first.now later.now)
-        text.old text.new) }
+    ensures { OnOk result ((first later : Summary) → Tells first later told.now
+        → Grows (IsPairText names.now number other first later) text.old text.new) }
 {
-    match verdict_of(first, later) {
-        Verdict::Never(conflict) => {
-            add_never(text, names, number, other, conflict)?;
+    match told {
+        Told::Never(conflict) => {
+            add_never(text, names, number, other, *conflict)?;
             Ok(())
         }
-        Verdict::Tests => {
-            let tests = tests_of(alloc, first, later)?;
+        Told::Asks(tests) => {
             add_tests(text, names, number, other, tests.as_slice())?;
             Ok(())
         }

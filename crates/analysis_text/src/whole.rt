@@ -5,8 +5,8 @@ ghost use Rattle.analysis_text.specs.Analysis.{AreInOrder, IsAnalysis};
 use crate::entries::add_entries;
 use crate::names::names_of;
 use crate::pairs::add_pairs;
-use entry_summary::Summary;
 use exchange_model::Exchange;
+use kept_summaries::Summaries;
 use plex_num::{Memory, Seq};
 use std::alloc::Global;
 
@@ -17,7 +17,7 @@ use std::alloc::Global;
 pub fn analysis(
     alloc: Global,
     exchange: &Exchange,
-    summaries: &[Summary],
+    summaries: &Summaries,
 ) -> Result<Seq<u8>, Memory>
     requires { AreInOrder summaries.now }
     ensures { IfOk result (IsAnalysis exchange.now summaries.now) }

@@ -13,7 +13,6 @@ use Rattle.job_types.specs.declared.chain.Held.{Held}
 use Rattle.job_types.specs.Forlopps.{ChainMap, all_records}
 use Rattle.forlopp_chain.specs.Chains.{AreBelow}
 use Rattle.retire_order.specs.Accounts.{with_words}
-use Rattle.retire_order.specs.Events.{event_of}
 use Rattle.retire_order.specs.Lines.{arrived_of, coming_of, found_in}
 use Rattle.retire_order.specs.Parts.{AreParts, account_of}
 use Rattle.retire_order.specs.declared.parts.BookParts.{BookParts}
@@ -129,7 +128,7 @@ module _ (x y : Exchange) (p q : BookParts) (moved : AreMoved x y p q) where
       next = moved.next i;
       ended = moved.ended i;
       restarts = moved.restarts i;
-      events = ap (map event_of) moved.events i;
+      events = moved.events i;
       lines = left_is i;
       arrived = arrived_is i;
     };

@@ -30,6 +30,10 @@ use Rattle.job_types.specs.Chain.{holds, is_record}
 use Rattle.job_types.specs.Forlopps.{all_records, chain_at}
 use Rattle.plex_num.specs.declared.level.Level.{Level}
 use Rattle.plex_num.specs.declared.level.Level.TheVariants.{A, B, C, D}
+use Rattle.retire_order.specs.Accounts.{with_words}
+use Rattle.retire_order.specs.Parts.{AreAlike, AreParts, account_of}
+use Rattle.retire_order.specs.declared.parts.BookParts.{BookParts}
+use Rattle.retire_order.proofs.Parted.{alike, silent}
 use Rattle.source_meaning.specs.Config.{files_of}
 use Rattle.source_meaning.specs.State.{Arrived, Coming, State}
 use Rattle.source_meaning.specs.Valid.{HoldsRecord, IsRecord, IsValid, LinesFit, WaitsAt}
@@ -255,6 +259,13 @@ carried_same x s t kept valid is = state_same x kept s valid t is
 
 pub goes_over : (x : Exchange) (s : State) → IsExchange x → IsValid x s → IsCarried x x s (record s { events = [] })
 goes_over x s kept valid = state_goes x kept s valid
+
+-- so do the stored words, and the parts of the books
+pub parts_same : (x : Exchange) (p q : BookParts) (words carried : List ℕ) → IsExchange x → AreParts p → AreParts q → q.limit ≡ p.limit → IsValid x (with_words (account_of p).state words)
+    → IsCarried x x (with_words (account_of p).state words) (with_words (account_of q).state carried) → AreAlike p q × (carried ≡ words)
+parts_same x p q words carried kept are_p are_q limit valid is =
+    let same = carried_same x (with_words (account_of p).state words) (with_words (account_of q).state carried) kept valid is in
+    (alike p q are_p are_q (ap (λ (s : State). silent (with_words s [])) same) limit, ap (λ (s : State). s.store) same)
 
 -- ## An exchange fits itself
 

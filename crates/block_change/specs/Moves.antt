@@ -18,4 +18,4 @@ pub record AreMoved (x y : Exchange) (p q : BookParts) : Type 0 where
   pub ended : q.ended ≡ p.ended
   pub restarts : q.restarts ≡ p.restarts
   pub limit : q.limit ≡ p.limit
-  pub events : q.events ≡ []
+  pub events : q.events.events ≡ []

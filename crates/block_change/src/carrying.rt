@@ -16,7 +16,7 @@ use crate::same::Known;
 use crate::words::all_words;
 use exchange_model::Exchange;
 use plex_num::{Memory, Seq};
-use retire_order::BookParts;
+use retire_order::{BookParts, EventLog};
 use std::alloc::Global;
 use store_layout::Layout;
 
@@ -94,7 +94,7 @@ fn carried_parts(
         ended: parts.ended,
         restarts: parts.restarts,
         limit: parts.limit,
-        events: Seq::new(alloc),
+        events: EventLog::new(alloc),
         alloc,
     })
 }

@@ -1,7 +1,10 @@
 // What a change of blocks leaves as it was, said by clauses.
-ghost use Rattle.std.specs.Prelude.{◌≡◌, ◌↔◌, [], None, Some};
+ghost use Rattle.std.specs.Prelude.{◌≡◌, ◌↔◌, ℕ, List, [], None, Some};
 ghost use Rattle.exchange_model.specs.declared.exchange.Exchange.{Exchange};
 ghost use Rattle.exchange_model.specs.Kept.{IsExchange};
+ghost use Rattle.retire_order.specs.Accounts.{with_words};
+ghost use Rattle.retire_order.specs.Parts.{AreAlike, AreParts, account_of};
+ghost use Rattle.retire_order.specs.declared.parts.BookParts.{BookParts};
 ghost use Rattle.source_meaning.specs.State.{State};
 ghost use Rattle.source_meaning.specs.Valid.{IsValid};
 ghost use Rattle.block_change.specs.Carried.{IsCarried};
@@ -30,11 +33,17 @@ pub fn states_go_over_in_one_way()
 {}
 
 /// An exchange fits itself, and a valid state goes over to the same exchange as it is, but for its
-/// events: so it does, and in no other way.
+/// events: so it does, and in no other way. So do the stored words, and the parts of the books.
 pub fn the_same_exchange_changes_nothing()
     ensures fits { (x : Exchange) → IsExchange x → misfit x x ≡ None }
     ensures state { (x : Exchange) (s t : State) → IsExchange x → IsValid x s → IsCarried x x s t
         → t ≡ record s { events = [] } }
     ensures goes { (x : Exchange) (s : State) → IsExchange x → IsValid x s
         → IsCarried x x s (record s { events = [] }) }
+    ensures parts { (x : Exchange) (p q : BookParts) (words carried : List ℕ)
+        → IsExchange x → AreParts p → AreParts q → q.limit ≡ p.limit
+        → IsValid x (with_words (account_of p).state words)
+        → IsCarried x x (with_words (account_of p).state words)
+        (with_words (account_of q).state carried)
+        → AreAlike p q × (carried ≡ words) }
 {}

@@ -8,13 +8,14 @@ ghost use Rattle.checked.specs.Kept.{AreKept};
 use entry_summary::Summary;
 use fact_list::FactList;
 use flow_points::Fact;
+use kept_summaries::Summaries;
 use plex_num::Seq;
 use std::marker::Model;
 
 /// The facts of a certificate that is one of an exchange, and by them the summary of each entry.
 pub struct Checked {
     facts: FactList,
-    summaries: Seq<Summary>,
+    summaries: Summaries,
 }
 
 impl Drop for Checked {
@@ -38,7 +39,7 @@ impl Model for Checked {
 
 impl Checked {
     /// What keeps these facts and these summaries, one for each entry.
-    pub(crate) fn new(facts: FactList, summaries: Seq<Summary>) -> Checked
+    pub(crate) fn new(facts: FactList, summaries: Summaries) -> Checked
         requires { AreKept summaries }
         ensures facts { result.facts ≡ facts }
         ensures summaries { result.summaries ≡ summaries }
@@ -59,7 +60,16 @@ impl Checked {
         ensures it { slice_get self.now.summaries entry ≡ Some result.now }
         ensures rising { IsStrictlySortedBy access_order result.now.accesses }
     {
-        &self.summaries.as_slice()[entry as usize]
+        self.summaries.at(entry as usize)
+    }
+
+    /// An entry that has the same summary: the first one, as far as equal summaries are kept once.
+    pub fn first_like(&self, entry: u32) -> u32
+        requires { entry < length self.now.summaries }
+        ensures within { result < length self.now.summaries }
+        ensures same { slice_get self.now.summaries result ≡ slice_get self.now.summaries entry }
+    {
+        self.summaries.first_like(entry as usize) as u32
     }
 
     /// The facts, in their order, each once.

@@ -16,12 +16,12 @@ use access_summary::summary_of;
 use certificate::{first_strange, least_missing, shape_over};
 use certificate_text::{Certificate, Shape};
 use entry_accesses::numbers_of;
-use entry_summary::Summary;
 use exchange_model::Exchange;
 use fact_list::FactList;
 use flow_points::Fact;
 use flow_table::{FlowTable, PlaceAt, places_of, table_of};
-use plex_num::{Memory, Seq};
+use kept_summaries::Summaries;
+use plex_num::Memory;
 use std::alloc::Global;
 
 /// What a certificate says of the entries, where it is one of the exchange; else why it is none. Its facts must stand in their
@@ -90,14 +90,14 @@ fn summaries_by(
     table: &FlowTable,
     places: &[PlaceAt<'_>],
     known: &FactList,
-) -> Result<Seq<Summary>, Memory>
+) -> Result<Summaries, Memory>
     requires table { IsTable exchange.now table.now }
     requires places { ArePlaces exchange.now (map seen places.now) }
     ensures { IfOk result (AreSummariesBy exchange.now (Contains known.now)) }
 {
     exchange.kept();
     let numbers = numbers_of(alloc, exchange)?;
-    let mut summaries = Seq::new(alloc);
+    let mut summaries = Summaries::new(alloc);
     for entry in 0..exchange.entries.len() {
         let one = summary_of(
             alloc,

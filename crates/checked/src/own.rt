@@ -8,10 +8,10 @@ ghost use Rattle.checked.specs.Kept.{IsChecked};
 
 use crate::checked::Checked;
 use access_summary::{least_facts, summaries_if_few, summaries_of};
-use entry_summary::Summary;
 use exchange_model::Exchange;
 use fact_list::FactList;
-use plex_num::{Memory, Seq};
+use kept_summaries::Summaries;
+use plex_num::Memory;
 use std::alloc::Global;
 
 /// What the exchange's own certificate says of the entries: its least facts, which need no second look, and the summary of each
@@ -45,7 +45,7 @@ pub fn keep_own_if_few(alloc: Global, exchange: &Exchange) -> Result<Option<Chec
 fn kept_by_least(
     alloc: Global,
     exchange: &Exchange,
-    summaries: Seq<Summary>,
+    summaries: Summaries,
 ) -> Result<Checked, Memory>
     requires { AreSummaries exchange.now summaries }
     ensures checked { IfOk result (IsChecked exchange.now) }

@@ -10,3 +10,4 @@ pub mod RecordSteps
 pub mod TextSteps
 pub mod Tables
 pub mod PassSteps
+pub mod UnrolledSteps

@@ -17,6 +17,9 @@ use Rattle.code_gen.specs.declared.addresses.Addresses.{Addresses}
 abbrev pub address_in : Addresses → ℕ → ℕ → ℕ
 address_in a b place = option_map_or (λ places. slice_index places (min place (length places - 1))) (slice_get a.blocks b) a.end
 
+abbrev pub no_addresses : Addresses
+no_addresses = record { blocks = []; end = 0 }
+
 -- whether the first of these statements is an ENTER
 abbrev pub opens_with_enter : List Stmt → Bool
 opens_with_enter [] = false

@@ -2,3 +2,4 @@ pub mod Addresses
 pub mod Settings
 pub mod Choices
 pub mod Receivers
+pub mod Unrolled

@@ -7,7 +7,7 @@ ghost use Rattle.store_layout.specs.Laid.{IsLayout};
 ghost use Rattle.register_machine.specs.Faithful.{Faithful};
 ghost use Rattle.stmt_code.specs.StmtCode.{codes, stmt_code};
 ghost use Rattle.stmt_code.specs.Whole.{code_upto, entry_addresses, whole_code};
-ghost use Rattle.code_gen.specs.Addresses.{addresses_by, addresses_from, enter_in, table_in};
+ghost use Rattle.code_gen.specs.Addresses.{addresses_by, addresses_from, enter_in, no_addresses, table_in};
 ghost use Rattle.code_gen.specs.Settings.{AreIn, places_in};
 
 use crate::addresses::{Addresses, address_after};
@@ -30,19 +30,29 @@ pub fn compile(alloc: Global, exchange: &Exchange, layout: &Layout) -> Result<Co
     ensures operands { IfOk result (λ code. All OpFits code.ops) }
     ensures faithful { IfOk result (λ code. Faithful exchange.now code) }
 {
-    let none = Addresses {
-        blocks: Seq::new(alloc),
-        end: 0,
-    };
-    let first = emit_blocks(alloc, exchange, layout, &none)?;
-    let second = emit_blocks(alloc, exchange, layout, &first.addresses)?;
-    let entries = entries_of(alloc, exchange, layout, &first.addresses)?;
-    let mut ops = second.ops;
+    let addresses = addresses_of(alloc, exchange, layout)?;
+    let pass = emit_blocks(alloc, exchange, layout, &addresses)?;
+    let entries = entries_of(alloc, exchange, layout, &addresses)?;
+    let mut ops = pass.ops;
     ops.push(Op::End)?;
     check_length(&ops)?;
     let code = Code::new(alloc, ops, entries)?;
     whole_code_is_faithful(exchange, &code);
     Ok(code)
+}
+
+/// The addresses of the places of all texts, which are those of the code that is made with none. That code is let go.
+fn addresses_of(alloc: Global, exchange: &Exchange, layout: &Layout) -> Result<Addresses, Memory>
+    requires { IsLayout exchange.now.blocks layout.now }
+    ensures { IfOk result
+        (λ a. a ≡ addresses_by exchange.now (table_in exchange.now no_addresses)) }
+{
+    let none = Addresses {
+        blocks: Seq::new(alloc),
+        end: 0,
+    };
+    let pass = emit_blocks(alloc, exchange, layout, &none)?;
+    Ok(pass.addresses)
 }
 
 /// Refuses a list of 2^32 instructions or more.

@@ -1,10 +1,10 @@
 -- A table of all pairs, as far as it is made, and what is looked up in it.
-use Rattle.std.proofs.Common.{◌≡◌, ◌⊎◌, ◌↔◌, inl, inr, ℕ, ◌+◌, ◌-◌, ◌*◌, ◌/◌, ◌%◌, ◌<◌, ◌≤◌, Bool, false, IsTrue, ◌&&◌, List, [], ◌∷◌, ◌++◌, All, length, take, drop, get_or, Some, slice_get, slice_range, sym, ap, ◌∙◌, subst, arith, length-append}
+use Rattle.std.proofs.Common.{◌≡◌, ◌⊎◌, ◌↔◌, inl, inr, ℕ, ◌+◌, ◌-◌, ◌*◌, ◌/◌, ◌%◌, ◌<◌, ◌≤◌, Bool, false, IsTrue, ◌&&◌, List, [], ◌∷◌, ◌++◌, All, length, take, drop, get_or, Some, slice_get, slice_range, sym, ap, ◌∙◌, subst, arith, append-nil, length-append}
 use Rattle.std.specs.List.{Contains}
 use Rattle.std.proofs.lemmas.Bool.{and_from, and_parts, cases_lt}
 use Rattle.std.proofs.lemmas.List.{drop-append-le, length-drop, take-append-le}
 use Rattle.std.proofs.lemmas.List.Elements.{All-contains, Contains-get_or}
-use Rattle.std.proofs.lemmas.Nat.{div-mul-add, mod-mul-add, mul-add-lt}
+use Rattle.std.proofs.lemmas.Nat.{div-mul-add, mod-mul-add}
 use Rattle.std.proofs.lemmas.Option.{none-some, same_Some, slice_get_within}
 use Rattle.plex_num.proofs.Lists.{slice_get-append_left, slice_get-append_seam}
 use Rattle.job_types.specs.declared.job.JobStart.{JobStart}
@@ -86,10 +86,28 @@ module _ (k : Kept) (many first later : ℕ) (s t : Summary) (tests all : List T
     tells = one_more;
   })
 
--- the table, looked up
+-- a pair that is told of two entries with the same summaries
 
-pub place_within : (first later many count : ℕ) → count ≡ many * many → first < many → later < many → first * many + later < count
-place_within first later many count long f l = (let h = mul-add-lt first many later many f l in omega (arith, h, long))
+pub same_pairs : (k : Kept) (many n : ℕ) (pairs shown : List Pair) (tests : List Test) → shown ≡ pairs → ArePairsOf k many n pairs tests → ArePairsOf k many n shown tests
+same_pairs k many n pairs shown tests same h = subst (λ (l : List Pair). ArePairsOf k many n l tests) (sym same) h
+
+pub told_alike : (k : Kept) (many n first later one other : ℕ) (pair : Pair) (pairs : List Pair) (tests : List Test) → slice_get k.summaries one ≡ slice_get k.summaries first
+    → slice_get k.summaries other ≡ slice_get k.summaries later → ArePairsOf k many n pairs tests → IsFound pairs many one other pair → OfPair k first later (λ s t. IsTold s t tests tests pair)
+told_alike k many n first later one other pair pairs tests like_first like_later so_far found =
+    let h = so_far.tells one other pair found.below found.there in
+    record {
+      one = h.one;
+      other = h.other;
+      of_first = sym like_first ∙ h.of_first;
+      of_later = sym like_later ∙ h.of_later;
+      holds = record { more = []; grown = sym (append-nil tests); tells = h.holds };
+    }
+
+pub told_anew : (k : Kept) (first later : ℕ) (s t : Summary) (tests all : List Test) (pair : Pair) → slice_get k.summaries first ≡ Some s → slice_get k.summaries later ≡ Some t
+    → IsTold s t tests all pair → OfPair k first later (λ u v. IsTold u v tests all pair)
+told_anew k first later s t tests all pair of_first of_later told = record { one = s; other = t; of_first = of_first; of_later = of_later; holds = told }
+
+-- the table, looked up
 
 pub pair_found : (pairs : List Pair) (many first later : ℕ) (pair : Pair) → later < many → slice_get pairs (first * many + later) ≡ Some pair → IsFound pairs many first later pair
 pair_found pairs many first later pair below there = record { below = below; there = there }

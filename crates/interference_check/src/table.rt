@@ -169,10 +169,14 @@ fn worth_telling(checked: &Checked) -> u32
     ensures { result ≤ length checked.now.summaries }
 {
     let mut looks: usize = 0;
+    let mut kinds: usize = 0;
     for entry in 0..checked.entries() {
-        let accesses = checked.summary(entry).accesses.len();
-        looks = looks.saturating_add(accesses).saturating_add(1);
-        if looks.saturating_mul(entry as usize + 1) > MOST_LOOKS {
+        if checked.first_like(entry) == entry {
+            let accesses = checked.summary(entry).accesses.len();
+            looks = looks.saturating_add(accesses).saturating_add(1);
+            kinds = kinds.saturating_add(1);
+        }
+        if looks.saturating_mul(kinds) > MOST_LOOKS {
             return entry;
         }
     }
@@ -195,13 +199,40 @@ fn push_row(
     ensures { OnOk result
         (ArePairsOf checked.now told ((first + 1) * told) pairs.new tests.new) }
 {
-    let one = checked.summary(first);
     for later in 0..told {
-        let other = checked.summary(later);
-        let pair = pair_of(alloc, one, other, tests)?;
+        let pair = pair_in(alloc, checked, told, first, later, pairs.as_slice(), tests)?;
         pairs.push(pair)?;
     }
     Ok(())
+}
+
+/// What is told of two entries, whose tests come to the list. Where it was told before of two entries with the same summaries, among
+/// these pairs, it is that.
+fn pair_in(
+    alloc: Global,
+    checked: &Checked,
+    told: u32,
+    first: u32,
+    later: u32,
+    pairs: &[Pair],
+    tests: &mut Seq<Test>,
+) -> Result<Pair, Memory>
+    requires told { told ≤ length checked.now.summaries }
+    requires first { first < told }
+    requires later { later < told }
+    requires so_far { ArePairsOf checked.now told (first * told + later) pairs.now tests.old }
+    ensures { IfOk result (λ pair. OfPair checked.now first later
+        (λ s t. IsTold s t tests.old tests.new pair)) }
+{
+    let like_first = checked.first_like(first);
+    let like_later = checked.first_like(later);
+    if let Some(pair) = told_pair(pairs, told, like_first, like_later) {
+        return Ok(pair);
+    }
+    let one = checked.summary(first);
+    let other = checked.summary(later);
+    let pair = pair_of(alloc, one, other, tests)?;
+    Ok(pair)
 }
 
 /// What is told of two summaries, whose tests come to the list.
@@ -226,27 +257,16 @@ fn pair_of(
     }
 }
 
-/// The pair of two entries, if it is told.
-#[tactic(auto, using(crate::proofs::Tabling::place_within, crate::proofs::Tabling::pair_found))]
+/// The pair of two entries, if it is told, among those of so many.
+#[tactic(auto, using(crate::proofs::Tabling::pair_found))]
 fn told_pair(pairs: &[Pair], told: u32, first: u32, later: u32) -> Option<Pair>
-    requires { length pairs.now ≡ told * told }
     ensures { IfSome result (IsFound pairs.now told first later) }
 {
-    if first >= told {
-        return None;
-    }
     if later >= told {
         return None;
     }
-    Some(pair_at(pairs, told, first, later))
-}
-
-/// The pair of two entries, among those of so many.
-fn pair_at(pairs: &[Pair], told: u32, first: u32, later: u32) -> Pair
-    requires { first * told + later < length pairs.now }
-    ensures { slice_get pairs.now (first * told + later) ≡ Some result }
-{
-    pairs[first as usize * told as usize + later as usize]
+    let pair = pairs.get(first as usize * told as usize + later as usize)?;
+    Some(*pair)
 }
 
 /// Whether two jobs pass, by what is told of their pair.

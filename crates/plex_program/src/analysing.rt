@@ -19,7 +19,7 @@ pub fn analysis_answer(alloc: Global, exchange: &Exchange) -> Result<Answer, Mem
     ensures ending { IfOk result (λ a. IsEnding a.status) }
 {
     let summaries = summaries_of(alloc, exchange)?;
-    let text = analysis(alloc, exchange, summaries.as_slice())?;
+    let text = analysis(alloc, exchange, &summaries)?;
     Ok(Answer {
         status: Status::Done,
         text,

@@ -246,9 +246,9 @@ fn fitting_answer<R: Threads + Wait + Sync, G: Gate + Sync>(
     }
     let until = Bounds { workers, jobs: at };
     let checked = kept_for(alloc, old, workers)?;
-    let end = run_first(rt, alloc, old, checked, lines, until, gate)?;
+    let mut end = run_first(rt, alloc, old, checked, lines, until, gate)?;
     if ends_before(end.ending, end.books.ended(), at) {
-        return answer_at(alloc, old, &end.books, &end.words, end.ending);
+        return answer_at(alloc, old, &mut end.books, &end.words, end.ending);
     }
     let parts = end.books.into_parts();
     changed_answer(rt, alloc, change, parts, &end.words, bounds, gate)
@@ -287,8 +287,8 @@ fn changed_answer<R: Threads + Wait + Sync, G: Gate + Sync>(
 {
     let text = text_before(alloc, change.old, &parts, change.at)?;
     let (moved, carried) = carried_over(alloc, change, parts, words)?;
-    let end = run_further(rt, alloc, change.new, moved, carried, bounds, gate)?;
-    let answer = answer_behind(text, change.new, &end.books, &end.words, end.ending)?;
+    let mut end = run_further(rt, alloc, change.new, moved, carried, bounds, gate)?;
+    let answer = answer_behind(text, change.new, &mut end.books, &end.words, end.ending)?;
     Ok(answer)
 }
 
@@ -298,7 +298,7 @@ fn text_before(alloc: Global, old: &Exchange, parts: &BookParts, at: u32) -> Res
         ≡ text_of (event_lines old.now (account_of parts.now).state.events) ++ change_text at) }
 {
     let line = change_text(alloc, at)?;
-    let mut text = event_lines(alloc, old, &parts.events)?;
+    let mut text = event_lines(alloc, old, parts.events.queue(alloc)?)?;
     text.append(line.as_slice())?;
     Ok(text)
 }

@@ -1,22 +1,24 @@
 // The single run that goes on with books and words, which need not be those before the first line: several jobs at once, or one after
 // the other.
-ghost use Rattle.std.specs.Prelude.{◌≡◌, ◌≤◌, IfOk, IfSome, map};
+ghost use Rattle.std.specs.Prelude.{◌≡◌, ◌≤◌, nat_le, IfOk, IfSome, map};
 ghost use Rattle.plex_limits.specs.declared.limits.TheConstants.{MOST_JOBS};
 ghost use Rattle.store_layout.specs.Laid.{IsLayout};
+ghost use Rattle.code_gen.specs.Unrolled.{unrolled_length};
 ghost use Rattle.checked.specs.Kept.{IsChecked};
 ghost use Rattle.retire_order.specs.Accounts.{with_words};
 ghost use Rattle.retire_order.specs.Events.{ending_of};
 ghost use Rattle.retire_order.specs.Lines.{coming_of};
 ghost use Rattle.exchange_run.specs.Runs.{ComesTo, RunsTo};
 ghost use Rattle.source_meaning.specs.Valid.{IsValid};
+ghost use Rattle.plex_program.specs.declared.going.TheConstants.{MOST_UNROLLED};
 ghost use Rattle.plex_program.specs.Runs.{AreRead};
 ghost use Rattle.command_words.specs.Bounded.{AreWithin, AreWorkers};
 
 use checked::{Checked, keep_own_if_few};
-use code_gen::compile;
+use code_gen::{compile, unrolled_length};
 use command_words::Bounds;
 use exchange_model::Exchange;
-use exchange_run::{ByCode, Ended, make_turn};
+use exchange_run::{ByCode, BySource, Ended, Runner, make_turn};
 use parallel_dispatch::{Ended as EndedAtOnce, dispatch};
 use plex_io::Gate;
 use plex_num::{Memory, Seq};
@@ -27,6 +29,10 @@ use std::alloc::Global;
 use std::sync::Wait;
 use std::thread::Threads;
 use store_layout::{Layout, layout_of, opening};
+
+/// How many instructions the code that a run is by may have again for each field of a file, and for each receiver of a signal. Where it
+/// would have more, the source itself is run: the report is the same, and it takes no memory for code.
+pub const MOST_UNROLLED: u64 = 200_000;
 
 /// What the single run of these lines comes to within these bounds, and that nobody runs any more: as far as what is kept of a certificate
 /// lets jobs run at once, or one job after the other where nothing is kept.
@@ -84,8 +90,8 @@ pub fn go_on<R: Threads + Wait + Sync, G: Gate + Sync>(
     )
 }
 
-/// The same, as far as what is kept of a certificate lets jobs run at once; one job after the other where nothing is kept, and where one
-/// may run at a time.
+/// The same, as far as what is kept of a certificate lets jobs run at once; one job after the other where nothing is kept, where one may
+/// run at a time, and where the code would be long.
 fn go_on_by<R: Threads + Wait + Sync, G: Gate + Sync>(
     rt: &R,
     alloc: Global,
@@ -107,6 +113,9 @@ fn go_on_by<R: Threads + Wait + Sync, G: Gate + Sync>(
         books.limit end.books.state end.words (ending_of end.ending)) }
     ensures nobody { IfOk result (λ end. end.books.running ≡ 0) }
 {
+    if !has_short_code(alloc, exchange)? {
+        return go_on_by_source(alloc, exchange, layout, books, words, gate);
+    }
     match kept {
         Some(checked) if workers > 1 => {
             let end = dispatch_from(
@@ -118,15 +127,16 @@ fn go_on_by<R: Threads + Wait + Sync, G: Gate + Sync>(
                 ending: end.ending,
             })
         }
-        _ => go_on_in_turn(alloc, exchange, layout, books, words, gate),
+        _ => go_on_by_code(alloc, exchange, layout, books, words, gate),
     }
 }
 
-/// What is kept of the exchange's own certificate for so many workers; nothing for one alone, or where it would have too many facts.
+/// What is kept of the exchange's own certificate for so many workers; nothing for one alone, where it would have too many facts, or where
+/// the code would be long, since the source runs one job after the other.
 pub fn kept_for(alloc: Global, exchange: &Exchange, workers: u32) -> Result<Option<Checked>, Memory>
     ensures { IfOk result (λ kept. IfSome kept (IsChecked exchange.now)) }
 {
-    if workers == 1 {
+    if workers == 1 || !has_short_code(alloc, exchange)? {
         return Ok(None);
     }
     let kept = keep_own_if_few(alloc, exchange)?;
@@ -166,8 +176,16 @@ pub fn dispatch_from<R: Threads + Wait + Sync, G: Gate + Sync>(
     Ok(end)
 }
 
-/// The same, one job after the other.
-fn go_on_in_turn<G: Gate>(
+/// Whether the code of an exchange is short enough to run by.
+pub(crate) fn has_short_code(alloc: Global, exchange: &Exchange) -> Result<bool, Memory>
+    ensures { IfOk result (λ short. short ≡ nat_le (unrolled_length exchange.now) MOST_UNROLLED) }
+{
+    let length = unrolled_length(alloc, exchange)?;
+    Ok(length <= MOST_UNROLLED)
+}
+
+/// The same, one job after the other, by the source itself.
+fn go_on_by_source<G: Gate>(
     alloc: Global,
     exchange: &Exchange,
     layout: &Layout,
@@ -182,11 +200,50 @@ fn go_on_in_turn<G: Gate>(
         books.limit end.books.state end.words (ending_of end.ending)) }
     ensures nobody { IfOk result (λ end. end.books.running ≡ 0) }
 {
-    exchange.kept();
+    let mut runner = BySource::new(alloc, gate);
+    go_on_in_turn(exchange, layout, books, words, &mut runner)
+}
+
+/// The same, one job after the other, by compiled code.
+fn go_on_by_code<G: Gate>(
+    alloc: Global,
+    exchange: &Exchange,
+    layout: &Layout,
+    books: Books,
+    words: Seq<u32>,
+    gate: &G,
+) -> Result<Ended, Memory>
+    requires layout { IsLayout exchange.now.blocks layout.now }
+    requires nobody { books.running ≡ 0 }
+    requires valid { IsValid exchange.now (with_words books.state words) }
+    ensures end { IfOk result (λ end. RunsTo exchange.now (with_words books.state words)
+        books.limit end.books.state end.words (ending_of end.ending)) }
+    ensures nobody { IfOk result (λ end. end.books.running ≡ 0) }
+{
     let code = compile(alloc, exchange, layout)?;
+    let mut runner = ByCode::new(&code, gate);
+    go_on_in_turn(exchange, layout, books, words, &mut runner)
+}
+
+/// The same, one job after the other, by whatever runs them.
+fn go_on_in_turn<R: Runner>(
+    exchange: &Exchange,
+    layout: &Layout,
+    books: Books,
+    words: Seq<u32>,
+    runner: &mut R,
+) -> Result<Ended, Memory>
+    requires layout { IsLayout exchange.now.blocks layout.now }
+    requires nobody { books.running ≡ 0 }
+    requires valid { IsValid exchange.now (with_words books.state words) }
+    requires runner { R.runs runner.old exchange.now }
+    ensures end { IfOk result (λ end. RunsTo exchange.now (with_words books.state words)
+        books.limit end.books.state end.words (ending_of end.ending)) }
+    ensures nobody { IfOk result (λ end. end.books.running ≡ 0) }
+{
+    exchange.kept();
     let mut books = books;
     let mut words = words;
-    let mut runner = ByCode::new(&code, gate);
     let_arrive(exchange, &mut books)?;
     'jobs: loop {
         if let Some(ending) = books.finished() {
@@ -196,6 +253,6 @@ fn go_on_in_turn<G: Gate>(
                 ending,
             });
         }
-        make_turn(exchange, layout, &mut books, &mut words, &mut runner)?;
+        make_turn(exchange, layout, &mut books, &mut words, runner)?;
     }
 }

@@ -46,8 +46,8 @@ pub fn source_answer<G: Gate>(
     ensures answer { IfOk result (λ a. a ≡ run_answer exchange.now lines jobs) }
     ensures ending { IfOk result (λ a. IsEnding a.status) }
 {
-    let end = run_by_source(alloc, exchange, lines, jobs, gate)?;
-    let answer = answer_at(alloc, exchange, &end.books, &end.words, end.ending)?;
+    let mut end = run_by_source(alloc, exchange, lines, jobs, gate)?;
+    let answer = answer_at(alloc, exchange, &mut end.books, &end.words, end.ending)?;
     Ok(answer)
 }
 
@@ -88,8 +88,8 @@ pub fn answer_by<R: Threads + Wait + Sync, G: Gate + Sync>(
     ensures answer { IfOk result (λ a. a ≡ run_answer exchange.now lines bounds.jobs) }
     ensures ending { IfOk result (λ a. IsEnding a.status) }
 {
-    let end = run_first(rt, alloc, exchange, kept, lines, bounds, gate)?;
-    let answer = answer_at(alloc, exchange, &end.books, &end.words, end.ending)?;
+    let mut end = run_first(rt, alloc, exchange, kept, lines, bounds, gate)?;
+    let answer = answer_at(alloc, exchange, &mut end.books, &end.words, end.ending)?;
     Ok(answer)
 }
 
@@ -98,12 +98,12 @@ pub fn answer_by<R: Threads + Wait + Sync, G: Gate + Sync>(
 pub(crate) fn answer_at(
     alloc: Global,
     exchange: &Exchange,
-    books: &Books,
+    books: &mut Books,
     words: &Seq<u32>,
     ending: Ending,
 ) -> Result<Answer, Memory>
     ensures answer { IfOk result (λ a. a ≡ ended_answer exchange.now
-        (with_words books.now.state words.now) (ending_of ending)) }
+        (with_words books.old.state words.now) (ending_of ending)) }
     ensures ending { IfOk result (λ a. IsEnding a.status) }
 {
     let text = report(alloc, exchange, books, words, ending)?;
@@ -118,12 +118,12 @@ pub(crate) fn answer_at(
 pub(crate) fn answer_behind(
     text: Seq<u8>,
     exchange: &Exchange,
-    books: &Books,
+    books: &mut Books,
     words: &Seq<u32>,
     ending: Ending,
 ) -> Result<Answer, Memory>
     ensures answer { IfOk result (λ a. a ≡ behind text (ended_answer exchange.now
-        (with_words books.now.state words.now) (ending_of ending))) }
+        (with_words books.old.state words.now) (ending_of ending))) }
     ensures ending { IfOk result (λ a. IsEnding a.status) }
 {
     let mut text = text;
@@ -153,8 +153,8 @@ pub fn load_answer<R: Threads + Wait + Sync, G: Gate + Sync>(
         workers: USUAL_WORKERS,
         jobs: USUAL_JOBS,
     };
-    let end = run_first(rt, alloc, exchange, Some(checked), lines, bounds, gate)?;
-    let text = load_summary(alloc, calls, &end.books, end.ending)?;
+    let mut end = run_first(rt, alloc, exchange, Some(checked), lines, bounds, gate)?;
+    let text = load_summary(alloc, calls, &mut end.books, end.ending)?;
     Ok(Answer {
         status: status_of(end.ending),
         text,

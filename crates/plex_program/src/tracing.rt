@@ -13,12 +13,14 @@ ghost use Rattle.plex_program.specs.Program.{IsEnding};
 ghost use Rattle.plex_program.specs.Runs.{AreRead};
 
 use crate::fault::{FilterFault, FilterRule};
+use crate::going::has_short_code;
 use crate::perform::{Answer, Refused, Stop, exchange_in, lines_in, text_in};
 use crate::running::answer_behind;
 use code_gen::compile;
 use command_words::TraceWords;
 use exchange_model::Exchange;
-use plex_io::{Shelf, Word};
+use exchange_run::{ByCode, BySource};
+use plex_io::{NoGate, Shelf, Word};
 use plex_num::{Memory, Seq};
 use retire_order::Books;
 use signal_file::Line;
@@ -130,12 +132,13 @@ fn trace_answer(
     ensures answer { IfOk result (λ a. a ≡ trace_answer exchange.now lines shows.now jobs) }
     ensures ending { IfOk result (λ a. IsEnding a.status) }
 {
-    let end = run_traced(alloc, exchange, lines, shows, jobs)?;
-    let answer = answer_behind(end.text, exchange, &end.books, &end.words, end.ending)?;
+    let mut end = run_traced(alloc, exchange, lines, shows, jobs)?;
+    let answer = answer_behind(end.text, exchange, &mut end.books, &end.words, end.ending)?;
     Ok(answer)
 }
 
-/// The single run of these lines by compiled code, one job after the other, and the text of the jobs of it that the filter shows.
+/// The single run of these lines, one job after the other, and the text of the jobs of it that the filter shows: by compiled code, or by the
+/// source itself where that would be long.
 #[tactic(auto, using(crate::proofs::Traced::traced_rules))]
 fn run_traced(
     alloc: Global,
@@ -153,8 +156,13 @@ fn run_traced(
 {
     exchange.kept();
     let layout = layout_of(alloc, exchange)?;
-    let code = compile(alloc, exchange, &layout)?;
     let words = opening(alloc, exchange, &layout)?;
     let books = Books::new(alloc, lines, u64::from(jobs));
-    trace_run(alloc, exchange, &layout, &code, books, words, shows)
+    if !has_short_code(alloc, exchange)? {
+        let mut runner = BySource::new(alloc, &NoGate);
+        return trace_run(alloc, exchange, &layout, books, words, shows, &mut runner);
+    }
+    let code = compile(alloc, exchange, &layout)?;
+    let mut runner = ByCode::new(&code, &NoGate);
+    trace_run(alloc, exchange, &layout, books, words, shows, &mut runner)
 }

@@ -1,3 +1,4 @@
 pub mod Names
 pub mod Report
 pub mod Load
+pub mod Tallies

@@ -1,39 +1,47 @@
 // The lines of the events.
-ghost use Rattle.std.specs.Prelude.{◌≡◌, ◌++◌, IfOk, OnOk, map};
+ghost use Rattle.std.specs.Prelude.{◌≡◌, ◌++◌, IfOk, OnOk};
 ghost use Rattle.retire_order.specs.Events.{event_of};
-ghost use Rattle.report_text.specs.Report.{event_line, event_lines, fault_words, out_line, text_of, value_words};
+ghost use Rattle.report_text.specs.Report.{event_line, event_lines, fault_words, out_line, text_of, value_words, written};
 
 use crate::names::{add_point, fault_word};
 use exchange_model::Exchange;
 use job_types::Fault;
 use plex_num::{Memory, Seq, add_number};
-use retire_order::Event;
+use retire_order::{Event, EventQueue};
 use std::alloc::Global;
 
 /// The lines of these events, in order: the part of a report that tells of the events. Memory is the only reason for an error.
 pub fn event_lines(
     alloc: Global,
     exchange: &Exchange,
-    events: &Seq<Event>,
+    events: EventQueue,
 ) -> Result<Seq<u8>, Memory>
-    ensures { IfOk result (λ text. text
-        ≡ text_of (event_lines exchange.now (map event_of events.now))) }
+    ensures { IfOk result (λ text. text ≡ text_of (event_lines exchange.now events)) }
 {
     let mut text = Seq::new(alloc);
-    add_events(&mut text, exchange, events.as_slice())?;
+    add_events(&mut text, exchange, events)?;
     Ok(text)
 }
 
 /// The line of each event, in order.
-pub fn add_events(text: &mut Seq<u8>, exchange: &Exchange, events: &[Event]) -> Result<(), Memory>
-    ensures { OnOk result (text.new
-        ≡ text.old ++ text_of (event_lines exchange.now (map event_of events.now))) }
+#[tactic(auto, using(crate::proofs::Lines::events_end))]
+pub fn add_events(text: &mut Seq<u8>, exchange: &Exchange, events: EventQueue) -> Result<(), Memory>
+    ensures { OnOk result (text.new ≡ text.old ++ text_of (event_lines exchange.now events)) }
 {
-    for event in events {
-        add_event(text, exchange, event)?;
-        text.append(b"\n")?;
+    let mut left = events;
+    while let Some(event) = left.next() {
+        add_line(text, exchange, &event)?;
     }
     Ok(())
+}
+
+/// The line of an event.
+fn add_line(text: &mut Seq<u8>, exchange: &Exchange, event: &Event) -> Result<(), Memory>
+    ensures { OnOk result
+        (text.new ≡ text.old ++ written (event_line exchange.now (event_of event.now))) }
+{
+    add_event(text, exchange, event)?;
+    text.append(b"\n")
 }
 
 /// The line of an event, without its end.

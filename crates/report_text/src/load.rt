@@ -1,33 +1,35 @@
 // The summary of a load.
-ghost use Rattle.std.specs.Prelude.{◌≡◌, ◌++◌, IfOk, OnOk, map};
+ghost use Rattle.std.specs.Prelude.{◌≡◌, ◌+◌, ◌<◌, ◌^◌, ◌++◌, IfOk, OnOk};
 ghost use Rattle.std.specs.List.{count_by};
 ghost use Rattle.std.specs.Fmt.{decimal};
 ghost use Rattle.retire_order.specs.Events.{ending_of, event_of};
 ghost use Rattle.report_text.specs.Load.{is_lost, is_out, is_release, load_text};
 ghost use Rattle.report_text.specs.Report.{written};
+ghost use Rattle.report_text.specs.Tallies.{IsTallied};
 
 use crate::whole::add_ending;
 use plex_num::{Memory, Seq, add_number};
-use retire_order::{Books, Ending, Event};
+use retire_order::{Books, Ending, Event, EventQueue};
 use std::alloc::Global;
 
 /// The summary of a run of a load of so many calls that has left these books, and that has ended so: how many jobs ended, how
 /// many signals left the exchange, how many forlopps were released, and how many lines were lost. Memory is the only reason
-/// for an error.
+/// for an error. The books give up their events.
 pub fn load_summary(
     alloc: Global,
     calls: u32,
-    books: &Books,
+    books: &mut Books,
     ending: Ending,
 ) -> Result<Seq<u8>, Memory>
-    ensures { IfOk result (λ text. text ≡ load_text calls books.now.state (ending_of ending)) }
+    ensures { IfOk result (λ text. text ≡ load_text calls books.old.state (ending_of ending)) }
 {
     let mut text = Seq::new(alloc);
     add_counted(&mut text, b"LOAD ", u64::from(calls))?;
     add_counted(&mut text, b"JOBS ", books.ended())?;
-    add_counted(&mut text, b"OUTS ", outs(books.events()))?;
-    add_counted(&mut text, b"RELEASES ", releases(books.events()))?;
-    add_counted(&mut text, b"LOST ", lost(books.events()))?;
+    let tally = tally_of(books.take_events());
+    add_counted(&mut text, b"OUTS ", tally.outs)?;
+    add_counted(&mut text, b"RELEASES ", tally.releases)?;
+    add_counted(&mut text, b"LOST ", tally.lost)?;
     add_ending(&mut text, ending)?;
     Ok(text)
 }
@@ -40,44 +42,61 @@ fn add_counted(text: &mut Seq<u8>, word: &[u8], number: u64) -> Result<(), Memor
     text.append(b"\n")
 }
 
-/// How many signals left the exchange.
-#[tactic(auto, using(crate::proofs::Counts::counted))]
-fn outs(events: &[Event]) -> u64
-    ensures { result ≡ count_by is_out (map event_of events.now) }
-{
-    events.iter().filter(|event| is_out(event)).count() as u64
+/// How many events of each kind there are that a summary tells.
+#[derive(Clone, Copy)]
+struct Tally {
+    outs: u64,
+    releases: u64,
+    lost: u64,
 }
 
-/// How many forlopps were released.
-#[tactic(auto, using(crate::proofs::Counts::counted))]
-fn releases(events: &[Event]) -> u64
-    ensures { result ≡ count_by is_release (map event_of events.now) }
-{
-    events.iter().filter(|event| is_release(event)).count() as u64
+impl Tally {
+    /// The tally with an event more; no number of it may be the last one of 64 bits.
+    fn with(self, event: &Event) -> Tally
+        requires outs { self.outs + 1 < 2 ^ 64 }
+        requires releases { self.releases + 1 < 2 ^ 64 }
+        requires lost { self.lost + 1 < 2 ^ 64 }
+        ensures { IsTallied (event_of event.now) self result }
+    {
+        let Tally {
+            outs,
+            releases,
+            lost,
+        } = self;
+        match event {
+            Event::Out { .. } => Tally {
+                outs: outs + 1,
+                ..self
+            },
+            Event::Release { .. } => Tally {
+                releases: releases + 1,
+                ..self
+            },
+            Event::Lost { .. } => Tally {
+                lost: lost + 1,
+                ..self
+            },
+            Event::Restart { .. } => self,
+        }
+    }
 }
 
-/// How many lines were lost.
-#[tactic(auto, using(crate::proofs::Counts::counted))]
-fn lost(events: &[Event]) -> u64
-    ensures { result ≡ count_by is_lost (map event_of events.now) }
+/// The tally of these events.
+#[tactic(auto, using(crate::proofs::Counts::tally_begin, crate::proofs::Counts::tally_room))]
+fn tally_of(events: EventQueue) -> Tally
+    ensures outs { result.outs ≡ count_by is_out events }
+    ensures releases { result.releases ≡ count_by is_release events }
+    ensures lost { result.lost ≡ count_by is_lost events }
 {
-    events.iter().filter(|event| is_lost(event)).count() as u64
-}
-
-fn is_out(event: &Event) -> bool
-    ensures { result ≡ is_out (event_of event.now) }
-{
-    matches!(event, Event::Out { .. })
-}
-
-fn is_release(event: &Event) -> bool
-    ensures { result ≡ is_release (event_of event.now) }
-{
-    matches!(event, Event::Release { .. })
-}
-
-fn is_lost(event: &Event) -> bool
-    ensures { result ≡ is_lost (event_of event.now) }
-{
-    matches!(event, Event::Lost { .. })
+    let mut left = events;
+    left.are_few();
+    let mut tally = Tally {
+        outs: 0,
+        releases: 0,
+        lost: 0,
+    };
+    while let Some(event) = left.next() {
+        tally = tally.with(&event);
+    }
+    tally
 }

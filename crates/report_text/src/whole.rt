@@ -12,16 +12,17 @@ use retire_order::{Books, Ending};
 use std::alloc::Global;
 
 /// The text of the report of a run of this exchange that has left these books and these stored words, in the order of the
-/// cells, and that has ended so. Memory is the only reason for an error.
+/// cells, and that has ended so. The books give up their events, whose memory goes as they are written. Memory is the only
+/// reason for an error.
 pub fn report(
     alloc: Global,
     exchange: &Exchange,
-    books: &Books,
+    books: &mut Books,
     words: &Seq<u32>,
     ending: Ending,
 ) -> Result<Seq<u8>, Memory>
     ensures { IfOk result (λ text. text
-        ≡ report_text exchange.now (with_words books.now.state words.now) (ending_of ending)) }
+        ≡ report_text exchange.now (with_words books.old.state words.now) (ending_of ending)) }
 {
     let mut text = Seq::new(alloc);
     add_report(&mut text, exchange, books, words, ending)?;
@@ -32,14 +33,14 @@ pub fn report(
 pub fn add_report(
     text: &mut Seq<u8>,
     exchange: &Exchange,
-    books: &Books,
+    books: &mut Books,
     words: &Seq<u32>,
     ending: Ending,
 ) -> Result<(), Memory>
     ensures { OnOk result (text.new ≡ text.old
-        ++ report_text exchange.now (with_words books.now.state words.now) (ending_of ending)) }
+        ++ report_text exchange.now (with_words books.old.state words.now) (ending_of ending)) }
 {
-    add_events(text, exchange, books.events())?;
+    add_events(text, exchange, books.take_events())?;
     add_jobs(text, books.ended())?;
     add_variables(text, exchange, words.as_slice())?;
     add_fields(text, exchange, words.as_slice())?;

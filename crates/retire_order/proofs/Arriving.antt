@@ -1,11 +1,11 @@
 -- Lines arrive: the stored words are of no account there, and what is left to arrive leads to the same state.
-use Rattle.std.proofs.Common.{◌≡◌, ℕ, ◌+◌, ◌<◌, Bool, true, false, List, [], ◌∷◌, ◌++◌, length, refl, sym, ap, ◌∙◌, subst, arith, if◌then◌else◌}
+use Rattle.std.proofs.Common.{◌≡◌, ℕ, ◌<◌, Bool, true, false, List, [], ◌∷◌, ◌++◌, length, refl, sym, ap, ◌∙◌, subst, arith, if◌then◌else◌}
 use Rattle.std.specs.Prelude.{unwrap_or}
 use Rattle.job_types.specs.Forlopps.{is_dead}
 use Rattle.exchange_model.specs.declared.exchange.Exchange.{Exchange}
 use Rattle.source_meaning.specs.Arrivals.{arrivals, arrivals_of, arrives, comes, forlopp_for, is_due, next_after}
 use Rattle.source_meaning.specs.State.{Bare, Coming, Fresh, Origin, Same, State, has_stopped}
-use Rattle.retire_order.specs.Accounts.{Account, after_arrival, is_next_due, line_arrives, with_words}
+use Rattle.retire_order.specs.Accounts.{Account, after_arrival, after_arrivals, is_next_due, line_arrives, with_words}
 
 -- ## The words are of no account
 
@@ -117,12 +117,12 @@ nothing_comes : (x : Exchange) (ls : List Coming) (s : State) → is_next_due ls
 nothing_comes x [] s due = refl
 nothing_comes x (l ∷ rest) s due = rw due refl
 
-pub arriving_end : (x : Exchange) (old b next : Account) → is_next_due b.state.lines b.state ≡ false → next ≡ after_arrival x b → Arriving x old b → next ≡ record old { state = arrivals x old.state }
+pub arriving_end : (x : Exchange) (old b next : Account) → is_next_due b.state.lines b.state ≡ false → next ≡ after_arrival x b → Arriving x old b → next ≡ after_arrivals x old
 arriving_end x old b next due is g =
     let same = nothing_comes x b.state.lines b.state due in
     let rest = sym (none_arrives x b.state.lines b.state due) ∙ g.rest in
-    let here : after_arrival x b ≡ record old { state = arrivals x old.state } = λ i. record { state = (same ∙ rest) i; running = g.running i; limit = g.limit i } in
+    let here : after_arrival x b ≡ after_arrivals x old = λ i. record { state = (same ∙ rest) i; running = g.running i; limit = g.limit i } in
     is ∙ here
 
-pub arriving_none : (x : Exchange) (b : Account) → has_stopped b.state ≡ true → b ≡ record b { state = arrivals x b.state }
+pub arriving_none : (x : Exchange) (b : Account) → has_stopped b.state ≡ true → b ≡ after_arrivals x b
 arriving_none x b stopped = λ i. record { state = sym (ap (λ t. if t then b.state else arrivals_of x b.state.lines b.state) stopped) i; running = b.running; limit = b.limit }

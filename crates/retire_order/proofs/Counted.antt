@@ -3,7 +3,7 @@ use Rattle.std.proofs.Common.{◌≡◌, ℕ, zero, suc, ◌+◌, ◌-◌, ◌*�
 use Rattle.std.proofs.lemmas.List.{length-map}
 use Rattle.std.specs.Cmp.{nat_cmp_total}
 use Rattle.std.specs.FinMap as fin
-use Rattle.plex_limits.specs.declared.limits.TheConstants.{MOST_HELD, MOST_JOBS}
+use Rattle.plex_limits.specs.declared.limits.TheConstants.{MOST_CELLS, MOST_HELD, MOST_JOBS}
 use Rattle.job_types.specs.declared.chain.Held.{Held}
 use Rattle.job_types.specs.Forlopps.{ChainMap, Dead, all_records, chain_at, with_chain}
 use Rattle.job_types.proofs.ChainMaps.{by_number}
@@ -47,7 +47,7 @@ joined_few chains (n ∷ ns) few =
     let rest = joined_few chains ns few in
     omega (arith, here, rest, length-append (chains n) (flat_map chains ns))
 
-pub records_few : (m : ChainMap) (dead : Dead) → IsSound m dead → fin.len m ≤ MOST_JOBS → length (all_records m) < 2 ^ 32
+pub records_few : (m : ChainMap) (dead : Dead) → IsSound m dead → fin.len m ≤ MOST_CELLS + MOST_JOBS → length (all_records m) < 2 ^ 32
 records_few m dead sound few =
     let all = joined_few (chain_at m) (fin.keys m) sound.few in
     let as_many : length (fin.keys m) ≡ fin.len m = length-map (fin.entries m) (λ e. e.0) ∙ sym (fin.len-entries m) in

@@ -3,7 +3,7 @@ use Rattle.std.proofs.Common.{◌≡◌, ◌≢◌, ℕ, zero, suc, ◌+◌, ◌
 use Rattle.std.proofs.lemmas.List.{length-map}
 use Rattle.std.specs.FinMap as fin
 use Rattle.std.specs.Ordering.{nat_cmp}
-use Rattle.plex_limits.specs.declared.limits.TheConstants.{MOST_JOBS, MOST_SENT}
+use Rattle.plex_limits.specs.declared.limits.TheConstants.{MOST_CELLS, MOST_JOBS, MOST_SENT}
 use Rattle.signal_file.specs.declared.line.Line.{Line}
 use Rattle.job_types.specs.declared.chain.Held.{Held}
 use Rattle.job_types.specs.Forlopps.{ChainMap, Dead, with_chain}
@@ -33,6 +33,20 @@ opening_kept t lines waiting chains dead events limit left none empty few short 
   chains = omega (arith, ap fin.len empty, fin.len-empty nat_cmp (List Held));
 }
 
+-- no matter which events there are
+pub untold_kept : (t : Timetable) (waiting : Waiting) (chains : ChainMap) (dead : Dead) (before events : List Event) (next ended restarts running limit : ℕ)
+    → IsKept (account t waiting chains dead before next ended restarts running limit) → IsKept (account t waiting chains dead events next ended restarts running limit)
+untold_kept t waiting chains dead before events next ended restarts running limit kept = record {
+  few = kept.few;
+  within = kept.within;
+  restarts = kept.restarts;
+  some = kept.some;
+  next = kept.next;
+  lines = kept.lines;
+  below = kept.below;
+  chains = kept.chains;
+}
+
 -- after a job has retired
 
 -- the chain of a job's forlopp, which is below the next new number
@@ -43,7 +57,7 @@ below_kept (suc n) chain m before next below some up =
     below_with m (suc n) chain next (λ q held. let under = below q held in omega (arith, under, up)) (omega (arith, drawn, up))
 
 pub retired_kept : (old : Account) (w : Waiting) (es : List Event) (n e k r : ℕ) (m : ChainMap) (d : Dead) → IsKept old → e ≡ old.state.ended + 1 → r + 1 ≡ old.running → k ≤ old.state.restarts + 1
-    → old.state.next ≤ n → n ≤ old.state.next + MOST_SENT → AreBelow m n → fin.len m ≤ e → IsKept (moved old w es n e k r m d)
+    → old.state.next ≤ n → n ≤ old.state.next + MOST_SENT → AreBelow m n → fin.len m ≤ MOST_CELLS + e → IsKept (moved old w es n e k r m d)
 retired_kept old w es n e k r m d kept ends one again up few below short = record {
   few = kept.few;
   within = let within = kept.within in omega (arith, within, ends, one);
@@ -57,7 +71,7 @@ retired_kept old w es n e k r m d kept ends one again up few below short = recor
 
 -- the chains, once the job's is its forlopp's
 pub chains_kept : (old : Account) (f : ℕ) (chain : List Held) (m0 m : ChainMap) (n : ℕ) → IsKept old → MayBe old.state f → m0 ≡ old.state.chains → m ≡ chain_kept f chain m0 → old.state.next ≤ n
-    → AreBelow m n × (fin.len m ≤ old.state.ended + 1)
+    → AreBelow m n × (fin.len m ≤ MOST_CELLS + (old.state.ended + 1))
 chains_kept old f chain m0 m n kept may same is up =
     let own : m ≡ chain_kept f chain old.state.chains = is ∙ ap (chain_kept f chain) same in
     let short = len-kept f chain old.state.chains in
@@ -67,11 +81,11 @@ chains_kept old f chain m0 m n kept may same is up =
     )
 
 -- no chain is left
-pub chains_gone : (m : ChainMap) (n e : ℕ) → m ≡ fin.empty → AreBelow m n × (fin.len m ≤ e)
+pub chains_gone : (m : ChainMap) (n e : ℕ) → m ≡ fin.empty → AreBelow m n × (fin.len m ≤ MOST_CELLS + e)
 chains_gone m n e empty = (subst (λ k. AreBelow k n) (sym empty) (below_empty n), omega (arith, ap fin.len empty, fin.len-empty nat_cmp (List Held)))
 
 -- that of a released forlopp is not
-pub chains_released : (old : Account) (f : ℕ) (m m2 : ChainMap) (n e : ℕ) → MayBe old.state f → f ≢ 0 → old.state.next ≤ n → m2 ≡ with_chain m f [] → AreBelow m n × (fin.len m ≤ e) → AreBelow m2 n × (fin.len m2 ≤ e)
+pub chains_released : (old : Account) (f : ℕ) (m m2 : ChainMap) (n e : ℕ) → MayBe old.state f → f ≢ 0 → old.state.next ≤ n → m2 ≡ with_chain m f [] → AreBelow m n × (fin.len m ≤ MOST_CELLS + e) → AreBelow m2 n × (fin.len m2 ≤ MOST_CELLS + e)
 chains_released old f m m2 n e may some up is held =
     let before = (live_of old.state f some may).before in
     let less = len-without m f in

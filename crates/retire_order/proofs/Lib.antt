@@ -1,3 +1,5 @@
+pub mod Numbered
+pub mod Told
 pub mod Keeping
 pub mod Lined
 pub mod Listed
@@ -10,3 +12,4 @@ pub mod Fitting
 pub mod Bare
 pub mod Arriving
 pub mod Cells
+pub mod Parted

@@ -1,6 +1,6 @@
 -- What contracts see of the books: a state whose words stand elsewhere, how many jobs run, and how many may end.
 use Rattle.std.specs.Prelude.{◌≡◌, ℕ, ◌+◌, ◌*◌, ◌<◌, ◌≤◌, ◌^◌, nat_lt, Bool, false, List, [], ◌∷◌, length, Option, Some, None, unwrap_or, if◌then◌else◌}
-use Rattle.plex_limits.specs.declared.limits.TheConstants.{MOST_JOBS, MOST_SENT}
+use Rattle.plex_limits.specs.declared.limits.TheConstants.{MOST_CELLS, MOST_JOBS, MOST_SENT}
 use Rattle.std.specs.FinMap as map
 use Rattle.job_types.specs.Forlopps.{ChainMap, Dead, none_dead}
 use Rattle.job_types.specs.Waiting.{Waiting, nobody}
@@ -9,7 +9,7 @@ use Rattle.job_types.specs.declared.job.JobStart.{JobStart}
 use Rattle.exchange_model.specs.declared.exchange.Exchange.{Exchange}
 use Rattle.forlopp_chain.specs.Chains.{AreBelow}
 use Rattle.source_meaning.specs.State.{Coming, Event, Origin, State}
-use Rattle.source_meaning.specs.Arrivals.{arrives, forlopp_for, is_due}
+use Rattle.source_meaning.specs.Arrivals.{arrivals, arrives, forlopp_for, is_due}
 use Rattle.exchange_model.specs.Names.{level_of}
 use Rattle.source_meaning.specs.SingleRun.{begun, next_start}
 use Rattle.retire_order.specs.Lines.{Timetable}
@@ -24,16 +24,17 @@ pub record Account : Type 0 where
 abbrev pub with_words : State → List ℕ → State
 with_words s words = record s { store = words }
 
--- what holds of the books at every moment
+-- what holds of the books at every moment: each job that has ended brought one restart, one chain and 255 new numbers at the
+-- most, beside what the books began with
 pub record IsKept (b : Account) : Type 0 where
   pub few : b.limit ≤ MOST_JOBS
   pub within : b.state.ended + b.running ≤ b.limit
-  pub restarts : b.state.restarts ≤ b.state.ended
+  pub restarts : b.state.restarts ≤ 2 ^ 32 + b.state.ended
   pub some : 1 ≤ b.state.next
   pub next : b.state.next ≤ 1 + length b.state.arrived + MOST_SENT * b.state.ended
   pub lines : length b.state.arrived + length b.state.lines < 2 ^ 32
   pub below : AreBelow b.state.chains b.state.next
-  pub chains : map.len b.state.chains ≤ b.state.ended
+  pub chains : map.len b.state.chains ≤ MOST_CELLS + b.state.ended
 
 -- the account of these parts
 abbrev pub account : Timetable → Waiting → ChainMap → Dead → List Event → (next ended restarts running limit : ℕ) → Account
@@ -87,6 +88,14 @@ is_next_due (l ∷ rest) s = is_due l s
 -- the books after the next line, where that is due
 abbrev pub after_arrival : Exchange → Account → Account
 after_arrival x b = record b { state = unwrap_or (line_arrives x b.state.lines b.state) b.state }
+
+-- the events have been told, and the books have none
+abbrev pub untold : Account → Account
+untold b = record b { state = record b.state { events = [] } }
+
+-- the books after all lines that are due
+abbrev pub after_arrivals : Exchange → Account → Account
+after_arrivals x b = record b { state = arrivals x b.state }
 
 -- for how many ended jobs the next line waits
 abbrev pub next_count : List Coming → Option ℕ

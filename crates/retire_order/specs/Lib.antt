@@ -1,4 +1,5 @@
 pub mod Events
+pub mod Bytes
 pub mod Lines
 pub mod Accounts
 pub mod Stores

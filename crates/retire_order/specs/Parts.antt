@@ -1,14 +1,13 @@
 -- The parts of the books of which no job runs, and which parts are those of books.
-use Rattle.std.specs.Prelude.{◌≡◌, ℕ, nat_eq, ◌≤◌, length, map}
+use Rattle.std.specs.Prelude.{◌≡◌, ℕ, nat_eq, ◌≤◌, length}
 use Rattle.std.specs.HashMap.{get}
 use Rattle.retire_order.specs.declared.parts.BookParts.{BookParts}
 use Rattle.retire_order.specs.Accounts.{Account, IsKept, account}
-use Rattle.retire_order.specs.Events.{event_of}
 use Rattle.retire_order.specs.Lines.{arrived_of, found_in, timetable}
 
 -- the books of these parts
 abbrev pub account_of : BookParts → Account
-account_of p = account (timetable p.lines p.given) p.buffers.waiting p.chains.chains p.chains.dead (map event_of p.events) p.next_forlopp p.ended p.restarts 0 p.limit
+account_of p = account (timetable p.lines p.given) p.buffers.waiting p.chains.chains p.chains.dead p.events.events p.next_forlopp p.ended p.restarts 0 p.limit
 
 -- the parts are those of books: each line that has arrived has a forlopp, which is found by the number of the line, and what
 -- holds of all books holds of these
@@ -17,3 +16,17 @@ pub record AreParts (p : BookParts) : Type 0 where
   pub within : length p.given ≤ length p.lines
   pub numbers : (n : ℕ) → get nat_eq p.numbers n ≡ found_in (arrived_of p.lines p.given) n
   pub kept : IsKept (account_of p)
+
+-- the same parts but for the events: two tables are the same in which each look finds the same
+pub record AreAlike (p q : BookParts) : Type 0 where
+  pub waiting : q.buffers.waiting ≡ p.buffers.waiting
+  pub chains : q.chains.chains ≡ p.chains.chains
+  pub dead : q.chains.dead ≡ p.chains.dead
+  pub lines : q.lines ≡ p.lines
+  pub next_line : q.next_line ≡ p.next_line
+  pub given : q.given ≡ p.given
+  pub numbers : (n : ℕ) → get nat_eq q.numbers n ≡ get nat_eq p.numbers n
+  pub next : q.next_forlopp ≡ p.next_forlopp
+  pub ended : q.ended ≡ p.ended
+  pub restarts : q.restarts ≡ p.restarts
+  pub limit : q.limit ≡ p.limit

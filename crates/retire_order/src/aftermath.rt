@@ -1,9 +1,9 @@
 // What is to be stored after a job has come to its end: it is listed before the first change, so that none can be refused.
-ghost use Rattle.std.specs.Prelude.{◌≡◌, ◌≤◌, length, IfOk};
+ghost use Rattle.std.specs.Prelude.{◌≡◌, ◌+◌, ◌≤◌, length, IfOk};
 ghost use Rattle.std.specs.FinMap as map;
 ghost use Rattle.exchange_model.specs.Cells.{placed_files};
 ghost use Rattle.job_types.specs.Forlopps.{all_records};
-ghost use Rattle.plex_limits.specs.declared.limits.TheConstants.{MOST_JOBS};
+ghost use Rattle.plex_limits.specs.declared.limits.TheConstants.{MOST_CELLS, MOST_JOBS};
 ghost use Rattle.retire_order.specs.Stores.{IsAftermath, all_stores, restart_stores};
 ghost use Rattle.store_layout.specs.Laid.{IsLayout};
 
@@ -33,7 +33,7 @@ pub fn aftermath_of(
     done: &JobDone,
 ) -> Result<Aftermath, Memory>
     requires layout { IsLayout exchange.now.blocks layout.now }
-    requires few { map.len chains.now.chains ≤ MOST_JOBS }
+    requires few { map.len chains.now.chains ≤ MOST_CELLS + MOST_JOBS }
     ensures { IfOk result
         (λ a. IsAftermath exchange.now forlopp done.now.outcome done.now.chain chains.now.chains a) }
 {
@@ -58,7 +58,7 @@ fn of_restart(
     chains: &Chains,
 ) -> Result<Aftermath, Memory>
     requires layout { IsLayout exchange.now.blocks layout.now }
-    requires few { map.len chains.now.chains ≤ MOST_JOBS }
+    requires few { map.len chains.now.chains ≤ MOST_CELLS + MOST_JOBS }
     ensures stores { IfOk result (λ a. a.stores ≡ restart_stores exchange.now chains.now.chains) }
     ensures records { IfOk result (λ a. a.records ≡ length (all_records chains.now.chains)) }
 {

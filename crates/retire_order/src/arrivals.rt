@@ -1,17 +1,18 @@
 // Lines of the signal file arrive.
-ghost use Rattle.std.specs.Prelude.{◌≡◌, ◌+◌, ◌<◌, ◌^◌, ◌++◌, ◌∷◌, [], List, false, length, MatchResult, OnOk, if◌then◌else◌};
+ghost use Rattle.std.specs.Prelude.{◌≡◌, ◌+◌, ◌<◌, ◌^◌, ◌++◌, ◌∷◌, [], List, false, length, MatchResult, if◌then◌else◌};
 ghost use Rattle.exchange_model.specs.declared.exchange.Exchange.{Exchange};
 ghost use Rattle.job_buffers.specs.Room.{room_at};
 ghost use Rattle.job_types.specs.Forlopps.{is_dead};
 ghost use Rattle.job_types.specs.Waiting.{joins};
-ghost use Rattle.source_meaning.specs.Arrivals.{arrivals, arrives, forlopp_for, is_due, next_after};
+ghost use Rattle.source_meaning.specs.Arrivals.{arrives, forlopp_for, is_due, next_after};
 ghost use Rattle.exchange_model.specs.Names.{level_of};
 ghost use Rattle.source_meaning.specs.State.{Coming, Lost, has_stopped};
-ghost use Rattle.retire_order.specs.Accounts.{IsLine, after_arrival, is_next_due};
+ghost use Rattle.retire_order.specs.Accounts.{IsLine, after_arrival, after_arrivals, is_next_due};
 ghost use Rattle.retire_order.specs.Lines.{coming_of, origin_of};
 
 use crate::books::Books;
-use crate::event::{Event, EventLog};
+use crate::event::Event;
+use crate::event_log::EventLog;
 use exchange_model::Exchange;
 use forlopp_chain::Chains;
 use job_buffers::Buffers;
@@ -101,11 +102,13 @@ impl Books {
     }
 }
 
-/// One line after the other arrives, as long as the next one is due. No job may run.
+/// One line after the other arrives, as long as the next one is due. No job may run. Where memory
+/// is refused, some of them have arrived, and the same call lets the others follow.
 pub fn let_arrive(exchange: &Exchange, books: &mut Books) -> Result<(), Memory>
     requires nobody { books.old.running ≡ 0 }
-    ensures { OnOk result
-        (books.new ≡ record books.old { state = arrivals exchange.now books.old.state }) }
+    ensures { MatchResult result
+        (λ _. books.new ≡ after_arrivals exchange.now books.old)
+        (λ _. after_arrivals exchange.now books.new ≡ after_arrivals exchange.now books.old) }
 {
     if books.stopped() {
         return Ok(());

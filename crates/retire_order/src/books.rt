@@ -4,12 +4,13 @@ ghost use Rattle.std.specs.Option.{option_map};
 ghost use Rattle.plex_limits.specs.declared.limits.TheConstants.{MOST_JOBS};
 ghost use Rattle.source_meaning.specs.SingleRun.{ending_at, start_of};
 ghost use Rattle.source_meaning.specs.State.{has_stopped};
-ghost use Rattle.retire_order.specs.Accounts.{after_start, next_count, opened, upcoming};
-ghost use Rattle.retire_order.specs.Events.{ending_of, event_of};
+ghost use Rattle.retire_order.specs.Accounts.{after_start, next_count, opened, untold, upcoming};
+ghost use Rattle.retire_order.specs.Events.{ending_of};
 ghost use Rattle.retire_order.specs.Lines.{coming_of};
 ghost use Rattle.retire_order.specs.Parts.{AreParts, account_of};
 
-use crate::event::{Ending, Event, EventLog};
+use crate::event::Ending;
+use crate::event_log::{EventLog, EventQueue};
 use crate::parts::BookParts;
 use crate::schedule::Schedule;
 use forlopp_chain::Chains;
@@ -20,6 +21,7 @@ use plex_num::Seq;
 use signal_file::Line;
 use std::alloc::Global;
 use std::marker::Model;
+use std::mem;
 
 /// The books of an exchange: the lines that are left and those that have arrived, the jobs that wait, which forlopp holds
 /// what, the next new number, the events, how many jobs have ended, how many restarts came, how many jobs run, and after how
@@ -179,11 +181,14 @@ impl Books {
         &self.chains
     }
 
-    /// The events so far, in order.
-    pub fn events(&self) -> &[Event]
-        ensures { map event_of result.now ≡ self.now.state.events }
+    /// The events so far, in order, which leave the books: these have none then.
+    #[tactic(auto, using(crate::proofs::Keeping::untold_kept))]
+    pub fn take_events(&mut self) -> EventQueue
+        ensures events { result ≡ self.old.state.events }
+        ensures left { self.new ≡ untold self.old }
     {
-        self.events.as_slice()
+        let log = mem::replace(&mut self.events, EventLog::new(self.alloc));
+        log.into_queue()
     }
 
     /// The parts of the books. No job may run. It takes no memory.
@@ -216,7 +221,7 @@ impl Books {
             ended,
             restarts,
             limit,
-            events: events.into_seq(),
+            events,
             alloc,
         }
     }
@@ -230,7 +235,7 @@ impl Books {
             schedule: Schedule::from_parts(parts.lines, parts.given, parts.numbers),
             waiting: parts.buffers,
             chains: parts.chains,
-            events: EventLog::from_seq(parts.events),
+            events: parts.events,
             next: parts.next_forlopp,
             ended: parts.ended,
             restarts: parts.restarts,

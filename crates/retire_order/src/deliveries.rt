@@ -4,7 +4,8 @@ ghost use Rattle.source_meaning.specs.Retirement.{all_delivered, delivered};
 ghost use Rattle.source_meaning.specs.State.{State};
 ghost use Rattle.retire_order.specs.Traffic.{HasRoom, LosesOne, with_traffic};
 
-use crate::event::{Event, EventLog};
+use crate::event::Event;
+use crate::event_log::EventLog;
 use job_buffers::Buffers;
 use job_types::{Job, SendTo, Sent};
 

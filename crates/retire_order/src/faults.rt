@@ -7,7 +7,8 @@ ghost use Rattle.job_types.specs.Waiting.{count_of, nobody, others, waiting_coun
 ghost use Rattle.source_meaning.specs.State.{Release, Restart};
 ghost use Rattle.retire_order.specs.Traffic.{HasRoom};
 
-use crate::event::{Event, EventLog};
+use crate::event::Event;
+use crate::event_log::EventLog;
 use forlopp_chain::Chains;
 use job_buffers::Buffers;
 use job_types::Fault;

@@ -1,12 +1,20 @@
-// What holds of the lines of every signal file, said by clauses.
-ghost use Rattle.std.specs.Prelude.{◌≡◌, ◌<◌, ◌≤◌, ◌^◌, ℕ, List, [], length, map, Ok};
+// What holds of the lines of every signal file, and of books and their parts, said by clauses.
+ghost use Rattle.std.specs.Prelude.{◌≡◌, ◌<◌, ◌≤◌, ◌^◌, ℕ, List, [], length, map, nat_eq, Ok};
+ghost use Rattle.std.specs.HashMap.{get};
+ghost use Rattle.plex_limits.specs.declared.limits.TheConstants.{MOST_JOBS};
 ghost use Rattle.exchange_model.specs.declared.exchange.Exchange.{Exchange};
 ghost use Rattle.exchange_model.specs.Kept.{IsExchange};
 ghost use Rattle.signal_file.specs.declared.line.Line.{Line};
 ghost use Rattle.signal_file.specs.Lines.{signal_lines};
 ghost use Rattle.source_meaning.specs.SingleRun.{opening};
 ghost use Rattle.source_meaning.specs.Valid.{IsValid, LinesFit};
-ghost use Rattle.retire_order.specs.Lines.{coming_of};
+ghost use Rattle.retire_order.specs.Accounts.{with_words};
+ghost use Rattle.retire_order.specs.Lines.{arrived_of, coming_of, found_in};
+ghost use Rattle.retire_order.specs.Parts.{AreAlike, AreParts, account_of};
+
+use crate::books::Books;
+use crate::parts::BookParts;
+use exchange_model::Exchange;
 
 /// The lines of a signal file that has no fault fit its exchange, so that the state before the first of them has arrived is
 /// valid. A text of at most 16 MiB has fewer than 2^32 of them.
@@ -18,3 +26,41 @@ pub fn lines_fit_their_exchange()
     ensures opening { (x : Exchange) (text : List ℕ) (lines : List Line)
         → IsExchange x → signal_lines x text ≡ Ok lines → IsValid x (opening x (map coming_of lines)) }
 {}
+
+/// Books that are taken apart and put together again are the same books.
+pub fn books_come_back(books: Books) -> Books
+    requires nobody { books.running ≡ 0 }
+    ensures { result ≡ books }
+{
+    Books::from_parts(books.into_parts())
+}
+
+/// Parts of which books are made, and which are taken out again, are the same parts.
+#[tactic(auto, using(crate::proofs::Parted::alike_of_books))]
+pub fn parts_come_back(parts: BookParts) -> BookParts
+    requires { AreParts parts }
+    ensures parts { AreAlike parts result }
+    ensures events { (account_of result).state.events ≡ (account_of parts).state.events }
+{
+    Books::from_parts(parts).into_parts()
+}
+
+/// The parts of a valid state are parts of books: the limit and the number of lines are as those of
+/// new books, no more jobs have ended than the limit says, fewer than 2^32 restarts came, and each
+/// line that has arrived has its forlopp, which is found by the number of the line.
+pub fn valid_states_have_books(exchange: &Exchange, parts: &BookParts)
+    requires limit { parts.now.limit ≤ MOST_JOBS }
+    requires ended { parts.now.ended ≤ parts.now.limit }
+    requires restarts { parts.now.restarts < 2 ^ 32 }
+    requires lines { length parts.now.lines < 2 ^ 32 }
+    requires next_line { parts.now.next_line ≡ length parts.now.given }
+    requires given { length parts.now.given ≤ length parts.now.lines }
+    requires numbers { (n : ℕ) → get nat_eq parts.now.numbers n
+        ≡ found_in (arrived_of parts.now.lines parts.now.given) n }
+    ensures { (words : List ℕ)
+        → IsValid exchange.now (with_words (account_of parts.now).state words)
+        → AreParts parts.now }
+{
+    exchange.kept();
+    let _ = parts.chains.chain(0);
+}

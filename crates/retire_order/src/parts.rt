@@ -1,5 +1,5 @@
 // The parts of the books.
-use crate::event::Event;
+use crate::event_log::EventLog;
 use forlopp_chain::Chains;
 use job_buffers::Buffers;
 use plex_num::Seq;
@@ -22,6 +22,6 @@ pub struct BookParts {
     pub ended: u64,
     pub restarts: u64,
     pub limit: u64,
-    pub events: Seq<Event>,
+    pub events: EventLog,
     pub alloc: Global,
 }

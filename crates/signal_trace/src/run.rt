@@ -1,7 +1,6 @@
 // The single run, and the jobs of it that a filter shows.
 ghost use Rattle.std.specs.Prelude.{◌≡◌, ◌++◌, None, IfOk, OnOk};
 ghost use Rattle.store_layout.specs.Laid.{IsLayout};
-ghost use Rattle.register_machine.specs.Faithful.{Faithful};
 ghost use Rattle.source_meaning.specs.SingleRun.{ending_at, turn};
 ghost use Rattle.source_meaning.specs.Valid.{IsValid};
 ghost use Rattle.retire_order.specs.Accounts.{with_words};
@@ -15,9 +14,7 @@ use crate::show::Show;
 use crate::table::ShowTable;
 use crate::tracer::Tracer;
 use exchange_model::Exchange;
-use exchange_run::{ByCode, Runner, make_turn};
-use machine_code::Code;
-use plex_io::NoGate;
+use exchange_run::{Runner, make_turn};
 use plex_num::{Memory, Seq};
 use retire_order::{Books, Ending, let_arrive};
 use std::alloc::Global;
@@ -33,21 +30,21 @@ pub struct Traced {
     pub ending: Ending,
 }
 
-/// Runs the jobs of an exchange to the end of the single run, one at a time, and tells of those that a filter shows. No job may
-/// have ended or run in the books, and books and words must stand for a valid state. Memory is the only reason for an error.
-pub fn trace_run(
+/// Runs the jobs of an exchange to the end of the single run, one at a time, each by the runner, and tells of those that a filter shows. No
+/// job may have ended or run in the books, and books and words must stand for a valid state. Memory is the only reason for an error.
+pub fn trace_run<R: Runner>(
     alloc: Global,
     exchange: &Exchange,
     layout: &Layout,
-    code: &Code,
     books: Books,
     words: Seq<u32>,
     shows: &Seq<Show>,
+    runner: &mut R,
 ) -> Result<Traced, Memory>
     requires nobody { books.running ≡ 0 }
     requires none { books.state.ended ≡ 0 }
     requires layout { IsLayout exchange.now.blocks layout.now }
-    requires faithful { Faithful exchange.now code.now }
+    requires runner { R.runs runner.old exchange.now }
     requires valid { IsValid exchange.now (with_words books.state words) }
     ensures text { IfOk result (λ t. t.text ≡ trace_text exchange.now
         (trace exchange.now books.limit (with_words books.state words) shows.now)) }
@@ -57,7 +54,6 @@ pub fn trace_run(
     exchange.kept();
     let mut books = books;
     let mut words = words;
-    let mut runner = ByCode::new(code, &NoGate);
     let table = ShowTable::new(alloc, shows)?;
     let mut tracer = Tracer {
         alloc,
@@ -79,31 +75,31 @@ pub fn trace_run(
             layout,
             &mut books,
             &mut words,
-            &mut runner,
+            runner,
             &mut tracer,
         )?;
     }
 }
 
 /// The next job runs and retires, what is due arrives, and the job is told of if the filter shows it.
-fn trace_turn(
+fn trace_turn<R: Runner>(
     exchange: &Exchange,
     layout: &Layout,
     books: &mut Books,
     words: &mut Seq<u32>,
-    runner: &mut ByCode<'_, NoGate>,
+    runner: &mut R,
     tracer: &mut Tracer<'_>,
 ) -> Result<(), Memory>
     requires nobody { books.old.running ≡ 0 }
     requires goes_on { ending_at books.old.limit books.old.state ≡ None }
     requires valid { IsValid exchange.now (with_words books.old.state words.old) }
     requires layout { IsLayout exchange.now.blocks layout.now }
-    requires faithful { Faithful exchange.now runner.old.code.now }
+    requires runner { R.runs runner.old exchange.now }
     ensures state { OnOk result (with_words books.new.state words.new
         ≡ turn exchange.now (with_words books.old.state words.old)) }
     ensures nobody { OnOk result (books.new.running ≡ 0) }
     ensures limit { OnOk result (books.new.limit ≡ books.old.limit) }
-    ensures faithful { Faithful exchange.now runner.new.code.now }
+    ensures runner { R.runs runner.new exchange.now }
     ensures lines { tracer.new.shows.now ≡ tracer.old.shows.now }
     ensures text { OnOk result (tracer.new.text ≡ tracer.old.text ++ trace_text exchange.now
         (shown_next exchange.now tracer.old.shows.now (with_words books.old.state words.old))) }

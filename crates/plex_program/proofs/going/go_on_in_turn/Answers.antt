@@ -1,6 +1,5 @@
-use Rattle.std.proofs.Common.{◌≡◌, None, sym, subst, rules}
+use Rattle.std.proofs.Common.{◌≡◌, None, rules}
 use Rattle.std.proofs.lemmas.Grind.{common_steps}
-use Rattle.register_machine.specs.Faithful.{Faithful}
 use Rattle.source_meaning.specs.SingleRun.{ending_at}
 use Rattle.retire_order.specs.Accounts.{with_words}
 use Rattle.retire_order.specs.Events.{ending_of}
@@ -10,7 +9,7 @@ use Rattle.plex_program.proofs.going.go_on_in_turn.Goals as goal
 pub jobs-init : goal.jobs-init
 jobs-init g c = record {
   goes = goes_begin c.args.exchange.now c.args.books c.let_arrive.new.books c.args.words c.requires.nobody c.in_ok-let_arrive.ensures;
-  faithful = subst (Faithful c.args.exchange.now) (sym c.new-runner.ensures) c.in_ok-code.ensures.faithful;
+  runs = c.requires.runner;
 }
 
 pub jobs-preserved : goal.jobs-preserved
@@ -20,7 +19,7 @@ jobs-preserved g c =
     let over : ending_at c.jobs.books.limit c.jobs.books.state ≡ None = search (rules, common_steps) in
     record {
       goes = goes_more c.args.exchange.now c.kept.ensures first c.args.books.limit c.requires.valid c.jobs.books c.jobs.words c.jobs.invariant.goes c.make_turn.new.books c.make_turn.new.words over turn.state turn.nobody turn.limit;
-      faithful = turn.runner;
+      runs = turn.runner;
     }
 
 pub jobs-smaller : goal.jobs-smaller

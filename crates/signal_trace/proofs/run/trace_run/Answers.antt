@@ -1,6 +1,5 @@
-use Rattle.std.proofs.Common.{◌≡◌, ◌++◌, None, sym, ap, ◌∙◌, subst, rules}
+use Rattle.std.proofs.Common.{◌≡◌, ◌++◌, None, ap, ◌∙◌, rules}
 use Rattle.std.proofs.lemmas.Grind.{common_steps}
-use Rattle.register_machine.specs.Faithful.{Faithful}
 use Rattle.source_meaning.specs.SingleRun.{ending_at}
 use Rattle.retire_order.specs.Accounts.{with_words}
 use Rattle.retire_order.specs.Events.{ending_of}
@@ -10,14 +9,14 @@ use Rattle.signal_trace.proofs.Tracing.{traces_all, traces_begin, traces_end, tr
 use Rattle.signal_trace.proofs.run.trace_run.Goals as goal
 
 pub jobs-init : goal.jobs-init
-jobs-init c = record {
+jobs-init g c = record {
   traces = traces_begin c.args.exchange.now c.args.shows.now c.args.books c.let_arrive.new.books c.args.words c.new-2.result c.kept.ensures c.requires.valid c.requires.none c.requires.nobody c.new-2.ensures c.in_ok-let_arrive.ensures;
   lines = c.in_ok-table.ensures;
-  faithful = subst (Faithful c.args.exchange.now) (sym c.new-runner.ensures) c.requires.faithful;
+  runs = c.requires.runner;
 }
 
 pub jobs-preserved : goal.jobs-preserved
-jobs-preserved c =
+jobs-preserved g c =
     let x = c.args.exchange.now in
     let first = with_words c.args.books.state c.args.words in
     let inv = c.jobs.invariant in
@@ -27,11 +26,11 @@ jobs-preserved c =
     record {
       traces = traces_more x first c.args.books.limit c.args.shows.now c.jobs.books c.jobs.words c.jobs.tracer.text c.kept.ensures c.requires.valid inv.traces c.trace_turn.new.books c.trace_turn.new.words c.trace_turn.new.tracer.text goes turn.state turn.nobody turn.limit more;
       lines = turn.lines ∙ inv.lines;
-      faithful = turn.faithful;
+      runs = turn.runner;
     }
 
 pub jobs-smaller : goal.jobs-smaller
-jobs-smaller c =
+jobs-smaller g c =
     let x = c.args.exchange.now in
     let first = with_words c.args.books.state c.args.words in
     let turn = c.in_ok-trace_turn.ensures in
@@ -39,13 +38,13 @@ jobs-smaller c =
     traces_fewer x first c.args.books.limit c.args.shows.now c.jobs.books c.jobs.words c.jobs.tracer.text c.kept.ensures c.requires.valid c.jobs.invariant.traces c.trace_turn.new.books c.trace_turn.new.words goes turn.state turn.nobody turn.limit
 
 pub trace_turn-requires-clause-valid : goal.trace_turn-requires-clause-valid
-trace_turn-requires-clause-valid c =
+trace_turn-requires-clause-valid g c =
     traces_valid c.args.exchange.now (with_words c.args.books.state c.args.words) c.args.books.limit c.args.shows.now c.jobs.books c.jobs.words c.jobs.tracer.text c.kept.ensures c.requires.valid c.jobs.invariant.traces
 
 pub returns-in-Some-clause-text : goal.returns-in-Some-clause-text
-returns-in-Some-clause-text c =
+returns-in-Some-clause-text g c =
     traces_all c.args.exchange.now (with_words c.args.books.state c.args.words) c.args.books.limit c.args.shows.now c.jobs.books c.jobs.words c.jobs.tracer.text c.kept.ensures c.requires.valid c.jobs.invariant.traces (ending_of c.in-Some.ending) c.in-Some.ensures
 
 pub returns-in-Some-clause-end : goal.returns-in-Some-clause-end
-returns-in-Some-clause-end c =
+returns-in-Some-clause-end g c =
     traces_end c.args.exchange.now (with_words c.args.books.state c.args.words) c.args.books.limit c.args.shows.now c.jobs.books c.jobs.words c.jobs.tracer.text c.kept.ensures c.requires.valid c.jobs.invariant.traces (ending_of c.in-Some.ending) c.in-Some.ensures

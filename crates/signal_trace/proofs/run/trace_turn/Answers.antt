@@ -5,7 +5,7 @@ use Rattle.signal_trace.proofs.Tracing.{shown_is}
 use Rattle.signal_trace.proofs.run.trace_turn.Goals as goal
 
 pub returns-clause-text : goal.returns-clause-text
-returns-clause-text c =
+returns-clause-text g c =
     let x = c.args.exchange.now in
     let words = c.args.words.now in
     let start = c.in-Some.start in

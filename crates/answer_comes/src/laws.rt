@@ -1,0 +1,23 @@
+// That there is an answer, said by clauses.
+ghost use Rattle.std.specs.Prelude.{List};
+ghost use Rattle.plex_io.specs.Files.{Files};
+ghost use Rattle.exchange_model.specs.declared.exchange.Exchange.{Exchange};
+ghost use Rattle.exchange_model.specs.Kept.{IsExchange};
+ghost use Rattle.source_meaning.specs.State.{State};
+ghost use Rattle.block_change.specs.Carried.{IsCarried};
+ghost use Rattle.command_words.specs.Words.{Word};
+ghost use Rattle.plex_program.specs.Answer.{IsAnswer};
+ghost use Rattle.plex_program.specs.declared.perform.Answer.{Answer};
+
+/// A state of any exchange can be carried over to each exchange.
+pub fn states_are_carried()
+    ensures { (old new : Exchange) (before : State)
+        → IsExchange new → (after : State) × IsCarried old new before after }
+{}
+
+/// To all words over all files there is an answer: a status and a text. So there is always something that the program is to
+/// answer, to `analyse`, `certify`, a run with a certificate and a change no less than to all others.
+pub fn an_answer_comes()
+    ensures { (words : List Word) (files : Files)
+        → (answer : Answer) × IsAnswer words files answer }
+{}
