@@ -400,7 +400,7 @@ SIGNAL SETUP SINGLE BUFFERED B DATA 1;
 SIGNAL CLOSE SINGLE BUFFERED B DATA 0;
 BLOCK FEES; DECLARE; SURVEY; PROGRAM; END BLOCK;
 BLOCK DESK;
-DECLARE; VARIABLE NOW WIDTH 4; VARIABLE FRESH1 WIDTH 8 INIT 3; VARIABLE WHO WIDTH 8; TEMPORARY T;
+DECLARE; VARIABLE NOW WIDTH 4 INIT 2; VARIABLE FRESH1 WIDTH 8 INIT 3; VARIABLE WHO WIDTH 8; TEMPORARY T;
 FILE BOOK SIZE 2; FIELD NUMBER WIDTH 16;
 SURVEY; RECEIVE SETUP; RECEIVE CLOSE;
 PROGRAM;
@@ -408,9 +408,10 @@ ENTER SETUP WITH T; NUMBER(T) = NOW; FRESH1 = 1; WHO = 0; EXIT;
 ENTER CLOSE;
 END BLOCK;
 """, 1, [
-        "NEW:5:19: NARROWED: variable NOW of block DESK: WIDTH 8 becomes 4, values over 15 become 0",
+        "NEW:5:19: NARROWED: variable NOW of block DESK: WIDTH 8 becomes 4, values over 15 become 2",
+        "NEW:5:19: STAYS: variable NOW of block DESK: INIT 0 becomes 2, and values that go over stay",
         "OLD:3:41: DROPPED: variable OLD of block DESK is not in the new text: its value is dropped",
-        "NEW:5:41: NEW: variable FRESH1 of block DESK is new, and begins with 3",
+        "NEW:5:48: NEW: variable FRESH1 of block DESK is new, and begins with 3",
         "NEW:6:6: NARROWED: file BOOK of block DESK: SIZE 4 becomes 2, the last records are dropped",
         "NEW:4:7: KEPT: block DESK: 2 variables and 1 field go over",
         "NEW:10:1: UNSENT: entry CLOSE of block DESK is new: no line of a signal file can send to it",

@@ -8,6 +8,7 @@ from plex_faults import counted
 REFUSALS = {"ENTRY": "the new exchange lacks an entry", "FILE": "the new exchange lacks a FORLOPP FILE"}
 CHANGES = {
     "DROPPED": "values are dropped", "NARROWED": "values may not fit any more",
+    "STAYS": "a value goes over, though its INIT has changed",
     "UNSENT": "lines of the signal file cannot send to an entry",
     "MOVED": "a block has another number, which references name",
 }
@@ -83,6 +84,7 @@ class Change:
                 continue
             kept[one.kind] += 1
             self.look_at_width(block, name, one, new)
+            self.look_at_init(block, name, one, new)
         for name, new in other.names.items():
             self.look_at_new(block, other, name, new)
         if any(kept.values()):
@@ -95,6 +97,12 @@ class Change:
             widths, most = f"WIDTH {one.width} becomes {new.width}", 2**new.width - 1
             sentence = f"{self.told(block, name, one)}: {widths}, values over {most} become {new.init or 0}"
             self.tell(NEW_TEXT, new.place, "NARROWED", sentence)
+
+    def look_at_init(self, block, name, one, new):
+        was, now = one.init or 0, new.init or 0
+        if was != now and was < 2**new.width:
+            sentence = f"{self.told(block, name, one)}: INIT {was} becomes {now}, and values that go over stay"
+            self.tell(NEW_TEXT, new.place, "STAYS", sentence)
 
     def look_at_new(self, block, other, name, new):
         one = block.names.get(name)

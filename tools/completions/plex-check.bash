@@ -3,7 +3,7 @@
 
 _plex_check() {
     local word=${COMP_WORDS[COMP_CWORD]} before=${COMP_WORDS[COMP_CWORD-1]}
-    local words='RUNSON SWALLOWED UNUSED NOFREE KEYWORD ODDAS DROPPED NARROWED UNSENT MOVED KEPT NEW'
+    local words='RUNSON SWALLOWED UNUSED NOFREE KEYWORD ODDAS DROPPED NARROWED STAYS UNSENT MOVED KEPT NEW'
     COMPREPLY=()
     case $before in
         --no) mapfile -t COMPREPLY < <(compgen -W "$words" -- "$word") ;;
