@@ -7,10 +7,12 @@ program, or where the built one is older than one of its sources.
 last line, and with 1 where a case failed, where fewer cases ran than the least, and where more was left out than
 may be. `is_there()` tells whether a command of the system is there; where it is not, what needs it is left out, which
 is told and counted. How much may be is said by the variable MOST_LEFT_OUT, and anything where that is not set; the
-gate sets it to 0. `seed()` is that of cases made by chance: each commit has another one.
+gate sets it to 0. `seed()` is that of cases made by chance: each commit has another one. `version()` is the one
+that the sources have.
 """
 import os
 import pathlib
+import re
 import resource
 import shutil
 import signal
@@ -21,6 +23,7 @@ from collections import namedtuple
 ROOT = pathlib.Path(__file__).resolve().parent.parent
 BUILT = ROOT / "crates" / "plex" / "out" / "plex"
 BUILT_MERGER = ROOT / "crates" / "plex_merge" / "out" / "plex_merge"
+VERSION = ROOT / "crates" / "process_ends" / "src" / "complaint.rt"
 LONGEST, WHILE = 60, 600
 SHOWN = 120
 LATE, MOST_LATE = [], 2
@@ -66,6 +69,11 @@ def fresh(named, built, launcher):
     if newer:
         sys.exit(f"{path} is older than {newer.relative_to(ROOT)}; {launcher} builds it anew")
     return path
+
+
+def version():
+    """The version of the programs: the one constant of the sources that says it."""
+    return re.search(r'^const VERSION: &str = "(\d[0-9A-Za-z.+~]*)";$', VERSION.read_text(), re.M)[1]
 
 
 # one call

@@ -1,5 +1,6 @@
 -- The parts of an analysis, joined.
 use Rattle.std.proofs.Common.{◌≡◌, ℕ, List, [], ◌++◌, codes, ap, ◌∙◌, subst}
+use Rattle.std.specs.List.{concat}
 use Rattle.exchange_model.specs.declared.exchange.Exchange.{Exchange}
 use Rattle.entry_summary.specs.declared.summary.Summary.{Summary}
 use Rattle.analysis_text.specs.declared.names.Names.{Names}
@@ -20,7 +21,9 @@ joined x summaries empty entries pairs all none first grown last =
     }
 
 -- the texts after each part
-pub whole : (x : Exchange) (summaries : List Summary) (names : Names) (empty entries pairs all : List ℕ) → names ≡ names_of x.blocks → empty ≡ [] → entries ≡ empty ++ entries_text x names summaries
-    → Grows (ArePairs names summaries) entries pairs → all ≡ pairs ++ written (codes "END PAIRS") → IsAnalysis x summaries all
-whole x summaries names empty entries pairs all named none first grown last =
-    joined x summaries empty entries pairs all none (subst (λ n. entries ≡ empty ++ entries_text x n summaries) named first) (subst (λ n. Grows (ArePairs n summaries) entries pairs) named grown) last
+pub whole : (x : Exchange) (summaries : List Summary) (names : Names) (empty entries : List (List ℕ)) (front pairs all : List ℕ) → names ≡ names_of x.blocks → empty ≡ []
+    → concat entries ≡ concat empty ++ entries_text x names summaries → front ≡ concat entries → Grows (ArePairs names summaries) front pairs
+    → all ≡ pairs ++ written (codes "END PAIRS") → IsAnalysis x summaries all
+whole x summaries names empty entries front pairs all named none first same grown last =
+    joined x summaries (concat empty) front pairs all (ap concat none) (same ∙ subst (λ n. concat entries ≡ concat empty ++ entries_text x n summaries) named first)
+    (subst (λ n. Grows (ArePairs n summaries) front pairs) named grown) last

@@ -3,6 +3,7 @@ use Rattle.std.proofs.Common.{◌≡◌, ⊎_elim, ℕ, ◌+◌, ◌<◌, ◌≤
 use Rattle.std.specs.List.{concat}
 use Rattle.std.proofs.lemmas.Bool.{cases_lt}
 use Rattle.std.proofs.lemmas.List.{get_or_append_left, get_or-append-add}
+use Rattle.std.proofs.lemmas.List.Folds.{concat-append}
 use Rattle.std.proofs.lemmas.Option.{same_Some}
 use Rattle.plex_num.proofs.Lists.{some_at}
 use Rattle.entry_summary.specs.declared.summary.Summary.{Summary}
@@ -14,11 +15,8 @@ use Rattle.analysis_text.specs.declared.told.Told.{Told}
 use Rattle.analysis_text.specs.declared.told.Told.TheVariants.{Never, Asks}
 use Rattle.analysis_text.specs.declared.told.ToldPair.{ToldPair}
 use Rattle.analysis_text.specs.Telling.{IsToldOf, Tells}
+use Rattle.text_parts.proofs.Joined.{put_back}
 use Rattle.analysis_text.specs.Pairs.{IsPairText, never, tested, InTurn, IsTextWith, IsTextOf, Grows}
-
-concat-append : (xs ys : List (List ℕ)) → concat (xs ++ ys) ≡ concat xs ++ concat ys
-concat-append [] ys = refl
-concat-append (x ∷ xs) ys = ap (λ l. x ++ l) (concat-append xs ys) ∙ sym (append_assoc x (concat xs) (concat ys))
 
 module _ (P : ℕ → List ℕ → Type 0) where
   turn_none : InTurn P 0 []
@@ -54,6 +52,14 @@ module _ (P : ℕ → List ℕ → Type 0) where
 
   pub turns_end : (n m count : ℕ) (old new : List ℕ) → m ≡ count → n ≤ m → m ≤ n → Grows (InTurn P n) old new → Grows (InTurn P count) old new
   turns_end n m count old new is most least h = (let same : n ≡ count = omega (arith, is, most, least) in subst (λ k. Grows (InTurn P k) old new) same h)
+
+-- an end that was taken, and is longer when it is put back
+pub grown_end : (P : List ℕ → Type 0) (old rest end longer new : List ℕ) → old ≡ rest ++ end → Grows P end longer → new ≡ rest ++ longer → Grows P old new
+grown_end P old rest end longer new taken grown put = record {
+  added = grown.added;
+  is = put_back old rest end longer grown.added new taken grown.is put;
+  tells = grown.tells;
+}
 
 -- a row of pairs, as far as it is written
 pub record RowGoes (names : Names) (summaries : List Summary) (i n : ℕ) (old new : List ℕ) : Type 0 where

@@ -1,5 +1,8 @@
 // The lines of the entries.
-ghost use Rattle.std.specs.Prelude.{◌≡◌, ◌++◌, OnOk, map};
+ghost use Rattle.std.specs.Prelude.{◌≡◌, ◌+◌, ◌<◌, ◌++◌, IfOk, OnOk, Some, length, map, slice_get};
+ghost use Rattle.std.specs.List.{concat};
+ghost use Rattle.entry_summary.specs.declared.summary.Summary.{Summary};
+ghost use Rattle.analysis_text.specs.Bodies.{AreBodies, HasBody, body_text};
 ghost use Rattle.analysis_text.specs.Lines.{access_line, entries_text, entry_line, fault_text, send_line, summary_text, text_of, use_word, written};
 
 use crate::names::{Names, add_value, level_word, name_at};
@@ -7,56 +10,118 @@ use entry_summary::{Access, Summary};
 use exchange_model::Exchange;
 use kept_summaries::Summaries;
 use plex_num::{Level, Memory, Seq, add_number};
+use std::alloc::Global;
+use text_parts::Parts;
 
-/// What the jobs of each entry may do.
+/// What the jobs of each entry may do. What is told of entries with equal summaries, behind the lines that name them, is kept once.
 pub fn add_entries(
-    text: &mut Seq<u8>,
+    parts: &mut Parts,
+    alloc: Global,
     exchange: &Exchange,
     names: &Names,
     summaries: &Summaries,
 ) -> Result<(), Memory>
-    ensures { OnOk result
-        (text.new ≡ text.old ++ entries_text exchange.now names.now summaries.now) }
+    ensures { OnOk result (concat parts.new
+        ≡ concat parts.old ++ entries_text exchange.now names.now summaries.now) }
 {
+    let mut places = Seq::new(alloc);
     for number in 0..summaries.len() {
-        add_summary(text, exchange, names, number, summaries.at(number))?;
+        add_entry(
+            parts,
+            &mut places,
+            alloc,
+            exchange,
+            names,
+            summaries,
+            number,
+        )?;
     }
     Ok(())
 }
 
-/// What the jobs of an entry may do.
-fn add_summary(
-    text: &mut Seq<u8>,
+/// What the jobs of an entry may do, where that of those before it stands at these places.
+fn add_entry(
+    parts: &mut Parts,
+    places: &mut Seq<usize>,
+    alloc: Global,
     exchange: &Exchange,
     names: &Names,
+    summaries: &Summaries,
     number: usize,
-    summary: &Summary,
 ) -> Result<(), Memory>
-    ensures { OnOk result
-        (text.new ≡ text.old ++ summary_text exchange.now names.now number summary.now) }
+    requires number { number < length summaries.now }
+    requires bodies { AreBodies names.now summaries.now number parts.old places.old }
+    ensures bodies { OnOk result
+        (AreBodies names.now summaries.now (number + 1) parts.new places.new) }
+    ensures text { OnOk result ((s : Summary) → slice_get summaries.now number ≡ Some s
+        → concat parts.new ≡ concat parts.old ++ summary_text exchange.now names.now number s) }
 {
-    add_head(text, exchange, number, summary.level)?;
-    add_accesses(text, names, summary.accesses.as_slice())?;
-    add_levels(text, summary.levels.as_slice())?;
-    add_fault(text, summary.fault)
+    let head = head_of(alloc, exchange, number, summaries.at(number).level)?;
+    parts.add(head)?;
+    let place = add_body(parts, places.as_slice(), alloc, names, summaries, number)?;
+    places.push(place)?;
+    Ok(())
+}
+
+/// What is told of an entry behind the line that names it. Its place among the parts is given back.
+fn add_body(
+    parts: &mut Parts,
+    places: &[usize],
+    alloc: Global,
+    names: &Names,
+    summaries: &Summaries,
+    number: usize,
+) -> Result<usize, Memory>
+    requires number { number < length summaries.now }
+    requires bodies { AreBodies names.now summaries.now number parts.old places.now }
+    ensures { IfOk result (λ place. (s : Summary) → slice_get summaries.now number ≡ Some s
+        → HasBody names.now s parts.old parts.new place) }
+{
+    let like = summaries.first_like(number);
+    if let Some(place) = place_of_body(places, like) {
+        parts.again(place)?;
+        return Ok(place);
+    }
+    let body = body_of(alloc, names, summaries.at(number))?;
+    let place = parts.len();
+    parts.add(body)?;
+    Ok(place)
+}
+
+/// Where what is told of the entry of a number stands, if it is told.
+fn place_of_body(places: &[usize], number: usize) -> Option<usize>
+    ensures { result ≡ slice_get places.now number }
+{
+    places.get(number).copied()
+}
+
+fn body_of(alloc: Global, names: &Names, summary: &Summary) -> Result<Seq<u8>, Memory>
+    ensures { IfOk result (λ text. text ≡ body_text names.now summary.now) }
+{
+    let mut text = Seq::new(alloc);
+    add_accesses(&mut text, names, summary.accesses.as_slice())?;
+    add_levels(&mut text, summary.levels.as_slice())?;
+    add_fault(&mut text, summary.fault)?;
+    Ok(text)
 }
 
 /// `ENTRY i SIG BLOCK LEVEL l`.
-fn add_head(
-    text: &mut Seq<u8>,
+fn head_of(
+    alloc: Global,
     exchange: &Exchange,
     number: usize,
     level: Level,
-) -> Result<(), Memory>
-    ensures { OnOk result
-        (text.new ≡ text.old ++ written (entry_line exchange.now number level)) }
+) -> Result<Seq<u8>, Memory>
+    ensures { IfOk result (λ text. text ≡ written (entry_line exchange.now number level)) }
 {
-    add_number(text, b"ENTRY ", number as u64)?;
+    let mut text = Seq::new(alloc);
+    add_number(&mut text, b"ENTRY ", number as u64)?;
     text.append(b" ")?;
-    exchange.add_entry(text, number)?;
+    exchange.add_entry(&mut text, number)?;
     text.append(b" LEVEL ")?;
     text.append(level_word(level))?;
-    text.append(b"\n")
+    text.append(b"\n")?;
+    Ok(text)
 }
 
 fn add_accesses(text: &mut Seq<u8>, names: &Names, accesses: &[Access]) -> Result<(), Memory>

@@ -12,10 +12,11 @@ use kept_summaries::Summaries;
 use pair_tests::{Conflict, Test};
 use plex_num::{Memory, Seq, add_number};
 use std::alloc::Global;
+use text_parts::Text;
 
 /// What is told of each pair.
 pub fn add_pairs(
-    text: &mut Seq<u8>,
+    text: &mut Text,
     alloc: Global,
     names: &Names,
     summaries: &Summaries,
@@ -25,7 +26,9 @@ pub fn add_pairs(
 {
     let mut told = ToldPairs::new(alloc, summaries.len())?;
     for number in 0..summaries.len() {
-        add_row(text, alloc, names, number, summaries, &mut told)?;
+        let mut end = text.take_end();
+        add_row(&mut end, alloc, names, number, summaries, &mut told)?;
+        text.put(end)?;
     }
     Ok(())
 }

@@ -16,16 +16,16 @@ use Rattle.exchange_model.specs.Opening.{opening_store}
 use Rattle.signal_file.specs.declared.line.Line.{Line}
 use Rattle.signal_file.specs.Lines.{signal_lines}
 use Rattle.source_meaning.specs.Arrivals.{arrivals}
-use Rattle.source_meaning.specs.SingleRun.{after, opening}
+use Rattle.source_meaning.specs.SingleRun.{after}
 use Rattle.source_meaning.specs.State.{Coming, State, has_stopped}
 use Rattle.source_meaning.specs.Valid.{IsValid, LinesFit}
-use Rattle.source_meaning.proofs.Opening.{opening_valid}
 use Rattle.order_laws.proofs.Arriving.{arrivals_idle, arrivals_settle, arrivals_stopped}
 use Rattle.retire_order.specs.Accounts.{Account, opened, with_words}
 use Rattle.retire_order.specs.Lines.{coming_of}
 use Rattle.retire_order.proofs.Fitting.{signal_lines_few, signal_lines_fit}
 use Rattle.exchange_run.specs.Runs.{Stands}
-use Rattle.exchange_run.proofs.Turning.{first_stands, stands_valid}
+use Rattle.exchange_run.proofs.Opened.{begins_valid as opens_valid, nobody_runs}
+use Rattle.exchange_run.proofs.Turning.{stands_begin, stands_valid}
 use Rattle.certificate_text.specs.declared.certificate.Certificate.{Certificate}
 use Rattle.certificate_text.specs.Lines.{IsTextOf}
 use Rattle.certificate_text.specs.Text.{fact_order}
@@ -73,12 +73,12 @@ quiet_again x s = by (has_stopped s) refl
     by false is = arrivals_idle x (arrivals x s) (arrivals_settle x s is)
 
 module _ (x : Exchange) (kept : IsExchange x) (lines : List Coming) (limit : ℕ) (fit : LinesFit x [] lines) (first b : Account) (opens : first ≡ opened lines limit) (arrived : b ≡ record first { state = arrivals x first.state }) where
-  begins : Stands x (opening x lines) limit 0 b (opening_store x.blocks)
-  begins = first_stands x lines limit first b (opening_store x.blocks) kept fit opens refl arrived
+  begins : Stands x (with_words first.state (opening_store x.blocks)) first.limit 0 b (opening_store x.blocks)
+  begins = stands_begin x first b (opening_store x.blocks) (nobody_runs lines limit first opens) arrived
 
   pub begins_valid : IsValid x (with_words b.state (opening_store x.blocks))
-  begins_valid = stands_valid x kept (opening x lines) limit (opening_valid x kept lines fit) 0 b (opening_store x.blocks) begins
+  begins_valid = stands_valid x kept (with_words first.state (opening_store x.blocks)) first.limit (opens_valid x lines limit first (opening_store x.blocks) kept fit opens refl) 0 b (opening_store x.blocks) begins
 
   pub begins_quiet : arrivals x (with_words b.state (opening_store x.blocks)) ≡ with_words b.state (opening_store x.blocks)
   unfolding after
-  begins_quiet = subst (λ s. arrivals x s ≡ s) (sym begins.state) (quiet_again x (opening x lines))
+  begins_quiet = subst (λ s. arrivals x s ≡ s) (sym begins.state) (quiet_again x (with_words first.state (opening_store x.blocks)))

@@ -2,3 +2,4 @@ pub mod Counting
 pub mod Ending
 pub mod Turning
 pub mod Starting
+pub mod Opened

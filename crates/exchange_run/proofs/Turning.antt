@@ -1,5 +1,5 @@
 -- From turn to turn of the single run.
-use Rattle.std.proofs.Common.{◌≡◌, ⊎_elim, ℕ, zero, suc, ◌+◌, ◌-◌, ◌<◌, ◌≤◌, Bool, true, false, List, [], length, Option, Some, None, refl, sym, ap, ◌∙◌, subst, arith, if◌then◌else◌}
+use Rattle.std.proofs.Common.{◌≡◌, ⊎_elim, ℕ, zero, suc, ◌+◌, ◌-◌, ◌<◌, ◌≤◌, Bool, true, false, List, length, Option, Some, None, refl, sym, ap, ◌∙◌, subst, arith, if◌then◌else◌}
 use Rattle.std.proofs.lemmas.Bool.{cases_eq, lt-ltb}
 use Rattle.std.proofs.lemmas.Bool.Decides.{nat_tests}
 use Rattle.std.specs.Prelude.{is_none, nat_le}
@@ -11,25 +11,23 @@ use Rattle.job_types.specs.Waiting.{pick}
 use Rattle.machine_code.specs.Listed.{is_word_of}
 use Rattle.exchange_model.specs.declared.exchange.Exchange.{Exchange}
 use Rattle.exchange_model.specs.Kept.{IsExchange}
-use Rattle.exchange_model.specs.Opening.{opening_store}
 use Rattle.source_meaning.specs.Arrivals.{arrivals, is_quiet}
 use Rattle.source_meaning.specs.Job.{job}
 use Rattle.source_meaning.specs.Retirement.{retires}
 use Rattle.source_meaning.specs.SingleRun as single
-use Rattle.source_meaning.specs.SingleRun.{Ending, after, begun, ended_as, ending_at, next_start, opening, start_of, turn}
-use Rattle.source_meaning.specs.State.{Coming, State, has_stopped}
-use Rattle.source_meaning.specs.Valid.{IsValid, LinesFit, MayBe}
+use Rattle.source_meaning.specs.SingleRun.{Ending, after, begun, ended_as, ending_at, jobs_at_end, next_start, start_of, turn}
+use Rattle.source_meaning.specs.State.{State, has_stopped}
+use Rattle.source_meaning.specs.Valid.{IsValid, MayBe}
 use Rattle.source_meaning.proofs.Agreeing.{job_length}
-use Rattle.source_meaning.proofs.Opening.{opening_valid}
 use Rattle.source_meaning.proofs.Retiring.{after_valid, start_fits}
-use Rattle.retire_order.specs.Accounts.{Account, after_start, opened, upcoming, with_words}
+use Rattle.retire_order.specs.Accounts.{Account, after_start, upcoming, with_words}
 use Rattle.retire_order.specs.Retired.{retired_world}
 use Rattle.retire_order.specs.Stores.{MayStore}
-use Rattle.exchange_run.specs.Runs.{MayRun, RunsTo, Stands, left_by, words_after}
+use Rattle.exchange_run.specs.Runs.{MayRun, RunsTo, Stands, left_by, told_next, told_of, words_after}
 use Rattle.retire_order.proofs.Arriving.{arrivals_with}
 use Rattle.retire_order.proofs.Cells.{may_store, retired_inside}
 use Rattle.exchange_run.proofs.Counting.{arrivals_ended, retired_ended}
-use Rattle.exchange_run.proofs.Ending.{ends_at}
+use Rattle.exchange_run.proofs.Ending.{before_end, ends_at}
 
 -- ## Where the run goes on
 
@@ -73,17 +71,8 @@ some_start s limit goes =
 
 -- ## A turn
 
-pub turn_none : (x : Exchange) (b : Account) (words : List ℕ) → None ≡ upcoming b → b.running ≡ 0 → ending_at b.limit b.state ≡ None → with_words b.state words ≡ turn x (with_words b.state words)
-turn_none x b words is none goes =
-    let s = with_words b.state words in
-    sym (ap (λ o. option_map_or (λ start. arrivals x (ended_as x start (job x start s.store) (begun s))) o s) (sym (is ∙ upcoming_is b none goes)))
-
 pub turn_starts : (b : Account) (start : JobStart) → Some start ≡ upcoming b → b.running ≡ 0 → ending_at b.limit b.state ≡ None → next_start b.state ≡ Some start
 turn_starts b start is none goes = sym (is ∙ upcoming_is b none goes)
-
--- there is one next start at most
-pub one_start : (b : Account) (start other : JobStart) → Some start ≡ upcoming b → upcoming b ≡ Some other → start ≡ other
-one_start b start other is there = cc
 
 -- the start may run on the stored words
 pub may_run : (x : Exchange) (b : Account) (start : JobStart) (words : List ℕ) → Some start ≡ upcoming b → b.running ≡ 0 → ending_at b.limit b.state ≡ None → IsValid x (with_words b.state words) → MayRun x start words
@@ -139,21 +128,37 @@ turn_ended x s limit goes =
     ∙ arrivals_ended x (retires x start done u)
     ∙ retired_ended x start done u
 
+-- a watcher that is told of the job of a turn is told of the next one
+pub told_turn : {W : Type 0} (tell : W → Exchange → ℕ → JobStart → JobDone → W) (x : Exchange) (b next : Account) (words now : List ℕ) (start : JobStart) (done : JobDone) (number : ℕ) (w v : W) → Some start ≡ upcoming b → b.running ≡ 0 → ending_at b.limit b.state ≡ None → with_words next.state now ≡ turn x (with_words b.state words) → number ≡ next.state.ended → done ≡ left_by x start words → v ≡ tell w x number start done → v ≡ told_next tell x (with_words b.state words) w
+told_turn tell x b next words now start done number w v is nobody goes turned number_is left told =
+    let count : number ≡ b.state.ended + 1 = number_is ∙ ap (λ (s : State). s.ended) turned ∙ turn_ended x (with_words b.state words) b.limit goes in
+    told ∙ (λ i. tell w x (count i) start (left i))
+    ∙ sym (ap (λ o. option_map_or (λ begins. tell w x (b.state.ended + 1) begins (left_by x begins words)) o w) (turn_starts b start is nobody goes))
+
+-- one more turn
+pub told_more : {W : Type 0} (tell : W → Exchange → ℕ → JobStart → JobDone → W) (x : Exchange) (first s : State) (n : ℕ) (w v u : W) → s ≡ after x first n → v ≡ told_of tell x first n w → u ≡ told_next tell x s v → u ≡ told_of tell x first (suc n) w
+unfolding told_of
+told_more tell x first s n w v u same so_far told = told ∙ (λ i. told_next tell x (same i) (so_far i))
+
+pub none_told : {W : Type 0} (tell : W → Exchange → ℕ → JobStart → JobDone → W) (x : Exchange) (first : State) (w : W) → w ≡ told_of tell x first 0 w
+unfolding told_of
+none_told tell x first w = refl
+
 -- ## The run
 
-module _ (x : Exchange) (kept : IsExchange x) (first : State) (limit : ℕ) (fit : IsValid x first) where
-  -- what is due has arrived
-  pub stands_begin : (before b : Account) (words : List ℕ) → with_words before.state words ≡ first → before.state.ended ≡ 0 → before.running ≡ 0 → before.limit ≡ limit → b ≡ record before { state = arrivals x before.state } → Stands x first limit 0 b words
-  unfolding after
-  stands_begin before b words same none nobody limited is = record {
-    state = ap (λ (a : Account). with_words a.state words) is ∙ sym (arrivals_with x before.state words) ∙ ap (arrivals x) same;
-    ended = ap (λ (a : Account). a.state.ended) is ∙ arrivals_ended x before.state ∙ none;
-    nobody = ap (λ (a : Account). a.running) is ∙ nobody;
-    limited = ap (λ (a : Account). a.limit) is ∙ limited;
-    few = omega arith;
-    goes_on = λ m lt. absurd (omega arith);
-  }
+-- what is due has arrived
+pub stands_begin : (x : Exchange) (before b : Account) (words : List ℕ) → before.running ≡ 0 → b ≡ record before { state = arrivals x before.state } → Stands x (with_words before.state words) before.limit 0 b words
+unfolding after
+stands_begin x before b words none is = record {
+  state = ap (λ (a : Account). with_words a.state words) is ∙ sym (arrivals_with x before.state words);
+  counted = omega arith;
+  nobody = ap (λ (a : Account). a.running) is ∙ none;
+  limited = ap (λ (a : Account). a.limit) is;
+  few = omega arith;
+  goes_on = λ m lt. absurd (omega arith);
+}
 
+module _ (x : Exchange) (kept : IsExchange x) (first : State) (limit : ℕ) (fit : IsValid x first) where
   module _ (n : ℕ) (b : Account) (words : List ℕ) (g : Stands x first limit n b words) where
     pub stands_valid : IsValid x (with_words b.state words)
     stands_valid = subst (IsValid x) (sym g.state) (after_valid x kept first n fit)
@@ -169,38 +174,42 @@ module _ (x : Exchange) (kept : IsExchange x) (first : State) (limit : ℕ) (fit
         let one = turn_ended x s limit goes_at in
         let count : next.state.ended ≡ b.state.ended + 1 = ap (λ (t : State). t.ended) turned ∙ one in
         let few = (goes_on limit b.state goes_at).few in
-        let was = g.ended in
+        let were = g.counted in
         record {
           state = turned ∙ ap (turn x) g.state;
-          ended = omega (arith, count, was);
+          counted = omega (arith, count, were);
           nobody = none;
           limited = same ∙ g.limited;
-          few = omega (arith, few, was);
+          few = omega (arith, few, were);
           goes_on = λ m lt. ⊎_elim
               (λ same. ap (λ k. ending_at limit (after x first k)) same ∙ here_goes goes_at)
               (λ other. g.goes_on m (let ne = other in grind (arith, lt, ne))) (cases_eq m n);
         }
 
-    pub stands_fewer : (next : Account) (now : List ℕ) → ending_at b.limit b.state ≡ None → Stands x first limit (suc n) next now → limit - next.state.ended < limit - b.state.ended
-    stands_fewer next now goes h =
+    pub stands_fewer : (next : Account) (now : List ℕ) → ending_at b.limit b.state ≡ None → with_words next.state now ≡ turn x (with_words b.state words) → limit - next.state.ended < limit - b.state.ended
+    stands_fewer next now goes turned =
         let goes_at : ending_at limit b.state ≡ None = ap (λ l. ending_at l b.state) (sym g.limited) ∙ goes in
         let few = (goes_on limit b.state goes_at).few in
-        let was = g.ended in
-        let is = h.ended in
-        omega (arith, few, was, is)
+        let count : next.state.ended ≡ b.state.ended + 1 = ap (λ (t : State). t.ended) turned ∙ turn_ended x (with_words b.state words) limit goes_at in
+        omega (arith, few, count)
+
+    -- the run is over after so many jobs
+    pub stands_last : (e : Ending) → Some e ≡ ending_at b.limit b.state → jobs_at_end x limit first ≡ n
+    stands_last e is = ends_at x first limit n e g.few g.goes_on (ap (ending_at limit) (sym g.state) ∙ ap (λ l. ending_at l b.state) (sym g.limited) ∙ sym is)
 
     pub stands_end : (e : Ending) → Some e ≡ ending_at b.limit b.state → RunsTo x first limit b.state words e
     stands_end e is =
-        let over : ending_at limit (after x first n) ≡ Some e = ap (ending_at limit) (sym g.state) ∙ ap (λ l. ending_at l b.state) (sym g.limited) ∙ sym is in
-        let at = ends_at x first limit n e g.few g.goes_on over in
+        let last = stands_last e is in
         record {
-          state = g.state ∙ ap (after x first) (sym at);
-          ends = ap (λ k. ending_at limit (after x first k)) at ∙ over;
+          state = g.state ∙ ap (after x first) (sym last);
+          ends = ap (λ k. ending_at limit (after x first k)) last ∙ ap (ending_at limit) (sym g.state) ∙ ap (λ l. ending_at l b.state) (sym g.limited) ∙ sym is;
         }
 
--- the books before the first line has arrived, and the opening store
-pub first_stands : (x : Exchange) (lines : List Coming) (limit : ℕ) (before b : Account) (words : List ℕ) → IsExchange x → LinesFit x [] lines → before ≡ opened lines limit → words ≡ opening_store x.blocks → b ≡ record before { state = arrivals x before.state } → Stands x (opening x lines) limit 0 b words
-first_stands x lines limit before b words kept fit is words_are arrived =
-    stands_begin x kept (opening x lines) limit (opening_valid x kept lines fit) before b words
-    (ap (λ (a : Account). with_words a.state words) is ∙ ap (λ ws. with_words (opened lines limit).state ws) words_are)
-    (ap (λ (a : Account). a.state.ended) is) (ap (λ (a : Account). a.running) is) (ap (λ (a : Account). a.limit) is) arrived
+-- the count of ended jobs is the number of turns
+pub counted : (x : Exchange) (first : State) → first.ended ≡ 0 → (limit n : ℕ) → n ≤ jobs_at_end x limit first → (after x first n).ended ≡ n
+unfolding after
+counted x first none limit zero le = arrivals_ended x first ∙ none
+counted x first none limit (suc n) le =
+    let more = turn_ended x (after x first n) limit (before_end x first limit n (omega (arith, le))) in
+    let so_far = counted x first none limit n (omega (arith, le)) in
+    omega (arith, more, so_far)

@@ -1,16 +1,19 @@
 // The single run of an exchange: one job at a time, by the source itself or by the compiled code.
 //
-// What goes in: an exchange, the lines of a signal file, after how many jobs the run ends, and what runs a job. What comes
-// out: the books and the stored words at the end of the single run, and how it ended. There is one loop, whatever runs a job, and a gate
-// is called before and after each. It knows neither texts nor reports, and keeps no copy of the exchange.
+// What goes in: an exchange, its books and stored words before the first line or at any time when nobody runs, what runs a job, and who
+// is told of each job that has ended. What comes out: the books and the stored words at the end of the single run, and how it ended.
+// There is one loop, whatever runs a job, and a gate is called before and after each. It knows neither texts nor reports, and keeps no
+// copy of the exchange.
 #![tactic(auto)]
 
 mod by_code;
 mod by_source;
 mod runner;
 mod turns;
+mod watcher;
 
 pub use by_code::ByCode;
 pub use by_source::BySource;
 pub use runner::Runner;
-pub use turns::{Ended, make_turn, run_lines};
+pub use turns::{Ended, Standing, before_lines, run_books, run_lines};
+pub use watcher::{Unwatched, Watcher};

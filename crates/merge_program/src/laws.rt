@@ -1,5 +1,5 @@
 // What holds of the answers to all words, said by a clause.
-ghost use Rattle.std.specs.Prelude.{◌≡◌, ◌≤◌, [], ◌∷◌, Some, length};
+ghost use Rattle.std.specs.Prelude.{◌≡◌, ◌≤◌, List, [], ◌∷◌, Some, length};
 ghost use Rattle.plex_limits.specs.declared.limits.TheConstants.{MOST_BYTES};
 ghost use Rattle.plex_io.specs.Files.{Files};
 ghost use Rattle.plex_program.specs.Answer.{exchange_at, run_of, timed_of};
@@ -19,4 +19,16 @@ pub fn merged_files_run()
         → others name ≡ Some a.text
         → length a.text ≤ MOST_BYTES
         → run_of (record w.run { signals = name }) others ≡ timed_of w files }
+{}
+
+/// To all words over all files there is an answer: a status and a text.
+pub fn an_answer_comes()
+    ensures { (words : List Word) (files : Files)
+        → (answer : Answer) × IsMergeAnswer words files answer }
+{}
+
+/// Two answers to the same words over the same files have the same status and the same text.
+pub fn answers_are_one()
+    ensures { (words : List Word) (files : Files) (one other : Answer)
+        → IsMergeAnswer words files one → IsMergeAnswer words files other → one ≡ other }
 {}

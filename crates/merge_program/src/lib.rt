@@ -9,5 +9,5 @@
 mod laws;
 mod program;
 
-pub use laws::merged_files_run;
+pub use laws::{an_answer_comes, answers_are_one, merged_files_run};
 pub use program::plex_merge;

@@ -14,6 +14,7 @@ use plex_program::{
 };
 use signal_file::Line;
 use std::alloc::Global;
+use text_parts::Text;
 
 /// The program: reads the three files that the words name, and writes the answer.
 ///
@@ -109,7 +110,7 @@ fn lines_answer(alloc: Global, exchange: &Exchange, lines: &Seq<Line>) -> Result
     match write_out(alloc, exchange, lines) {
         Ok(text) => Ok(Answer {
             status: Status::Done,
-            text,
+            text: Text::whole(alloc, text),
         }),
         Err(Memory) => Err(Stop::Memory),
     }
@@ -123,7 +124,7 @@ fn usage_answer(alloc: Global) -> Result<Answer, Quit>
     match Seq::copied(alloc, b"usage: plex-merge E S T\n") {
         Ok(text) => Ok(Answer {
             status: Status::Usage,
-            text,
+            text: Text::whole(alloc, text),
         }),
         Err(_) => Err(Quit::Memory),
     }

@@ -1,6 +1,6 @@
 -- Where no job flies: the books and the root are those of the state, and the next job may run on the root's own words.
 use Rattle.std.proofs.Common.{inl, ◌≡◌, ℕ, ◌+◌, ◌^◌, ◌<◌, ◌≤◌, List, [], ◌∷◌, length, Option, Some, None, refl, sym, ap, ◌∙◌, subst, arith}
-use Rattle.std.proofs.lemmas.Option.{same_Some}
+use Rattle.std.proofs.lemmas.Option.{none-some, same_Some}
 use Rattle.std.specs.List.{AllByRecursion}
 use Rattle.plex_limits.specs.declared.limits.TheConstants.{MOST_JOBS}
 use Rattle.job_types.specs.declared.job.JobStart.{JobStart}
@@ -31,7 +31,7 @@ use Rattle.retire_order.specs.Stores.{MayStore}
 use Rattle.exchange_run.specs.Machines.{Leaves}
 use Rattle.exchange_run.specs.Runs.{MayRun, left_by, words_after}
 use Rattle.exchange_run.proofs.Starting.{entry_within, leaves}
-use Rattle.exchange_run.proofs.Turning.{goes_on, may_be, may_retire, may_run, turn_ended, turn_more, turn_starts}
+use Rattle.exchange_run.proofs.Turning.{goes_on, may_be, may_retire, may_run, some_start, turn_ended, turn_more, turn_starts, upcoming_is}
 use Rattle.shared_store.specs.declared.view.Lent.{Lent}
 use Rattle.shared_store.specs.declared.view.Top.{Top}
 use Rattle.shared_store.specs.Loans.{Has, lender, lent, lent_out, seen_by, unlent}
@@ -139,13 +139,27 @@ pub record IsNext (x : Exchange) (k : Kept) (books : Account) (top : Top) (start
   pub goes : ending_at books.limit books.state ≡ None
   pub flying : (s : State) × Fly x k s books top []
 
-pub is_next : (x y : Exchange) (k : Kept) (books : Account) (top : Top) (w : View) (start : JobStart) → y ≡ x → IsExchange x → MayRunAlone books w start → ending_at books.limit books.state ≡ None → (s : State) × Fly x k s books top w.loans → IsNext y k books top start
-is_next x y k books top w start same kept may goes flying = record {
+pub is_next : (x y : Exchange) (k : Kept) (books : Account) (top : Top) (w : View) (start : JobStart) → y ≡ x → IsExchange x → MayRunAlone books w → Some start ≡ upcoming books → ending_at books.limit books.state ≡ None → (s : State) × Fly x k s books top w.loans → IsNext y k books top start
+is_next x y k books top w start same kept may next goes flying = record {
   kept = subst IsExchange (sym same) kept;
-  next = may.next;
+  next = next;
   goes = goes;
   flying = subst (λ (z : Exchange × List Lent). (s : State) × Fly z.0 k s books top z.1) (λ i. (sym same i, may.alone i)) flying;
 }
+
+-- the number of the next job is one of 64 bits
+pub number_alone : (x : Exchange) (k : Kept) (books : Account) (top : Top) (w : View) → MayRunAlone books w → ending_at books.limit books.state ≡ None → (s : State) × Fly x k s books top w.loans → books.limit ≤ MOST_JOBS → books.state.ended + books.running + 1 < 2 ^ 64
+number_alone x k books top w may goes flying most =
+    let few = (goes_on books.limit books.state goes).few in
+    let none : books.running ≡ 0 = flying.1.running ∙ ap length may.alone in
+    omega (arith, few, none, most)
+
+-- there is a next job
+pub some_next : (x : Exchange) (k : Kept) (books : Account) (top : Top) (w : View) → MayRunAlone books w → ending_at books.limit books.state ≡ None → (s : State) × Fly x k s books top w.loans → None ≡ upcoming books → ⊥
+some_next x k books top w may goes flying none =
+    let nobody : books.running ≡ 0 = flying.1.running ∙ ap length may.alone in
+    let some = some_start books.state books.limit goes in
+    none-some some.0 (none ∙ upcoming_is books nobody goes ∙ some.1)
 
 module _ (x : Exchange) (k : Kept) (books : Account) (top : Top) (start : JobStart) (n : IsNext x k books top start) where
   nobody : books.running ≡ 0
@@ -153,10 +167,6 @@ module _ (x : Exchange) (k : Kept) (books : Account) (top : Top) (start : JobSta
 
   valid : IsValid x (with_words books.state top.values)
   valid = subst (IsValid x) (sym (state_is x k n.flying.0 books top n.flying.1)) n.flying.1.valid
-
-  -- the number of the next job is one of 64 bits
-  pub number_fits : books.limit ≤ MOST_JOBS → books.state.ended + books.running + 1 < 2 ^ 64
-  number_fits most = (let few = (goes_on books.limit books.state n.goes).few in let none = nobody in omega (arith, few, none, most))
 
   pub lent_nothing : top.loans ≡ []
   lent_nothing = bare_of x k n.flying.0 books top n.flying.1
@@ -264,13 +274,13 @@ module _ (x : Exchange) (k : Kept) (books : Account) (top : Top) (start : JobSta
             let turn = turn_led x code k workers mid_books lends start [] comes.end comes.ends next words left next_none limit now values loan refl made (made_is ∙ ap (λ (r : Private). r.made) comes.run_is) in
             subst (λ b. IsLed (setting x code k workers) whole_turn books top [] b now [] made) (sym last_is) (issue_then_turn (setting x code k workers) books mid_books (record next { state = arrived x next.running next.state }) top lends now [] (loan ∷ []) [] made issue turn)
 
-        led_there : (y : Exchange) (code : Code) (w v : View) (run : Private) → x ≡ y → MayRunAlone books w start → v ≡ w → RunEnds code start top.values run mid → done ≡ done_of run.own run.over → (now : Top) → now.values ≡ words → (made : ℕ) → made ≡ run.made → IsLed (setting y code k w.room) whole_turn books top w.loans last now v.loans made
+        led_there : (y : Exchange) (code : Code) (w v : View) (run : Private) → x ≡ y → MayRunAlone books w → v ≡ w → RunEnds code start top.values run mid → done ≡ done_of run.own run.over → (now : Top) → now.values ≡ words → (made : ℕ) → made ≡ run.made → IsLed (setting y code k w.room) whole_turn books top w.loans last now v.loans made
         led_there y code w v run same may kept_window comes leaves now values made made_is =
             subst (λ (z : Exchange × (List Lent × List Lent)). IsLed (setting z.0 code k w.room) whole_turn books top z.1.0 last now z.1.1 made)
             (λ i. (same i, (sym may.alone i, sym (ap (λ (u : View). u.loans) kept_window ∙ may.alone) i)))
             (led_alone code w.room run may.room may.line comes leaves now values made made_is)
 
-        pub turned_alone : (y : Exchange) (code : Code) (store : StoreId) (w v : View) (left : Retired) (run : Private) → x ≡ y → MayRunAlone books w start → v ≡ w → left.root.1.values ≡ words → left.root.1.loans ≡ mid.loans → RunEnds code start top.values run mid → done ≡ done_of run.own run.over → left.steps ≡ run.made → left.root.0 ≡ store → AreCounted books w → HasTurned y k code store whole_turn books top w last left v
+        pub turned_alone : (y : Exchange) (code : Code) (store : StoreId) (w v : View) (left : Retired) (run : Private) → x ≡ y → MayRunAlone books w → v ≡ w → left.root.1.values ≡ words → left.root.1.loans ≡ mid.loans → RunEnds code start top.values run mid → done ≡ done_of run.own run.over → left.steps ≡ run.made → left.root.0 ≡ store → AreCounted books w → HasTurned y k code store whole_turn books top w last left v
         turned_alone y code store w v left run same may kept_window values kept_loans comes leaves is home counted =
             let makes : RunMakes code start top.values run.made = record { end = comes.end; ends = comes.ends; made_is = ap (λ (r : Private). r.made) comes.run_is } in
             record {

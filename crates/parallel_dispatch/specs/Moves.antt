@@ -62,15 +62,14 @@ pub record MayFly (k : Kept) (books : Account) (w : View) (start : JobStart) : T
   pub pass : AllByRecursion (λ (older : JobStart). MayFollow k older start) (starts_of w.loans)
 
 -- the next job of the books may run on the root's own words: none flies, and it retires before the next line comes
-pub record MayRunAlone (books : Account) (w : View) (start : JobStart) : Type 0 where
-  pub next : Some start ≡ upcoming books
+pub record MayRunAlone (books : Account) (w : View) : Type 0 where
   pub alone : w.loans ≡ []
   pub room : 0 < w.room
   pub line : NoLineBefore (books.state.ended + 1) books.state.lines
 
 -- the move may be made: a job that is next runs alone or flies, and the oldest retires where one flies or none is next
 abbrev pub MayMove : Kept → Account → View → Move → Type 0
-MayMove k books w (RunAlone start) = MayRunAlone books w start
+MayMove k books w RunAlone = MayRunAlone books w
 MayMove k books w (Issue start) = MayFly k books w start
 MayMove k books w Retire = w.loans ≡ [] → None ≡ upcoming books
 

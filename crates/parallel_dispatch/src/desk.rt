@@ -147,12 +147,11 @@ impl<B: Course> Desk<B> {
         setting: &Setting<'_>,
         gate: &G,
         pace: &mut Pace,
-        start: JobStart,
     ) -> Result<Desk<B>, Left<B>>
         requires named { HasNames B.exchange B.code B.store B.book setting.now }
         requires set { IsSet B.exchange B.code setting.now }
         requires kept { setting.now.checked.now ≡ B.kept }
-        requires next { MayRunAlone self.books self.window start }
+        requires next { MayRunAlone self.books self.window }
         requires goes_on { ending_at self.books.limit self.books.state ≡ None }
         ensures fewer { IfOk result (λ desk. to_do desk.books < to_do self.books) }
         ensures left { IfErr result (λ left. IsLeft B.store left.root left.window.loans) }
@@ -165,7 +164,7 @@ impl<B: Course> Desk<B> {
         } = self;
         let mut books = books;
         let mut window = window;
-        match run_alone(setting, gate, pace, &mut books, root, &mut window, start) {
+        match run_alone(setting, gate, pace, &mut books, root, &mut window) {
             Ok(alone) => Ok(Desk {
                 books,
                 root: alone.root,

@@ -29,6 +29,17 @@ use std::thread::Threads;
 use store_layout::Layout;
 use ticket_book::TicketBook;
 
+/// What the jobs of a run are jobs of: an exchange, with its layout, its code and what is kept of a certificate; and the gate that the
+/// thread of each calls.
+#[derive(Drop)]
+pub struct Work<'a, G> {
+    pub exchange: &'a Exchange,
+    pub layout: &'a Layout,
+    pub code: &'a Code,
+    pub checked: &'a Checked,
+    pub gate: &'a G,
+}
+
 /// The end of a run: the books, the stored words, one for each cell, how it ended, and the number of instructions that the runs of its
 /// jobs made, modulo 2^64.
 #[derive(Drop)]
@@ -46,37 +57,30 @@ pub struct Ended {
 pub fn dispatch<R: Threads + Wait + Sync, G: Gate + Sync>(
     rt: &R,
     alloc: Global,
-    exchange: &Exchange,
-    layout: &Layout,
-    code: &Code,
-    checked: &Checked,
+    work: &Work<'_, G>,
     books: Books,
     store: SharedStore,
     root: RootSeat,
     workers: u32,
-    gate: &G,
 ) -> Result<Ended, Memory>
     requires workers { 0 < workers }
     requires nobody { books.running ≡ 0 }
     requires limit { books.limit ≤ MOST_JOBS }
     requires root { root ≡ (store, unlent root.1.values) }
-    requires layout { IsLayout exchange.now.blocks layout.now }
-    requires faithful { Faithful exchange.now code.now }
-    requires checked { IsChecked exchange.now checked.now }
-    requires valid { IsValid exchange.now (with_words books.state root.1.values) }
-    ensures end { IfOk result (λ end. EndsAs exchange.now code.now
+    requires layout { IsLayout work.now.exchange.now.blocks work.now.layout.now }
+    requires faithful { Faithful work.now.exchange.now work.now.code.now }
+    requires checked { IsChecked work.now.exchange.now work.now.checked.now }
+    requires valid { IsValid work.now.exchange.now (with_words books.state root.1.values) }
+    ensures end { IfOk result (λ end. EndsAs work.now.exchange.now work.now.code.now
         (with_words books.state root.1.values) books.limit
         end.books.state end.words (ending_of end.ending) end.steps) }
     ensures events { IfOk result (λ end. AreLedTo
-        (core_setting exchange.now code.now checked.now workers)
+        (core_setting work.now.exchange.now work.now.code.now work.now.checked.now workers)
         (with_words books.state root.1.values) books.limit
         end.books.state end.words end.steps) }
     ensures nobody { IfOk result (λ end. end.books.running ≡ 0) }
 {
-    let end = dispatch_or_root(
-        rt, alloc, exchange, layout, code, checked, books, store, root, workers, gate,
-    );
-    match end {
+    match dispatch_or_root(rt, alloc, work, books, store, root, workers) {
         Ok(end) => Ok(end),
         Err(_) => Err(Memory),
     }
@@ -87,44 +91,40 @@ pub fn dispatch<R: Threads + Wait + Sync, G: Gate + Sync>(
 pub fn dispatch_or_root<R: Threads + Wait + Sync, G: Gate + Sync>(
     rt: &R,
     alloc: Global,
-    exchange: &Exchange,
-    layout: &Layout,
-    code: &Code,
-    checked: &Checked,
+    work: &Work<'_, G>,
     books: Books,
     store: SharedStore,
     root: RootSeat,
     workers: u32,
-    gate: &G,
 ) -> Result<Ended, RootSeat>
     requires workers { 0 < workers }
     requires nobody { books.running ≡ 0 }
     requires limit { books.limit ≤ MOST_JOBS }
     requires root { root ≡ (store, unlent root.1.values) }
-    requires layout { IsLayout exchange.now.blocks layout.now }
-    requires faithful { Faithful exchange.now code.now }
-    requires checked { IsChecked exchange.now checked.now }
-    requires valid { IsValid exchange.now (with_words books.state root.1.values) }
-    ensures end { IfOk result (λ end. EndsAs exchange.now code.now
+    requires layout { IsLayout work.now.exchange.now.blocks work.now.layout.now }
+    requires faithful { Faithful work.now.exchange.now work.now.code.now }
+    requires checked { IsChecked work.now.exchange.now work.now.checked.now }
+    requires valid { IsValid work.now.exchange.now (with_words books.state root.1.values) }
+    ensures end { IfOk result (λ end. EndsAs work.now.exchange.now work.now.code.now
         (with_words books.state root.1.values) books.limit
         end.books.state end.words (ending_of end.ending) end.steps) }
     ensures events { IfOk result (λ end. AreLedTo
-        (core_setting exchange.now code.now checked.now workers)
+        (core_setting work.now.exchange.now work.now.code.now work.now.checked.now workers)
         (with_words books.state root.1.values) books.limit
         end.books.state end.words end.steps) }
     ensures joined { IfErr result (λ back. IsBare store back) }
     ensures nobody { IfOk result (λ end. end.books.running ≡ 0) }
 {
-    exchange.kept();
+    work.exchange.kept();
     let Ok((book, pen)) = TicketBook::new(alloc) else {
         return Err(root);
     };
     let setting = Setting {
         alloc,
-        exchange,
-        layout,
-        code,
-        checked,
+        exchange: work.exchange,
+        layout: work.layout,
+        code: work.code,
+        checked: work.checked,
         store: &store,
         book: &book,
     };
@@ -134,7 +134,7 @@ pub fn dispatch_or_root<R: Threads + Wait + Sync, G: Gate + Sync>(
         pen,
         workers,
     };
-    match run_named::<Brand, R, G>(rt, &setting, gate, beginning) {
+    match run_named::<Brand, R, G>(rt, &setting, work.gate, beginning) {
         Ok((books, over)) => {
             let Over {
                 root,
@@ -142,7 +142,7 @@ pub fn dispatch_or_root<R: Threads + Wait + Sync, G: Gate + Sync>(
                 steps,
             } = over;
             let mut root = root;
-            let Ok(words) = words_of(alloc, &store, &mut root, layout.words()) else {
+            let Ok(words) = words_of(alloc, &store, &mut root, work.layout.words()) else {
                 return Err(root);
             };
             Ok(Ended {

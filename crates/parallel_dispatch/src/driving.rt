@@ -72,7 +72,7 @@ pub(crate) fn run_jobs<
         }
         relieve(rt, setting, shop, gate, &pace, desk.window());
         desk = match desk.next_move(setting, pairs, shop, &mut pace) {
-            Move::RunAlone(start) => desk.run_alone(setting, gate, &mut pace, start)?,
+            Move::RunAlone => desk.run_alone(setting, gate, &mut pace)?,
             Move::Issue(start) => {
                 let entry = start.job.entry;
                 let way = pace.way(pairs, entry, desk.window().len());
@@ -100,7 +100,11 @@ fn relieve<B: Naming, R: Wait, G: Gate>(
 )
     requires named { HasNames B.exchange B.code B.store B.book setting.now }
 {
-    if pace.are_enough(shop.waiting()) && shop.are_all_busy() && !window.oldest_is_in_hand() {
+    if window.len() > 0
+        && pace.are_enough(shop.waiting())
+        && shop.are_all_busy()
+        && !window.oldest_is_in_hand()
+    {
         shop.help(rt, setting.exchange, setting.code, setting.store, gate);
     }
 }

@@ -16,4 +16,4 @@ mod setting;
 mod threads;
 mod window;
 
-pub use dispatcher::{Ended, dispatch, dispatch_or_root};
+pub use dispatcher::{Ended, Work, dispatch, dispatch_or_root};

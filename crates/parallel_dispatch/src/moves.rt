@@ -36,7 +36,7 @@ use worker_pool::{Flight, Naming, Shop};
 #[derive(Drop)]
 pub(crate) enum Move {
     /// The next job runs to its end on the root's own words, and retires.
-    RunAlone(JobStart),
+    RunAlone,
     /// The next job is lent its words, and flies.
     Issue(JobStart),
     /// The oldest job that flies retires.
@@ -71,6 +71,9 @@ pub(crate) fn next_move<B: Naming>(
     if waits_for_oldest(window, shop, pace) {
         return Move::Retire;
     }
+    if window.len() == 0 && !pace.may_any_fly() {
+        return Move::RunAlone;
+    }
     let Some(start) = books.peek() else {
         return Move::Retire;
     };
@@ -79,7 +82,7 @@ pub(crate) fn next_move<B: Naming>(
         if pace.may_fly_first(pairs, entry) {
             return Move::Issue(start);
         }
-        return Move::RunAlone(start);
+        return Move::RunAlone;
     }
     if window.len() >= window.room() || !retire_before_line(books, window.len()) {
         return Move::Retire;
@@ -199,6 +202,7 @@ fn set_out<B: Naming, R: Wait, G: Gate>(
 }
 
 /// The next job runs to its end on the root's own words, where none flies. It retires at once, and what is due arrives.
+#[tactic(auto, using(crate::proofs::Alone::some_next))]
 pub(crate) fn run_alone<B: Naming, G: Gate>(
     setting: &Setting<'_>,
     gate: &G,
@@ -206,13 +210,12 @@ pub(crate) fn run_alone<B: Naming, G: Gate>(
     books: &mut Books,
     root: RootSeat,
     window: &mut Window<B>,
-    start: JobStart,
 ) -> Result<Retired, RootSeat>
     requires named { HasNames B.exchange B.code B.store B.book setting.now }
     requires set { IsSet B.exchange B.code setting.now }
     requires root { root.0 ≡ B.store }
     requires counted { AreCounted books.old window.old }
-    requires next { MayRunAlone books.old window.old start }
+    requires next { MayRunAlone books.old window.old }
     requires goes_on { ending_at books.old.limit books.old.state ≡ None }
     requires flying { Flying B.exchange setting.now.checked.now books.old root window.old }
     ensures turned { IfOk result (λ left. HasTurned B.exchange setting.now.checked.now B.code B.store
@@ -223,9 +226,11 @@ pub(crate) fn run_alone<B: Naming, G: Gate>(
     let Ok(run) = window.idle_run(setting.alloc) else {
         return Err(root);
     };
+    let Some(start) = books.next_job() else {
+        unreachable!()
+    };
     let mut run = run;
     run.begin(setting.code, &start);
-    let _begun = books.next_job();
     gate.at(job, Place::Before);
     let root = run_on_root(
         setting.exchange,

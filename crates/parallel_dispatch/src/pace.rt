@@ -5,16 +5,16 @@ use plex_num::Memory;
 use std::alloc::Global;
 
 /// Jobs of an entry begin to fly where they make so many instructions.
-const LONG: u64 = 2000;
+const LONG: u64 = 6000;
 
 /// They run alone again where they make fewer than that.
-const SHORT: u64 = 1200;
+const SHORT: u64 = 3600;
 
 /// What a job counts for at most in the mean of its entry, in instructions, so that a long one among short ones does not make them fly.
-const MOST: u64 = 32_000;
+const MOST: u64 = 96_000;
 
 /// Jobs of so many instructions in all are worth a wake-up.
-const WAKE: u64 = 20_000;
+const WAKE: u64 = 60_000;
 
 /// A worker is woken where so many jobs wait, whatever they are worth; where few may fly, half of those are enough.
 const MOST_WAIT: u64 = 8;
@@ -31,7 +31,7 @@ const FIRST_REST: u64 = 16;
 const LONGEST_REST: u64 = 1024;
 
 /// What a test of two jobs costs, in instructions, about.
-const TEST: u64 = 4;
+const TEST: u64 = 12;
 
 /// The part of a mean that a new job makes.
 const PART: u64 = 64;
@@ -92,11 +92,14 @@ pub(crate) enum Way {
     Here,
 }
 
-/// What is known of the jobs of each entry, how many threads may run jobs beside the dispatcher, how many jobs may wait before one of them
-/// is woken, and how many of the jobs that fly must retire before the next job is looked at again.
+/// What is known of the jobs of each entry, how many entries have long jobs, whether a job has ended, how many threads may run jobs beside
+/// the dispatcher, how many jobs may wait before one of them is woken, and how many of the jobs that fly must retire before the next job is
+/// looked at again.
 #[derive(Drop)]
 pub(crate) struct Pace {
     entries: Vec<Known>,
+    long: u64,
+    ended: bool,
     helpers: u64,
     most_wait: u64,
     behind: usize,
@@ -109,6 +112,8 @@ impl Pace {
         match Vec::from_elem(alloc, unknown(), entries as usize) {
             Ok(entries) => Ok(Pace {
                 entries,
+                long: 0,
+                ended: false,
                 helpers,
                 most_wait: u64::from(room / 2).max(1).min(MOST_WAIT),
                 behind: 0,
@@ -117,11 +122,13 @@ impl Pace {
         }
     }
 
+    /// Whether some job may be worth a loan where none flies: none has ended, or some entry has long ones.
+    pub fn may_any_fly(&self) -> bool {
+        self.helpers > 0 && (!self.ended || self.long > 0)
+    }
+
     /// Whether the next job, of this entry, is worth a loan where none flies.
     pub fn may_fly_first(&mut self, pairs: &PairTable<'_>, entry: u32) -> bool {
-        if self.helpers == 0 {
-            return false;
-        }
         let mut known = self.asked_partner(pairs, entry);
         if known.rest > 0 {
             known.rest -= 1;
@@ -220,6 +227,7 @@ impl Pace {
     /// A job of this entry has ended, which made so many instructions.
     pub fn has_ended(&mut self, entry: u32, steps: u64) {
         let mut known = self.known(entry);
+        let was_long = known.ended && known.long;
         if known.ended {
             known.mean = mean_after(known.mean, steps.min(MOST));
             known.whole = mean_after(known.whole, steps);
@@ -232,6 +240,12 @@ impl Pace {
             known.long = known.mean >= LONG;
         }
         self.put(entry, known);
+        self.ended = true;
+        if known.long && !was_long {
+            self.long = self.long.saturating_add(1);
+        } else if was_long && !known.long {
+            self.long = self.long.saturating_sub(1);
+        }
     }
 
     /// One that flew has retired.

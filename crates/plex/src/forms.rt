@@ -9,9 +9,6 @@ pub const PROGRAM: Program = Program {
     no_memory: "out of memory: give it more, or run a smaller text; --workers 1 takes less",
 };
 
-/// The name of the program and its version. The manual page has it too.
-pub const VERSION: &str = "plex 1.0.0";
-
 /// The names of the commands, as a sentence tells them.
 pub const NAMES: &str = "run, single, analyse, certify, list, load, timed, change or trace";
 

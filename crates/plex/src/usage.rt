@@ -1,8 +1,8 @@
 // What is wrong with words that are no command.
-use crate::forms::{Choice, FORMS, Form, NAMES, VERSION, form_of};
+use crate::forms::{Choice, FORMS, Form, NAMES, PROGRAM, form_of};
 use plex_io::Word;
 use plex_num::read_number;
-use process_ends::{Named, Quoted, text_of};
+use process_ends::{Named, Quoted, say_version, text_of};
 use std::{fmt, io};
 
 /// What is wrong with the words, or what they ask for in place of a command.
@@ -36,7 +36,7 @@ enum Wrong<'a> {
 pub fn say_wrong<R: Eprint>(rt: &R, words: &[Word], are_text: bool) -> io::Result<()> {
     match &wrong_in(words, are_text) {
         Wrong::Help => say_help(rt),
-        Wrong::Version => eprintln!(rt; "{VERSION}"),
+        Wrong::Version => say_version(rt, PROGRAM),
         Wrong::Nothing => Ok(()),
         wrong => eprintln!(rt; "plex: {wrong}"),
     }

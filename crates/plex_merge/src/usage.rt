@@ -1,6 +1,6 @@
 // What the program says of itself, and of words that are not three names.
 use plex_io::Word;
-use process_ends::{Program, Quoted, text_of};
+use process_ends::{Program, Quoted, say_version, text_of};
 use std::io;
 
 /// The program.
@@ -8,9 +8,6 @@ pub const PROGRAM: Program = Program {
     name: "plex-merge",
     no_memory: "out of memory: give it more, or merge smaller files",
 };
-
-/// The name of the program and its version. The manual page has it too.
-const VERSION: &str = "plex-merge 1.0.0";
 
 /// What the program wants, as a sentence tells it.
 const WANTS: &str = "three files: an exchange text, a signal file and a table";
@@ -22,7 +19,7 @@ pub fn say_wrong<R: Eprint>(rt: &R, words: &[Word], are_text: bool) -> io::Resul
     }
     match words.first().map(text_of) {
         Some("--help" | "-h") => say_help(rt),
-        Some("--version") => eprintln!(rt; "{VERSION}"),
+        Some("--version") => say_version(rt, PROGRAM),
         _ => say_number(rt, words),
     }
 }

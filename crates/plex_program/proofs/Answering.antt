@@ -50,8 +50,9 @@ summed_is calls jobs x lines s words e a comes status_is text_is =
     let here : a ≡ summed_answer calls (with_words s words) e = λ i. record { status = status_is i; text = told i } in
     here ∙ ap (λ t. summed_answer calls t e) comes.state ∙ ap (summed_answer calls (end_of x lines jobs)) ends
 
-pub listing_is : (x : Exchange) (code : Code) (a : Answer) → code.ops ≡ whole_code x → code.entries ≡ entry_addresses x → a.status ≡ status.Done → IsListing a.text code → a ≡ listing_answer x
-listing_is x code a ops entries status_is listed =
+pub listing_is : (x : Exchange) (code : Code) (text : List ℕ) (a : Answer) → code.ops ≡ whole_code x → code.entries ≡ entry_addresses x → a.status ≡ status.Done → a.text ≡ text → IsListing text code
+    → a ≡ listing_answer x
+listing_is x code text a ops entries status_is text_is listed =
     let same : code ≡ code_of x = λ i. record { ops = ops i; entries = entries i } in
-    let told : a.text ≡ code_text (code_of x) = listed.so ∙ ap code_text same in
+    let told : a.text ≡ code_text (code_of x) = text_is ∙ listed.so ∙ ap code_text same in
     λ i. record { status = status_is i; text = told i }

@@ -29,7 +29,8 @@ use Rattle.plex_program.specs.declared.perform.Answer.{Answer}
 use Rattle.plex_program.specs.declared.perform.Stop.{Stop}
 use Rattle.plex_program.specs.declared.perform.Stop.TheVariants as stop
 use Rattle.plex_program.proofs.Answering.{answer_is}
-use Rattle.plex_program.proofs.Farther.{IsNoRestart, IsOwn, as_far, counted, few_jobs, goes_so, own_before, same_end, same_ending, stopped_so}
+use Rattle.exchange_run.proofs.Turning.{counted}
+use Rattle.plex_program.proofs.Farther.{IsNoRestart, IsOwn, as_far, few_jobs, goes_so, own_before, same_end, same_ending, stopped_so}
 
 -- the new exchange
 

@@ -10,10 +10,8 @@ use Rattle.exchange_model.specs.declared.exchange.Exchange.{Exchange}
 use Rattle.source_meaning.specs.Arrivals.{is_quiet}
 use Rattle.source_meaning.specs.SingleRun.{Ending, Finished, Limited, Restarted, after, end_state, ending_at, jobs_at_end}
 use Rattle.source_meaning.specs.State.{State, has_stopped}
-use Rattle.exchange_run.proofs.Counting.{arrivals_ended}
-use Rattle.exchange_run.proofs.Ending.{ends_at}
-use Rattle.exchange_run.proofs.Turning.{goes_on, turn_ended}
-use Rattle.signal_trace.proofs.Numbered.{before_end}
+use Rattle.exchange_run.proofs.Ending.{before_end, ends_at}
+use Rattle.exchange_run.proofs.Turning.{counted, goes_on}
 
 -- a state that goes on under a limit goes on under a higher one
 higher : (low high : ℕ) (s : State) → low ≤ high → ending_at low s ≡ None → ending_at high s ≡ None
@@ -45,31 +43,21 @@ own_ending low high s e own is = by (has_stopped s) (is_quiet s.waiting) is
 limit_reached : (limit : ℕ) (s : State) → ending_at limit s ≡ Some Limited → limit ≤ s.ended
 limit_reached limit s is = by (has_stopped s) (is_quiet s.waiting) (nat_le limit s.ended) refl is
   where
-    Kind : Ending → Type 0
-    Kind Restarted = ⊥
-    Kind Finished = ⊥
-    Kind Limited = Unit {0}
-
     by : (b c d : Bool) → nat_le limit s.ended ≡ d → (if b then Some Restarted else (if c then Some Finished else (if d then Some Limited else None))) ≡ Some Limited → limit ≤ s.ended
-    by true c d t is = absurd (subst Kind (sym (same_Some Restarted Limited is)) tt)
-    by false true d t is = absurd (subst Kind (sym (same_Some Finished Limited is)) tt)
+    by true c d t is = cc
+    by false true d t is = cc
     by false false true t is = grind (arith, nat_tests, t)
-    by false false false t is = absurd (none-some Limited is)
+    by false false false t is = cc
 
 -- the last restart has come, or has not
 pub stopped_so : (limit : ℕ) (s : State) → ending_at limit s ≡ Some Restarted → has_stopped s ≡ true
 stopped_so limit s is = by (has_stopped s) (is_quiet s.waiting) (nat_le limit s.ended) is
   where
-    Kind : Ending → Type 0
-    Kind Restarted = Unit {0}
-    Kind Finished = ⊥
-    Kind Limited = ⊥
-
     by : (b c d : Bool) → (if b then Some Restarted else (if c then Some Finished else (if d then Some Limited else None))) ≡ Some Restarted → b ≡ true
     by true c d is = refl
-    by false true d is = absurd (subst Kind (sym (same_Some Finished Restarted is)) tt)
-    by false false true is = absurd (subst Kind (sym (same_Some Limited Restarted is)) tt)
-    by false false false is = absurd (none-some Restarted is)
+    by false true d is = cc
+    by false false true is = cc
+    by false false false is = cc
 
 abbrev pub IsNoRestart : Ending → Type 0
 IsNoRestart Restarted = ⊥
@@ -118,15 +106,6 @@ reaches x s limit k le goes = by (nat_lt place (length all)) refl
     by false past = le
 
 module _ (x : Exchange) (first : State) (none : first.ended ≡ 0) where
-  -- the count of ended jobs is the number of turns
-  pub counted : (limit n : ℕ) → n ≤ jobs_at_end x limit first → (after x first n).ended ≡ n
-  unfolding after
-  counted limit zero le = arrivals_ended x first ∙ none
-  counted limit (suc n) le =
-      let more = turn_ended x (after x first n) limit (before_end x first limit n (omega (arith, le))) in
-      let so_far = counted limit n (omega (arith, le)) in
-      omega (arith, more, so_far)
-
   -- there are at most as many as the limit says
   pub few_jobs : (limit : ℕ) → jobs_at_end x limit first ≤ limit
   few_jobs limit = by (jobs_at_end x limit first) refl
@@ -135,7 +114,7 @@ module _ (x : Exchange) (first : State) (none : first.ended ≡ 0) where
       by zero is = omega (arith, is)
       by (suc k) is =
           let few = (goes_on limit (after x first k) (before_end x first limit k (omega (arith, is)))).few in
-          let count = counted limit k (omega (arith, is)) in
+          let count = counted x first none limit k (omega (arith, is)) in
           omega (arith, is, few, count)
 
   module _ (low high : ℕ) (le : low ≤ high) where

@@ -5,7 +5,6 @@ pub mod Changed
 pub mod Endings
 pub mod Farther
 pub mod FewTokens
-pub mod InTurn
 pub mod NamedWords
 pub mod Opened
 pub mod Ordered

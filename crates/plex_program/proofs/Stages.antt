@@ -120,6 +120,25 @@ comes_reads held f n (Err stop.NotHeld) s = absurd s
 comes_reads held f n (Err stop.Failed) s = absurd s
 comes_reads held f n (Err stop.Memory) s = record { ok = tt; stops = tt; later = omega arith }
 
+-- memory was refused
+pub comes_memory : {A : Type 0} (held : Option Files) (stage : Files → Out A) (n : ℕ) (e : Stop) → e ≡ stop.Memory → Comes held stage n n (Err e)
+comes_memory {A = A} held stage n e is = subst (λ f. Comes {A = A} held stage n n (Err f)) (sym is) (record { ok = tt; stops = tt; later = omega arith })
+
+-- an answer that needs no file
+pub comes_answer : {A : Type 0} (held : Option Files) (said : A) (n : ℕ) (v : A) → v ≡ said → Comes held (λ files. Ok said) n n (Ok v)
+comes_answer held said n v is = comes_value held (λ files. Ok said) n v (λ files. ap Ok (sym is))
+
+pub ruleset comes_rules = (comes_stop, comes_go, comes_reads, comes_memory, comes_answer)
+
+-- the same of a text
+pub reads_memory : {A : Type 0} (f : Out A) (e : Stop) → e ≡ stop.Memory → Reads f (Err e)
+reads_memory f e is = subst (λ s. Reads f (Err s)) (sym is) tt
+
+pub reads_answer : {A : Type 0} (said v : A) → v ≡ said → Reads (Ok said) (Ok v)
+reads_answer said v is = ap Ok (sym is)
+
+pub ruleset reads_rules = (reads_stop, reads_go, reads_memory, reads_answer)
+
 -- a command that comes to what a stage comes to
 pub performs_comes : (held : Option Files) (f : Files → Out Answer) (b a : ℕ) (r : Result Answer Stop) → Comes held f b a r → Performs held (λ files o. f files ≡ o) b a r
 performs_comes held f b a (Ok v) c = record { ok = c.ok; halts = tt; later = c.later }
@@ -140,8 +159,12 @@ performs_of held name Is b a x v c is = record { ok = of held c.ok; halts = tt; 
   of None comes = tt
   of (Some files) comes = record { exchange = x; comes = comes; answers = is }
 
-pub performs_memory : (held : Option Files) (name : List ℕ) (Is : Exchange → Answer → Type 0) (b a : ℕ) (x : Exchange) → Comes held (exchange_at name) b a (Ok x) → Performs held (FromExchange name Is) b a (Err stop.Memory)
-performs_memory held name Is b a x c = record { ok = tt; halts = tt; later = c.later }
+-- memory was refused
+pub performs_memory : (held : Option Files) (Is : Files → Out Answer → Type 0) (b a : ℕ) (e : Stop) → e ≡ stop.Memory → b ≤ a → Performs held Is b a (Err e)
+performs_memory held Is b a e is later = subst (λ f. Performs held Is b a (Err f)) (sym is) (record { ok = tt; halts = tt; later = later })
+
+pub from_memory : (held : Option Files) (name : List ℕ) (Is : Exchange → Answer → Type 0) (b a : ℕ) (x : Exchange) (e : Stop) → Comes held (exchange_at name) b a (Ok x) → e ≡ stop.Memory → Performs held (FromExchange name Is) b a (Err e)
+from_memory held name Is b a x e c is = performs_memory held (FromExchange name Is) b a e is c.later
 
 -- a file that is none
 pub performs_stop : (held : Option Files) (name : List ℕ) (Is : Exchange → Answer → Type 0) (b a : ℕ) (e : Stop) → Comes {A = Exchange} held (exchange_at name) b a (Err e) → Performs held (FromExchange name Is) b a (Err e)
@@ -195,3 +218,10 @@ performs_told (Some files) Is n (Err (stop.Refused r)) s = record { ok = tt; hal
 performs_told held Is n (Err stop.NotHeld) s = absurd s
 performs_told held Is n (Err stop.Failed) s = absurd s
 performs_told held Is n (Err stop.Memory) s = record { ok = tt; halts = tt; later = omega arith }
+
+pub told_memory : (held : Option Files) (Is : Files → Out Answer → Type 0) (n : ℕ) (e : Stop) → e ≡ stop.Memory → Performs held Is n n (Err e)
+told_memory held Is n e is = performs_memory held Is n n e is (omega arith)
+
+pub ruleset performs_rules = (performs_go, performs_halt, performs_told, told_memory)
+
+pub ruleset exchange_rules = (performs_of, performs_stop, from_memory)

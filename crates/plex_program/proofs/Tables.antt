@@ -1,6 +1,5 @@
 -- The lines of a signal file and the signals of a table, as a stage.
 use Rattle.std.proofs.Common.{◌≡◌, ℕ, ◌≤◌, ◌<◌, ◌^◌, List, length, Result, Ok, Err, ap, sym, subst, ◌∙◌, arith}
-use Rattle.std.specs.Prelude.{IfOk}
 use Rattle.plex_limits.specs.declared.limits.TheConstants.{MOST_BYTES}
 use Rattle.exchange_model.specs.declared.exchange.Exchange.{Exchange}
 use Rattle.signal_file.specs.declared.line.Line.{Line}
@@ -33,15 +32,11 @@ pub table_refused : (lines : List Line) (said : Result (List Period) ReadFault) 
 table_refused lines said f is = ap (or_untabled lines) (sym is)
 
 -- merged lines fit the exchange, and are few
-all_read : (x : Exchange) (lines : List Line) (table : List ℕ) (periods : List Period) → AreOfText x lines → Ok periods ≡ table_periods x (length lines) table → line_count lines periods < 2 ^ 32 → AreRead x (merged lines periods)
-all_read x lines table periods of_text is few =
+pub merged_are_read : (x : Exchange) (lines all : List Line) (table : List ℕ) (periods : List Period) → AreOfText x lines → Ok periods ≡ table_periods x (length lines) table → line_count lines periods < 2 ^ 32 → all ≡ merged lines periods → AreRead x all
+merged_are_read x lines all table periods of_text is few same =
     let sorted = by_count (all_lines lines periods) in
     let many : length (merged lines periods) ≡ line_count lines periods = length-numbered (number_in sorted) 1 sorted ∙ length-by_count (all_lines lines periods) ∙ length-all_lines lines periods in
-    record {
+    subst (AreRead x) (sym same) (record {
       fit = merged_fit x of_text.text table lines periods of_text.are (sym is);
       few = omega (arith, many, few);
-    }
-
-pub merged_are_read : (x : Exchange) (lines : List Line) (table : List ℕ) (periods : List Period) (r : Result (List Line) Stop) → AreOfText x lines → Ok periods ≡ table_periods x (length lines) table → line_count lines periods < 2 ^ 32 → Reads (Ok (merged lines periods)) r → IfOk r (AreRead x)
-merged_are_read x lines table periods (Ok all) of_text is few reads = subst (λ o. IfOk o (AreRead x)) reads (all_read x lines table periods of_text is few)
-merged_are_read x lines table periods (Err e) of_text is few reads = tt
+    })

@@ -11,6 +11,7 @@ use certificate::text_of_certificate;
 use exchange_model::Exchange;
 use plex_num::Memory;
 use std::alloc::Global;
+use text_parts::Text;
 
 /// The answer with the analysis of an exchange.
 #[tactic(auto, using(crate::proofs::Ordered::in_order))]
@@ -34,6 +35,6 @@ pub fn certificate_answer(alloc: Global, exchange: &Exchange) -> Result<Answer, 
     let text = text_of_certificate(alloc, exchange)?;
     Ok(Answer {
         status: Status::Done,
-        text,
+        text: Text::whole(alloc, text),
     })
 }

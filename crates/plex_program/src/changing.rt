@@ -8,7 +8,7 @@ ghost use Rattle.retire_order.specs.Events.{ending_of};
 ghost use Rattle.retire_order.specs.Parts.{AreParts, account_of};
 ghost use Rattle.report_text.specs.Report.{event_lines, text_of};
 ghost use Rattle.source_meaning.specs.Valid.{IsValid};
-ghost use Rattle.plex_program.specs.Answer.{ChangeAnswers, ChangeComes, ChangeFrom, ChangesOrNot, Comes, IsAnAnswer, IsChanged, Performs, Tells, ends_before, is_changed, misfit_answer, new_exchange_at, new_refusal, new_stop};
+ghost use Rattle.plex_program.specs.Answer.{ChangeAnswers, ChangeComes, ChangeFrom, ChangesOrNot, Comes, IsChanged, Performs, ends_before, is_changed, misfit_answer, new_exchange_at, new_refusal, new_stop};
 ghost use Rattle.plex_program.specs.Program.{IsEnding};
 ghost use Rattle.plex_program.specs.Runs.{AreRead};
 ghost use Rattle.command_words.specs.Bounded.{AreWithin, HasBounds};
@@ -21,7 +21,7 @@ use crate::running::{answer_at, answer_behind, code_answer};
 use block_change::{Misfit, carry, misfit_of};
 use command_words::{Bounds, ChangeWords};
 use exchange_model::Exchange;
-use exchange_run::Ended;
+use exchange_run::{Ended, Standing};
 use plex_io::{Gate, Shelf, Word};
 use plex_num::{Memory, Seq, print_number};
 use report_text::event_lines;
@@ -31,6 +31,7 @@ use std::alloc::Global;
 use std::sync::Wait;
 use std::thread::Threads;
 use store_layout::layout_of;
+use text_parts::Text;
 
 /// A change from one exchange to another after so many jobs.
 #[derive(Clone, Copy)]
@@ -41,7 +42,7 @@ struct Change<'a> {
 }
 
 /// `change`.
-#[tactic(auto, using(crate::proofs::Stages::performs_go, crate::proofs::Stages::performs_halt, crate::proofs::Stages::performs_told))]
+#[tactic(auto, using(crate::proofs::Stages::performs_rules))]
 pub fn perform_change<R: Threads + Wait + Sync, S: Shelf, G: Gate + Sync>(
     rt: &R,
     alloc: Global,
@@ -59,7 +60,7 @@ pub fn perform_change<R: Threads + Wait + Sync, S: Shelf, G: Gate + Sync>(
 }
 
 /// The same, of the exchange that the run begins with.
-#[tactic(auto, using(crate::proofs::Stages::performs_go, crate::proofs::Stages::performs_halt, crate::proofs::Stages::performs_told))]
+#[tactic(auto, using(crate::proofs::Stages::performs_rules))]
 fn change_from<R: Threads + Wait + Sync, S: Shelf, G: Gate + Sync>(
     rt: &R,
     alloc: Global,
@@ -80,7 +81,8 @@ fn change_from<R: Threads + Wait + Sync, S: Shelf, G: Gate + Sync>(
         new: &new,
         at: words.at,
     };
-    answer_change(rt, alloc, &change, lines, words.run.bounds, gate)
+    let answer = change_answer(rt, alloc, &change, lines, words.run.bounds, gate)?;
+    Ok(answer)
 }
 
 /// The exchange of a file that is to take the place of another one.
@@ -121,28 +123,6 @@ fn new_refusal(refused: Refused) -> Refused
     }
 }
 
-/// The answer of a change, as a stage.
-fn answer_change<R: Threads + Wait + Sync, G: Gate + Sync>(
-    rt: &R,
-    alloc: Global,
-    change: &Change<'_>,
-    lines: Seq<Line>,
-    bounds: Bounds,
-    gate: &G,
-) -> Result<Answer, Stop>
-    requires lines { AreRead change.now.old.now lines }
-    requires bounds { AreWithin bounds }
-    ensures told { Tells (IsAnAnswer
-        (ChangeAnswers change.now.old.now change.now.new.now lines bounds.jobs change.now.at))
-        result }
-    ensures ending { IfOk result (λ a. IsEnding a.status) }
-{
-    match change_answer(rt, alloc, change, lines, bounds, gate) {
-        Ok(answer) => Ok(answer),
-        Err(Memory) => Err(Stop::Memory),
-    }
-}
-
 /// The answer of a change: what the new exchange has not, or else that of the run.
 #[tactic(auto, using(crate::proofs::Changed::answers_misfit, crate::proofs::Changed::answers_fit))]
 fn change_answer<R: Threads + Wait + Sync, G: Gate + Sync>(
@@ -174,7 +154,7 @@ fn misfit_answer(alloc: Global, old: &Exchange, misfit: Misfit) -> Result<Answer
     let text = misfit_text(alloc, old, misfit)?;
     Ok(Answer {
         status: Status::Change,
-        text,
+        text: Text::whole(alloc, text),
     })
 }
 
@@ -293,7 +273,7 @@ fn changed_answer<R: Threads + Wait + Sync, G: Gate + Sync>(
 }
 
 /// The events up to the change, and the change.
-fn text_before(alloc: Global, old: &Exchange, parts: &BookParts, at: u32) -> Result<Seq<u8>, Memory>
+fn text_before(alloc: Global, old: &Exchange, parts: &BookParts, at: u32) -> Result<Text, Memory>
     ensures { IfOk result (λ text. text
         ≡ text_of (event_lines old.now (account_of parts.now).state.events) ++ change_text at) }
 {
@@ -366,5 +346,6 @@ fn run_further<R: Threads + Wait + Sync, G: Gate + Sync>(
     parts.limit = u64::from(jobs);
     let books = Books::from_parts(parts);
     let layout = layout_of(alloc, exchange)?;
-    go_on(rt, alloc, exchange, &layout, books, words, workers, gate)
+    let run = Standing { books, words };
+    go_on(rt, alloc, exchange, &layout, run, workers, gate)
 }

@@ -8,7 +8,6 @@ ghost use Rattle.plex_program.specs.Reading.{IsSpelled, signals_fault};
 ghost use Rattle.load_maker.specs.Exchange.{exchange_text};
 ghost use Rattle.load_maker.specs.Signals.{signals_text};
 ghost use Rattle.plex_program.specs.Answer.{AnswersAnalysis, AnswersCertificate, Comes, FromExchange, IsCertifiedRun, Performs, Reads, RunComes, RunsWith, Tells, exchange_at, exchange_of_file, exchange_of_tree, fitting, lines_at, lines_of_file, list_of, listing_answer, load_answer, load_of, or_broken, or_unread, performed, run_answer, run_of, text_at};
-ghost use Rattle.checked.specs.Kept.{IsChecked};
 ghost use Rattle.plex_program.specs.Runs.{AreOfText, AreRead};
 ghost use Rattle.command_words.specs.Bounded.{AreWithin, HasBounds, IsBounded};
 
@@ -23,7 +22,6 @@ use crate::reading::{refused, rule_of, tree_of_file};
 use crate::running::{answer_by, code_answer, listing_answer, load_answer, source_answer};
 use crate::timing::perform_timed;
 use crate::tracing::perform_trace;
-use checked::Checked;
 use command_words::{Bounds, Command, RunWords};
 use exchange_model::Exchange;
 use front_end::{TextFault, resolve};
@@ -36,6 +34,7 @@ use signal_file::{Line, SignalFault, read_signals};
 use std::alloc::Global;
 use std::sync::Wait;
 use std::thread::Threads;
+use text_parts::Text;
 
 /// The first refusal.
 #[derive(Clone, Copy)]
@@ -57,7 +56,7 @@ pub enum Refused {
 /// What the program writes and ends with.
 pub struct Answer {
     pub status: Status,
-    pub text: Seq<u8>,
+    pub text: Text,
 }
 
 impl Drop for Answer {
@@ -75,6 +74,17 @@ pub enum Stop {
     /// A file could not be read.
     Failed,
     Memory,
+}
+
+impl From<Memory> for Stop {
+    ghost use Rattle.std.specs.Prelude.{◌≡◌};
+    ghost use Rattle.plex_program.specs.declared.perform.Stop.TheVariants.{Memory};
+
+    ghost from_gives = { λ _ e. e ≡ Memory };
+
+    fn from(_: Memory) -> Stop {
+        Stop::Memory
+    }
 }
 
 /// The text of a file, where it is not too large.
@@ -104,7 +114,7 @@ pub(crate) fn text_in<S: Shelf>(
 }
 
 /// The exchange of a file, or the first fault of its text. It stops where the file cannot be read, and wherever memory is refused.
-#[tactic(auto, using(crate::proofs::Stages::comes_stop, crate::proofs::Stages::comes_go, crate::proofs::Stages::comes_reads))]
+#[tactic(auto, using(crate::proofs::Stages::comes_rules))]
 pub fn exchange_in<S: Shelf>(alloc: Global, shelf: &mut S, name: &Word) -> Result<Exchange, Stop>
     ensures comes { Comes (S.held shelf.old) (exchange_at name.now) (S.faults shelf.old)
         (S.faults shelf.new) result }
@@ -115,7 +125,7 @@ pub fn exchange_in<S: Shelf>(alloc: Global, shelf: &mut S, name: &Word) -> Resul
 }
 
 /// The exchange that a file's text means.
-#[tactic(auto, using(crate::proofs::Stages::reads_stop, crate::proofs::Stages::reads_go))]
+#[tactic(auto, using(crate::proofs::Stages::reads_rules))]
 fn exchange_of_file(alloc: Global, text: &Option<Seq<u8>>) -> Result<Exchange, Stop>
     requires { IfSome text.now (λ t. length t ≤ MOST_BYTES) }
     ensures { Reads (exchange_of_file text.now) result }
@@ -138,7 +148,7 @@ fn exchange_of_tree(alloc: Global, tree: &Tree) -> Result<Exchange, Stop>
 }
 
 /// The signal lines of a file, or its first faulty line. It stops where the file cannot be read, and wherever memory is refused.
-#[tactic(auto, using(crate::proofs::Stages::comes_stop, crate::proofs::Stages::comes_go, crate::proofs::Stages::comes_reads))]
+#[tactic(auto, using(crate::proofs::Stages::comes_rules))]
 pub fn lines_in<S: Shelf>(
     alloc: Global,
     shelf: &mut S,
@@ -200,7 +210,7 @@ fn unread(line: u32, rule: SignalsRule) -> Stop
 }
 
 /// `single`.
-#[tactic(auto, using(crate::proofs::Stages::comes_stop, crate::proofs::Stages::comes_go, crate::proofs::Stages::comes_reads))]
+#[tactic(auto, using(crate::proofs::Stages::comes_rules))]
 fn perform_single<S: Shelf, G: Gate>(
     alloc: Global,
     shelf: &mut S,
@@ -214,30 +224,12 @@ fn perform_single<S: Shelf, G: Gate>(
 {
     let exchange = exchange_in(alloc, shelf, &words.exchange)?;
     let lines = lines_in(alloc, shelf, &exchange, &words.signals)?;
-    answer_single(alloc, &exchange, lines, words.bounds.jobs, gate)
-}
-
-/// The answer of a run by the source, as a stage.
-fn answer_single<G: Gate>(
-    alloc: Global,
-    exchange: &Exchange,
-    lines: Seq<Line>,
-    jobs: u32,
-    gate: &G,
-) -> Result<Answer, Stop>
-    requires lines { AreRead exchange.now lines }
-    requires jobs { jobs ≤ MOST_JOBS }
-    ensures reads { Reads (Ok (run_answer exchange.now lines jobs)) result }
-    ensures ending { IfOk result (λ a. IsEnding a.status) }
-{
-    match source_answer(alloc, exchange, lines, jobs, gate) {
-        Ok(answer) => Ok(answer),
-        Err(Memory) => Err(Stop::Memory),
-    }
+    let answer = source_answer(alloc, &exchange, lines, words.bounds.jobs, gate)?;
+    Ok(answer)
 }
 
 /// `run` without a certificate.
-#[tactic(auto, using(crate::proofs::Stages::comes_stop, crate::proofs::Stages::comes_go, crate::proofs::Stages::comes_reads))]
+#[tactic(auto, using(crate::proofs::Stages::comes_rules))]
 fn perform_plain<R: Threads + Wait + Sync, S: Shelf, G: Gate + Sync>(
     rt: &R,
     alloc: Global,
@@ -252,31 +244,12 @@ fn perform_plain<R: Threads + Wait + Sync, S: Shelf, G: Gate + Sync>(
 {
     let exchange = exchange_in(alloc, shelf, &words.exchange)?;
     let lines = lines_in(alloc, shelf, &exchange, &words.signals)?;
-    answer_plain(rt, alloc, &exchange, lines, words.bounds, gate)
-}
-
-/// The answer of a run without a certificate, as a stage.
-pub(crate) fn answer_plain<R: Threads + Wait + Sync, G: Gate + Sync>(
-    rt: &R,
-    alloc: Global,
-    exchange: &Exchange,
-    lines: Seq<Line>,
-    bounds: Bounds,
-    gate: &G,
-) -> Result<Answer, Stop>
-    requires lines { AreRead exchange.now lines }
-    requires bounds { AreWithin bounds }
-    ensures reads { Reads (Ok (run_answer exchange.now lines bounds.jobs)) result }
-    ensures ending { IfOk result (λ a. IsEnding a.status) }
-{
-    match code_answer(rt, alloc, exchange, lines, bounds, gate) {
-        Ok(answer) => Ok(answer),
-        Err(Memory) => Err(Stop::Memory),
-    }
+    let answer = code_answer(rt, alloc, &exchange, lines, words.bounds, gate)?;
+    Ok(answer)
 }
 
 /// `run` with a certificate.
-#[tactic(auto, using(crate::proofs::Stages::performs_go, crate::proofs::Stages::performs_halt, crate::proofs::Stages::performs_told))]
+#[tactic(auto, using(crate::proofs::Stages::performs_rules))]
 fn perform_certified<R: Threads + Wait + Sync, S: Shelf, G: Gate + Sync>(
     rt: &R,
     alloc: Global,
@@ -297,7 +270,7 @@ fn perform_certified<R: Threads + Wait + Sync, S: Shelf, G: Gate + Sync>(
 }
 
 /// The answer of a run whose certificate has this text, which may be too large.
-#[tactic(auto, using(crate::proofs::Certified::certified_runs, crate::proofs::Certified::certified_refused))]
+#[tactic(auto, using(crate::proofs::Certified::certified_runs, crate::proofs::Certified::certified_refused, crate::proofs::Stages::reads_memory, crate::proofs::Stages::reads_answer))]
 fn answer_certified<R: Threads + Wait + Sync, G: Gate + Sync>(
     rt: &R,
     alloc: Global,
@@ -315,31 +288,12 @@ fn answer_certified<R: Threads + Wait + Sync, G: Gate + Sync>(
     ensures ending { IfOk result (λ a. IsEnding a.status) }
 {
     match kept_of_text(alloc, exchange, text) {
-        Ok(checked) => answer_kept(rt, alloc, exchange, checked, lines, bounds, gate),
+        Ok(checked) => {
+            let answer = answer_by(rt, alloc, exchange, Some(checked), lines, bounds, gate)?;
+            Ok(answer)
+        }
         Err(Unkept::Faulty(fault)) => Err(Stop::Refused(Refused::Certificate(fault))),
         Err(Unkept::Memory) => Err(Stop::Memory),
-    }
-}
-
-/// The answer of a run by what is kept of a certificate, as a stage.
-fn answer_kept<R: Threads + Wait + Sync, G: Gate + Sync>(
-    rt: &R,
-    alloc: Global,
-    exchange: &Exchange,
-    checked: Checked,
-    lines: Seq<Line>,
-    bounds: Bounds,
-    gate: &G,
-) -> Result<Answer, Stop>
-    requires checked { IsChecked exchange.now checked }
-    requires lines { AreRead exchange.now lines }
-    requires bounds { AreWithin bounds }
-    ensures reads { Reads (Ok (run_answer exchange.now lines bounds.jobs)) result }
-    ensures ending { IfOk result (λ a. IsEnding a.status) }
-{
-    match answer_by(rt, alloc, exchange, Some(checked), lines, bounds, gate) {
-        Ok(answer) => Ok(answer),
-        Err(Memory) => Err(Stop::Memory),
     }
 }
 
@@ -364,57 +318,43 @@ fn perform_code<R: Threads + Wait + Sync, S: Shelf, G: Gate + Sync>(
 }
 
 /// `analyse`.
-#[tactic(auto, using(crate::proofs::Stages::performs_of, crate::proofs::Stages::performs_stop, crate::proofs::Stages::performs_memory))]
+#[tactic(auto, using(crate::proofs::Stages::exchange_rules))]
 fn perform_analysis<S: Shelf>(alloc: Global, shelf: &mut S, name: &Word) -> Result<Answer, Stop>
     ensures comes { Performs (S.held shelf.old) (FromExchange name.now AnswersAnalysis)
         (S.faults shelf.old) (S.faults shelf.new) result }
     ensures ending { IfOk result (λ a. IsEnding a.status) }
 {
     let exchange = exchange_in(alloc, shelf, name)?;
-    match analysis_answer(alloc, &exchange) {
-        Ok(answer) => Ok(answer),
-        Err(Memory) => Err(Stop::Memory),
-    }
+    let answer = analysis_answer(alloc, &exchange)?;
+    Ok(answer)
 }
 
 /// `certify`.
-#[tactic(auto, using(crate::proofs::Stages::performs_of, crate::proofs::Stages::performs_stop, crate::proofs::Stages::performs_memory))]
+#[tactic(auto, using(crate::proofs::Stages::exchange_rules))]
 fn perform_certificate<S: Shelf>(alloc: Global, shelf: &mut S, name: &Word) -> Result<Answer, Stop>
     ensures comes { Performs (S.held shelf.old) (FromExchange name.now AnswersCertificate)
         (S.faults shelf.old) (S.faults shelf.new) result }
     ensures ending { IfOk result (λ a. IsEnding a.status) }
 {
     let exchange = exchange_in(alloc, shelf, name)?;
-    match certificate_answer(alloc, &exchange) {
-        Ok(answer) => Ok(answer),
-        Err(Memory) => Err(Stop::Memory),
-    }
+    let answer = certificate_answer(alloc, &exchange)?;
+    Ok(answer)
 }
 
 /// `list`.
-#[tactic(auto, using(crate::proofs::Stages::comes_stop, crate::proofs::Stages::comes_go, crate::proofs::Stages::comes_reads))]
+#[tactic(auto, using(crate::proofs::Stages::comes_rules))]
 fn perform_list<S: Shelf>(alloc: Global, shelf: &mut S, name: &Word) -> Result<Answer, Stop>
     ensures comes { Comes (S.held shelf.old) (list_of name.now) (S.faults shelf.old)
         (S.faults shelf.new) result }
     ensures ending { IfOk result (λ a. IsEnding a.status) }
 {
     let exchange = exchange_in(alloc, shelf, name)?;
-    answer_list(alloc, &exchange)
-}
-
-/// The answer with the listing of an exchange's code, as a stage.
-fn answer_list(alloc: Global, exchange: &Exchange) -> Result<Answer, Stop>
-    ensures reads { Reads (Ok (listing_answer exchange.now)) result }
-    ensures ending { IfOk result (λ a. IsEnding a.status) }
-{
-    match listing_answer(alloc, exchange) {
-        Ok(answer) => Ok(answer),
-        Err(Memory) => Err(Stop::Memory),
-    }
+    let answer = listing_answer(alloc, &exchange)?;
+    Ok(answer)
 }
 
 /// `load`.
-#[tactic(auto, using(crate::proofs::Stages::reads_stop, crate::proofs::Stages::reads_go))]
+#[tactic(auto, using(crate::proofs::Stages::reads_rules))]
 fn perform_load<R: Threads + Wait + Sync, G: Gate + Sync>(
     rt: &R,
     alloc: Global,
@@ -426,17 +366,16 @@ fn perform_load<R: Threads + Wait + Sync, G: Gate + Sync>(
 {
     let exchange = exchange_of_load(alloc, calls)?;
     let lines = lines_of_load(alloc, &exchange, calls)?;
-    answer_load(rt, alloc, calls, &exchange, lines, gate)
+    let answer = load_answer(rt, alloc, calls, &exchange, lines, gate)?;
+    Ok(answer)
 }
 
 /// The exchange of a load.
 fn exchange_of_load(alloc: Global, calls: u32) -> Result<Exchange, Stop>
     ensures { Reads (exchange_of_file (fitting MOST_BYTES (exchange_text calls))) result }
 {
-    match load_exchange(alloc, calls) {
-        Ok(text) => exchange_of_file(alloc, &fitting(text)),
-        Err(Memory) => Err(Stop::Memory),
-    }
+    let text = load_exchange(alloc, calls)?;
+    exchange_of_file(alloc, &fitting(text))
 }
 
 /// The signal lines of a load.
@@ -445,10 +384,8 @@ fn lines_of_load(alloc: Global, exchange: &Exchange, calls: u32) -> Result<Seq<L
         result }
     ensures read { IfOk result (λ lines. AreRead exchange.now lines) }
 {
-    match load_signals(alloc, calls) {
-        Ok(text) => lines_of_file(alloc, exchange, &fitting(text)),
-        Err(Memory) => Err(Stop::Memory),
-    }
+    let text = load_signals(alloc, calls)?;
+    lines_of_file(alloc, exchange, &fitting(text))
 }
 
 /// A text, where it is not too large for a file.
@@ -461,25 +398,6 @@ fn fitting(text: Seq<u8>) -> Option<Seq<u8>>
         None
     } else {
         Some(text)
-    }
-}
-
-/// The answer of the run of a load, as a stage.
-fn answer_load<R: Threads + Wait + Sync, G: Gate + Sync>(
-    rt: &R,
-    alloc: Global,
-    calls: u32,
-    exchange: &Exchange,
-    lines: Seq<Line>,
-    gate: &G,
-) -> Result<Answer, Stop>
-    requires { AreRead exchange.now lines }
-    ensures reads { Reads (Ok (load_answer calls exchange.now lines)) result }
-    ensures ending { IfOk result (λ a. IsEnding a.status) }
-{
-    match load_answer(rt, alloc, calls, exchange, lines, gate) {
-        Ok(answer) => Ok(answer),
-        Err(Memory) => Err(Stop::Memory),
     }
 }
 

@@ -8,11 +8,12 @@ ghost use Rattle.command_words.specs.Words.{shape};
 use crate::perform::{Answer, Refused, Stop, perform};
 use crate::text::{refusal_line, usage_line};
 use command_words::{Command, read_command};
-use plex_io::{Gate, Shelf, Sink, Word, write_all};
+use plex_io::{Gate, Shelf, Sink, Word};
 use plex_num::Seq;
 use std::alloc::Global;
 use std::sync::Wait;
 use std::thread::Threads;
+use text_parts::{Text, write_text};
 
 /// How the program ends.
 #[derive(Clone, Copy, Debug, PartialEq, Eq)]
@@ -163,7 +164,7 @@ pub fn refused_answer(alloc: Global, refused: Refused) -> Result<Answer, Quit>
     match refusal_line(alloc, refused) {
         Ok(text) => Ok(Answer {
             status: refused_status(refused),
-            text,
+            text: Text::whole(alloc, text),
         }),
         Err(_) => Err(Quit::Memory),
     }
@@ -189,7 +190,7 @@ fn usage_answer(alloc: Global) -> Result<Answer, Quit>
     match Seq::copied(alloc, usage_line()) {
         Ok(text) => Ok(Answer {
             status: Status::Usage,
-            text,
+            text: Text::whole(alloc, text),
         }),
         Err(_) => Err(Quit::Memory),
     }
@@ -203,7 +204,7 @@ pub fn write_answer<K: Sink>(sink: &mut K, answer: &Answer) -> Status
         WriteCause (K.size sink.old) (K.written sink.new) (K.faults sink.old) (K.faults sink.new) }
     ensures plain { (result ≡ Status.Write) ⊎ (result ≡ answer.now.status) }
 {
-    match write_all(sink, answer.text.as_slice()) {
+    match write_text(sink, &answer.text) {
         Ok(()) => answer.status,
         Err(_) => Status::Write,
     }

@@ -1,12 +1,10 @@
 // The single run of an exchange, and what is told of it: one job at a time, by the source or by the code, or several at once; and the
 // listing of the code that runs.
-ghost use Rattle.std.specs.Prelude.{◌≡◌, ◌≤◌, IfOk, IfSome, map};
+ghost use Rattle.std.specs.Prelude.{◌≡◌, ◌≤◌, IfOk, IfSome};
 ghost use Rattle.plex_limits.specs.declared.limits.TheConstants.{MOST_JOBS};
 ghost use Rattle.checked.specs.Kept.{IsChecked};
 ghost use Rattle.retire_order.specs.Accounts.{with_words};
 ghost use Rattle.retire_order.specs.Events.{ending_of};
-ghost use Rattle.retire_order.specs.Lines.{coming_of};
-ghost use Rattle.exchange_run.specs.Runs.{ComesTo};
 ghost use Rattle.plex_program.specs.Answer.{behind, ended_answer, ended_status, listing_answer, load_answer, run_answer};
 ghost use Rattle.plex_program.specs.Program.{IsEnding};
 ghost use Rattle.plex_program.specs.Runs.{AreRead};
@@ -19,7 +17,7 @@ use checked::{Checked, keep_own};
 use code_gen::compile;
 use command_words::{Bounds, USUAL_JOBS, USUAL_WORKERS};
 use exchange_model::Exchange;
-use exchange_run::{BySource, Ended, run_lines};
+use exchange_run::{BySource, run_lines};
 use listing::print_code;
 use plex_io::Gate;
 use plex_num::{Memory, Seq};
@@ -30,6 +28,7 @@ use std::alloc::Global;
 use std::sync::Wait;
 use std::thread::Threads;
 use store_layout::layout_of;
+use text_parts::Text;
 
 /// The answer of the single run of these lines by the source itself, which ends after so many jobs at the latest. It calls the gate before
 /// and after each job.
@@ -46,7 +45,10 @@ pub fn source_answer<G: Gate>(
     ensures answer { IfOk result (λ a. a ≡ run_answer exchange.now lines jobs) }
     ensures ending { IfOk result (λ a. IsEnding a.status) }
 {
-    let mut end = run_by_source(alloc, exchange, lines, jobs, gate)?;
+    let layout = layout_of(alloc, exchange)?;
+    let mut runner = BySource::new(alloc, gate);
+    let limit = u64::from(jobs);
+    let mut end = run_lines(alloc, exchange, &layout, lines, limit, &mut runner)?;
     let answer = answer_at(alloc, exchange, &mut end.books, &end.words, end.ending)?;
     Ok(answer)
 }
@@ -116,7 +118,7 @@ pub(crate) fn answer_at(
 /// The same report behind a text, and the status of its ending.
 #[tactic(auto, using(crate::proofs::Answering::told_behind, crate::proofs::Answering::status_ends))]
 pub(crate) fn answer_behind(
-    text: Seq<u8>,
+    text: Text,
     exchange: &Exchange,
     books: &mut Books,
     words: &Seq<u32>,
@@ -161,31 +163,6 @@ pub fn load_answer<R: Threads + Wait + Sync, G: Gate + Sync>(
     })
 }
 
-/// The single run of these lines by the source itself to its end, which comes after so many jobs at the latest.
-fn run_by_source<G: Gate>(
-    alloc: Global,
-    exchange: &Exchange,
-    lines: Seq<Line>,
-    jobs: u32,
-    gate: &G,
-) -> Result<Ended, Memory>
-    requires lines { AreRead exchange.now lines }
-    requires jobs { jobs ≤ MOST_JOBS }
-    ensures { IfOk result (λ end. ComesTo exchange.now (map coming_of lines) jobs
-        end.books.state end.words (ending_of end.ending)) }
-{
-    let layout = layout_of(alloc, exchange)?;
-    let mut runner = BySource::new(alloc, gate);
-    run_lines(
-        alloc,
-        exchange,
-        &layout,
-        lines,
-        u64::from(jobs),
-        &mut runner,
-    )
-}
-
 /// The listing of the code of an exchange.
 #[tactic(auto, using(crate::proofs::Answering::listing_is))]
 pub fn listing_answer(alloc: Global, exchange: &Exchange) -> Result<Answer, Memory>
@@ -197,7 +174,7 @@ pub fn listing_answer(alloc: Global, exchange: &Exchange) -> Result<Answer, Memo
     let text = print_code(alloc, &code)?;
     Ok(Answer {
         status: Status::Done,
-        text,
+        text: Text::whole(alloc, text),
     })
 }
 

@@ -1,8 +1,6 @@
 // A run with a table of periodic signals.
-ghost use Rattle.std.specs.Prelude.{◌≡◌, ◌≤◌, ◌<◌, ◌^◌, Ok, IfOk, IfSome, length};
-ghost use Rattle.std.specs.List.{AllByRecursion};
+ghost use Rattle.std.specs.Prelude.{◌≡◌, ◌≤◌, ◌<◌, ◌^◌, IfOk, IfSome, length};
 ghost use Rattle.plex_limits.specs.declared.limits.TheConstants.{MOST_BYTES};
-ghost use Rattle.job_table.specs.Merged.{IsInRange, line_count, merged};
 ghost use Rattle.job_table.specs.Table.{table_periods};
 ghost use Rattle.plex_program.specs.Answer.{Comes, Reads, merged_at, merged_of_file, or_untabled, timed_of};
 ghost use Rattle.plex_program.specs.Program.{IsEnding};
@@ -10,19 +8,20 @@ ghost use Rattle.plex_program.specs.Runs.{AreOfText, AreRead};
 ghost use Rattle.command_words.specs.Bounded.{HasBounds};
 
 use crate::fault::{TableFault, TableRule};
-use crate::perform::{Answer, Refused, Stop, answer_plain, exchange_in, lines_in, text_in};
+use crate::perform::{Answer, Refused, Stop, exchange_in, lines_in, text_in};
+use crate::running::code_answer;
 use command_words::TimedWords;
 use exchange_model::Exchange;
-use job_table::{Period, TableFault as ReadFault, merge, read_table};
+use job_table::{TableFault as ReadFault, merge, read_table};
 use plex_io::{Gate, Shelf, Word};
-use plex_num::{Memory, Seq};
+use plex_num::Seq;
 use signal_file::Line;
 use std::alloc::Global;
 use std::sync::Wait;
 use std::thread::Threads;
 
 /// `timed`.
-#[tactic(auto, using(crate::proofs::Stages::comes_stop, crate::proofs::Stages::comes_go, crate::proofs::Stages::comes_reads))]
+#[tactic(auto, using(crate::proofs::Stages::comes_rules))]
 pub fn perform_timed<R: Threads + Wait + Sync, S: Shelf, G: Gate + Sync>(
     rt: &R,
     alloc: Global,
@@ -38,12 +37,13 @@ pub fn perform_timed<R: Threads + Wait + Sync, S: Shelf, G: Gate + Sync>(
     let exchange = exchange_in(alloc, shelf, &words.run.exchange)?;
     let lines = lines_in(alloc, shelf, &exchange, &words.run.signals)?;
     let all = merged_in(alloc, shelf, &exchange, &lines, &words.table)?;
-    answer_plain(rt, alloc, &exchange, all, words.run.bounds, gate)
+    let answer = code_answer(rt, alloc, &exchange, all, words.run.bounds, gate)?;
+    Ok(answer)
 }
 
 /// The lines of a signal file and the signals of a table's file, as one list, or the first faulty line of the table. It stops where the
 /// file cannot be read, and wherever memory is refused.
-#[tactic(auto, using(crate::proofs::Stages::comes_stop, crate::proofs::Stages::comes_go, crate::proofs::Stages::comes_reads))]
+#[tactic(auto, using(crate::proofs::Stages::comes_rules))]
 pub fn merged_in<S: Shelf>(
     alloc: Global,
     shelf: &mut S,
@@ -82,7 +82,7 @@ fn merged_of_file(
 }
 
 /// The same with a text that is not too large.
-#[tactic(auto, using(crate::proofs::Tables::table_read, crate::proofs::Tables::table_refused, crate::proofs::Tables::merged_are_read, crate::proofs::Tables::table_fits))]
+#[tactic(auto, using(crate::proofs::Tables::table_read, crate::proofs::Tables::table_refused, crate::proofs::Tables::table_fits, crate::proofs::Stages::reads_rules))]
 fn merged_of_text(
     alloc: Global,
     exchange: &Exchange,
@@ -97,7 +97,10 @@ fn merged_of_text(
     ensures read { IfOk result (λ all. AreRead exchange.now all) }
 {
     match read_table(alloc, exchange, lines, text) {
-        Ok(periods) => merged(alloc, lines, &periods),
+        Ok(periods) => {
+            let all = merge(alloc, lines, &periods)?;
+            Ok(all)
+        }
         Err(ReadFault::BadLine { line }) => Err(untabled(line, TableRule::BadLine)),
         Err(ReadFault::UnknownSignal { line }) => Err(untabled(line, TableRule::UnknownSignal)),
         Err(ReadFault::UnknownBlock { line }) => Err(untabled(line, TableRule::UnknownBlock)),
@@ -105,18 +108,6 @@ fn merged_of_text(
         Err(ReadFault::BadRange { line }) => Err(untabled(line, TableRule::BadRange)),
         Err(ReadFault::TooMany { line }) => Err(untabled(line, TableRule::TooMany)),
         Err(ReadFault::Memory) => Err(Stop::Memory),
-    }
-}
-
-/// The lines and the signals of the periods, as one list.
-fn merged(alloc: Global, lines: &Seq<Line>, periods: &Seq<Period>) -> Result<Seq<Line>, Stop>
-    requires ranges { AllByRecursion IsInRange periods.now }
-    requires few { line_count lines.now periods.now < 2 ^ 32 }
-    ensures { Reads (Ok (merged lines.now periods.now)) result }
-{
-    match merge(alloc, lines, periods) {
-        Ok(all) => Ok(all),
-        Err(Memory) => Err(Stop::Memory),
     }
 }
 

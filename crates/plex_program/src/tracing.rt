@@ -1,5 +1,5 @@
 // The single run, and the jobs of it that a filter shows.
-ghost use Rattle.std.specs.Prelude.{◌≡◌, ◌≤◌, Ok, IfOk, IfSome, length, map};
+ghost use Rattle.std.specs.Prelude.{◌≡◌, ◌≤◌, IfOk, IfSome, length, map};
 ghost use Rattle.plex_limits.specs.declared.limits.TheConstants.{MOST_BYTES, MOST_JOBS};
 ghost use Rattle.source_meaning.specs.SingleRun.{opening};
 ghost use Rattle.retire_order.specs.Events.{ending_of};
@@ -19,17 +19,16 @@ use crate::running::answer_behind;
 use code_gen::compile;
 use command_words::TraceWords;
 use exchange_model::Exchange;
-use exchange_run::{ByCode, BySource};
+use exchange_run::{ByCode, BySource, before_lines};
 use plex_io::{NoGate, Shelf, Word};
 use plex_num::{Memory, Seq};
-use retire_order::Books;
 use signal_file::Line;
 use signal_trace::{FilterFault as ShowFault, Show, Traced, read_filter, trace_run};
 use std::alloc::Global;
-use store_layout::{layout_of, opening};
+use store_layout::layout_of;
 
 /// `trace`.
-#[tactic(auto, using(crate::proofs::Stages::comes_stop, crate::proofs::Stages::comes_go, crate::proofs::Stages::comes_reads))]
+#[tactic(auto, using(crate::proofs::Stages::comes_rules))]
 pub fn perform_trace<S: Shelf>(
     alloc: Global,
     shelf: &mut S,
@@ -43,11 +42,12 @@ pub fn perform_trace<S: Shelf>(
     let exchange = exchange_in(alloc, shelf, &words.run.exchange)?;
     let lines = lines_in(alloc, shelf, &exchange, &words.run.signals)?;
     let shows = shows_in(alloc, shelf, &exchange, &words.filter)?;
-    answer_trace(alloc, &exchange, lines, &shows, words.run.bounds.jobs)
+    let answer = trace_answer(alloc, &exchange, lines, &shows, words.run.bounds.jobs)?;
+    Ok(answer)
 }
 
 /// The lines of the filter of a file.
-#[tactic(auto, using(crate::proofs::Stages::comes_stop, crate::proofs::Stages::comes_go, crate::proofs::Stages::comes_reads))]
+#[tactic(auto, using(crate::proofs::Stages::comes_rules))]
 fn shows_in<S: Shelf>(
     alloc: Global,
     shelf: &mut S,
@@ -99,25 +99,6 @@ fn unshown(line: u32, rule: FilterRule) -> Stop
     Stop::Refused(Refused::Filter(FilterFault { line, rule }))
 }
 
-/// The answer of a trace, as a stage.
-fn answer_trace(
-    alloc: Global,
-    exchange: &Exchange,
-    lines: Seq<Line>,
-    shows: &Seq<Show>,
-    jobs: u32,
-) -> Result<Answer, Stop>
-    requires lines { AreRead exchange.now lines }
-    requires jobs { jobs ≤ MOST_JOBS }
-    ensures reads { Reads (Ok (trace_answer exchange.now lines shows.now jobs)) result }
-    ensures ending { IfOk result (λ a. IsEnding a.status) }
-{
-    match trace_answer(alloc, exchange, lines, shows, jobs) {
-        Ok(answer) => Ok(answer),
-        Err(Memory) => Err(Stop::Memory),
-    }
-}
-
 /// The jobs of the single run of these lines that the filter shows, and then its report.
 #[tactic(auto, using(crate::proofs::Traced::trace_is))]
 fn trace_answer(
@@ -132,8 +113,8 @@ fn trace_answer(
     ensures answer { IfOk result (λ a. a ≡ trace_answer exchange.now lines shows.now jobs) }
     ensures ending { IfOk result (λ a. IsEnding a.status) }
 {
-    let mut end = run_traced(alloc, exchange, lines, shows, jobs)?;
-    let answer = answer_behind(end.text, exchange, &mut end.books, &end.words, end.ending)?;
+    let Traced { text, mut end } = run_traced(alloc, exchange, lines, shows, jobs)?;
+    let answer = answer_behind(text, exchange, &mut end.books, &end.words, end.ending)?;
     Ok(answer)
 }
 
@@ -150,19 +131,20 @@ fn run_traced(
     requires lines { AreRead exchange.now lines }
     requires jobs { jobs ≤ MOST_JOBS }
     ensures end { IfOk result (λ t. ComesTo exchange.now (map coming_of lines) jobs
-        t.books.state t.words (ending_of t.ending)) }
+        t.end.books.state t.end.words (ending_of t.end.ending)) }
     ensures text { IfOk result (λ t. t.text ≡ trace_text exchange.now
         (trace exchange.now jobs (opening exchange.now (map coming_of lines)) shows.now)) }
 {
     exchange.kept();
     let layout = layout_of(alloc, exchange)?;
-    let words = opening(alloc, exchange, &layout)?;
-    let books = Books::new(alloc, lines, u64::from(jobs));
+    let run = before_lines(alloc, exchange, &layout, lines, u64::from(jobs))?;
     if !has_short_code(alloc, exchange)? {
         let mut runner = BySource::new(alloc, &NoGate);
-        return trace_run(alloc, exchange, &layout, books, words, shows, &mut runner);
+        let end = trace_run(alloc, exchange, &layout, run, shows, &mut runner)?;
+        return Ok(end);
     }
     let code = compile(alloc, exchange, &layout)?;
     let mut runner = ByCode::new(&code, &NoGate);
-    trace_run(alloc, exchange, &layout, books, words, shows, &mut runner)
+    let end = trace_run(alloc, exchange, &layout, run, shows, &mut runner)?;
+    Ok(end)
 }

@@ -10,6 +10,9 @@ use plex_program::Status;
 use std::io;
 use std::io::ErrorKind;
 
+/// The version of the programs. The documents and the manual pages name it too.
+const VERSION: &str = "1.0.0";
+
 /// What a program says of itself.
 #[derive(Clone, Copy)]
 pub struct Program {
@@ -93,6 +96,12 @@ pub fn complain<R: Eprint>(rt: &R, status: Status, known: &Known<'_>) -> Status
         }
     };
     status
+}
+
+/// Says on the standard error the name and the version of a program.
+pub fn say_version<R: Eprint>(rt: &R, program: Program) -> io::Result<()> {
+    let name = program.name;
+    eprintln!(rt; "{name} {VERSION}")
 }
 
 /// The end where memory was refused for the words of the command.

@@ -15,7 +15,7 @@ mod sentences;
 mod told;
 mod words;
 
-pub use complaint::{Known, Program, complain, no_memory};
+pub use complaint::{Known, Program, complain, no_memory, say_version};
 pub use names::{Named, Quoted, text_of};
 pub use noting_shelf::NotingShelf;
 pub use noting_sink::NotingSink;

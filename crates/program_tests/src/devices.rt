@@ -6,7 +6,7 @@ use std::alloc::Global;
 use std::test::Fail;
 
 /// N is how many ticks came.
-const COUNTER: &str = "SIGNAL TICK SINGLE BUFFERED B DATA 0;
+pub const COUNTER: &str = "SIGNAL TICK SINGLE BUFFERED B DATA 0;
 BLOCK COUNTER;
 DECLARE; VARIABLE N WIDTH 32;
 SURVEY; RECEIVE TICK;

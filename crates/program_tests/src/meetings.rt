@@ -1,8 +1,8 @@
 // The program with several workers: jobs that may run at once do begin so, where they are held at a gate.
-use crate::devices::{files_of, words_of};
-use plex_io::{Gate, MeetGate, Place, SlideGate, SteadyShelf, SteadySink};
-use plex_num::Memory;
-use plex_program::{Status, plex_steady};
+use crate::steps::steps_of;
+use crate::whole::{NotMade, answers};
+use plex_io::{Gate, MeetGate, Place, SlideGate};
+use plex_program::Status;
 use std::alloc::Global;
 use std::hint;
 use std::sync::Wait;
@@ -37,16 +37,6 @@ const TWO_SHOWN: &str = "OUT 1 SHOW 7 F0\nOUT 2 SHOW 8 F0\nJOBS 2\nEND DONE\n";
 
 /// How long a job is held at a gate, in looks.
 const TURNS: u64 = 20_000_000;
-
-/// A report differs, or memory was refused.
-#[derive(Clone, Copy, Debug)]
-struct NotMade;
-
-impl From<Memory> for NotMade {
-    fn from(_: Memory) -> NotMade {
-        NotMade
-    }
-}
 
 /// A gate at which jobs meet, and that adds up the steps that it is told.
 #[derive(Drop)]
@@ -106,8 +96,8 @@ impl Gate for CrowdGate {
     }
 }
 
-/// A run of this exchange and these signal lines with so many workers writes this report, for which there is room, and no more.
-fn writes<R: Threads + Wait + Sync, G: Gate + Sync>(
+/// A run of this exchange and these signal lines with so many workers writes this report.
+fn runs<R: Threads + Wait + Sync, G: Gate + Sync>(
     rt: &R,
     alloc: Global,
     (exchange, signals): (&str, &str),
@@ -115,17 +105,10 @@ fn writes<R: Threads + Wait + Sync, G: Gate + Sync>(
     gate: &G,
     report: &str,
 ) -> Result<(), NotMade> {
-    let words = words_of(alloc, &["run", "E", "S", "--workers", workers])?;
-    let files = files_of(alloc, &[("E", exchange), ("S", signals)])?;
-    let mut shelf = SteadyShelf::new(files);
-    let mut sink = SteadySink::new(alloc);
-    sink.reserve(report.len())?;
-    let status = plex_steady(rt, alloc, words.as_slice(), &mut shelf, &mut sink, gate);
-    if status == Status::Done && sink.bytes() == report.as_bytes() {
-        Ok(())
-    } else {
-        Err(NotMade)
-    }
+    let words = ["run", "E", "S", "--workers", workers];
+    let files = [("E", exchange), ("S", signals)];
+    let wanted = (Status::Done, report);
+    answers(rt, alloc, &words, &files, gate, wanted)
 }
 
 /// How many jobs of two asks found that two had begun, and how many steps the gate was told of.
@@ -138,14 +121,17 @@ fn meetings<R: Threads + Wait + Sync>(
         meet: MeetGate::new(TURNS),
         steps: AtomicU64::new(0),
     };
-    writes(rt, alloc, (QUESTIONS, TWO_ASKS), workers, &gate, TWO_SHOWN)?;
+    runs(rt, alloc, (QUESTIONS, TWO_ASKS), workers, &gate, TWO_SHOWN)?;
     Ok((gate.meet.seen(), gate.steps.load(Ordering::SeqCst)))
 }
 
+/// The gate is told of as many steps as the dispatcher counts.
 #[test]
 fn two_jobs_meet(rt: HostRuntime) -> Result<(), Fail> {
-    assert_eq!(rt; meetings(&rt, rt.alloc(), "2")?, (2, 18));
-    assert_eq!(rt; meetings(&rt, rt.alloc(), "1")?, (1, 18));
+    let steps = steps_of(&rt, rt.alloc(), QUESTIONS, TWO_ASKS)?;
+    assert_eq!(rt; steps, 18);
+    assert_eq!(rt; meetings(&rt, rt.alloc(), "2")?, (2, steps));
+    assert_eq!(rt; meetings(&rt, rt.alloc(), "1")?, (1, steps));
     Ok(())
 }
 
@@ -153,7 +139,7 @@ fn two_jobs_meet(rt: HostRuntime) -> Result<(), Fail> {
 fn slides<R: Threads + Wait + Sync>(rt: &R, alloc: Global, workers: &str) -> Result<u64, NotMade> {
     let gate = SlideGate::new(TURNS);
     let report = "OUT 1 SHOW 7 F0\nOUT 2 SHOW 8 F0\nOUT 3 SHOW 9 F0\nJOBS 3\nEND DONE\n";
-    writes(rt, alloc, (QUESTIONS, THREE_ASKS), workers, &gate, report)?;
+    runs(rt, alloc, (QUESTIONS, THREE_ASKS), workers, &gate, report)?;
     Ok(gate.seen())
 }
 
@@ -203,7 +189,7 @@ fn each_worker_is_used(rt: HostRuntime) -> Result<(), Fail> {
     };
     let gate = CrowdGate::new(1, 3, threads.max(2).min(3));
     let report = "OUT 1 SHOW 7 F0\nOUT 2 SHOW 8 F0\nOUT 3 SHOW 9 F0\nJOBS 3\nEND DONE\n";
-    writes(&rt, rt.alloc(), (QUESTIONS, THREE_ASKS), "3", &gate, report)?;
+    runs(&rt, rt.alloc(), (QUESTIONS, THREE_ASKS), "3", &gate, report)?;
     assert_eq!(rt; gate.seen.load(Ordering::SeqCst), 3);
     Ok(())
 }
@@ -212,7 +198,7 @@ fn each_worker_is_used(rt: HostRuntime) -> Result<(), Fail> {
 #[test]
 fn more_jobs_fly_than_threads_run(rt: HostRuntime) -> Result<(), Fail> {
     let gate = CrowdGate::new(2, 2, 12);
-    writes(
+    runs(
         &rt,
         rt.alloc(),
         (QUESTIONS, TWELVE_ASKS),

@@ -9,23 +9,20 @@ use job_types::Fault;
 use plex_num::{Memory, Seq, add_number};
 use retire_order::{Event, EventQueue};
 use std::alloc::Global;
+use text_parts::Text;
 
 /// The lines of these events, in order: the part of a report that tells of the events. Memory is the only reason for an error.
-pub fn event_lines(
-    alloc: Global,
-    exchange: &Exchange,
-    events: EventQueue,
-) -> Result<Seq<u8>, Memory>
+pub fn event_lines(alloc: Global, exchange: &Exchange, events: EventQueue) -> Result<Text, Memory>
     ensures { IfOk result (λ text. text ≡ text_of (event_lines exchange.now events)) }
 {
-    let mut text = Seq::new(alloc);
+    let mut text = Text::new(alloc);
     add_events(&mut text, exchange, events)?;
     Ok(text)
 }
 
 /// The line of each event, in order.
 #[tactic(auto, using(crate::proofs::Lines::events_end))]
-pub fn add_events(text: &mut Seq<u8>, exchange: &Exchange, events: EventQueue) -> Result<(), Memory>
+pub fn add_events(text: &mut Text, exchange: &Exchange, events: EventQueue) -> Result<(), Memory>
     ensures { OnOk result (text.new ≡ text.old ++ text_of (event_lines exchange.now events)) }
 {
     let mut left = events;
@@ -36,12 +33,15 @@ pub fn add_events(text: &mut Seq<u8>, exchange: &Exchange, events: EventQueue) -
 }
 
 /// The line of an event.
-fn add_line(text: &mut Seq<u8>, exchange: &Exchange, event: &Event) -> Result<(), Memory>
+fn add_line(text: &mut Text, exchange: &Exchange, event: &Event) -> Result<(), Memory>
     ensures { OnOk result
         (text.new ≡ text.old ++ written (event_line exchange.now (event_of event.now))) }
 {
-    add_event(text, exchange, event)?;
-    text.append(b"\n")
+    let mut end = text.take_end();
+    add_event(&mut end, exchange, event)?;
+    end.append(b"\n")?;
+    text.put(end)?;
+    Ok(())
 }
 
 /// The line of an event, without its end.

@@ -6,10 +6,11 @@ use crate::names::add_held_name;
 use exchange_model::Exchange;
 use forlopp_chain::Chains;
 use job_types::Held;
-use plex_num::{Memory, Seq, add_number};
+use plex_num::{Memory, add_number};
+use text_parts::Text;
 
 /// The line of each record that a forlopp holds, by the numbers of the forlopps.
-pub fn add_holders(text: &mut Seq<u8>, exchange: &Exchange, chains: &Chains) -> Result<(), Memory>
+pub fn add_holders(text: &mut Text, exchange: &Exchange, chains: &Chains) -> Result<(), Memory>
     ensures { OnOk result
         (text.new ≡ text.old ++ text_of (held_lines exchange.now.blocks chains.now.chains)) }
 {
@@ -22,7 +23,7 @@ pub fn add_holders(text: &mut Seq<u8>, exchange: &Exchange, chains: &Chains) -> 
 
 /// The line of each record of a chain.
 fn add_chain(
-    text: &mut Seq<u8>,
+    text: &mut Text,
     exchange: &Exchange,
     forlopp: u64,
     chain: &[Held],
@@ -37,12 +38,15 @@ fn add_chain(
 }
 
 /// `HELD Fn BLOCK.FILE(r)`.
-fn add_held(text: &mut Seq<u8>, exchange: &Exchange, forlopp: u64, held: Held) -> Result<(), Memory>
+fn add_held(text: &mut Text, exchange: &Exchange, forlopp: u64, held: Held) -> Result<(), Memory>
     ensures { OnOk result
         (text.new ≡ text.old ++ written (held_line exchange.now.blocks forlopp held)) }
 {
-    add_number(text, b"HELD F", forlopp)?;
-    text.append(b" ")?;
-    add_held_name(text, exchange, held)?;
-    text.append(b"\n")
+    let mut end = text.take_end();
+    add_number(&mut end, b"HELD F", forlopp)?;
+    end.append(b" ")?;
+    add_held_name(&mut end, exchange, held)?;
+    end.append(b"\n")?;
+    text.put(end)?;
+    Ok(())
 }

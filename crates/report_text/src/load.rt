@@ -1,16 +1,15 @@
 // The summary of a load.
-ghost use Rattle.std.specs.Prelude.{◌≡◌, ◌+◌, ◌<◌, ◌^◌, ◌++◌, IfOk, OnOk};
+ghost use Rattle.std.specs.Prelude.{◌≡◌, ◌+◌, ◌<◌, ◌^◌, IfOk};
 ghost use Rattle.std.specs.List.{count_by};
-ghost use Rattle.std.specs.Fmt.{decimal};
 ghost use Rattle.retire_order.specs.Events.{ending_of, event_of};
 ghost use Rattle.report_text.specs.Load.{is_lost, is_out, is_release, load_text};
-ghost use Rattle.report_text.specs.Report.{written};
 ghost use Rattle.report_text.specs.Tallies.{IsTallied};
 
-use crate::whole::add_ending;
-use plex_num::{Memory, Seq, add_number};
+use crate::whole::{add_counted, add_ending};
+use plex_num::Memory;
 use retire_order::{Books, Ending, Event, EventQueue};
 use std::alloc::Global;
+use text_parts::Text;
 
 /// The summary of a run of a load of so many calls that has left these books, and that has ended so: how many jobs ended, how
 /// many signals left the exchange, how many forlopps were released, and how many lines were lost. Memory is the only reason
@@ -20,10 +19,10 @@ pub fn load_summary(
     calls: u32,
     books: &mut Books,
     ending: Ending,
-) -> Result<Seq<u8>, Memory>
+) -> Result<Text, Memory>
     ensures { IfOk result (λ text. text ≡ load_text calls books.old.state (ending_of ending)) }
 {
-    let mut text = Seq::new(alloc);
+    let mut text = Text::new(alloc);
     add_counted(&mut text, b"LOAD ", u64::from(calls))?;
     add_counted(&mut text, b"JOBS ", books.ended())?;
     let tally = tally_of(books.take_events());
@@ -32,14 +31,6 @@ pub fn load_summary(
     add_counted(&mut text, b"LOST ", tally.lost)?;
     add_ending(&mut text, ending)?;
     Ok(text)
-}
-
-/// A line of a word and a number.
-fn add_counted(text: &mut Seq<u8>, word: &[u8], number: u64) -> Result<(), Memory>
-    ensures { OnOk result (text.new ≡ text.old ++ written (word.now ++ decimal number)) }
-{
-    add_number(text, word, number)?;
-    text.append(b"\n")
 }
 
 /// How many events of each kind there are that a summary tells.

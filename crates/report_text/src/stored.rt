@@ -9,9 +9,10 @@ ghost use Rattle.report_text.specs.Report.{block_lines, field_line, field_lines,
 use crate::names::add_record_name;
 use exchange_model::{Block, Exchange, File, FilePlace, Variable};
 use plex_num::{Memory, Seq, add_number, value_at};
+use text_parts::Text;
 
 /// The line of each variable.
-pub fn add_variables(text: &mut Seq<u8>, exchange: &Exchange, store: &[u32]) -> Result<(), Memory>
+pub fn add_variables(text: &mut Text, exchange: &Exchange, store: &[u32]) -> Result<(), Memory>
     ensures { OnOk result
         (text.new ≡ text.old ++ text_of (variable_lines exchange.now.blocks store.now)) }
 {
@@ -24,7 +25,7 @@ pub fn add_variables(text: &mut Seq<u8>, exchange: &Exchange, store: &[u32]) -> 
 }
 
 /// The line of each variable of a block, the first of which has this cell.
-fn add_block(text: &mut Seq<u8>, block: &Block, first: u32, store: &[u32]) -> Result<(), Memory>
+fn add_block(text: &mut Text, block: &Block, first: u32, store: &[u32]) -> Result<(), Memory>
     ensures { OnOk result
         (text.new ≡ text.old ++ text_of (block_lines store.now first block.now)) }
 {
@@ -37,13 +38,16 @@ fn add_block(text: &mut Seq<u8>, block: &Block, first: u32, store: &[u32]) -> Re
 }
 
 /// `VAR BLOCK.NAME v`.
-fn add_variable(text: &mut Seq<u8>, block: &[u8], name: &[u8], value: u32) -> Result<(), Memory>
+fn add_variable(text: &mut Text, block: &[u8], name: &[u8], value: u32) -> Result<(), Memory>
     ensures { OnOk result
         (text.new ≡ text.old ++ written (variable_line block.now name.now value)) }
 {
-    text.append(b"VAR ")?;
-    text.append(block)?;
-    add_value(text, name, value)
+    let mut end = text.take_end();
+    end.append(b"VAR ")?;
+    end.append(block)?;
+    add_value(&mut end, name, value)?;
+    text.put(end)?;
+    Ok(())
 }
 
 /// `.NAME v`, and the end of the line.
@@ -57,7 +61,7 @@ fn add_value(text: &mut Seq<u8>, name: &[u8], value: u32) -> Result<(), Memory>
 }
 
 /// The line of each field that has not its INIT value.
-pub fn add_fields(text: &mut Seq<u8>, exchange: &Exchange, store: &[u32]) -> Result<(), Memory>
+pub fn add_fields(text: &mut Text, exchange: &Exchange, store: &[u32]) -> Result<(), Memory>
     ensures { OnOk result
         (text.new ≡ text.old ++ text_of (field_lines exchange.now.blocks store.now)) }
 {
@@ -72,7 +76,7 @@ pub fn add_fields(text: &mut Seq<u8>, exchange: &Exchange, store: &[u32]) -> Res
 
 /// The lines of the files of a block, the first of which begins at this cell.
 fn add_files(
-    text: &mut Seq<u8>,
+    text: &mut Text,
     exchange: &Exchange,
     block: u32,
     first: u32,
@@ -95,7 +99,7 @@ fn add_files(
 
 /// The lines of the records of a file.
 fn add_file(
-    text: &mut Seq<u8>,
+    text: &mut Text,
     exchange: &Exchange,
     place: &FilePlace<'_>,
     store: &[u32],
@@ -115,7 +119,7 @@ fn add_file(
 
 /// The lines of the fields of a record.
 fn add_fields_of(
-    text: &mut Seq<u8>,
+    text: &mut Text,
     exchange: &Exchange,
     place: &FilePlace<'_>,
     number: u32,
@@ -144,7 +148,7 @@ fn start_of(place: &FilePlace<'_>, number: u32) -> usize
 
 /// The line of a field, unless that has its INIT value.
 fn add_field(
-    text: &mut Seq<u8>,
+    text: &mut Text,
     exchange: &Exchange,
     place: &FilePlace<'_>,
     number: u32,
@@ -163,7 +167,7 @@ fn add_field(
 
 /// `REC BLOCK.FILE(r).FIELD v`.
 fn add_other(
-    text: &mut Seq<u8>,
+    text: &mut Text,
     exchange: &Exchange,
     place: &FilePlace<'_>,
     number: u32,
@@ -173,7 +177,10 @@ fn add_other(
     ensures { OnOk result (text.new ≡ text.old ++ written (field_line
         (record_name exchange.now.blocks (placed place.now) number) field.now value)) }
 {
-    text.append(b"REC ")?;
-    add_record_name(text, exchange, place, number)?;
-    add_value(text, field, value)
+    let mut end = text.take_end();
+    end.append(b"REC ")?;
+    add_record_name(&mut end, exchange, place, number)?;
+    add_value(&mut end, field, value)?;
+    text.put(end)?;
+    Ok(())
 }

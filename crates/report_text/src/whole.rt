@@ -1,7 +1,8 @@
 ghost use Rattle.std.specs.Prelude.{◌≡◌, ◌++◌, IfOk, OnOk};
+ghost use Rattle.std.specs.Fmt.{decimal};
 ghost use Rattle.retire_order.specs.Accounts.{with_words};
 ghost use Rattle.retire_order.specs.Events.{ending_of};
-ghost use Rattle.report_text.specs.Report.{end_line, jobs_line, report_text, written};
+ghost use Rattle.report_text.specs.Report.{end_line, report_text, written};
 
 use crate::events::add_events;
 use crate::forlopps::add_holders;
@@ -10,6 +11,7 @@ use exchange_model::Exchange;
 use plex_num::{Memory, Seq, add_number};
 use retire_order::{Books, Ending};
 use std::alloc::Global;
+use text_parts::Text;
 
 /// The text of the report of a run of this exchange that has left these books and these stored words, in the order of the
 /// cells, and that has ended so. The books give up their events, whose memory goes as they are written. Memory is the only
@@ -20,18 +22,18 @@ pub fn report(
     books: &mut Books,
     words: &Seq<u32>,
     ending: Ending,
-) -> Result<Seq<u8>, Memory>
+) -> Result<Text, Memory>
     ensures { IfOk result (λ text. text
         ≡ report_text exchange.now (with_words books.old.state words.now) (ending_of ending)) }
 {
-    let mut text = Seq::new(alloc);
+    let mut text = Text::new(alloc);
     add_report(&mut text, exchange, books, words, ending)?;
     Ok(text)
 }
 
 /// Appends the same text.
 pub fn add_report(
-    text: &mut Seq<u8>,
+    text: &mut Text,
     exchange: &Exchange,
     books: &mut Books,
     words: &Seq<u32>,
@@ -41,7 +43,7 @@ pub fn add_report(
         ++ report_text exchange.now (with_words books.old.state words.now) (ending_of ending)) }
 {
     add_events(text, exchange, books.take_events())?;
-    add_jobs(text, books.ended())?;
+    add_counted(text, b"JOBS ", books.ended())?;
     add_variables(text, exchange, words.as_slice())?;
     add_fields(text, exchange, words.as_slice())?;
     add_holders(text, exchange, books.chains())?;
@@ -49,16 +51,19 @@ pub fn add_report(
     Ok(())
 }
 
-/// `JOBS n`.
-fn add_jobs(text: &mut Seq<u8>, ended: u64) -> Result<(), Memory>
-    ensures { OnOk result (text.new ≡ text.old ++ written (jobs_line ended)) }
+/// A line of a word and a number.
+pub(crate) fn add_counted(text: &mut Text, word: &[u8], number: u64) -> Result<(), Memory>
+    ensures { OnOk result (text.new ≡ text.old ++ written (word.now ++ decimal number)) }
 {
-    add_number(text, b"JOBS ", ended)?;
-    text.append(b"\n")
+    let mut end = text.take_end();
+    add_number(&mut end, word, number)?;
+    end.append(b"\n")?;
+    text.put(end)?;
+    Ok(())
 }
 
 /// How the run ended.
-pub(crate) fn add_ending(text: &mut Seq<u8>, ending: Ending) -> Result<(), Memory>
+pub(crate) fn add_ending(text: &mut Text, ending: Ending) -> Result<(), Memory>
     ensures { OnOk result (text.new ≡ text.old ++ written (end_line (ending_of ending))) }
 {
     match ending {

@@ -11,8 +11,9 @@ use std::marker::Model;
 /// How many bytes of events are kept that have been told.
 const KEPT_BYTES: usize = 262_144;
 
-/// The events so far, in order. Contracts see them, and for how many more there is room. An event takes some four to twelve
-/// bytes, 120 at most.
+/// The events so far, in order. Contracts see them, and for how many more there is room. Each number of an event takes a byte
+/// for each seven bits: a signal of small values takes some five bytes, one of eight values of 32 bits some 46, and no event
+/// more than 120.
 #[derive(Drop)]
 pub struct EventLog {
     bytes: Vec<u8>,

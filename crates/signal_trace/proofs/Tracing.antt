@@ -1,25 +1,21 @@
 -- The jobs that a filter shows, turn by turn.
-use Rattle.std.proofs.Common.{◌≡◌, ℕ, zero, suc, ◌+◌, ◌-◌, ◌<◌, List, [], ◌∷◌, ◌++◌, Option, Some, None, refl, sym, ap, ◌∙◌, arith}
+use Rattle.std.proofs.Common.{◌≡◌, ℕ, zero, suc, ◌+◌, List, [], ◌∷◌, ◌++◌, Option, Some, None, refl, sym, ap, ◌∙◌, append_assoc, arith}
 use Rattle.std.specs.List.{cons_option, filter, filter_map, range_with_len}
 use Rattle.std.specs.Option.{option_map, option_map_or}
 use Rattle.std.proofs.lemmas.List.{append-nil}
 use Rattle.std.proofs.lemmas.List.Elements.{filter-append, filter_map-append}
 use Rattle.exchange_model.specs.declared.exchange.Exchange.{Exchange}
-use Rattle.exchange_model.specs.Kept.{IsExchange}
 use Rattle.job_types.specs.declared.job.JobStart.{JobStart}
-use Rattle.job_types.specs.declared.outcome.JobDone.{JobDone}
-use Rattle.source_meaning.specs.Arrivals.{arrivals}
-use Rattle.source_meaning.specs.SingleRun.{Ending, after, end_state, ending_at, turn}
+use Rattle.source_meaning.specs.SingleRun.{after, jobs_at_end, next_start}
 use Rattle.source_meaning.specs.State.{State}
-use Rattle.source_meaning.specs.Valid.{IsValid}
-use Rattle.retire_order.specs.Accounts.{Account, upcoming, with_words}
-use Rattle.exchange_run.specs.Runs.{RunsTo, Stands, left_by}
-use Rattle.exchange_run.proofs.Turning.{stands_begin, stands_end, stands_fewer, stands_more, stands_valid, turn_ended, turn_starts, upcoming_is}
+use Rattle.exchange_run.specs.Runs.{left_by, told_next, told_of}
+use Rattle.exchange_run.proofs.Turning.{counted}
 use Rattle.signal_trace.specs.declared.show.Show.{Show}
 use Rattle.signal_trace.specs.declared.tracer.TracedJob.{TracedJob}
+use Rattle.signal_trace.specs.declared.tracer.Tracer.{Tracer}
 use Rattle.signal_trace.specs.Text.{trace_text}
 use Rattle.signal_trace.specs.Trace.{first_jobs, is_shown, next_job, trace, traced}
-use Rattle.signal_trace.specs.Turns.{one_if_shown, shown_next}
+use Rattle.signal_trace.specs.Turns.{one_if_shown, shown_next, told}
 use Rattle.signal_trace.proofs.Telling.{none_told, told_both}
 
 -- one more number at the end of a range
@@ -41,61 +37,42 @@ one_filtered : (x : Exchange) (ls : List Show) (o : Option TracedJob) → filter
 one_filtered x ls None = refl
 one_filtered x ls (Some t) = refl
 
--- the text so far is that of the jobs that a filter shows
-pub record Traces (x : Exchange) (first : State) (limit : ℕ) (ls : List Show) (b : Account) (words text : List ℕ) : Type 0 where
-  pub turns : ℕ
-  pub stands : Stands x first limit turns b words
-  pub told : text ≡ trace_text x (filter (is_shown x ls) (first_jobs x first turns))
+shown_more : (x : Exchange) (first : State) (ls : List Show) (n : ℕ) → filter (is_shown x ls) (first_jobs x first n) ++ shown_next x ls (after x first n) ≡ filter (is_shown x ls) (first_jobs x first (suc n))
+shown_more x first ls n =
+    sym (ap (filter (is_shown x ls)) (jobs_more x first n)
+    ∙ filter-append (is_shown x ls) (first_jobs x first n) (cons_option (next_job x (after x first n)) [])
+    ∙ ap (λ ts. filter (is_shown x ls) (first_jobs x first n) ++ ts) (one_filtered x ls (next_job x (after x first n))))
 
-pub traces_begin : (x : Exchange) (ls : List Show) (before b : Account) (words text : List ℕ) → IsExchange x → IsValid x (with_words before.state words) → before.state.ended ≡ 0 → before.running ≡ 0 → text ≡ [] → b ≡ record before { state = arrivals x before.state } → Traces x (with_words before.state words) before.limit ls b words text
-unfolding first_jobs
-traces_begin x ls before b words text kept valid none nobody empty arrived = record {
-  turns = 0;
-  stands = stands_begin x kept (with_words before.state words) before.limit valid before b words refl none nobody refl arrived;
-  told = empty ∙ sym (none_told x);
-}
+-- where no job is shown, the text stays
+unchanged : (x : Exchange) (t : Tracer) → t ≡ record t { text = t.text ++ trace_text x [] }
+unchanged x t = λ i. record t { text = sym (ap (λ s. t.text ++ s) (none_told x) ∙ append-nil t.text) i }
 
-module _ (x : Exchange) (first : State) (limit : ℕ) (ls : List Show) (b : Account) (words text : List ℕ) (kept : IsExchange x) (valid : IsValid x first) (t : Traces x first limit ls b words text) where
-  pub traces_valid : IsValid x (with_words b.state words)
-  traces_valid = stands_valid x kept first limit valid t.turns b words t.stands
+next_told : (x : Exchange) (s : State) (t : Tracer) → told_next told x s t ≡ record t { text = t.text ++ trace_text x (shown_next x t.shows.now s) }
+next_told x s t = by (next_start s)
+  where
+    by : (o : Option JobStart) → option_map_or (λ start. told t x (s.ended + 1) start (left_by x start s.store)) o t ≡ record t { text = t.text ++ trace_text x (option_map_or (one_if_shown x t.shows.now) (option_map (λ start. traced (s.ended + 1) start (left_by x start s.store)) o) []) }
+    by None = unchanged x t
+    by (Some start) = refl
 
-  pub traces_more : (next : Account) (now more : List ℕ) → ending_at b.limit b.state ≡ None → with_words next.state now ≡ turn x (with_words b.state words) → next.running ≡ 0 → next.limit ≡ b.limit → more ≡ text ++ trace_text x (shown_next x ls (with_words b.state words)) → Traces x first limit ls next now more
-  traces_more next now more goes turned nobody same is =
-      let next_jobs : filter (is_shown x ls) (first_jobs x first t.turns) ++ shown_next x ls (after x first t.turns) ≡ filter (is_shown x ls) (first_jobs x first (suc t.turns)) =
-      sym (ap (filter (is_shown x ls)) (jobs_more x first t.turns)
-      ∙ filter-append (is_shown x ls) (first_jobs x first t.turns) (cons_option (next_job x (after x first t.turns)) [])
-      ∙ ap (λ ts. filter (is_shown x ls) (first_jobs x first t.turns) ++ ts) (one_filtered x ls (next_job x (after x first t.turns)))) in
-      record {
-        turns = suc t.turns;
-        stands = stands_more x kept first limit valid t.turns b words t.stands next now goes turned nobody same;
-        told =
-            is
-            ∙ (λ i. t.told i ++ trace_text x (shown_next x ls (t.stands.state i)))
-            ∙ sym (told_both x (filter (is_shown x ls) (first_jobs x first t.turns)) (shown_next x ls (after x first t.turns)))
-            ∙ ap (trace_text x) next_jobs;
-      }
+-- a tracer that was told of the first jobs has the text of those that are shown
+told_text : (x : Exchange) (first : State) (n : ℕ) (t : Tracer) → told_of told x first n t ≡ record t { text = t.text ++ trace_text x (filter (is_shown x t.shows.now) (first_jobs x first n)) }
+unfolding told_of first_jobs
+told_text x first zero t = unchanged x t
+told_text x first (suc n) t =
+    let ls = t.shows.now in
+    let so_far = filter (is_shown x ls) (first_jobs x first n) in
+    let next = shown_next x ls (after x first n) in
+    let joined : t.text ++ trace_text x so_far ++ trace_text x next ≡ t.text ++ trace_text x (filter (is_shown x ls) (first_jobs x first (suc n))) =
+    append_assoc t.text (trace_text x so_far) (trace_text x next)
+    ∙ ap (λ s. t.text ++ s) (sym (told_both x so_far next) ∙ ap (trace_text x) (shown_more x first ls n)) in
+    ap (told_next told x (after x first n)) (told_text x first n t)
+    ∙ next_told x (after x first n) (record t { text = t.text ++ trace_text x so_far })
+    ∙ (λ i. record t { text = joined i })
 
-  pub traces_fewer : (next : Account) (now : List ℕ) → ending_at b.limit b.state ≡ None → with_words next.state now ≡ turn x (with_words b.state words) → next.running ≡ 0 → next.limit ≡ b.limit → limit - next.state.ended < limit - b.state.ended
-  traces_fewer next now goes turned nobody same =
-      stands_fewer x kept first limit valid t.turns b words t.stands next now goes
-      (stands_more x kept first limit valid t.turns b words t.stands next now goes turned nobody same)
-
-  pub traces_end : (e : Ending) → Some e ≡ ending_at b.limit b.state → RunsTo x first limit b.state words e
-  traces_end e is = stands_end x kept first limit valid t.turns b words t.stands e is
-
-  pub traces_all : (e : Ending) → Some e ≡ ending_at b.limit b.state → text ≡ trace_text x (trace x limit first ls)
-  traces_all e is =
-      let count : t.turns ≡ (end_state x limit first).ended = sym t.stands.ended ∙ ap (λ (s : State). s.ended) (traces_end e is).state in
-      t.told ∙ ap (λ n. trace_text x (filter (is_shown x ls) (first_jobs x first n))) count
-
--- the job that has run in a turn
-pub shown_is : (x : Exchange) (ls : List Show) (b next : Account) (words now : List ℕ) (start : JobStart) (done : JobDone) (number : ℕ) → Some start ≡ upcoming b → b.running ≡ 0 → ending_at b.limit b.state ≡ None → with_words next.state now ≡ turn x (with_words b.state words) → number ≡ next.state.ended → done ≡ left_by x start words → one_if_shown x ls (traced number start done) ≡ shown_next x ls (with_words b.state words)
-shown_is x ls b next words now start done number is nobody goes turned number_is done_is =
-    let count : number ≡ b.state.ended + 1 = number_is ∙ ap (λ (s : State). s.ended) turned ∙ turn_ended x (with_words b.state words) b.limit goes in
-    (λ i. one_if_shown x ls (traced (count i) start (done_is i)))
-    ∙ sym (ap (λ o. option_map_or (one_if_shown x ls) (option_map (λ begins. traced (b.state.ended + 1) begins (left_by x begins words)) o) []) (turn_starts b start is nobody goes))
-
--- where none has run, there is none to be told of
-pub none_shown : (x : Exchange) (ls : List Show) (b : Account) (words text : List ℕ) → None ≡ upcoming b → b.running ≡ 0 → ending_at b.limit b.state ≡ None → text ≡ text ++ trace_text x (shown_next x ls (with_words b.state words))
-none_shown x ls b words text is nobody goes =
-    sym (ap (λ o. text ++ trace_text x (option_map_or (one_if_shown x ls) (option_map (λ begins. traced (b.state.ended + 1) begins (left_by x begins words)) o) [])) (sym (is ∙ upcoming_is b nobody goes)) ∙ ap (λ t. text ++ t) (none_told x) ∙ append-nil text)
+-- at the end of a run that begins before the first job has ended, it has the text of the trace
+pub told_all : (x : Exchange) (first : State) (limit : ℕ) (ls : List Show) (t u : Tracer) → first.ended ≡ 0 → t.text ≡ [] → t.shows.now ≡ ls → u ≡ told_of told x first (jobs_at_end x limit first) t → u.text ≡ trace_text x (trace x limit first ls)
+told_all x first limit ls t u none empty lines is =
+    let n = jobs_at_end x limit first in
+    ap (λ (w : Tracer). w.text) (is ∙ told_text x first n t)
+    ∙ (λ i. empty i ++ trace_text x (filter (is_shown x (lines i)) (first_jobs x first n)))
+    ∙ ap (λ k. trace_text x (filter (is_shown x ls) (first_jobs x first k))) (sym (counted x first none limit n (omega arith)))

@@ -1,15 +1,15 @@
 // The jobs that a filter shows, as they end.
-ghost use Rattle.std.specs.Prelude.{◌≡◌, ◌++◌, IfOk, OnOk};
-ghost use Rattle.signal_trace.specs.Text.{trace_text};
-ghost use Rattle.signal_trace.specs.Trace.{shows_job, traced};
-ghost use Rattle.signal_trace.specs.Turns.{one_if_shown};
+ghost use Rattle.std.specs.Prelude.{◌≡◌, IfOk};
+ghost use Rattle.signal_trace.specs.Trace.{shows_job};
 
 use crate::table::ShowTable;
 use crate::text::add_job;
 use exchange_model::Exchange;
+use exchange_run::Watcher;
 use job_types::{JobDone, JobStart, Outbox, Outcome, Sent};
 use plex_num::{Memory, Seq};
 use std::alloc::Global;
+use text_parts::Text;
 
 /// A job of a run: its number, from 1, in the order in which the jobs ended; how it started; the signals that it sent, in order;
 /// and how it ended.
@@ -36,33 +36,34 @@ impl Drop for TracedJob {
 pub(crate) struct Tracer<'a> {
     pub alloc: Global,
     pub shows: &'a ShowTable<'a>,
-    pub text: Seq<u8>,
+    pub text: Text,
 }
 
-impl Tracer<'_> {
-    /// Tells of a job that has ended, if some line shows it.
-    pub fn note(
+impl Watcher for Tracer<'_> {
+    ghost use Rattle.signal_trace.specs.Turns.{told};
+
+    ghost told = { told };
+
+    fn note(
         &mut self,
         exchange: &Exchange,
         number: u64,
-        start: JobStart,
+        start: &JobStart,
         done: &JobDone,
-    ) -> Result<(), Memory>
-        ensures lines { self.new.shows.now ≡ self.old.shows.now }
-        ensures text { OnOk result (self.new.text ≡ self.old.text ++ trace_text exchange.now
-            (one_if_shown exchange.now self.old.shows.now (traced number start done.now))) }
-    {
-        if !is_shown(exchange, self.shows, number, &start, done.outcome) {
+    ) -> Result<(), Memory> {
+        if !is_shown(exchange, self.shows, number, start, done.outcome) {
             return Ok(());
         }
         let sends = sends_of(self.alloc, &done.sends)?;
         let job = TracedJob {
             number,
-            start,
+            start: start.copy(),
             sends,
             outcome: done.outcome,
         };
-        add_job(&mut self.text, exchange, &job)?;
+        let mut end = self.text.take_end();
+        add_job(&mut end, exchange, &job)?;
+        self.text.put(end)?;
         Ok(())
     }
 }

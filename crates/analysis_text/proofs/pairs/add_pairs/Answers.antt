@@ -1,16 +1,19 @@
 use Rattle.std.proofs.Common.{length}
 use Rattle.analysis_text.specs.Pairs.{IsTextOf}
-use Rattle.analysis_text.proofs.Turns.{turns_begin, turns_more, turns_end}
+use Rattle.analysis_text.proofs.Turns.{grown_end, turns_begin, turns_more, turns_end}
 use Rattle.analysis_text.proofs.pairs.add_pairs.Goals as goal
 
 pub loop-number-init : goal.loop-number-init
 loop-number-init c = (turns_begin (IsTextOf c.args.names.now c.args.summaries.now) c.args.text.now, c.in_ok-told.ensures c.args.summaries.now)
 
 pub loop-number-preserved : goal.loop-number-preserved
-loop-number-preserved c = (
-  turns_more (IsTextOf c.args.names.now c.args.summaries.now) c.loop-number.number c.args.text.now c.loop-number.text c.add_row.new.text c.loop-number.invariant.0 c.in_ok-add_row.ensures.row,
-  c.in_ok-add_row.ensures.told,
-)
+loop-number-preserved c =
+    let row =
+    grown_end (IsTextOf c.args.names.now c.args.summaries.now c.loop-number.number) c.loop-number.text c.take_end-end.new.self c.take_end-end.result c.add_row.new.text c.put.new.self
+    c.take_end-end.ensures c.in_ok-add_row.ensures.row c.in_ok-put.ensures in (
+      turns_more (IsTextOf c.args.names.now c.args.summaries.now) c.loop-number.number c.args.text.now c.loop-number.text c.put.new.self c.loop-number.invariant.0 row,
+      c.in_ok-add_row.ensures.told,
+    )
 
 pub returns : goal.returns
 returns c =

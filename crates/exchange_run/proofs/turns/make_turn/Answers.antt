@@ -1,5 +1,5 @@
-use Rattle.std.proofs.Common.{◌≡◌, subst}
-use Rattle.exchange_run.proofs.Turning.{may_be, may_retire, may_run, one_start, turn_more}
+use Rattle.std.proofs.Common.{◌≡◌}
+use Rattle.exchange_run.proofs.Turning.{may_be, may_retire, may_run, told_turn, turn_more}
 use Rattle.exchange_run.specs.Runs.{left_by}
 use Rattle.exchange_run.proofs.turns.make_turn.Goals as goal
 
@@ -19,5 +19,10 @@ returns-clause-state g c =
     let done : c.done.result.now ≡ left_by c.args.exchange.now c.in-Some.start c.args.words.now = c.done.ensures (left_by c.args.exchange.now c.in-Some.start c.args.words.now) c.in_ok-run.ensures.done in
     turn_more c.args.exchange.now c.args.books.now c.next_job.new.self c.retire.new.self c.let_arrive.new.books c.in-Some.start c.done.result.now c.args.words.now c.run.new.words c.retire.new.words c.in-Some.ensures.start c.requires.nobody c.requires.goes_on c.in-Some.ensures.left done c.in_ok-run.ensures.words c.in_ok-retire.ensures.retired.state c.in_ok-let_arrive.ensures
 
-pub returns-clause-done : goal.returns-clause-done
-returns-clause-done g c = λ start is. subst (λ s. g.R.Runner.has_left c.run.new.self (left_by c.args.exchange.now s c.args.words.now)) (one_start c.args.books.now c.in-Some.start start c.in-Some.ensures.start is) c.in_ok-run.ensures.done
+pub returns-clause-watcher : goal.returns-clause-watcher
+returns-clause-watcher g c =
+    let leaves = left_by c.args.exchange.now c.in-Some.start c.args.words.now in
+    let done : c.done.result.now ≡ leaves = c.done.ensures leaves c.in_ok-run.ensures.done in
+    let again : c.done-2.result.now ≡ leaves = c.done-2.ensures leaves c.in_ok-run.ensures.done in
+    let turned = turn_more c.args.exchange.now c.args.books.now c.next_job.new.self c.retire.new.self c.let_arrive.new.books c.in-Some.start c.done.result.now c.args.words.now c.run.new.words c.retire.new.words c.in-Some.ensures.start c.requires.nobody c.requires.goes_on c.in-Some.ensures.left done c.in_ok-run.ensures.words c.in_ok-retire.ensures.retired.state c.in_ok-let_arrive.ensures in
+    told_turn g.W.Watcher.told c.args.exchange.now c.args.books.now c.let_arrive.new.books c.args.words.now c.retire.new.words c.in-Some.start c.done-2.result.now c.ended.result c.args.watcher.now c.note.new.self c.in-Some.ensures.start c.requires.nobody c.requires.goes_on turned c.ended.ensures again c.in_ok-note.ensures

@@ -1,0 +1,5 @@
+use Rattle.merge_program.proofs.Once.{answer_once}
+use Rattle.merge_program.proofs.laws.answers_are_one.Goals as goal
+
+pub returns : goal.returns
+returns c = answer_once
