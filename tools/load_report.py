@@ -6,7 +6,7 @@ with the chosen count. `text_of(exchange, figures)` gives the lines for a reader
 import why_lines
 from load_play import END, FULL, LINE, SAME, SENDER, Rules, keys_of, play
 
-WORST, SHOWN, OTHERS, SHORT = 10, 20, 3, 400
+WORST, SHOWN, OTHERS, SHORT = 10, 20, 3, 4000
 WAITS = {"pair": "pair", LINE: "line", SENDER: "sender", END: "end"}
 HEADS = ["workers", "speed-up", "time", "in the window", "full", *WAITS.values()]
 MEANING = (

@@ -1,8 +1,8 @@
 """Exchange texts with signal files, made by chance, which break no rule and whose jobs come far.
 
 `made_case(chance)` gives a `Case`, with a family of entries on purpose where one is named; `made_table(case,
-chance)` gives a table of periodic signals for it, and `made_other(case, chance)` an exchange text to which it may
-change. An exchange has one to four blocks, and each of these one to three families of entries. A family says what
+chance)` gives a table of periodic signals for it, `made_other(case, chance)` an exchange text to which it may
+change, and `with_long_jobs(exchange)` the same text with long jobs. An exchange has one to four blocks, and each of these one to three families of entries. A family says what
 its jobs are made for:
 
   call   one seizes a record, later ones of its forlopp work on it, and the last one frees it
@@ -16,6 +16,7 @@ Jobs of the first four pass as pairs where their forlopps and their values diffe
 others conflict, and fault in each way.
 """
 import copy
+import re
 
 LEVELS = "ABCD"
 RELATIONS = ["=", "<>", "<", "<=", ">", ">="]
@@ -773,6 +774,12 @@ def changed_block(block, chance):
     for file in block.plain:
         file.size = max(1, file.size - chance.choice([0, 0, 2, 6]))
     block.items, block.labels, block.sends = [], 0, {}
+
+
+def with_long_jobs(exchange):
+    """The same exchange with a loop of 3,000 turns behind each ENTER, so that all jobs are long."""
+    text = exchange.replace(b"DECLARE;", b"DECLARE; TEMPORARY SPUN;")
+    return re.sub(rb"^(ENTER [^;]*;)", rb"\1\nON SPUN FROM 1 UPTO 3000 DO NO;", text, flags=re.M)
 
 
 def made_other(case, chance, lacks=None):

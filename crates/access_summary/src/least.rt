@@ -5,7 +5,7 @@ ghost use Rattle.std.specs.List.{Contains};
 ghost use Rattle.std.specs.List.Sorted.{IsStrictlySortedBy};
 ghost use Rattle.flow_points.specs.declared.fact.Fact.{Fact as FactType};
 ghost use Rattle.flow_points.specs.Facts.{IsLeast};
-ghost use Rattle.flow_table.specs.Rows.{IsTable};
+ghost use Rattle.flow_table.specs.Rows.{IsFlowTable};
 ghost use Rattle.flow_table.specs.Texts.{ArePlaces, seen};
 ghost use Rattle.fact_rows.specs.Orders.{fact_order};
 ghost use Rattle.least_facts.specs.Least.{HasLearned};
@@ -24,11 +24,11 @@ use least_facts::Analyser;
 use plex_num::{Memory, Seq};
 use std::alloc::Global;
 
-/// How many facts are looked at, about, to tell what entries do where they have few. That takes an eighth of a second.
-const MOST_LOOKS: usize = 524_288;
+/// The part of all looks that may be spent on one entry: what they find takes memory, some 100 bytes for each.
+const PART_OF_ENTRY: usize = 16;
 
-/// How many of one entry, which take the memory of some three megabytes.
-const MOST_OF_ENTRY: usize = 32_768;
+/// So many points of the table are gone over for an entry in the time of a look at a fact.
+const POINTS_OF_LOOK: usize = 6;
 
 /// The summary of each entry, by the least facts.
 pub fn summaries_of(alloc: Global, exchange: &Exchange) -> Result<Summaries, Memory>
@@ -38,14 +38,19 @@ pub fn summaries_of(alloc: Global, exchange: &Exchange) -> Result<Summaries, Mem
     Ok(told.unwrap())
 }
 
-/// The same where the entries have few facts; `None` where so many are to be looked at that it would take long, or much memory.
-pub fn summaries_if_few(alloc: Global, exchange: &Exchange) -> Result<Option<Summaries>, Memory>
+/// The same with so many looks at facts, about, each of which takes a quarter of a microsecond; `None` where more are wanted, or more
+/// than a sixteenth of them for one entry.
+pub fn summaries_if_few(
+    alloc: Global,
+    exchange: &Exchange,
+    looks: usize,
+) -> Result<Option<Summaries>, Memory>
     ensures { IfOk result (λ told. IfSome told (AreSummaries exchange.now)) }
 {
-    summaries_within(alloc, exchange, Some(MOST_LOOKS))
+    summaries_within(alloc, exchange, Some(looks))
 }
 
-/// The summary of each entry, if there is no bound, or if so many facts are to be looked at, at most.
+/// The summary of each entry, if there is no bound, or if so many looks are enough.
 fn summaries_within(
     alloc: Global,
     exchange: &Exchange,
@@ -59,14 +64,16 @@ fn summaries_within(
     let places = places_of(alloc, exchange)?;
     let numbers = numbers_of(alloc, exchange)?;
     let mut analyser = Analyser::new(alloc, exchange, &table)?;
+    let points = table.rows.len() / POINTS_OF_LOOK;
     let mut summaries = Summaries::new(alloc);
     let mut left = most;
     for entry in 0..exchange.entries.len() {
-        let told = analyser.learn(alloc, exchange, &table, entry as u32, most_of_entry(left))?;
+        let bound = most_of_entry(most, left);
+        let told = analyser.learn(alloc, exchange, &table, entry as u32, bound)?;
         let Some(looked) = told else {
             return Ok(None);
         };
-        left = less(left, looked);
+        left = less(left, looked.saturating_add(points));
         summaries.push(summarise(
             alloc,
             exchange,
@@ -80,13 +87,13 @@ fn summaries_within(
     Ok(Some(summaries))
 }
 
-/// How many facts of one entry may be looked at, where so many of all may.
-fn most_of_entry(left: Option<usize>) -> Option<usize>
+/// How many looks there may be for one entry, of so many in all, so many of which are left.
+fn most_of_entry(most: Option<usize>, left: Option<usize>) -> Option<usize>
     ensures { left ≡ None → result ≡ None }
 {
-    match left {
-        Some(left) => Some(left.min(MOST_OF_ENTRY)),
-        None => None,
+    match (most, left) {
+        (Some(most), Some(left)) => Some(left.min(most / PART_OF_ENTRY)),
+        _ => None,
     }
 }
 
@@ -111,7 +118,7 @@ fn summarise(
     analyser: &Analyser,
     entry: u32,
 ) -> Result<Summary, Memory>
-    requires table { IsTable exchange.now table.now }
+    requires table { IsFlowTable exchange.now table.now }
     requires places { ArePlaces exchange.now (map seen places.now) }
     requires numbers { AreNumbers exchange.now numbers.now }
     requires learned { HasLearned exchange.now entry analyser.now }

@@ -1,6 +1,6 @@
 // The summary of an entry.
 ghost use Rattle.std.specs.Prelude.{map, IfOk};
-ghost use Rattle.flow_table.specs.Rows.{IsTable};
+ghost use Rattle.flow_table.specs.Rows.{IsFlowTable};
 ghost use Rattle.flow_table.specs.Texts.{ArePlaces, seen};
 ghost use Rattle.exchange_model.specs.Names.{level_of};
 ghost use Rattle.entry_accesses.specs.Numbered.{AreNumbers};
@@ -25,7 +25,7 @@ pub fn summary_of<K: KnownFacts>(
     known: &K,
     entry: u32,
 ) -> Result<Summary, Memory>
-    requires table { IsTable exchange.now table.now }
+    requires table { IsFlowTable exchange.now table.now }
     requires places { ArePlaces exchange.now (map seen places.now) }
     requires numbers { AreNumbers exchange.now numbers.now }
     ensures { IfOk result (IsSummary exchange.now (K.knows known.now) entry) }

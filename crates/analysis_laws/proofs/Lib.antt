@@ -1,5 +1,6 @@
+pub mod Certifying
+pub mod Keeping
+pub mod Refusing
 pub mod Rising
 pub mod Summing
 pub mod Telling
-pub mod Certifying
-pub mod Refusing

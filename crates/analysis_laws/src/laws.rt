@@ -1,6 +1,7 @@
 // What has one value alone, said by clauses.
 ghost use Rattle.std.specs.Prelude.{◌≡◌, ◌≢◌, ℕ, List};
 ghost use Rattle.std.specs.List.{Contains};
+ghost use Rattle.std.specs.List.Sorted.{IsStrictlySortedBy};
 ghost use Rattle.exchange_model.specs.declared.exchange.Exchange.{Exchange};
 ghost use Rattle.flow_points.specs.declared.fact.Fact.{Fact};
 ghost use Rattle.flow_points.specs.Facts.{IsLeast};
@@ -8,11 +9,13 @@ ghost use Rattle.entry_summary.specs.declared.summary.Summary.{Summary};
 ghost use Rattle.entry_summary.specs.Summaries.{IsSummary};
 ghost use Rattle.access_summary.specs.Least.{AreSummaries};
 ghost use Rattle.analysis_text.specs.Analysis.{IsAnalysis};
+ghost use Rattle.certificate_text.specs.Text.{fact_order};
 ghost use Rattle.certificate_text.specs.declared.certificate.Certificate.{Certificate};
 ghost use Rattle.certificate.specs.Certified.{IsCertificate, IsTextOfCertificate};
 ghost use Rattle.checked.specs.declared.fault.CertFault.{CertFault};
 ghost use Rattle.checked.specs.declared.fault.CertFault.TheVariants.{Memory};
-ghost use Rattle.checked.specs.Verdicts.{Refuses};
+ghost use Rattle.checked.specs.Kept.{KeptSummaries};
+ghost use Rattle.checked.specs.Verdicts.{Accepts, Refuses};
 
 /// What facts say of the jobs of an entry is one summary, and an exchange has one list of summaries by its least facts.
 pub fn summaries_are_one()
@@ -42,4 +45,12 @@ pub fn certificates_are_one()
 pub fn refusals_are_one()
     ensures { (x : Exchange) (c : Certificate) (one other : CertFault)
         → one ≢ Memory → other ≢ Memory → Refuses x c one → Refuses x c other → one ≡ other }
+{}
+
+/// What is kept of a certificate is one, and its facts are kept as they are where they stand in their order, each once.
+pub fn kept_summaries_are_one()
+    ensures kept { (x : Exchange) (c : Certificate) (k l : KeptSummaries)
+        → Accepts x c k → Accepts x c l → k ≡ l }
+    ensures facts { (x : Exchange) (c : Certificate) (k : KeptSummaries)
+        → IsStrictlySortedBy fact_order c.facts → Accepts x c k → k.facts ≡ c.facts }
 {}

@@ -12,7 +12,16 @@ use Rattle.command_words.specs.declared.command.Command.{Command}
 use Rattle.command_words.specs.declared.command.Command.TheVariants.{Run, Single, Analyse, Certify, List as Listing, Load, Timed, Change, Trace}
 use Rattle.command_words.specs.declared.command.ChangeWords.{ChangeWords}
 use Rattle.command_words.specs.declared.command.RunWords.{RunWords}
-use Rattle.plex_program.specs.Answer.{AnswersAnalysis, AnswersCertificate, AnswersChange, ChangeComes, ChangesOrNot, FromExchange, GoesOn, IsAnswer, IsAnswerBy, IsCertifiedRun, Out, RunComes, answer_of, as_new, changed_answer, exchange_at, is_changed, lines_at, list_of, load_of, misfit_answer, or_uncertified, performed, run_answer, run_of, state_at, text_at, timed_of, trace_of, usage_answer}
+use Rattle.plex_program.specs.Outcome.{GoesOn, Out}
+use Rattle.plex_program.specs.Given.{exchange_at, lines_at, text_at}
+use Rattle.plex_program.specs.RunAnswer.{IsCertifiedRun, RunComes, or_certificate_fault, run_answer, run_of}
+use Rattle.plex_program.specs.TimedAnswer.{timed_of}
+use Rattle.plex_program.specs.TraceAnswer.{trace_of}
+use Rattle.plex_program.specs.ChangeAnswer.{AnswersChange, ChangeComes, ChangesOrNot, as_new, changed_answer, is_changed, misfit_answer, state_at}
+use Rattle.plex_program.specs.ListAnswer.{list_of}
+use Rattle.plex_program.specs.LoadAnswer.{load_of}
+use Rattle.plex_program.specs.ExchangeAnswer.{AnswersAnalysis, AnswersCertificate, FromExchange}
+use Rattle.plex_program.specs.Answer.{IsAnswer, IsAnswerBy, answer_of, performed, usage_answer}
 use Rattle.plex_program.specs.declared.perform.Answer.{Answer}
 use Rattle.plex_program.specs.declared.program.Status.TheVariants as status
 use Rattle.plex_program.proofs.Accepted.{accepted}
@@ -41,7 +50,7 @@ exchange_kept name files x comes = (accepted name files x comes).kept
 -- a run with a certificate
 
 certified_run : (x : Exchange) → IsExchange x → (text : Option (List ℕ)) (a : Answer) → Comes (IsCertifiedRun x text a)
-certified_run x kept text a = (let j = judged x kept text in (or_uncertified j.0 a, record { fault = j.0; judged = j.1; comes = refl }))
+certified_run x kept text a = (let j = judged x kept text in (or_certificate_fault j.0 a, record { fault = j.0; judged = j.1; comes = refl }))
 
 run : (w : RunWords) (name : Option Word) (files : Files) → Comes (RunComes w name files)
 run w None files = (run_of w files, refl)

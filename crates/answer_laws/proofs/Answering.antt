@@ -19,7 +19,12 @@ use Rattle.command_words.specs.declared.command.RunWords.{RunWords}
 use Rattle.analysis_laws.proofs.Certifying.{certificate_once}
 use Rattle.analysis_laws.proofs.Summing.{all_summaries_once}
 use Rattle.analysis_laws.proofs.Telling.{analysis_once}
-use Rattle.plex_program.specs.Answer.{AnswersAnalysis, AnswersCertificate, AnswersChange, ChangeAnswers, ChangeComes, ChangesOrNot, FromExchange, GoesOn, IsAnAnswer, IsAnswer, IsAnswerBy, IsCertifiedRun, Out, RunComes, answer_of, as_new, changed_answer, exchange_at, is_changed, lines_at, new_exchange_at, or_uncertified, performed, run_answer, state_at, text_at}
+use Rattle.plex_program.specs.Outcome.{GoesOn, IsAnAnswer, Out}
+use Rattle.plex_program.specs.Given.{exchange_at, lines_at, text_at}
+use Rattle.plex_program.specs.RunAnswer.{IsCertifiedRun, RunComes, or_certificate_fault, run_answer}
+use Rattle.plex_program.specs.ChangeAnswer.{AnswersChange, ChangeAnswers, ChangeComes, ChangesOrNot, as_new, changed_answer, is_changed, new_exchange_at, state_at}
+use Rattle.plex_program.specs.ExchangeAnswer.{AnswersAnalysis, AnswersCertificate, FromExchange}
+use Rattle.plex_program.specs.Answer.{IsAnswer, IsAnswerBy, answer_of, performed}
 use Rattle.plex_program.specs.declared.perform.Answer.{Answer}
 use Rattle.plex_program.proofs.Accepted.{accepted}
 use Rattle.answer_laws.proofs.Judging.{judged_once}
@@ -32,7 +37,7 @@ goes_once (Err r) Go o p once one other = sym one ∙ other
 -- a run with a certificate
 
 certified_once : (x : Exchange) (text : Option (List ℕ)) (a : Answer) (o p : Out Answer) → IsCertifiedRun x text a o → IsCertifiedRun x text a p → o ≡ p
-certified_once x text a o p one other = sym one.comes ∙ ap (λ f. or_uncertified f a) (judged_once x text one.fault other.fault one.judged other.judged) ∙ other.comes
+certified_once x text a o p one other = sym one.comes ∙ ap (λ f. or_certificate_fault f a) (judged_once x text one.fault other.fault one.judged other.judged) ∙ other.comes
 
 run_once : (w : RunWords) (name : Option Word) (files : Files) (o p : Out Answer) → RunComes w name files o → RunComes w name files p → o ≡ p
 run_once w None files o p one other = sym one ∙ other

@@ -20,7 +20,7 @@ use Rattle.exchange_model.specs.Cells.{Placed, placed_files}
 use Rattle.exchange_model.specs.Index.{is_entry}
 use Rattle.exchange_model.specs.Kept.{IsExchange, signal_count}
 use Rattle.exchange_model.proofs.Facts.{file_number}
-use Rattle.exchange_model.proofs.Places.{Stands, stands}
+use Rattle.exchange_model.proofs.Places.{FileStands, stands}
 use Rattle.job_types.specs.declared.chain.Held.{Held}
 use Rattle.exchange_model.specs.Names.{level_of, signal_level}
 use Rattle.source_meaning.specs.Config.{files_of}
@@ -186,7 +186,7 @@ lacks_not y block f kind none = not-false (takes (file_named y.blocks block f.na
 pub new_file_is : (x y : Exchange) → IsExchange y → misfit x y ≡ None → (f : ℕ) (p : Placed) → slice_get (placed_files x.blocks) f ≡ Some p → p.file.forlopp ≡ true → IsNewFile x y f p
 new_file_is x y kept fits f p at kind = by (file_named y.blocks s.owner.name p.file.name) refl (lacks_not y s.owner.name p.file kind (files_there x y fits p.block s.place s.owner p.file s.there s.own))
   where
-    s : Stands x.blocks p
+    s : FileStands x.blocks p
     s = stands x.blocks f p at
 
     same : same_file x.blocks y.blocks f ≡ file_named y.blocks s.owner.name p.file.name

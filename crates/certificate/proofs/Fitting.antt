@@ -29,6 +29,7 @@ use Rattle.fact_rows.specs.Values.{HasNumber, IsAwaited, IsNumbered}
 use Rattle.least_facts.specs.Fit.{Awaited, Numbered, SourceFits}
 use Rattle.least_facts.proofs.Numbering.{leads_fit, start_fits}
 use Rattle.certificate_text.specs.Text.{FactFits, SlotFits, ValueFits}
+use Rattle.certificate.proofs.Reaching.{least_slot}
 
 -- values
 
@@ -116,13 +117,9 @@ module _ (x : Exchange) (kept : IsExchange x) where
       let w = g.flow in
       given_number _ (λ h n. n) f.entry g.at.point f.slot (source_of g.how f.slot) f.value (leads_fit x kept g.at.block g.at.point g.at.next g.at.layer f.point g.how (place_fits x g.at kept g.stands.place) w.leads f.slot) w.gives
 
-  slots_closed : IsClosed x (λ f. HasSlot x f.point f.slot)
-  slots_closed f (inl g) = g.slot
-  slots_closed f (inr (p, g)) = g.flow.slot
-
   least_fits : (f : Fact) → IsLeast x f → FactFits f
   least_fits f least =
-      let slot = least_in x (λ f. HasSlot x f.point f.slot) slots_closed f least in
+      let slot = least_slot x f least in
       record { slot = slot_few slot.place f.slot slot.slot; value = value_few f.slot f.value (least_in x (λ f. HasNumber f.slot f.value) numbers_closed f least) }
 
   pub facts_fit : (facts : List Fact) → ((f : Fact) → Contains facts f ↔ IsLeast x f) → All FactFits facts

@@ -1,6 +1,9 @@
 pub mod Counts
 pub mod Firsts
-pub mod Lowered
-pub mod Slotted
 pub mod Fitting
+pub mod Lowered
+pub mod Ordering
+pub mod Pointing
+pub mod Reaching
+pub mod Slotted
 pub mod Told

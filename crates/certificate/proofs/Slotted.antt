@@ -9,7 +9,7 @@ use Rattle.flow_points.specs.Places.{Place, StandsAt}
 use Rattle.flow_points.specs.Slots.{HasSlot, IsSlotOf}
 use Rattle.flow_table.specs.declared.row.FlowTable.{FlowTable}
 use Rattle.flow_table.specs.declared.row.Row.{Row}
-use Rattle.flow_table.specs.Rows.{AreRows, HasRow, IsRowOf, IsTable}
+use Rattle.flow_table.specs.Rows.{AreRows, HasRow, IsRowOf, IsFlowTable}
 use Rattle.certificate.specs.Strange.{AreListed, RowHas}
 
 slot_of_row : (x : Exchange) (at : Place) (r : Row) (s : Slot) → IsRowOf x at r → RowHas r s → IsSlotOf x at s
@@ -41,7 +41,7 @@ stands_there x p listed inside = at listed.places refl
         let place = get_or listed.places p q in
         (place, listed.all.stands p place (slice_get-get_or listed.places p q (omega (arith, listed.all.each_point, inside))))
 
-pub row_told : (x : Exchange) (t : FlowTable) (p : ℕ) (s : Slot) (r : Row) (b : Bool) → IsTable x t → AreListed x → slice_get t.rows p ≡ Some r → (IsTrue b ↔ RowHas r s) → IsTrue b ↔ HasSlot x p s
+pub row_told : (x : Exchange) (t : FlowTable) (p : ℕ) (s : Slot) (r : Row) (b : Bool) → IsFlowTable x t → AreListed x → slice_get t.rows p ≡ Some r → (IsTrue b ↔ RowHas r s) → IsTrue b ↔ HasSlot x p s
 row_told x t p s r b table listed there tells =
     let inside : p < length x.points = omega (arith, slice_get_within t.rows p r there, table.rows.each_point) in
     let place = stands_there x p listed inside in (
@@ -49,7 +49,7 @@ row_told x t p s r b table listed there tells =
       (λ has. tells.1 (row_of_slot x has.place r s (row_is x t.rows p has.place r table.rows there has.stands) has.slot)),
     )
 
-pub no_row : (x : Exchange) (t : FlowTable) (p : ℕ) (s : Slot) → IsTable x t → AreListed x → length t.rows ≤ p → IsTrue false ↔ HasSlot x p s
+pub no_row : (x : Exchange) (t : FlowTable) (p : ℕ) (s : Slot) → IsFlowTable x t → AreListed x → length t.rows ≤ p → IsTrue false ↔ HasSlot x p s
 no_row x t p s table listed past = (
   (λ e. absurd (false≢true e)),
   (λ has. absurd (omega (arith, slice_get_within listed.places p has.place (listed.all.listed p has.place has.stands), listed.all.each_point, table.rows.each_point, past))),

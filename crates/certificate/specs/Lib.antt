@@ -1,4 +1,5 @@
+pub mod Certified
+pub mod Entries
 pub mod Missing
 pub mod Shapes
 pub mod Strange
-pub mod Certified

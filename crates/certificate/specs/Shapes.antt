@@ -1,15 +1,14 @@
 -- How large an exchange is.
-use Rattle.std.specs.Prelude.{◌≡◌, ℕ, Bool, true, false, List, length, Option, Some, None}
+use Rattle.std.specs.Prelude.{◌≡◌, ℕ, ◌≤◌, Bool, true, false, List, ◌∷◌, length, Option, Some, None}
 use Rattle.std.specs.List.{count_by}
+use Rattle.plex_limits.specs.declared.limits.TheConstants.{MOST_STATEMENTS}
 use Rattle.exchange_model.specs.declared.exchange.Exchange.{Exchange}
 use Rattle.exchange_model.specs.declared.stmt.Receiver.{Receiver}
 use Rattle.exchange_model.specs.declared.stmt.Receiver.TheVariants as receiver
-use Rattle.exchange_model.specs.declared.stmt.StmtKind.{out-StmtKind}
 use Rattle.exchange_model.specs.declared.stmt.StmtKind.TheOpen as stmt
 use Rattle.source_meaning.specs.Named.{Layer}
 use Rattle.flow_points.specs.Places.{Place}
-use Rattle.flow_table.specs.declared.place.PlaceAt.{PlaceAt}
-use Rattle.flow_table.specs.Texts.{ArePlaces}
+use Rattle.flow_table.specs.Texts.{ArePlaces, Inside}
 use Rattle.certificate_text.specs.declared.certificate.Shape.{Shape}
 
 abbrev pub is_held : Option Receiver → Bool
@@ -23,14 +22,26 @@ refers (stmt.Send signal to values fresh) = is_held to
 refers (stmt.Transfer signal to) = is_held to
 refers _ = false
 
-abbrev pub place_refers : PlaceAt → Bool
-place_refers p = refers (out-StmtKind p.kind.now)
+-- how many of these do
+abbrev pub referring : List Place → ℕ
+referring places = count_by (λ (p : Place). refers p.layer) places
+
+-- so many do of some places that are these, unless it is more than an exchange has statements
+pub record Counts (Are : List Place → Type 0) (n : ℕ) : Type 0 where
+  pub places : List Place
+  pub are : Are places
+  pub so : referring places ≤ MOST_STATEMENTS → n ≡ referring places
+
+-- the places of a statement and of those in it
+abbrev pub WithThose : ℕ → ℕ → Option ℕ → Layer → List Place → Type 0
+WithThose b p next l places =
+    (inner : List Place) × Inside b p next l inner × (places ≡ record { block = b; point = p; layer = l; next = next } ∷ inner)
 
 -- so many of all statements of the exchange are such
 pub record HasReferences (x : Exchange) (n : ℕ) : Type 0 where
   pub places : List Place
   pub all : ArePlaces x places
-  pub so : n ≡ count_by (λ (p : Place). refers p.layer) places
+  pub so : n ≡ referring places
 
 -- the shape of the exchange
 pub record IsShapeOf (x : Exchange) (s : Shape) : Type 0 where

@@ -3,7 +3,7 @@ ghost use Rattle.std.specs.Prelude.{◌≡◌, ◌<◌, ◌↔◌, All, Contains
 ghost use Rattle.flow_points.specs.declared.fact.Fact.{Fact};
 ghost use Rattle.flow_points.specs.declared.fact.Slot.TheVariants.{Depth};
 ghost use Rattle.flow_points.specs.Facts.{Gives};
-ghost use Rattle.flow_table.specs.Rows.{IsTable};
+ghost use Rattle.flow_table.specs.Rows.{IsFlowTable};
 ghost use Rattle.certificate.specs.Missing.{Among, IsLowerMissing, IsLowestOf, IsOfPoint, LeastIn, Looks, Misses, SoFar, StartsBelow, lower};
 ghost use Rattle.fact_flows.specs.Given.{GivenAt, GivenAtStart};
 ghost use Rattle.certificate.specs.Strange.{AreListed, IsOfExchange};
@@ -46,7 +46,7 @@ pub fn least_missing<K: ListedFacts>(
     known: &K,
     facts: &[Fact],
 ) -> Result<Option<Fact>, Memory>
-    requires table { IsTable exchange.now table.now }
+    requires table { IsFlowTable exchange.now table.now }
     requires listed { AreListed exchange.now }
     requires same { (f : Fact) → K.knows known.now f → Contains facts.now f }
     requires fit { All (IsOfExchange exchange.now) facts.now }
@@ -65,7 +65,7 @@ fn first_at_starts<K: ListedFacts>(
     table: &FlowTable,
     known: &K,
 ) -> Result<Option<Fact>, Memory>
-    requires { IsTable exchange.now table.now }
+    requires { IsFlowTable exchange.now table.now }
     ensures { IfOk result (LeastIn (K.knows known.now)
         (StartsBelow exchange.now (K.knows known.now) (length exchange.now.entries))) }
 {
@@ -86,7 +86,7 @@ fn lowest_at_start<K: ListedFacts>(
     entry: u32,
     least: Option<Fact>,
 ) -> Result<Option<Fact>, Memory>
-    requires table { IsTable exchange.now table.now }
+    requires table { IsFlowTable exchange.now table.now }
     requires missing { Misses (K.knows known.now) least }
     ensures { IfOk result (IsLowestOf (K.knows known.now)
         (GivenAtStart exchange.now (K.knows known.now) entry) least) }
@@ -105,7 +105,7 @@ fn first_of_flows<K: ListedFacts>(
     facts: &[Fact],
     first: Option<Fact>,
 ) -> Result<Option<Fact>, Memory>
-    requires table { IsTable exchange.now table.now }
+    requires table { IsFlowTable exchange.now table.now }
     requires listed { AreListed exchange.now }
     requires fit { All (IsOfExchange exchange.now) facts.now }
     requires starts { LeastIn (K.knows known.now)
@@ -132,7 +132,7 @@ fn look_at<K: ListedFacts>(
     look: Look,
     fact: Fact,
 ) -> Result<Look, Memory>
-    requires table { IsTable exchange.now table.now }
+    requires table { IsFlowTable exchange.now table.now }
     requires stands { fact.point < length exchange.now.points }
     requires missing { Misses (K.knows known.now) look.least }
     ensures { IfOk result (Looks (K.knows known.now)
@@ -157,7 +157,7 @@ fn lowest_at<K: ListedFacts>(
     fact: Fact,
     least: Option<Fact>,
 ) -> Result<Option<Fact>, Memory>
-    requires table { IsTable exchange.now table.now }
+    requires table { IsFlowTable exchange.now table.now }
     requires stands { fact.point < length exchange.now.points }
     requires missing { Misses (K.knows known.now) least }
     ensures { IfOk result (IsLowestOf (K.knows known.now)

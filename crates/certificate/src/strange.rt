@@ -2,7 +2,7 @@
 ghost use Rattle.std.specs.Prelude.{◌≡◌, ◌<◌, ◌↔◌, All, IsTrue, MatchOption, length};
 ghost use Rattle.source_meaning.specs.Valid.{entry_count};
 ghost use Rattle.flow_points.specs.Slots.{HasSlot};
-ghost use Rattle.flow_table.specs.Rows.{IsTable};
+ghost use Rattle.flow_table.specs.Rows.{IsFlowTable};
 ghost use Rattle.certificate.specs.Strange.{AreListed, IsFirstStrange, IsOfExchange, IsValueOf, RowHas};
 
 use exchange_model::Exchange;
@@ -13,7 +13,7 @@ use flow_table::{FlowTable, Row, count_of};
 /// have; `None` exactly where there is none. The look at a fact takes no walk.
 #[tactic(auto, using(crate::proofs::Firsts::first_begin))]
 pub fn first_strange(exchange: &Exchange, table: &FlowTable, facts: &[Fact]) -> Option<Fact>
-    requires table { IsTable exchange.now table.now }
+    requires table { IsFlowTable exchange.now table.now }
     requires listed { AreListed exchange.now }
     ensures { MatchOption result
         (All (IsOfExchange exchange.now) facts.now)
@@ -29,7 +29,7 @@ pub fn first_strange(exchange: &Exchange, table: &FlowTable, facts: &[Fact]) -> 
 
 /// Whether the exchange has the fact.
 fn is_of_exchange(exchange: &Exchange, table: &FlowTable, fact: Fact) -> bool
-    requires table { IsTable exchange.now table.now }
+    requires table { IsFlowTable exchange.now table.now }
     requires listed { AreListed exchange.now }
     ensures { IsTrue result ↔ IsOfExchange exchange.now fact }
 {
@@ -46,7 +46,7 @@ fn has_entry(exchange: &Exchange, entry: u32) -> bool
 
 /// Whether the slot is there before the point.
 fn has_slot(exchange: &Exchange, table: &FlowTable, point: u32, slot: Slot) -> bool
-    requires table { IsTable exchange.now table.now }
+    requires table { IsFlowTable exchange.now table.now }
     requires listed { AreListed exchange.now }
     ensures { IsTrue result ↔ HasSlot exchange.now point slot }
 {

@@ -1,25 +1,27 @@
 -- Which way a check goes.
-use Rattle.std.proofs.Common.{◌≡◌, ◌↔◌, ℕ, suc, Bool, true, false, IsTrue, List, [], ◌∷◌, length, map, Contains, All, Option, Some, None, slice_get, refl, sym, ap, ◌∙◌, subst, arith}
-use Rattle.std.specs.List.{count_by}
+use Rattle.std.proofs.Common.{◌≡◌, ◌↔◌, ℕ, suc, Bool, true, false, IsTrue, List, [], ◌∷◌, length, map, Contains, All, Option, Some, None, get_or, slice_get, refl, sym, ap, ◌∙◌, subst, arith}
 use Rattle.std.proofs.lemmas.Bool.{true≢false}
 use Rattle.std.proofs.lemmas.Option.{same_Some, none-some}
-use Rattle.std.proofs.lemmas.List.Elements.{All-contains, Contains-append_right}
+use Rattle.std.specs.List.Sorted.{IsStrictlySortedBy}
+use Rattle.std.proofs.lemmas.List.Elements.{All-contains, Contains-append_right, Contains-get_or}
 use Rattle.exchange_model.specs.declared.exchange.Exchange.{Exchange}
 use Rattle.flow_points.specs.declared.fact.Fact.{Fact}
 use Rattle.flow_points.specs.Facts.{Gives, IsClosed}
 use Rattle.flow_points.specs.Places.{Place}
+use Rattle.flow_points.proofs.Least.{gives_more}
 use Rattle.flow_table.specs.declared.place.PlaceAt.{PlaceAt}
 use Rattle.flow_table.specs.Texts.{ArePlaces, seen}
 use Rattle.entry_summary.specs.declared.summary.Summary.{Summary}
 use Rattle.certificate_text.specs.declared.certificate.Certificate.{Certificate}
 use Rattle.certificate_text.specs.declared.certificate.Shape.{Shape}
-use Rattle.certificate.specs.Missing.{LeastIn}
-use Rattle.certificate.specs.Shapes.{HasReferences, IsShapeOf, refers}
+use Rattle.fact_rows.specs.Orders.{fact_order}
+use Rattle.certificate.specs.Missing.{IsLeastIn, LeastIn}
+use Rattle.certificate.specs.Shapes.{HasReferences, IsShapeOf, referring}
 use Rattle.certificate.specs.Strange.{AreListed, IsOfExchange}
 use Rattle.checked.specs.declared.fault.CertFault.{CertFault}
 use Rattle.checked.specs.declared.fault.CertFault.TheVariants.{WrongExchange, StrangeFact, MissingFact, Memory}
-use Rattle.checked.specs.Kept.{AreSummariesBy, Kept}
-use Rattle.checked.specs.Verdicts.{Accepts, AreShapes, IsClosedCertificate, Refuses}
+use Rattle.checked.specs.Kept.{AreSummariesBy, KeptSummaries}
+use Rattle.checked.specs.Verdicts.{Accepts, AreShapes, IsClosedCertificate, IsMissing, Refuses}
 
 pub listed_by : (x : Exchange) (places : List PlaceAt) → ArePlaces x (map seen places) → AreListed x
 listed_by x places all = record { places = map seen places; all = all }
@@ -38,7 +40,7 @@ same_places : (x : Exchange) (ps qs : List Place) → ArePlaces x ps → ArePlac
 same_places x ps qs one other = same_items ps qs (one.each_point ∙ sym other.each_point) (λ i at there. other.listed i at (one.stands i at there))
 
 same_count : (x : Exchange) (n m : ℕ) → HasReferences x n → HasReferences x m → n ≡ m
-same_count x n m one other = one.so ∙ ap (count_by (λ (p : Place). refers p.layer)) (same_places x one.places other.places one.all other.all) ∙ sym other.so
+same_count x n m one other = one.so ∙ ap referring (same_places x one.places other.places one.all other.all) ∙ sym other.so
 
 pub same_shape : (x : Exchange) (s t : Shape) → IsShapeOf x s → IsShapeOf x t → s ≡ t
 same_shape x s t one other =
@@ -59,26 +61,56 @@ wrong_shape x c own b is tells down = record {
   differ = λ also. true≢false (sym (tells.1 (same_shape x own c.shape is also)) ∙ down);
 }
 
+-- facts of a list in order are those of the list that it was made of
+module _ (x : Exchange) (facts known : List Fact) (same : (f : Fact) → Contains known f ↔ Contains facts f) where
+  all_own : All (IsOfExchange x) facts → All (IsOfExchange x) known
+  all_own own = λ i d lt. All-contains (IsOfExchange x) facts (get_or known i d) own ((same (get_or known i d)).0 (Contains-get_or known i d lt))
+
+  stays_closed : IsClosed x (Contains known) → IsClosed x (Contains facts)
+  stays_closed closed f given = (same f).0 (closed f (gives_more x (Contains facts) (Contains known) (λ g c. (same g).1 c) f given))
+
+  stays_least : (f : Fact) → IsLeastIn (Contains known) (Gives x (Contains known)) f → IsLeastIn (Contains facts) (Gives x (Contains facts)) f
+  stays_least f l = record {
+    given = gives_more x (Contains known) (Contains facts) (λ g c. (same g).0 c) f l.given;
+    missing = λ c. l.missing ((same f).1 c);
+    least = λ g given new less. l.least g (gives_more x (Contains facts) (Contains known) (λ h c. (same h).1 c) g given) (λ c. new ((same g).0 c)) less;
+  }
+
+pub known_own : (x : Exchange) (facts first known sorted : List Fact) → first ≡ facts → All (IsOfExchange x) first → known ≡ sorted → ((f : Fact) → Contains sorted f ↔ Contains facts f) → All (IsOfExchange x) known
+known_own x facts first known sorted first_is own known_is same =
+    subst (All (IsOfExchange x)) (sym known_is) (all_own x facts sorted same (subst (All (IsOfExchange x)) first_is own))
+
 -- the way to the end, by what each stage tells
-pub accepted : (x : Exchange) (c : Certificate) (k : Kept) (own : Shape) (b : Bool) (first known : List Fact) (found : Option Fact) (summaries : List Summary)
-    → IsShapeOf x own → (IsTrue b ↔ (own ≡ c.shape)) → b ≡ true
-    → first ≡ c.facts → All (IsOfExchange x) first
-    → known ≡ c.facts → LeastIn (Contains known) (Gives x (Contains known)) found → found ≡ None
-    → AreSummariesBy x (Contains known) summaries → k.facts ≡ known → k.summaries ≡ summaries
-    → Accepts x c k
-accepted x c k own b first known found summaries shape tells up first_is of_it known_is least none by_facts facts_are summaries_are =
-    let kept_is : k.facts ≡ c.facts = facts_are ∙ known_is in
-    let all_own : All (IsOfExchange x) c.facts = subst (All (IsOfExchange x)) first_is of_it in
-    let closed : IsClosed x (Contains known) = subst (LeastIn (Contains known) (Gives x (Contains known))) none least in
-    record {
-      is = record { shape = subst (IsShapeOf x) (tells.0 up) shape; own = all_own; closed = subst (λ l. IsClosed x (Contains l)) known_is closed };
-      facts = kept_is;
-      checked = record {
-        own = subst (All (IsOfExchange x)) (sym kept_is) all_own;
-        closed = subst (λ l. IsClosed x (Contains l)) (sym facts_are) closed;
-        by_facts = subst (λ l. AreSummariesBy x (Contains l) k.summaries) (sym facts_are) (subst (AreSummariesBy x (Contains known)) (sym summaries_are) by_facts);
-      };
-    }
+module _ (x : Exchange) (c : Certificate) (own : Shape) (b : Bool) (first known sorted : List Fact) (found : Option Fact) (shape : IsShapeOf x own) (tells : IsTrue b ↔ (own ≡ c.shape)) (up : b ≡ true) (first_is : first ≡ c.facts) (of_it : All (IsOfExchange x) first) (known_is : known ≡ sorted) (same : (f : Fact) → Contains sorted f ↔ Contains c.facts f) (least : LeastIn (Contains known) (Gives x (Contains known)) found) where
+  is_shape : IsShapeOf x c.shape
+  is_shape = subst (IsShapeOf x) (tells.0 up) shape
+
+  own_all : All (IsOfExchange x) c.facts
+  own_all = subst (All (IsOfExchange x)) first_is of_it
+
+  same_known : (f : Fact) → Contains known f ↔ Contains c.facts f
+  same_known = subst (λ (l : List Fact). (f : Fact) → Contains l f ↔ Contains c.facts f) (sym known_is) same
+
+  pub missing_told : (f : Fact) → found ≡ Some f → IsMissing x c f
+  missing_told f some = record {
+    shape = is_shape;
+    own = own_all;
+    least = stays_least x c.facts known same_known f (subst (LeastIn (Contains known) (Gives x (Contains known))) some least);
+  }
+
+  pub accepted : (k : KeptSummaries) (summaries : List Summary) → found ≡ None → IsStrictlySortedBy fact_order sorted → AreSummariesBy x (Contains known) summaries → k.facts ≡ known → k.summaries ≡ summaries → Accepts x c k
+  accepted k summaries none rising by_facts facts_are summaries_are =
+      let closed : IsClosed x (Contains known) = subst (LeastIn (Contains known) (Gives x (Contains known))) none least in
+      record {
+        is = record { shape = is_shape; own = own_all; closed = stays_closed x c.facts known same_known closed };
+        facts = subst (λ (l : List Fact). (f : Fact) → Contains l f ↔ Contains c.facts f) (sym facts_are) same_known;
+        rising = subst (IsStrictlySortedBy fact_order) (sym (facts_are ∙ known_is)) rising;
+        checked = record {
+          own = subst (All (IsOfExchange x)) (sym facts_are) (all_own x c.facts known same_known own_all);
+          closed = subst (λ l. IsClosed x (Contains l)) (sym facts_are) closed;
+          by_facts = subst (λ l. AreSummariesBy x (Contains l) k.summaries) (sym facts_are) (subst (AreSummariesBy x (Contains known)) (sym summaries_are) by_facts);
+        };
+      }
 
 -- a refusal is right
 

@@ -1,7 +1,7 @@
 -- Each least fact is one that the exchange has, so that the least facts can be kept.
 --
 -- A value that a job starts with comes only from the start: flows carry it on, and give numbers besides.
-use Rattle.std.proofs.Common.{◌≡◌, ◌↔◌, inl, inr, ℕ, zero, suc, ◌+◌, ◌<◌, Bool, true, false, nat_lt, nat_eq, if◌then◌else◌, List, [], ◌∷◌, map, get_or, Option, Some, slice_get, Contains, All, refl, sym, ◌∙◌, subst}
+use Rattle.std.proofs.Common.{◌≡◌, ◌↔◌, inl, inr, ℕ, zero, suc, ◌+◌, ◌<◌, Bool, true, false, nat_lt, nat_eq, if◌then◌else◌, List, [], ◌∷◌, map, get_or, Contains, All, refl, sym, ◌∙◌, subst}
 use Rattle.std.specs.List.{AllByRecursion}
 use Rattle.std.proofs.lemmas.Bool.{ltb-true}
 use Rattle.std.proofs.lemmas.List.Elements.{Contains-get_or}
@@ -12,10 +12,6 @@ use Rattle.exchange_model.specs.declared.expr.Term.{Term, out-Term}
 use Rattle.exchange_model.specs.declared.expr.Joined.{Joined}
 use Rattle.exchange_model.specs.declared.expr.Factor.TheOpen as layer
 use Rattle.exchange_model.specs.declared.expr.Factor.TheVariants as factor
-use Rattle.exchange_model.specs.declared.signal.SignalKind.{SignalKind}
-use Rattle.exchange_model.specs.declared.signal.SignalKind.TheVariants.{Buffered, Direct, Combined, Outside}
-use Rattle.exchange_model.specs.declared.stmt.Receiver.{Receiver}
-use Rattle.exchange_model.specs.declared.stmt.StmtKind.TheOpen as stmt
 use Rattle.source_meaning.specs.Changes.{value_count}
 use Rattle.source_meaning.specs.Named.{Layer}
 use Rattle.source_meaning.specs.Valid.{entry_count}
@@ -31,17 +27,21 @@ use Rattle.flow_points.specs.declared.flow.Passing.TheVariants.{Kept as Keeps, S
 use Rattle.flow_points.specs.declared.flow.Source.{Source}
 use Rattle.flow_points.specs.declared.flow.Source.TheVariants.{Of, Is, Deeper, Nothing}
 use Rattle.flow_points.specs.Facts.{Facts, IsClosed, IsLeast, SourceGives, fact}
-use Rattle.flow_points.specs.Flows.{Leads, SendLeads}
+use Rattle.flow_points.specs.Flows.{LeadsTo}
+use Rattle.flow_points.specs.Places.{Place}
 use Rattle.flow_points.specs.Sources.{alone, at_place, expr_source, named, source_of, start_source}
 use Rattle.flow_points.proofs.Least.{gives_more, least_closed, least_in}
+use Rattle.flow_table.specs.declared.way.Way.{Way}
 use Rattle.flow_table.specs.Alone.{term_source, joined_source, own_source}
+use Rattle.flow_table.specs.Shapes.{Shape, Stays, Assigns, Finds, TakesGiven, TakesAnswer, Starts, Transfers, Asks, GivesAnswer}
+use Rattle.flow_table.proofs.Shaping.{led_by}
 use Rattle.flow_table.proofs.Sourcing.{expr_source-out, term_source-out, joined_source-out, factor_as}
 use Rattle.entry_summary.specs.declared.summary.Summary.{Summary}
 use Rattle.access_summary.specs.Least.{AreSummaries}
 use Rattle.access_summary.proofs.Alike.{summary_alike}
 use Rattle.certificate.specs.Strange.{IsOfExchange, IsValueOf}
 use Rattle.certificate.proofs.Firsts.{count_some}
-use Rattle.checked.specs.Kept.{AreSummariesBy, IsChecked, Kept}
+use Rattle.checked.specs.Kept.{AreSummariesBy, IsChecked, KeptSummaries}
 
 -- sources that give no value of the start but those that a slot has
 
@@ -170,40 +170,20 @@ answers_carry values each Awaits = tt
 as_made : (how made : Passing) → how ≡ made → AllCarry made → AllCarry how
 as_made how made is h = λ s. subst (λ (k : Passing). Carries (source_of k s)) (sym is) (h s)
 
-send_carries : (x : Exchange) (o : Option SignalKind) (next : Option ℕ) (signal : ℕ) (to : Option Receiver) (values : List Expr) (q : ℕ) (how : Passing) → SendLeads x o next signal to values q how → AllCarry how
-send_carries x (Some (Buffered name level count)) next signal to values q how g = as_made how Keeps g.is keeps_carry
-send_carries x (Some (Direct name count)) next signal to values q how g = as_made how (Begins (map expr_source values)) g.goes.is (begins_carry (map expr_source values) (exprs_carry values))
-send_carries x (Some (Combined name count answer)) next signal to values q how (inl g) =
-    as_made how (Calls (map expr_source values) answer) g.goes.is (calls_carry (map expr_source values) answer (exprs_carry values))
-send_carries x (Some (Combined name count answer)) next signal to values q how (inr g) = as_made how Keeps g.is keeps_carry
-send_carries x (Some (Outside name count)) next signal to values q how g = as_made how Keeps g.is keeps_carry
-send_carries x _ next signal to values q how g = absurd g
+shape_carries : (x : Exchange) (l : Layer) (w : Way) → Shape x l w → AllCarry w.how
+shape_carries x l w (Stays is) = as_made w.how Keeps is keeps_carry
+shape_carries x l w (Assigns temp e own is) = as_made w.how (Sets temp (expr_source e)) is (sets_carry temp (expr_source e) (expr_carries e))
+shape_carries x l w (Finds temp is) = as_made w.how (Sets temp (Is Any)) is (sets_carry temp (Is Any) tt)
+shape_carries x l w (TakesGiven signal temps kind is) = as_made w.how (Takes temps) is (takes_carry temps)
+shape_carries x l w (TakesAnswer answer temps kind is) = as_made w.how (Retrieves temps) is (retrieves_carry temps)
+shape_carries x l w (Starts values own is) = as_made w.how (Begins (map expr_source values)) is (begins_carry (map expr_source values) (exprs_carry values))
+shape_carries x l w (Transfers count is) = as_made w.how (Passes count) is (passes_carry count)
+shape_carries x l w (Asks signal name count answer values there own is) =
+    as_made w.how (Calls (map expr_source values) answer) is (calls_carry (map expr_source values) answer (exprs_carry values))
+shape_carries x l w (GivesAnswer answer values kind is to) = as_made w.how (Answers (map expr_source values)) is (answers_carry (map expr_source values) (exprs_carry values))
 
-leads_carry : (x : Exchange) (b p : ℕ) (next : Option ℕ) (l : Layer) (q : ℕ) (how : Passing) → Leads x b p next l q how → AllCarry how
-leads_carry x b p next (stmt.Enter signal temps) q how g = as_made how (Takes temps) g.is (takes_carry temps)
-leads_carry x b p next (stmt.SetTemp temp e) q how g = as_made how (Sets temp (expr_source e)) g.is (sets_carry temp (expr_source e) (expr_carries e))
-leads_carry x b p next (stmt.SetVariable variable e) q how g = as_made how Keeps g.is keeps_carry
-leads_carry x b p next (stmt.SetField file field pointer e) q how g = as_made how Keeps g.is keeps_carry
-leads_carry x b p next (stmt.Goto label) q how g = as_made how Keeps g.is keeps_carry
-leads_carry x b p next (stmt.IfGoto cond label) q how (inl g) = as_made how Keeps g.is keeps_carry
-leads_carry x b p next (stmt.IfGoto cond label) q how (inr g) = as_made how Keeps g.is keeps_carry
-leads_carry x b p next (stmt.If cond yes_part no_part) q how (inl g) = as_made how Keeps g.is keeps_carry
-leads_carry x b p next (stmt.If cond yes_part no_part) q how (inr g) = as_made how Keeps g.is keeps_carry
-leads_carry x b p next (stmt.Case e whens otherwise) q how (inl g) = as_made how Keeps g.goes.is keeps_carry
-leads_carry x b p next (stmt.Case e whens otherwise) q how (inr g) = as_made how Keeps g.is keeps_carry
-leads_carry x b p next (stmt.On temp from upto body) q how (inl g) = as_made how (Sets temp (Is Any)) g.is (sets_carry temp (Is Any) tt)
-leads_carry x b p next (stmt.On temp from upto body) q how (inr g) = as_made how Keeps g.is keeps_carry
-leads_carry x b p next (stmt.ForFirst temp file field rel e label) q how (inl g) = as_made how (Sets temp (Is Any)) g.is (sets_carry temp (Is Any) tt)
-leads_carry x b p next (stmt.ForFirst temp file field rel e label) q how (inr g) = as_made how Keeps g.is keeps_carry
-leads_carry x b p next (stmt.Send signal to values fresh) q how g = send_carries x (slice_get x.signals signal) next signal to values q how g
-leads_carry x b p next (stmt.Retrieve answer temps) q how g = as_made how (Retrieves temps) g.is (retrieves_carry temps)
-leads_carry x b p next (stmt.Return answer values) q how g = as_made how (Answers (map expr_source values)) g.is (answers_carry (map expr_source values) (exprs_carry values))
-leads_carry x b p next (stmt.Transfer signal to) q how g = as_made how _ g.goes.is (passes_carry _)
-leads_carry x b p next (stmt.Seize temp file label) q how (inl g) = as_made how (Sets temp (Is Any)) g.is (sets_carry temp (Is Any) tt)
-leads_carry x b p next (stmt.Seize temp file label) q how (inr g) = as_made how Keeps g.is keeps_carry
-leads_carry x b p next (stmt.Free temp file) q how g = as_made how Keeps g.is keeps_carry
-leads_carry x b p next stmt.Exit q how g = absurd g
-leads_carry x b p next stmt.Finish q how g = absurd g
+leads_carry : (x : Exchange) (at : Place) (q : ℕ) (how : Passing) → LeadsTo x at q how → AllCarry how
+leads_carry x at q how g = (let led = led_by x at q how g in as_made how led.way.how led.leads.is (shape_carries x at.layer led.way led.shape))
 
 -- values that are given are of the entry
 
@@ -241,7 +221,7 @@ module _ (x : Exchange) where
       record {
         entry = w.reached.1.entry;
         slot = w.slot;
-        value = carried (IsOfExchange x) (λ h of_it. of_it.value) f.entry g.at.point (source_of g.how f.slot) f.value (leads_carry x g.at.block g.at.point g.at.next g.at.layer f.point g.how w.leads f.slot) w.gives;
+        value = carried (IsOfExchange x) (λ h of_it. of_it.value) f.entry g.at.point (source_of g.how f.slot) f.value (leads_carry x g.at f.point g.how w.leads f.slot) w.gives;
       }
 
   -- facts that are exactly the least ones
@@ -259,7 +239,7 @@ module _ (x : Exchange) where
       is = λ e s there. summary_alike x (IsLeast x) (Contains facts) e s (record { each = λ f own least. (exact f).1 least }) (record { each = λ f own listed. (exact f).0 listed }) (by_least.is e s there);
     }
 
-    pub own_checked : (k : Kept) (known : List Fact) (summaries : List Summary) → known ≡ facts → AreSummaries x summaries → k.facts ≡ known → k.summaries ≡ summaries → IsChecked x k
+    pub own_checked : (k : KeptSummaries) (known : List Fact) (summaries : List Summary) → known ≡ facts → AreSummaries x summaries → k.facts ≡ known → k.summaries ≡ summaries → IsChecked x k
     own_checked k known summaries same by_least facts_are summaries_are =
         let all : k.facts ≡ facts = facts_are ∙ same in
         record {
@@ -268,5 +248,5 @@ module _ (x : Exchange) where
           by_facts = subst (λ (l : List Fact). AreSummariesBy x (Contains l) k.summaries) (sym all) (subst (AreSummariesBy x (Contains facts)) (sym summaries_are) (own_summaries summaries by_least));
         }
 
-    pub own_least : (k : Kept) (known : List Fact) → known ≡ facts → k.facts ≡ known → (f : Fact) → Contains k.facts f ↔ IsLeast x f
+    pub own_least : (k : KeptSummaries) (known : List Fact) → known ≡ facts → k.facts ≡ known → (f : Fact) → Contains k.facts f ↔ IsLeast x f
     own_least k known same facts_are f = subst (λ (l : List Fact). Contains l f ↔ IsLeast x f) (sym (facts_are ∙ same)) (exact f)

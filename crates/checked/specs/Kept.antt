@@ -11,7 +11,7 @@ use Rattle.entry_summary.specs.Summaries.{IsSummary}
 use Rattle.certificate.specs.Strange.{IsOfExchange}
 
 -- facts, and summaries by the numbers of their entries
-pub record Kept : Type 0 where
+pub record KeptSummaries : Type 0 where
   pub facts : List Fact
   pub summaries : List Summary
 
@@ -26,7 +26,7 @@ pub record AreSummariesBy (x : Exchange) (P : Facts) (summaries : List Summary) 
   pub is : (e : ℕ) (s : Summary) → slice_get summaries e ≡ Some s → IsSummary x P e s
 
 -- it is of the exchange: no fact is strange there, the facts are closed, and the summaries are by them
-pub record IsChecked (x : Exchange) (k : Kept) : Type 0 where
+pub record IsChecked (x : Exchange) (k : KeptSummaries) : Type 0 where
   pub own : All (IsOfExchange x) k.facts
   pub closed : IsClosed x (Contains k.facts)
   pub by_facts : AreSummariesBy x (Contains k.facts) k.summaries

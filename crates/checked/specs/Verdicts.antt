@@ -1,8 +1,10 @@
 -- Which certificates are taken, and why others are not.
-use Rattle.std.specs.Prelude.{◌≡◌, All, Contains}
+use Rattle.std.specs.Prelude.{◌≡◌, ◌↔◌, All, Contains}
+use Rattle.std.specs.List.Sorted.{IsStrictlySortedBy}
 use Rattle.exchange_model.specs.declared.exchange.Exchange.{Exchange}
 use Rattle.flow_points.specs.declared.fact.Fact.{Fact}
 use Rattle.flow_points.specs.Facts.{Gives, IsClosed}
+use Rattle.fact_rows.specs.Orders.{fact_order}
 use Rattle.certificate_text.specs.declared.certificate.Certificate.{Certificate}
 use Rattle.certificate_text.specs.declared.certificate.Shape.{Shape}
 use Rattle.certificate.specs.Missing.{IsLeastIn}
@@ -10,7 +12,7 @@ use Rattle.certificate.specs.Shapes.{IsShapeOf}
 use Rattle.certificate.specs.Strange.{IsFirstStrange, IsOfExchange}
 use Rattle.checked.specs.declared.fault.CertFault.{CertFault}
 use Rattle.checked.specs.declared.fault.CertFault.TheVariants.{WrongExchange, StrangeFact, MissingFact, Memory}
-use Rattle.checked.specs.Kept.{IsChecked, Kept}
+use Rattle.checked.specs.Kept.{IsChecked, KeptSummaries}
 
 -- it is one of the exchange: it has its shape, none of its facts is strange, and all that one rule gives from them is among them
 pub record IsClosedCertificate (x : Exchange) (c : Certificate) : Type 0 where
@@ -18,10 +20,11 @@ pub record IsClosedCertificate (x : Exchange) (c : Certificate) : Type 0 where
   pub own : All (IsOfExchange x) c.facts
   pub closed : IsClosed x (Contains c.facts)
 
--- it is such, and its facts are kept, with the summaries by them
-pub record Accepts (x : Exchange) (c : Certificate) (k : Kept) : Type 0 where
+-- it is such, and its facts are kept in their order, each once, with the summaries by them
+pub record Accepts (x : Exchange) (c : Certificate) (k : KeptSummaries) : Type 0 where
   pub is : IsClosedCertificate x c
-  pub facts : k.facts ≡ c.facts
+  pub facts : (f : Fact) → Contains k.facts f ↔ Contains c.facts f
+  pub rising : IsStrictlySortedBy fact_order k.facts
   pub checked : IsChecked x k
 
 -- the shapes of the exchange and of the certificate, which differ

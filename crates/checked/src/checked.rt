@@ -28,9 +28,9 @@ impl Drop for Checked {
 }
 
 impl Model for Checked {
-    ghost use Rattle.checked.specs.Kept.{AreKept, Kept};
+    ghost use Rattle.checked.specs.Kept.{AreKept, KeptSummaries};
 
-    ghost Value = { Kept };
+    ghost Value = { KeptSummaries };
 
     ghost view = { λ c. record { facts = c.facts; summaries = c.summaries } };
 

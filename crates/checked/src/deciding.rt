@@ -1,10 +1,8 @@
 // Whether a certificate is one of an exchange.
 ghost use Rattle.std.specs.Prelude.{◌≡◌, ◌↔◌, All, Contains, IfOk, IsTrue, MatchResult, map};
-ghost use Rattle.std.specs.List.Sorted.{IsStrictlySortedBy};
 ghost use Rattle.flow_points.specs.Facts.{Gives};
-ghost use Rattle.flow_table.specs.Rows.{IsTable};
+ghost use Rattle.flow_table.specs.Rows.{IsFlowTable};
 ghost use Rattle.flow_table.specs.Texts.{ArePlaces, seen};
-ghost use Rattle.fact_rows.specs.Orders.{fact_order};
 ghost use Rattle.certificate.specs.Missing.{LeastIn};
 ghost use Rattle.certificate.specs.Strange.{AreListed, IsOfExchange};
 ghost use Rattle.checked.specs.Kept.{AreSummariesBy};
@@ -13,7 +11,7 @@ ghost use Rattle.checked.specs.Verdicts.{Accepts, Refuses};
 use crate::checked::Checked;
 use crate::fault::CertFault;
 use access_summary::summary_of;
-use certificate::{first_strange, least_missing, shape_over};
+use certificate::{first_strange, in_order, least_missing, shape_of};
 use certificate_text::{Certificate, Shape};
 use entry_accesses::numbers_of;
 use exchange_model::Exchange;
@@ -24,34 +22,33 @@ use kept_summaries::Summaries;
 use plex_num::Memory;
 use std::alloc::Global;
 
-/// What a certificate says of the entries, where it is one of the exchange; else why it is none. Its facts must stand in their
-/// order, each once, as those that are read do. A certificate that is refused is given up.
+/// What a certificate says of the entries, where it is one of the exchange; else why it is none. Its facts may stand in any order,
+/// and more than once. A certificate that is refused is given up.
 #[tactic(auto, using(crate::proofs::Checking::listed_by))]
 pub fn check(
     alloc: Global,
     exchange: &Exchange,
     certificate: Certificate,
 ) -> Result<Checked, CertFault>
-    requires { IsStrictlySortedBy fact_order certificate.facts }
     ensures { MatchResult result
         (Accepts exchange.now certificate)
         (Refuses exchange.now certificate) }
 {
     exchange.kept();
     let Certificate { shape, facts } = certificate;
-    let places = places_of(alloc, exchange)?;
-    let own = shape_over(exchange, places.as_slice());
+    let own = shape_of(exchange);
     if !is_same(own, shape) {
         return Err(CertFault::WrongExchange {
             exchange: own,
             certificate: shape,
         });
     }
+    let places = places_of(alloc, exchange)?;
     let table = table_of(alloc, exchange)?;
     if let Some(fact) = first_strange(exchange, &table, facts.as_slice()) {
         return Err(CertFault::StrangeFact { fact });
     }
-    let known = FactList::new(facts);
+    let known = FactList::new(in_order(facts));
     if let Some(fact) = missing_from(alloc, exchange, &table, &known)? {
         return Err(CertFault::MissingFact { fact });
     }
@@ -72,7 +69,7 @@ fn missing_from(
     table: &FlowTable,
     known: &FactList,
 ) -> Result<Option<Fact>, Memory>
-    requires table { IsTable exchange.now table.now }
+    requires table { IsFlowTable exchange.now table.now }
     requires listed { AreListed exchange.now }
     requires fit { All (IsOfExchange exchange.now) known.now }
     ensures { IfOk result (LeastIn (Contains known.now) (Gives exchange.now (Contains known.now))) }
@@ -91,7 +88,7 @@ fn summaries_by(
     places: &[PlaceAt<'_>],
     known: &FactList,
 ) -> Result<Summaries, Memory>
-    requires table { IsTable exchange.now table.now }
+    requires table { IsFlowTable exchange.now table.now }
     requires places { ArePlaces exchange.now (map seen places.now) }
     ensures { IfOk result (AreSummariesBy exchange.now (Contains known.now)) }
 {

@@ -23,13 +23,13 @@ use Rattle.order_laws.proofs.Arriving.{arrivals_idle, arrivals_settle, arrivals_
 use Rattle.retire_order.specs.Accounts.{Account, opened, with_words}
 use Rattle.retire_order.specs.Lines.{coming_of}
 use Rattle.retire_order.proofs.Fitting.{signal_lines_few, signal_lines_fit}
-use Rattle.exchange_run.specs.Runs.{Stands}
+use Rattle.exchange_run.specs.Runs.{RunStands}
 use Rattle.exchange_run.proofs.Opened.{begins_valid as opens_valid, nobody_runs}
 use Rattle.exchange_run.proofs.Turning.{stands_begin, stands_valid}
 use Rattle.certificate_text.specs.declared.certificate.Certificate.{Certificate}
 use Rattle.certificate_text.specs.Lines.{IsTextOf}
 use Rattle.certificate_text.specs.Text.{fact_order}
-use Rattle.checked.specs.Kept.{IsChecked, Kept}
+use Rattle.checked.specs.Kept.{IsChecked, KeptSummaries}
 use Rattle.checked.specs.Verdicts.{Accepts}
 
 -- ## Trees
@@ -60,7 +60,7 @@ lines_few x text lines small is = signal_lines_few x text lines (short MOST_BYTE
 pub told_rises : (text : List ℕ) (c : Certificate) → IsTextOf text c → IsStrictlySortedBy fact_order c.facts
 told_rises text c is = is.fits.rises
 
-pub accepted_is_checked : (x : Exchange) (c : Certificate) (k : Kept) → Accepts x c k → IsChecked x k
+pub accepted_is_checked : (x : Exchange) (c : Certificate) (k : KeptSummaries) → Accepts x c k → IsChecked x k
 accepted_is_checked x c k taken = taken.checked
 
 -- ## Books before the first job
@@ -73,7 +73,7 @@ quiet_again x s = by (has_stopped s) refl
     by false is = arrivals_idle x (arrivals x s) (arrivals_settle x s is)
 
 module _ (x : Exchange) (kept : IsExchange x) (lines : List Coming) (limit : ℕ) (fit : LinesFit x [] lines) (first b : Account) (opens : first ≡ opened lines limit) (arrived : b ≡ record first { state = arrivals x first.state }) where
-  begins : Stands x (with_words first.state (opening_store x.blocks)) first.limit 0 b (opening_store x.blocks)
+  begins : RunStands x (with_words first.state (opening_store x.blocks)) first.limit 0 b (opening_store x.blocks)
   begins = stands_begin x first b (opening_store x.blocks) (nobody_runs lines limit first opens) arrived
 
   pub begins_valid : IsValid x (with_words b.state (opening_store x.blocks))

@@ -2,11 +2,13 @@
 ghost use Rattle.std.specs.Prelude.{All};
 ghost use Rattle.machine_code.specs.Operands.{OpFits};
 
-use crate::given::{NotMade, exchange_of, least_of};
+use crate::given::{NotMade, accepted, exchange_of, least_of};
 use crate::texts::{LOOSE_TABLE, PARTS, TABLE};
-use certificate_text::{print_certificate, read_certificate};
+use certificate::certificate_of;
+use certificate_text::{Certificate, print_certificate, read_certificate};
 use checked::Checked;
 use code_gen::compile;
+use exchange_model::Exchange;
 use flow_points::Value;
 use interference_check::{tests, verdict};
 use listing::{ListFault, print_code, read_code};
@@ -100,6 +102,28 @@ fn certified_again(alloc: Global, text: &str) -> Result<Seq<u8>, NotMade> {
 fn a_certificate_is_printed(rt: HostRuntime) -> Result<(), Fail> {
     let again = certified_again(rt.alloc(), LOOSE_TABLE)?;
     assert_eq!(rt; again.as_slice(), LOOSE_TABLE.as_bytes());
+    Ok(())
+}
+
+/// The certificate of an exchange, but with its facts from the last to the first, and then all of them once more.
+fn turned(alloc: Global, exchange: &Exchange) -> Result<Certificate, NotMade> {
+    let Certificate { shape, facts } = certificate_of(alloc, exchange)?;
+    let mut copies = Seq::new(alloc);
+    copies.push_all(facts.as_slice())?;
+    let mut turned = copies.into_vec();
+    turned.reverse();
+    let mut all = Seq::from_vec(turned);
+    all.push_all(facts.as_slice())?;
+    Ok(Certificate { shape, facts: all })
+}
+
+#[test]
+fn facts_may_stand_in_any_order(rt: HostRuntime) -> Result<(), Fail> {
+    let exchange = exchange_of(rt.alloc(), TABLE)?;
+    let own = least_of(rt.alloc(), &exchange)?;
+    let certificate = turned(rt.alloc(), &exchange)?;
+    let again = accepted(rt.alloc(), &exchange, certificate)?;
+    assert!(rt; again.facts().as_slice() == own.facts().as_slice());
     Ok(())
 }
 

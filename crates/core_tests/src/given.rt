@@ -1,6 +1,5 @@
 // What a test is given, made of texts: an exchange, signal lines, a checked certificate, and what stands after events.
 ghost use Rattle.std.specs.Prelude.{◌≡◌, ◌<◌, ◌≤◌, ◌^◌, [], length, map, IfOk};
-ghost use Rattle.std.specs.List.Sorted.{IsStrictlySortedBy};
 ghost use Rattle.plex_limits.specs.declared.limits.TheConstants.{MOST_BYTES, MOST_TOKENS, MOST_WHENS};
 ghost use Rattle.plex_ast.specs.Grammar.{Sentence};
 ghost use Rattle.kept_trees.specs.Keeps.{IsKept};
@@ -12,7 +11,6 @@ ghost use Rattle.source_meaning.specs.Valid.{IsValid, LinesFit};
 ghost use Rattle.retire_order.specs.Accounts.{with_words};
 ghost use Rattle.retire_order.specs.Lines.{coming_of};
 ghost use Rattle.register_machine.specs.Faithful.{Faithful};
-ghost use Rattle.fact_rows.specs.Orders.{fact_order};
 ghost use Rattle.checked.specs.Kept.{IsChecked};
 
 use certificate::certificate_of;
@@ -90,7 +88,7 @@ pub fn lines_of(alloc: Global, exchange: &Exchange, text: &str) -> Result<Seq<Li
     if text.len() > MOST_BYTES {
         return Err(NotMade);
     }
-    match read_signals(alloc, exchange, text) {
+    match read_signals(alloc, exchange, text)? {
         Ok(lines) => Ok(lines),
         Err(_) => Err(NotMade),
     }
@@ -105,7 +103,6 @@ pub fn least_of(alloc: Global, exchange: &Exchange) -> Result<Checked, NotMade>
 }
 
 /// The certificate that a text tells, checked.
-#[tactic(auto, using(crate::proofs::Making::told_rises))]
 pub fn told_by(alloc: Global, exchange: &Exchange, text: &str) -> Result<Checked, NotMade>
     ensures { IfOk result (IsChecked exchange.now) }
 {
@@ -121,12 +118,11 @@ pub fn told_by(alloc: Global, exchange: &Exchange, text: &str) -> Result<Checked
 
 /// A certificate that is one of the exchange, checked.
 #[tactic(auto, using(crate::proofs::Making::accepted_is_checked))]
-fn accepted(
+pub fn accepted(
     alloc: Global,
     exchange: &Exchange,
     certificate: Certificate,
 ) -> Result<Checked, NotMade>
-    requires { IsStrictlySortedBy fact_order certificate.facts }
     ensures { IfOk result (IsChecked exchange.now) }
 {
     match check(alloc, exchange, certificate) {

@@ -20,7 +20,7 @@ use Rattle.flow_table.specs.declared.place.PlaceAt.{PlaceAt}
 use Rattle.flow_table.specs.declared.row.FlowTable.{FlowTable}
 use Rattle.flow_table.specs.declared.way.Ends.{Ends}
 use Rattle.flow_table.specs.declared.way.Ends.TheVariants as ends
-use Rattle.flow_table.specs.Rows.{IsTable}
+use Rattle.flow_table.specs.Rows.{IsFlowTable}
 use Rattle.flow_table.specs.Texts.{ArePlaces, seen}
 use Rattle.flow_table.specs.Ways.{IsEnd}
 use Rattle.flow_table.proofs.Rowing.{place_fits}
@@ -89,7 +89,7 @@ retrieve_signal : (s : Scope) (l : Layer) (answer : ℕ) → retrieved l ≡ Som
 retrieve_signal s (layer.Retrieve m temps) answer is names = subst (λ n. n < length s.signals) (same_Some m answer is) (answer_signal s m (length temps) (slice_get s.signals m) refl names.0)
 retrieve_signal s _ answer is names = absurd (none-some answer is)
 
-module _ (x : Exchange) (P : Facts) (e : ℕ) (t : FlowTable) (places : List PlaceAt) (r : List Bool) (kept : IsExchange x) (table : IsTable x t) (are : ArePlaces x (map seen places)) (reached : AreReached P e places r) where
+module _ (x : Exchange) (P : Facts) (e : ℕ) (t : FlowTable) (places : List PlaceAt) (r : List Bool) (kept : IsExchange x) (table : IsFlowTable x t) (are : ArePlaces x (map seen places)) (reached : AreReached P e places r) where
   reach : (p : ℕ) (at : Place) → StandsAt x p at → (is_in r p ≡ true) ↔ Reached P e p
   reach p at stands =
       let found = seen_from places p at (are.listed p at stands) in

@@ -1,6 +1,6 @@
 // Whether a job of an entry may fault.
 ghost use Rattle.std.specs.Prelude.{◌≡◌, ◌↔◌, map, true, IfOk};
-ghost use Rattle.flow_table.specs.Rows.{IsTable};
+ghost use Rattle.flow_table.specs.Rows.{IsFlowTable};
 ghost use Rattle.flow_table.specs.Texts.{ArePlaces, AreReachedAmong, seen};
 ghost use Rattle.entry_summary.specs.Faults.{MayFault};
 
@@ -23,7 +23,7 @@ pub fn may_fault<K: KnownFacts>(
     known: &K,
     entry: u32,
 ) -> Result<bool, Memory>
-    requires table { IsTable exchange.now table.now }
+    requires table { IsFlowTable exchange.now table.now }
     requires places { ArePlaces exchange.now (map seen places.now) }
     requires reached { AreReachedAmong exchange.now (K.knows known.now) entry
         (map seen reached.now) }

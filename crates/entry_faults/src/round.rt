@@ -1,6 +1,6 @@
 // Whether a statement that is reached leads back to itself.
 ghost use Rattle.std.specs.Prelude.{◌≡◌, ◌↔◌, map, true, IfOk};
-ghost use Rattle.flow_table.specs.Rows.{IsTable};
+ghost use Rattle.flow_table.specs.Rows.{IsFlowTable};
 ghost use Rattle.flow_table.specs.Texts.{ArePlaces, seen};
 ghost use Rattle.entry_summary.specs.Faults.{GoesRound};
 ghost use Rattle.entry_faults.specs.Reaching.{AreReached};
@@ -20,7 +20,7 @@ pub fn goes_round<K: KnownFacts>(
     known: &K,
     entry: u32,
 ) -> Result<bool, Memory>
-    requires table { IsTable exchange.now table.now }
+    requires table { IsFlowTable exchange.now table.now }
     requires places { ArePlaces exchange.now (map seen places.now) }
     ensures { IfOk result
         (λ round. (round ≡ true) ↔ GoesRound exchange.now (K.knows known.now) entry) }

@@ -11,7 +11,7 @@ use Rattle.exchange_model.specs.declared.stmt.Stmt.{Stmt, fold-Stmt, fold_out-St
 use Rattle.exchange_model.specs.declared.stmt.When.{When, out-When, fold-When, fold_out-When}
 use Rattle.exchange_model.specs.declared.stmt.StmtKind.{StmtKind, StmtKind-F, out-StmtKind, fold_out-StmtKind, map-StmtKind}
 use Rattle.exchange_model.specs.declared.stmt.StmtKind.TheOpen.{If, Case, On}
-use Rattle.exchange_model.specs.Inside.{most, total, joined, factor_depth, bracket_depth, factor_operands, operand_count, kind_layer_depth, kind_depth, Spot, kind_layer_spots, inner_spots, kind_layer_whens, inner_whens}
+use Rattle.exchange_model.specs.Inside.{most, total, joined, factor_depth, bracket_depth, factor_operands, operand_count, kind_layer_depth, kind_depth, PointLine, kind_layer_spots, inner_spots, kind_layer_whens, inner_whens}
 use Rattle.exchange_model.specs.PartCounts.{term_depth, joined_depth, factor_own_depth, inside_depth, term_operands, joined_operands, factor_own_operands, inside_operands, when_depth, parts_depth, stmt_spots, when_spots, parts_spots, when_whens, parts_whens}
 
 -- brackets
@@ -79,14 +79,14 @@ kind_depth-out k = fold_out-StmtKind ℕ ℕ ℕ kind_layer_depth (λ s. s.kind)
 
 -- the statements in a statement
 
-stmt_spots_are : (s : Stmt) → fold-Stmt (List Spot) (List Spot) (List Spot) kind_layer_spots (λ s. record { point = s.point; line = s.line } ∷ s.kind) (λ w. joined w.body) s ≡ stmt_spots s
+stmt_spots_are : (s : Stmt) → fold-Stmt (List PointLine) (List PointLine) (List PointLine) kind_layer_spots (λ s. record { point = s.point; line = s.line } ∷ s.kind) (λ w. joined w.body) s ≡ stmt_spots s
 unfolding inner_spots
-stmt_spots_are s = fold_out-Stmt (List Spot) (List Spot) (List Spot) kind_layer_spots (λ s. record { point = s.point; line = s.line } ∷ s.kind) (λ w. joined w.body) s
+stmt_spots_are s = fold_out-Stmt (List PointLine) (List PointLine) (List PointLine) kind_layer_spots (λ s. record { point = s.point; line = s.line } ∷ s.kind) (λ w. joined w.body) s
 
-when_spots_are : (w : When) → fold-When (List Spot) (List Spot) (List Spot) kind_layer_spots (λ s. record { point = s.point; line = s.line } ∷ s.kind) (λ w. joined w.body) w ≡ when_spots w
-when_spots_are w = fold_out-When (List Spot) (List Spot) (List Spot) kind_layer_spots (λ s. record { point = s.point; line = s.line } ∷ s.kind) (λ w. joined w.body) w ∙ λ i. joined (map (λ (s : Stmt). stmt_spots_are s i) (out-When w).body)
+when_spots_are : (w : When) → fold-When (List PointLine) (List PointLine) (List PointLine) kind_layer_spots (λ s. record { point = s.point; line = s.line } ∷ s.kind) (λ w. joined w.body) w ≡ when_spots w
+when_spots_are w = fold_out-When (List PointLine) (List PointLine) (List PointLine) kind_layer_spots (λ s. record { point = s.point; line = s.line } ∷ s.kind) (λ w. joined w.body) w ∙ λ i. joined (map (λ (s : Stmt). stmt_spots_are s i) (out-When w).body)
 
-spots_parts : (l : StmtKind-F StmtKind Stmt When) → kind_layer_spots (map-StmtKind StmtKind Stmt When (List Spot) (List Spot) (List Spot) inner_spots (fold-Stmt (List Spot) (List Spot) (List Spot) kind_layer_spots (λ s. record { point = s.point; line = s.line } ∷ s.kind) (λ w. joined w.body)) (fold-When (List Spot) (List Spot) (List Spot) kind_layer_spots (λ s. record { point = s.point; line = s.line } ∷ s.kind) (λ w. joined w.body)) l) ≡ parts_spots l
+spots_parts : (l : StmtKind-F StmtKind Stmt When) → kind_layer_spots (map-StmtKind StmtKind Stmt When (List PointLine) (List PointLine) (List PointLine) inner_spots (fold-Stmt (List PointLine) (List PointLine) (List PointLine) kind_layer_spots (λ s. record { point = s.point; line = s.line } ∷ s.kind) (λ w. joined w.body)) (fold-When (List PointLine) (List PointLine) (List PointLine) kind_layer_spots (λ s. record { point = s.point; line = s.line } ∷ s.kind) (λ w. joined w.body)) l) ≡ parts_spots l
 spots_parts (If cond yes_part no_part) = λ i. joined (map (λ (s : Stmt). stmt_spots_are s i) yes_part) ++ joined (map (λ (s : Stmt). stmt_spots_are s i) no_part)
 spots_parts (Case value whens otherwise) = λ i. joined (map (λ (w : When). when_spots_are w i) whens) ++ joined (map (λ (s : Stmt). stmt_spots_are s i) otherwise)
 spots_parts (On temp from upto body) = λ i. joined (map (λ (s : Stmt). stmt_spots_are s i) body)
@@ -94,7 +94,7 @@ spots_parts _ = refl
 
 pub inner_spots-out : (k : StmtKind) → inner_spots k ≡ parts_spots (out-StmtKind k)
 unfolding inner_spots
-inner_spots-out k = fold_out-StmtKind (List Spot) (List Spot) (List Spot) kind_layer_spots (λ s. record { point = s.point; line = s.line } ∷ s.kind) (λ w. joined w.body) k ∙ spots_parts (out-StmtKind k)
+inner_spots-out k = fold_out-StmtKind (List PointLine) (List PointLine) (List PointLine) kind_layer_spots (λ s. record { point = s.point; line = s.line } ∷ s.kind) (λ w. joined w.body) k ∙ spots_parts (out-StmtKind k)
 
 -- the choices of the CASEs in a statement
 

@@ -10,12 +10,12 @@ use Rattle.exchange_model.specs.declared.expr.Term.{Term, Term-F, out-Term, ever
 use Rattle.exchange_model.specs.declared.expr.Joined.{Joined, Joined-F, every-Joined, every_held-Joined}
 use Rattle.exchange_model.specs.declared.expr.Factor.{Factor, Factor-F, out-Factor, every-Factor, every_here-Factor, every_held-Factor, map-Factor}
 use Rattle.exchange_model.specs.declared.expr.Factor.TheOpen.{Bracket}
-use Rattle.exchange_model.specs.declared.stmt.Stmt.{Stmt, Stmt-F, every-Stmt, every_held-Stmt}
-use Rattle.exchange_model.specs.declared.stmt.When.{When, When-F, out-When, every-When, every_held-When}
-use Rattle.exchange_model.specs.declared.stmt.StmtKind.{StmtKind, StmtKind-F, out-StmtKind, roll-StmtKind, roll-out-StmtKind, every-StmtKind, every_here-StmtKind, every_held-StmtKind, map-StmtKind}
-use Rattle.exchange_model.specs.declared.stmt.StmtKind.TheOpen as layer
+use Rattle.exchange_model.specs.declared.stmt.Stmt.{Stmt}
+use Rattle.exchange_model.specs.declared.stmt.When.{When}
+use Rattle.exchange_model.specs.declared.stmt.StmtKind.{StmtKind, StmtKind-F, out-StmtKind, roll-StmtKind, roll-out-StmtKind}
 use Rattle.exchange_model.specs.Fits.{Scope, LayerFits, StmtFits, FactorFits, TermsStand, FactorsStand, ExprFits}
-use Rattle.exchange_model.specs.PartFits.{StmtsFit, PartsFit, TermFits, JoinedFits, FactorOwnFits, InsideFits}
+use Rattle.exchange_model.specs.PartFits.{PartsFit, TermFits, JoinedFits, FactorOwnFits, InsideFits}
+use Rattle.exchange_model.proofs.Everywhere.{everywhere-own, everywhere-parts}
 
 -- statements
 
@@ -24,46 +24,10 @@ pub same_kind : (k m : StmtKind) (l : StmtKind-F StmtKind Stmt When) → out-Stm
 same_kind k m l p q = sym (roll-out-StmtKind k) ∙ ap roll-StmtKind (p ∙ sym q) ∙ roll-out-StmtKind m
 
 pub stmt_fits-out : (s : Scope) (k : StmtKind) → StmtFits s k → LayerFits s (out-StmtKind k)
-unfolding StmtFits
-stmt_fits-out s k h = every_here-StmtKind (LayerFits s) (λ _. Unit {0}) (λ _. Unit {0}) k h
-
--- a part beside its proof
-abbrev pub Fit : Scope → Type 0
-Fit s = (one : Stmt) × every-Stmt (LayerFits s) (λ _. Unit {0}) (λ _. Unit {0}) one
-
-abbrev pub FitKind : Scope → Type 0
-FitKind s = (one : StmtKind) × every-StmtKind (LayerFits s) (λ _. Unit {0}) (λ _. Unit {0}) one
-
-abbrev pub FitWhen : Scope → Type 0
-FitWhen s = (one : When) × every-When (LayerFits s) (λ _. Unit {0}) (λ _. Unit {0}) one
-
-kind_fits : (s : Scope) (one : Fit s) → StmtFits s one.0.kind
-unfolding StmtFits
-kind_fits s one =
-    let held = every_held-Stmt (LayerFits s) (λ _. Unit {0}) (λ _. Unit {0}) one.0 one.1 in
-    subst (λ (l : Stmt-F StmtKind Stmt When). every-StmtKind (LayerFits s) (λ _. Unit {0}) (λ _. Unit {0}) l.kind) held.1 held.0.kind.1
-
-stmts_fit : (s : Scope) (list : List (Fit s)) → StmtsFit s (map (λ (one : Fit s). one.0) list)
-stmts_fit s [] = tt
-stmts_fit s (one ∷ rest) = (kind_fits s one, stmts_fit s rest)
-
-whens_fit : (s : Scope) (list : List (FitWhen s)) → AllByRecursion (λ w. StmtsFit s (out-When w).body) (map (λ (one : FitWhen s). one.0) list)
-whens_fit s [] = tt
-whens_fit s (one ∷ rest) =
-    let held = every_held-When (LayerFits s) (λ _. Unit {0}) (λ _. Unit {0}) one.0 one.1 in
-    (subst (λ (l : When-F StmtKind Stmt When). StmtsFit s l.body) held.1 (stmts_fit s held.0.body), whens_fit s rest)
-
-parts_fit : (s : Scope) (l : StmtKind-F (FitKind s) (Fit s) (FitWhen s)) → PartsFit s (map-StmtKind (FitKind s) (Fit s) (FitWhen s) StmtKind Stmt When (λ one. one.0) (λ one. one.0) (λ one. one.0) l)
-parts_fit s (layer.If cond yes_part no_part) = (stmts_fit s yes_part, stmts_fit s no_part)
-parts_fit s (layer.Case value whens otherwise) = (whens_fit s whens, stmts_fit s otherwise)
-parts_fit s (layer.On temp from upto body) = stmts_fit s body
-parts_fit s _ = tt
+stmt_fits-out s k h = everywhere-own (LayerFits s) k h
 
 pub stmt_fits-parts : (s : Scope) (k : StmtKind) → StmtFits s k → PartsFit s (out-StmtKind k)
-unfolding StmtFits
-stmt_fits-parts s k h =
-    let held = every_held-StmtKind (LayerFits s) (λ _. Unit {0}) (λ _. Unit {0}) k h in
-    subst (λ (l : StmtKind-F StmtKind Stmt When). PartsFit s l) held.1 (parts_fit s held.0)
+stmt_fits-parts s k h = everywhere-parts (LayerFits s) k h
 
 -- expressions
 

@@ -97,14 +97,14 @@ stands_from block cell (b ∷ bs) n p h =
     ]
 
 -- a file of the exchange: its block, its place among the files of that block, and the cells before it
-pub record Stands (blocks : List Block) (p : Placed) : Type 0 where
+pub record FileStands (blocks : List Block) (p : Placed) : Type 0 where
   pub owner : Block
   pub there : slice_get blocks p.block ≡ Some owner
   pub place : ℕ
   pub own : slice_get owner.files place ≡ Some p.file
   pub first : p.first ≡ first_cell blocks p.block + length owner.variables + sum_by file_cells (take place owner.files)
 
-pub stands : (blocks : List Block) (n : ℕ) (p : Placed) → slice_get (placed_files blocks) n ≡ Some p → Stands blocks p
+pub stands : (blocks : List Block) (n : ℕ) (p : Placed) → slice_get (placed_files blocks) n ≡ Some p → FileStands blocks p
 unfolding placed_files
 stands blocks n p h =
     let s = stands_from 0 0 blocks n p h in

@@ -22,9 +22,10 @@ use Rattle.exchange_model.specs.declared.stmt.Receiver.{Receiver}
 use Rattle.exchange_model.specs.declared.stmt.Receiver.TheVariants as receiver
 use Rattle.exchange_model.specs.declared.stmt.Stmt.{Stmt}
 use Rattle.exchange_model.specs.declared.stmt.When.{When, out-When}
-use Rattle.exchange_model.specs.declared.stmt.StmtKind.{StmtKind, StmtKind-F, out-StmtKind, every-StmtKind}
+use Rattle.exchange_model.specs.declared.stmt.StmtKind.{StmtKind, StmtKind-F, out-StmtKind}
 use Rattle.exchange_model.specs.declared.stmt.StmtKind.TheOpen as layer
 use Rattle.exchange_model.specs.Cells.{Placed}
+use Rattle.exchange_model.specs.Everywhere.{Everywhere}
 use Rattle.exchange_model.specs.Inside.{own_exprs, bracket_depth, operand_count, total}
 
 -- a block by its number, the signals and blocks of its exchange, and the files of all blocks
@@ -210,5 +211,5 @@ pub record LayerFits (s : Scope) (l : StmtKind-F StmtKind Stmt When) : Type 0 wh
   pub lists : ListsFit s l
 
 -- a statement of the block, with all those in it
-unfoldable pub StmtFits : Scope → StmtKind → Type 0
-StmtFits s = every-StmtKind (LayerFits s) (λ _. Unit {0}) (λ _. Unit {0})
+abbrev pub StmtFits : Scope → StmtKind → Type 0
+StmtFits s k = Everywhere (LayerFits s) k

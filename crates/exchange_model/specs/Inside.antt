@@ -77,22 +77,22 @@ abbrev pub text_depth : List Stmt → ℕ
 text_depth body = most (map (λ (s : Stmt). kind_depth s.kind) body)
 
 -- the number of a statement, and the line of its first token
-pub record Spot : Type 0 where
+pub record PointLine : Type 0 where
   pub point : ℕ
   pub line : ℕ
 
 -- those of the statements in a statement, in the order of the text
-abbrev pub kind_layer_spots : StmtKind-F (List Spot) (List Spot) (List Spot) → List Spot
+abbrev pub kind_layer_spots : StmtKind-F (List PointLine) (List PointLine) (List PointLine) → List PointLine
 kind_layer_spots (If cond yes_part no_part) = joined yes_part ++ joined no_part
 kind_layer_spots (Case value whens otherwise) = joined whens ++ joined otherwise
 kind_layer_spots (On temp from upto body) = joined body
 kind_layer_spots _ = []
 
-unfoldable pub inner_spots : StmtKind → List Spot
-inner_spots = fold-StmtKind (List Spot) (List Spot) (List Spot) kind_layer_spots (λ s. record { point = s.point; line = s.line } ∷ s.kind) (λ w. joined w.body)
+unfoldable pub inner_spots : StmtKind → List PointLine
+inner_spots = fold-StmtKind (List PointLine) (List PointLine) (List PointLine) kind_layer_spots (λ s. record { point = s.point; line = s.line } ∷ s.kind) (λ w. joined w.body)
 
 -- those of a text
-abbrev pub spots : List Stmt → List Spot
+abbrev pub spots : List Stmt → List PointLine
 spots body = joined (map (λ (s : Stmt). record { point = s.point; line = s.line } ∷ inner_spots s.kind) body)
 
 -- how many choices the CASEs of a statement have

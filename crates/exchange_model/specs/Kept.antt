@@ -20,7 +20,7 @@ use Rattle.exchange_model.specs.declared.stmt.Stmt.{Stmt}
 use Rattle.exchange_model.specs.declared.stmt.StmtKind.{StmtKind-F, out-StmtKind}
 use Rattle.exchange_model.specs.declared.stmt.StmtKind.TheOpen.{Enter, Finish}
 use Rattle.exchange_model.specs.Cells.{Placed, placed_files, cell_count}
-use Rattle.exchange_model.specs.Inside.{Spot, spots, joined, text_depth, when_count, total}
+use Rattle.exchange_model.specs.Inside.{PointLine, spots, joined, text_depth, when_count, total}
 use Rattle.exchange_model.specs.Fits.{Scope, StmtFits, ArePaired, retrieved}
 use Rattle.exchange_model.specs.Parts.{Parts}
 
@@ -161,13 +161,13 @@ pub record BlocksKept (x : Parts) : Type 0 where
 -- numberings
 
 -- the statements of all blocks in order
-abbrev pub all_spots : List Block → List Spot
+abbrev pub all_spots : List Block → List PointLine
 all_spots blocks = joined (map (λ (k : Block). spots k.body) blocks)
 
 -- the points of these blocks, the first of which has this number
 unfoldable pub points_from : ℕ → List Block → List PointInfo
 points_from b [] = []
-points_from b (k ∷ rest) = map (λ (s : Spot). record { block = b; line = s.line }) (spots k.body) ++ points_from (b + 1) rest
+points_from b (k ∷ rest) = map (λ (s : PointLine). record { block = b; line = s.line }) (spots k.body) ++ points_from (b + 1) rest
 
 -- an ENTER of a buffered signal is an entry
 abbrev pub entry_of : Option SignalKind → ℕ → ℕ → ℕ → Option Entry
@@ -189,7 +189,7 @@ entries_from signals b (k ∷ rest) = entries_in signals b k.body ++ entries_fro
 
 -- statements, points, files, entries and cells are numbered in the order of the text
 pub record Numbered (x : Parts) : Type 0 where
-  pub statements : map (λ (s : Spot). s.point) (all_spots x.blocks) ≡ range_with_len 0 (length (all_spots x.blocks))
+  pub statements : map (λ (s : PointLine). s.point) (all_spots x.blocks) ≡ range_with_len 0 (length (all_spots x.blocks))
   pub points : x.points ≡ points_from 0 x.blocks
   pub files : map (λ (p : Placed). p.file.number) (placed_files x.blocks) ≡ range_with_len 0 (length (placed_files x.blocks))
   pub entries : x.entries ≡ entries_from x.signals 0 x.blocks

@@ -1,4 +1,5 @@
 pub mod Cells
+pub mod Everywhere
 pub mod Fits
 pub mod Index
 pub mod Inside

@@ -9,7 +9,7 @@ use Rattle.exchange_model.specs.declared.stmt.Stmt.{Stmt}
 use Rattle.exchange_model.specs.declared.stmt.When.{When, out-When}
 use Rattle.exchange_model.specs.declared.stmt.StmtKind.{StmtKind-F}
 use Rattle.exchange_model.specs.declared.stmt.StmtKind.TheOpen.{If, Case, On}
-use Rattle.exchange_model.specs.Inside.{most, total, joined, factor_depth, bracket_depth, factor_operands, operand_count, text_depth, Spot, inner_spots, spots, when_count}
+use Rattle.exchange_model.specs.Inside.{most, total, joined, factor_depth, bracket_depth, factor_operands, operand_count, text_depth, PointLine, inner_spots, spots, when_count}
 
 -- how deep the brackets of a term, of a joined factor and of a factor stand in one another
 unfoldable pub term_depth : Term → ℕ
@@ -53,13 +53,13 @@ parts_depth (On temp from upto body) = 1 + text_depth body
 parts_depth _ = 0
 
 -- a statement and those in it, in the order of the text
-abbrev pub stmt_spots : Stmt → List Spot
+abbrev pub stmt_spots : Stmt → List PointLine
 stmt_spots s = record { point = s.point; line = s.line } ∷ inner_spots s.kind
 
-abbrev pub when_spots : When → List Spot
+abbrev pub when_spots : When → List PointLine
 when_spots w = spots (out-When w).body
 
-abbrev pub parts_spots : {K : Type 0} → StmtKind-F K Stmt When → List Spot
+abbrev pub parts_spots : {K : Type 0} → StmtKind-F K Stmt When → List PointLine
 parts_spots (If cond yes_part no_part) = spots yes_part ++ spots no_part
 parts_spots (Case value whens otherwise) = joined (map when_spots whens) ++ spots otherwise
 parts_spots (On temp from upto body) = spots body

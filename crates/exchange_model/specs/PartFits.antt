@@ -1,27 +1,23 @@
 -- The statements and expressions in one layer are of the block: each kind of part by itself.
 use Rattle.std.specs.Prelude.{List}
-use Rattle.std.specs.List.{AllByRecursion}
 use Rattle.exchange_model.specs.declared.expr.Expr.{Expr}
 use Rattle.exchange_model.specs.declared.expr.Term.{Term, every-Term}
 use Rattle.exchange_model.specs.declared.expr.Joined.{Joined, every-Joined}
 use Rattle.exchange_model.specs.declared.expr.Factor.{Factor, Factor-F, every-Factor}
 use Rattle.exchange_model.specs.declared.expr.Factor.TheOpen.{Bracket}
 use Rattle.exchange_model.specs.declared.stmt.Stmt.{Stmt}
-use Rattle.exchange_model.specs.declared.stmt.When.{When, out-When}
+use Rattle.exchange_model.specs.declared.stmt.When.{When}
 use Rattle.exchange_model.specs.declared.stmt.StmtKind.{StmtKind-F}
-use Rattle.exchange_model.specs.declared.stmt.StmtKind.TheOpen as layer
-use Rattle.exchange_model.specs.Fits.{Scope, StmtFits, FactorFits, TermsStand, FactorsStand, ExprFits}
+use Rattle.exchange_model.specs.Everywhere.{AllIn, PartsKeep}
+use Rattle.exchange_model.specs.Fits.{Scope, LayerFits, FactorFits, TermsStand, FactorsStand, ExprFits}
 
 -- all of these statements, with all those in them, are of the block
 abbrev pub StmtsFit : Scope → List Stmt → Type 0
-StmtsFit s list = AllByRecursion (λ (one : Stmt). StmtFits s one.kind) list
+StmtsFit s list = AllIn (LayerFits s) list
 
 -- the statements in one layer
 abbrev pub PartsFit : {K : Type 0} → Scope → StmtKind-F K Stmt When → Type 0
-PartsFit s (layer.If cond yes_part no_part) = StmtsFit s yes_part × StmtsFit s no_part
-PartsFit s (layer.Case value whens otherwise) = AllByRecursion (λ w. StmtsFit s (out-When w).body) whens × StmtsFit s otherwise
-PartsFit s (layer.On temp from upto body) = StmtsFit s body
-PartsFit s _ = Unit {0}
+PartsFit s l = PartsKeep (LayerFits s) l
 
 -- a term of the block
 unfoldable pub TermFits : Scope → Term → Type 0

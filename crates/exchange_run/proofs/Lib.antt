@@ -3,3 +3,4 @@ pub mod Ending
 pub mod Turning
 pub mod Starting
 pub mod Opened
+pub mod Resting

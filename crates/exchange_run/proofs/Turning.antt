@@ -23,7 +23,7 @@ use Rattle.source_meaning.proofs.Retiring.{after_valid, start_fits}
 use Rattle.retire_order.specs.Accounts.{Account, after_start, upcoming, with_words}
 use Rattle.retire_order.specs.Retired.{retired_world}
 use Rattle.retire_order.specs.Stores.{MayStore}
-use Rattle.exchange_run.specs.Runs.{MayRun, RunsTo, Stands, left_by, told_next, told_of, words_after}
+use Rattle.exchange_run.specs.Runs.{MayRun, RunsTo, RunStands, left_by, told_next, told_of, words_after}
 use Rattle.retire_order.proofs.Arriving.{arrivals_with}
 use Rattle.retire_order.proofs.Cells.{may_store, retired_inside}
 use Rattle.exchange_run.proofs.Counting.{arrivals_ended, retired_ended}
@@ -147,7 +147,7 @@ none_told tell x first w = refl
 -- ## The run
 
 -- what is due has arrived
-pub stands_begin : (x : Exchange) (before b : Account) (words : List ℕ) → before.running ≡ 0 → b ≡ record before { state = arrivals x before.state } → Stands x (with_words before.state words) before.limit 0 b words
+pub stands_begin : (x : Exchange) (before b : Account) (words : List ℕ) → before.running ≡ 0 → b ≡ record before { state = arrivals x before.state } → RunStands x (with_words before.state words) before.limit 0 b words
 unfolding after
 stands_begin x before b words none is = record {
   state = ap (λ (a : Account). with_words a.state words) is ∙ sym (arrivals_with x before.state words);
@@ -159,14 +159,14 @@ stands_begin x before b words none is = record {
 }
 
 module _ (x : Exchange) (kept : IsExchange x) (first : State) (limit : ℕ) (fit : IsValid x first) where
-  module _ (n : ℕ) (b : Account) (words : List ℕ) (g : Stands x first limit n b words) where
+  module _ (n : ℕ) (b : Account) (words : List ℕ) (g : RunStands x first limit n b words) where
     pub stands_valid : IsValid x (with_words b.state words)
     stands_valid = subst (IsValid x) (sym g.state) (after_valid x kept first n fit)
 
     here_goes : ending_at limit b.state ≡ None → ending_at limit (after x first n) ≡ None
     here_goes goes = ap (ending_at limit) (sym g.state) ∙ goes
 
-    pub stands_more : (next : Account) (now : List ℕ) → ending_at b.limit b.state ≡ None → with_words next.state now ≡ turn x (with_words b.state words) → next.running ≡ 0 → next.limit ≡ b.limit → Stands x first limit (suc n) next now
+    pub stands_more : (next : Account) (now : List ℕ) → ending_at b.limit b.state ≡ None → with_words next.state now ≡ turn x (with_words b.state words) → next.running ≡ 0 → next.limit ≡ b.limit → RunStands x first limit (suc n) next now
     unfolding after
     stands_more next now goes turned none same =
         let goes_at : ending_at limit b.state ≡ None = ap (λ l. ending_at l b.state) (sym g.limited) ∙ goes in

@@ -37,7 +37,7 @@ told_of tell x first zero w = w
 told_of tell x first (suc n) w = told_next tell x (after x first n) (told_of tell x first n w)
 
 -- the books and the words stand for the single run from this state after so many jobs, nobody runs, and the run was not over before
-pub record Stands (x : Exchange) (first : State) (limit n : ℕ) (b : Account) (words : List ℕ) : Type 0 where
+pub record RunStands (x : Exchange) (first : State) (limit n : ℕ) (b : Account) (words : List ℕ) : Type 0 where
   pub state : with_words b.state words ≡ after x first n
   pub counted : n ≤ b.state.ended
   pub nobody : b.running ≡ 0

@@ -1,6 +1,7 @@
 // Jobs run by compiled code.
 ghost use Rattle.std.specs.Prelude.{◌≡◌};
 
+use crate::lengths::Lengths;
 use crate::runner::Runner;
 use exchange_model::Exchange;
 use job_types::{JobDone, JobStart};
@@ -16,21 +17,36 @@ pub struct ByCode<'a, G> {
     code: &'a Code,
     gate: &'a G,
     run: JobRun,
-    /// How many jobs have begun.
+    /// How many jobs have begun, those before this runner among them.
     begun: u64,
+    lengths: Lengths,
 }
 
 impl<'a, G: Gate> ByCode<'a, G> {
-    /// Before the first job of this code.
+    /// Before the first job.
     pub fn new(code: &'a Code, gate: &'a G) -> ByCode<'a, G>
+        ensures { result.code.now ≡ code.now }
+    {
+        ByCode::behind(code, gate, 0)
+    }
+
+    /// Before the next job, where so many have ended: the gate knows it by the number behind those.
+    pub fn behind(code: &'a Code, gate: &'a G, ended: u64) -> ByCode<'a, G>
         ensures { result.code.now ≡ code.now }
     {
         ByCode {
             code,
             gate,
             run: JobRun::idle(),
-            begun: 0,
+            begun: ended,
+            lengths: Lengths::new(),
         }
+    }
+
+    /// Whether the jobs of late made more than so many instructions in the mean, and all of its jobs
+    /// at least so many.
+    pub(crate) fn has_long_jobs(&self, mean: u64, least: u64) -> bool {
+        self.lengths.are_above(mean) && self.lengths.made() >= least
     }
 }
 
@@ -55,6 +71,7 @@ impl<'a, G: Gate> Runner for ByCode<'a, G> {
         self.run.begin(self.code, start);
         run_to_end(exchange, &mut self.run, self.code, words);
         let steps = self.run.steps();
+        self.lengths.add(steps);
         self.gate.at(self.begun, Place::After { steps });
         Ok(())
     }

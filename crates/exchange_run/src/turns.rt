@@ -126,7 +126,7 @@ pub fn run_books<R: Runner, W: Watcher>(
 
 /// The next job runs and retires, what is due arrives, and the watcher is told of the job. No job may run before, and the run may not be
 /// over.
-fn make_turn<R: Runner, W: Watcher>(
+pub(crate) fn make_turn<R: Runner, W: Watcher>(
     exchange: &Exchange,
     layout: &Layout,
     books: &mut Books,

@@ -23,7 +23,7 @@ use Rattle.flow_table.specs.declared.row.FlowTable.{FlowTable}
 use Rattle.flow_table.specs.declared.way.Ends.TheVariants as ends
 use Rattle.flow_table.specs.declared.way.Way.{Way}
 use Rattle.flow_table.specs.Giving.{HasGiven, SlotGives, SlotsGive}
-use Rattle.flow_table.specs.Rows.{IsRowOf, IsTable}
+use Rattle.flow_table.specs.Rows.{IsRowOf, IsFlowTable}
 use Rattle.flow_table.specs.Small.{IsSmall}
 use Rattle.flow_table.specs.Ways.{IsEnd}
 use Rattle.flow_table.proofs.Rowing.{place_fits}
@@ -59,14 +59,14 @@ pub to_points : (x : Exchange) (P : Facts) (e p : ℕ) (w : Way) (listed points 
 to_points x P e p w listed points old new is same h =
     way_of_ends x P e p w points old new (λ q. subst (λ k. Contains points q ↔ IsEnd x k q) (sym is) (λ c. subst (λ l. Contains l q) same c, λ c. subst (λ l. Contains l q) (sym same) c)) h
 
-pub to_retrieves : (x : Exchange) (t : FlowTable) (P : Facts) (e p : ℕ) (w : Way) (answer : ℕ) (listed points : List ℕ) (old new : List Fact) → IsTable x t → w.ends ≡ ends.Retrieves answer → slice_get t.retrieves answer ≡ Some listed → points ≡ listed → HasGiven old new (OneGives (FlowsTo x P e p w.how) points) → HasGiven old new (WayGives x P e p w)
+pub to_retrieves : (x : Exchange) (t : FlowTable) (P : Facts) (e p : ℕ) (w : Way) (answer : ℕ) (listed points : List ℕ) (old new : List Fact) → IsFlowTable x t → w.ends ≡ ends.Retrieves answer → slice_get t.retrieves answer ≡ Some listed → points ≡ listed → HasGiven old new (OneGives (FlowsTo x P e p w.how) points) → HasGiven old new (WayGives x P e p w)
 to_retrieves x t P e p w answer listed points old new table is there same h =
     let are = table.retrieves.exact answer listed there in
     way_of_ends x P e p w points old new
     (λ q. subst (λ k. Contains points q ↔ IsEnd x k q) (sym is) (λ c. (are.exact q).0 (subst (λ l. Contains l q) same c), λ r. subst (λ l. Contains l q) (sym same) ((are.exact q).1 r)))
     h
 
-pub no_retrieves : (x : Exchange) (t : FlowTable) (P : Facts) (e p : ℕ) (w : Way) (answer : ℕ) (old : List Fact) → IsExchange x → IsTable x t → w.ends ≡ ends.Retrieves answer → length t.retrieves ≤ answer → HasGiven old old (WayGives x P e p w)
+pub no_retrieves : (x : Exchange) (t : FlowTable) (P : Facts) (e p : ℕ) (w : Way) (answer : ℕ) (old : List Fact) → IsExchange x → IsFlowTable x t → w.ends ≡ ends.Retrieves answer → length t.retrieves ≤ answer → HasGiven old old (WayGives x P e p w)
 no_retrieves x t P e p w answer old kept table is past =
     given_none (WayGives x P e p w) old (λ f k.
     let r : IsRetrieveAt x k.end answer = subst (λ o. IsEnd x o k.end) is k.ends in
@@ -127,7 +127,7 @@ of_ways x P e p r is f h =
       };
     }
 
-pub all_ways : (x : Exchange) (t : FlowTable) (P : Facts) (e p : ℕ) (r : Row) (ways : List Way) (old new : List Fact) → IsExchange x → IsTable x t → p < length x.points → slice_get t.rows p ≡ Some r → ways ≡ r.ways → Reached P e p → HasGiven old new (OneGives (WayGives x P e p) ways) → HasGiven old new (GivenAt x P e p)
+pub all_ways : (x : Exchange) (t : FlowTable) (P : Facts) (e p : ℕ) (r : Row) (ways : List Way) (old new : List Fact) → IsExchange x → IsFlowTable x t → p < length x.points → slice_get t.rows p ≡ Some r → ways ≡ r.ways → Reached P e p → HasGiven old new (OneGives (WayGives x P e p) ways) → HasGiven old new (GivenAt x P e p)
 all_ways x t P e p r ways old new kept table lt there same reached h =
     let at = point_stands x kept p lt in
     given_as (OneGives (WayGives x P e p) r.ways) (GivenAt x P e p) old new
@@ -135,12 +135,12 @@ all_ways x t P e p r ways old new kept table lt there same reached h =
     (of_ways x P e p r (λ place stands. row_of x t p r place table there stands))
     (subst (λ ws. HasGiven old new (OneGives (WayGives x P e p) ws)) same h)
 
-pub ways_small : (x : Exchange) (t : FlowTable) (p : ℕ) (r : Row) (ways : List Way) → IsExchange x → IsTable x t → p < length x.points → slice_get t.rows p ≡ Some r → ways ≡ r.ways → AllByRecursion (λ (w : Way). IsSmall w.how) ways
+pub ways_small : (x : Exchange) (t : FlowTable) (p : ℕ) (r : Row) (ways : List Way) → IsExchange x → IsFlowTable x t → p < length x.points → slice_get t.rows p ≡ Some r → ways ≡ r.ways → AllByRecursion (λ (w : Way). IsSmall w.how) ways
 ways_small x t p r ways kept table lt there same =
     let at = point_stands x kept p lt in
     subst (AllByRecursion (λ (w : Way). IsSmall w.how)) (sym same) (row_of x t p r at.at table there at.stands).small
 
-pub no_row : {A : Type 0} (x : Exchange) (t : FlowTable) (p : ℕ) → IsTable x t → p < length x.points → length t.rows ≤ p → A
+pub no_row : {A : Type 0} (x : Exchange) (t : FlowTable) (p : ℕ) → IsFlowTable x t → p < length x.points → length t.rows ≤ p → A
 no_row x t p table lt past = absurd (let e = table.rows.each_point in omega (arith, e, lt, past))
 
 -- the start

@@ -12,7 +12,7 @@ use Rattle.exchange_model.specs.declared.stmt.Stmt.{Stmt}
 use Rattle.exchange_model.specs.declared.stmt.When.{When, out-When}
 use Rattle.exchange_model.specs.declared.stmt.StmtKind.{out-StmtKind}
 use Rattle.exchange_model.specs.declared.stmt.StmtKind.TheOpen as stmt
-use Rattle.exchange_model.specs.Inside.{Spot, joined, most, spots, inner_spots, text_depth, kind_depth}
+use Rattle.exchange_model.specs.Inside.{PointLine, joined, most, spots, inner_spots, text_depth, kind_depth}
 use Rattle.exchange_model.specs.Kept.{IsExchange, all_spots}
 use Rattle.exchange_model.specs.PartCounts.{parts_depth, when_depth, stmt_spots, when_spots, parts_spots}
 use Rattle.exchange_model.proofs.Counted.{inner_spots-out, kind_depth-out}
@@ -40,7 +40,7 @@ one_less m n lt = omega arith
 module _ (x : Exchange) (b : ℕ) where
   -- each statement of a row of less than this depth stands at its point
   abbrev Stood : ℕ → Type 0
-  Stood n = (list : List Stmt) (end : Option ℕ) → IsRow x b list end → text_depth list < n → (spot : Spot) → Contains (spots list) spot → Standing x spot.point
+  Stood n = (list : List Stmt) (end : Option ℕ) → IsRow x b list end → text_depth list < n → (spot : PointLine) → Contains (spots list) spot → Standing x spot.point
 
   -- what is in a statement is of rows of the text
   record HasRows (p : ℕ) (next : Option ℕ) (l : Layer) : Type 0 where
@@ -53,7 +53,7 @@ module _ (x : Exchange) (b : ℕ) where
     turns = λ temp from upto body is. turn s rest end temp from upto body row is;
   }
 
-  in_whens : (n : ℕ) (next : Option ℕ) → Stood n → (whens : List When) → ((w : When) → Contains whens w → IsRow x b (out-When w).body next) → most (map when_depth whens) < n → (spot : Spot) → Contains (joined (map when_spots whens)) spot → Standing x spot.point
+  in_whens : (n : ℕ) (next : Option ℕ) → Stood n → (whens : List When) → ((w : When) → Contains whens w → IsRow x b (out-When w).body next) → most (map when_depth whens) < n → (spot : PointLine) → Contains (joined (map when_spots whens)) spot → Standing x spot.point
   in_whens n next deep [] rows lt spot c = absurd (none_in spot c)
   in_whens n next deep (w ∷ ws) rows lt spot c =
       ⊎_elim
@@ -61,7 +61,7 @@ module _ (x : Exchange) (b : ℕ) where
       (λ more. in_whens n next deep ws (λ v at. rows v (later_is w v ws at)) (right_lt (when_depth w) (most (map when_depth ws)) n lt) spot more)
       (Contains-append_cases (when_spots w) (joined (map when_spots ws)) spot c)
 
-  inside : (n p : ℕ) (next : Option ℕ) → Stood n → (l : Layer) → HasRows p next l → parts_depth l < suc n → (spot : Spot) → Contains (parts_spots l) spot → Standing x spot.point
+  inside : (n p : ℕ) (next : Option ℕ) → Stood n → (l : Layer) → HasRows p next l → parts_depth l < suc n → (spot : PointLine) → Contains (parts_spots l) spot → Standing x spot.point
   inside n p next deep (stmt.If cond yes_part no_part) rows lt spot c =
       let low = one_less (max (text_depth yes_part) (text_depth no_part)) n lt in
       ⊎_elim
@@ -77,7 +77,7 @@ module _ (x : Exchange) (b : ℕ) where
   inside n p next deep (stmt.On temp from upto body) rows lt spot c = deep body (Some p) (rows.turns temp from upto body refl) (one_less (text_depth body) n lt) spot c
   inside n p next deep _ rows lt spot c = absurd (none_in spot c)
 
-  deeper : (n : ℕ) → Stood n → (list : List Stmt) (end : Option ℕ) → IsRow x b list end → text_depth list < suc n → (spot : Spot) → Contains (spots list) spot → Standing x spot.point
+  deeper : (n : ℕ) → Stood n → (list : List Stmt) (end : Option ℕ) → IsRow x b list end → text_depth list < suc n → (spot : PointLine) → Contains (spots list) spot → Standing x spot.point
   deeper n deep [] end row lt spot c = absurd (none_in spot c)
   deeper n deep (s ∷ rest) end row lt spot c =
       ⊎_elim
@@ -88,7 +88,7 @@ module _ (x : Exchange) (b : ℕ) where
       here : record { point = s.point; line = s.line } ≡ spot → Standing x spot.point
       here e = record {
         at = place_of b s (first_point rest end);
-        stands = record { place = record { stmt = s; list = rest; end = end; row = row; is = refl }; here = ap (λ (t : Spot). t.point) e };
+        stands = record { place = record { stmt = s; list = rest; end = end; row = row; is = refl }; here = ap (λ (t : PointLine). t.point) e };
       }
 
       within : Contains (inner_spots s.kind) spot → Standing x spot.point
@@ -106,7 +106,7 @@ module _ (x : Exchange) where
   get_later : {A : Type 0} (xs all : List A) (y : A) (n : ℕ) → ((i : ℕ) (z : A) → slice_get (y ∷ xs) i ≡ Some z → slice_get all (n + i) ≡ Some z) → (i : ℕ) (z : A) → slice_get xs i ≡ Some z → slice_get all (n + 1 + i) ≡ Some z
   get_later xs all y n h i z is = (let e : n + suc i ≡ n + 1 + i = omega arith in subst (λ m. slice_get all m ≡ Some z) e (h (suc i) z is))
 
-  texts_from : (b : ℕ) (blocks : List Block) → ((i : ℕ) (k : Block) → slice_get blocks i ≡ Some k → slice_get x.blocks (b + i) ≡ Some k) → (spot : Spot) → Contains (all_spots blocks) spot → Standing x spot.point
+  texts_from : (b : ℕ) (blocks : List Block) → ((i : ℕ) (k : Block) → slice_get blocks i ≡ Some k → slice_get x.blocks (b + i) ≡ Some k) → (spot : PointLine) → Contains (all_spots blocks) spot → Standing x spot.point
   texts_from b [] are spot c = absurd (none_in spot c)
   texts_from b (k ∷ rest) are spot c =
       ⊎_elim
@@ -114,21 +114,21 @@ module _ (x : Exchange) where
       (λ more. texts_from (b + 1) rest (get_later rest x.blocks k b are) spot more)
       (Contains-append_cases (spots k.body) (all_spots rest) spot c)
 
-  spot_stands : (spot : Spot) → Contains (all_spots x.blocks) spot → Standing x spot.point
+  spot_stands : (spot : PointLine) → Contains (all_spots x.blocks) spot → Standing x spot.point
   spot_stands spot c = texts_from 0 x.blocks (λ i k there. (let e : i ≡ 0 + i = omega arith in subst (λ n. slice_get x.blocks n ≡ Some k) e there)) spot c
 
-record AtPoint (all : List Spot) (p : ℕ) : Type 0 where
-  spot : Spot
+record AtPoint (all : List PointLine) (p : ℕ) : Type 0 where
+  spot : PointLine
   among : Contains all spot
   point : spot.point ≡ p
 
-at_point : (all : List Spot) (p : ℕ) → Contains (map (λ (s : Spot). s.point) all) p → AtPoint all p
+at_point : (all : List PointLine) (p : ℕ) → Contains (map (λ (s : PointLine). s.point) all) p → AtPoint all p
 at_point [] p c = absurd (none_in p c)
 at_point (s ∷ all) p c =
     ⊎_elim
     (λ is. record { spot = s; among = first_is s all; point = is })
     (λ more. let a = at_point all p more in record { spot = a.spot; among = later_is s a.spot all a.among; point = a.point })
-    (first_or_later s.point p (map (λ (s : Spot). s.point) all) c)
+    (first_or_later s.point p (map (λ (s : PointLine). s.point) all) c)
 
 range_has : (n p : ℕ) → p < n → Contains (range_with_len 0 n) p
 range_has n p lt =

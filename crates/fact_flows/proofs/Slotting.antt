@@ -14,7 +14,7 @@ use Rattle.flow_points.specs.Places.{Place, StandsAt}
 use Rattle.flow_points.specs.Slots.{IsSlotOf, HasSlot}
 use Rattle.flow_table.specs.declared.row.Row.{Row}
 use Rattle.flow_table.specs.declared.row.FlowTable.{FlowTable}
-use Rattle.flow_table.specs.Rows.{IsRowOf, IsTable}
+use Rattle.flow_table.specs.Rows.{IsRowOf, IsFlowTable}
 use Rattle.fact_flows.specs.declared.slots.Numbered.{Numbered}
 use Rattle.fact_flows.specs.declared.slots.Numbered.TheVariants.{Temp, Given, Answered}
 use Rattle.fact_flows.specs.Slots.{AreSlots, numbered_slot, row_slots}
@@ -132,10 +132,10 @@ place_to_row x at r slot.Awaits is h = tt
 
 -- the row of a point is of what stands there
 
-pub row_of : (x : Exchange) (t : FlowTable) (p : ℕ) (r : Row) (at : Place) → IsTable x t → slice_get t.rows p ≡ Some r → StandsAt x p at → IsRowOf x at r
+pub row_of : (x : Exchange) (t : FlowTable) (p : ℕ) (r : Row) (at : Place) → IsFlowTable x t → slice_get t.rows p ≡ Some r → StandsAt x p at → IsRowOf x at r
 row_of x t p r at table there stands = (let h = table.rows.each p at stands in subst (IsRowOf x at) (same_Some h.row r (sym h.there ∙ there)) h.is)
 
-pub some_slots : (x : Exchange) (t : FlowTable) (p : ℕ) (r : Row) (slots : List Slot) → IsExchange x → IsTable x t → slice_get t.rows p ≡ Some r → slots ≡ row_slots r → AreSlots x p slots
+pub some_slots : (x : Exchange) (t : FlowTable) (p : ℕ) (r : Row) (slots : List Slot) → IsExchange x → IsFlowTable x t → slice_get t.rows p ≡ Some r → slots ≡ row_slots r → AreSlots x p slots
 some_slots x t p r slots kept table there is = record { exact = λ s. (from s, to s) }
   where
     from : (s : Slot) → Contains slots s → HasSlot x p s
@@ -147,7 +147,7 @@ some_slots x t p r slots kept table there is = record { exact = λ s. (from s, t
     to : (s : Slot) → HasSlot x p s → Contains slots s
     to s h = subst (λ l. Contains l s) (sym is) (has_listed r s (place_to_row x h.place r s (row_of x t p r h.place table there h.stands) h.slot))
 
-pub no_slots : (x : Exchange) (t : FlowTable) (p : ℕ) (slots : List Slot) → IsTable x t → length t.rows ≤ p → slots ≡ [] → AreSlots x p slots
+pub no_slots : (x : Exchange) (t : FlowTable) (p : ℕ) (slots : List Slot) → IsFlowTable x t → length t.rows ≤ p → slots ≡ [] → AreSlots x p slots
 no_slots x t p slots table past none = record { exact = λ s. (λ c. absurd (none_in s (subst (λ l. Contains l s) none c)), λ h. absurd (nothing s h)) }
   where
     nothing : (s : Slot) → HasSlot x p s → ⊥

@@ -3,7 +3,7 @@ ghost use Rattle.std.specs.Prelude.{◌<◌, length, OnOk};
 ghost use Rattle.std.specs.List.{AllByRecursion};
 ghost use Rattle.flow_table.specs.declared.way.Way.{Way};
 ghost use Rattle.flow_table.specs.Giving.{HasGiven};
-ghost use Rattle.flow_table.specs.Rows.{IsTable};
+ghost use Rattle.flow_table.specs.Rows.{IsFlowTable};
 ghost use Rattle.flow_table.specs.Small.{IsSmall};
 ghost use Rattle.fact_flows.specs.Given.{GivenAt};
 ghost use Rattle.fact_flows.specs.Flows.{FlowsTo, OneGives, WayGives};
@@ -26,7 +26,7 @@ pub fn push_given_at<K: KnownFacts>(
     point: u32,
     facts: &mut Seq<Fact>,
 ) -> Result<(), Memory>
-    requires table { IsTable exchange.now table.now }
+    requires table { IsFlowTable exchange.now table.now }
     requires stands { point < length exchange.now.points }
     ensures { OnOk result (HasGiven facts.old facts.new
         (GivenAt exchange.now (K.knows known.now) entry point)) }
@@ -56,7 +56,7 @@ fn push_ways<K: KnownFacts>(
     ways: &[Way],
     facts: &mut Seq<Fact>,
 ) -> Result<(), Memory>
-    requires table { IsTable exchange.now table.now }
+    requires table { IsFlowTable exchange.now table.now }
     requires small { AllByRecursion (λ (w : Way). IsSmall w.how) ways.now }
     ensures { OnOk result (HasGiven facts.old facts.new
         (OneGives (WayGives exchange.now (K.knows known.now) entry point) ways.now)) }
@@ -79,7 +79,7 @@ fn push_way<K: KnownFacts>(
     way: &Way,
     facts: &mut Seq<Fact>,
 ) -> Result<(), Memory>
-    requires table { IsTable exchange.now table.now }
+    requires table { IsFlowTable exchange.now table.now }
     requires small { IsSmall way.now.how }
     ensures { OnOk result (HasGiven facts.old facts.new
         (WayGives exchange.now (K.knows known.now) entry point way.now)) }
@@ -119,7 +119,7 @@ fn push_flows<K: KnownFacts>(
     ends: &[u32],
     facts: &mut Seq<Fact>,
 ) -> Result<(), Memory>
-    requires table { IsTable exchange.now table.now }
+    requires table { IsFlowTable exchange.now table.now }
     requires small { IsSmall how.now }
     ensures { OnOk result (HasGiven facts.old facts.new
         (OneGives (FlowsTo exchange.now (K.knows known.now) entry point how.now) ends.now)) }
@@ -143,7 +143,7 @@ fn push_flow_to<K: KnownFacts>(
     to: u32,
     facts: &mut Seq<Fact>,
 ) -> Result<(), Memory>
-    requires table { IsTable exchange.now table.now }
+    requires table { IsFlowTable exchange.now table.now }
     requires small { IsSmall how.now }
     ensures { OnOk result (HasGiven facts.old facts.new
         (FlowsTo exchange.now (K.knows known.now) entry point how.now to)) }

@@ -1,7 +1,7 @@
 // The slots before a point.
 ghost use Rattle.std.specs.Prelude.{◌≡◌, ◌++◌, map, IfOk, OnOk};
 ghost use Rattle.std.specs.List.{range_with_len};
-ghost use Rattle.flow_table.specs.Rows.{IsTable};
+ghost use Rattle.flow_table.specs.Rows.{IsFlowTable};
 ghost use Rattle.fact_flows.specs.Slots.{AreSlots, numbered_slot, row_slots};
 
 use exchange_model::Exchange;
@@ -26,7 +26,7 @@ pub fn slots_at(
     table: &FlowTable,
     point: u32,
 ) -> Result<Seq<Slot>, Memory>
-    requires { IsTable exchange.now table.now }
+    requires { IsFlowTable exchange.now table.now }
     ensures { IfOk result (AreSlots exchange.now point) }
 {
     exchange.kept();

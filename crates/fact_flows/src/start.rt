@@ -1,7 +1,7 @@
 // What the start of a job gives.
 ghost use Rattle.std.specs.Prelude.{OnOk};
 ghost use Rattle.flow_table.specs.Giving.{HasGiven};
-ghost use Rattle.flow_table.specs.Rows.{IsTable};
+ghost use Rattle.flow_table.specs.Rows.{IsFlowTable};
 ghost use Rattle.fact_flows.specs.Given.{GivenAtStart};
 ghost use Rattle.fact_flows.specs.Flows.{OneGives, StartsIn};
 
@@ -22,7 +22,7 @@ pub fn push_given_at_start<K: KnownFacts>(
     entry: u32,
     facts: &mut Seq<Fact>,
 ) -> Result<(), Memory>
-    requires table { IsTable exchange.now table.now }
+    requires table { IsFlowTable exchange.now table.now }
     ensures { OnOk result (HasGiven facts.old facts.new
         (GivenAtStart exchange.now (K.knows known.now) entry)) }
 {

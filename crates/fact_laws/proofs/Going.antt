@@ -35,7 +35,7 @@ use Rattle.flow_points.specs.Slots.{temp_count, given_count}
 use Rattle.flow_points.specs.Sources.{expr_source, source_of}
 use Rattle.flow_points.specs.Flows.{Leads, SendLeads}
 use Rattle.flow_points.specs.Facts.{Facts, Guarded, IsClosed}
-use Rattle.fact_laws.specs.Covers.{Holds, Activation, KnownBefore}
+use Rattle.fact_laws.specs.Covers.{SlotHolds, Activation, KnownBefore}
 use Rattle.fact_laws.proofs.Carrying.{Gets, Target, Carried, carried_kept, carried_sets, carried_any, carried_either, carried_takes, lands}
 use Rattle.fact_laws.proofs.Rows.{enter_fits}
 use Rattle.fact_laws.proofs.Standing.{at_place, deed_place, rest_target, head_alone}
@@ -119,7 +119,7 @@ module _ (x : Exchange) (kept : IsExchange x) (P : Facts) (closed : IsClosed x P
 
   -- the values of the answer, at a RETRIEVE
   abbrev pub AnswersAt : Config → Deed → Type 0
-  AnswersAt c deed = (m k : ℕ) → retrieved_by deed ≡ Some m → k < value_count x m → Holds P e args (deed_point deed) (Answered k) (slice_index c.own.answers k)
+  AnswersAt c deed = (m k : ℕ) → retrieved_by deed ≡ Some m → k < value_count x m → SlotHolds P e args (deed_point deed) (Answered k) (slice_index c.own.answers k)
 
   module _ (c : Config) (p : ℕ) (h : Here c p) where
     temps_known : (k : Block) → slice_get x.blocks c.block ≡ Some k → (t : ℕ) → t < length k.temporaries → Gets P e args p (Of (Temp t)) (slice_index c.temps t)

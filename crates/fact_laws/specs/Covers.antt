@@ -21,8 +21,8 @@ StandsFor args (Const c) n = n ≡ c
 StandsFor args Any n = Unit {0}
 
 -- some fact of the slot before the point, in a job of the entry, stands for the number
-abbrev pub Holds : Facts → ℕ → List ℕ → ℕ → Slot → ℕ → Type 0
-Holds P e args p s n = (v : Value) × Known P e p s v × StandsFor args v n
+abbrev pub SlotHolds : Facts → ℕ → List ℕ → ℕ → Slot → ℕ → Type 0
+SlotHolds P e args p s n = (v : Value) × Known P e p s v × StandsFor args v n
 
 -- 0, or 1 plus the answer that the last caller awaits
 abbrev pub awaits_of : List Caller → ℕ
@@ -31,8 +31,8 @@ awaits_of (k ∷ ks) = k.awaits + 1
 
 -- what is known of an activation in a block before a point; past those of the block its entry values are 0
 pub record Activation (x : Exchange) (P : Facts) (e : ℕ) (args : List ℕ) (b p : ℕ) (temps given : List ℕ) (callers : List Caller) : Type 0 where
-  pub temp : (t : ℕ) → t < temp_count x b → Holds P e args p (Temp t) (slice_index temps t)
-  pub gave : (k : ℕ) → k < given_count x b → Holds P e args p (Given k) (slice_index given k)
+  pub temp : (t : ℕ) → t < temp_count x b → SlotHolds P e args p (Temp t) (slice_index temps t)
+  pub gave : (k : ℕ) → k < given_count x b → SlotHolds P e args p (Given k) (slice_index given k)
   pub past : (k : ℕ) → given_count x b ≤ k → slice_index given k ≡ 0
   pub depth : Known P e p Depth (Const (length callers))
   pub awaits : Known P e p Awaits (Const (awaits_of callers))
@@ -49,7 +49,7 @@ CallersCovered x P e args (k ∷ ks) = KnownBefore x P e args k.block k.todo k.t
 -- at a RETRIEVE the values of the answer are known
 abbrev pub AnswersCovered : Exchange → Facts → ℕ → List ℕ → List Item → List ℕ → Type 0
 AnswersCovered x P e args todo answers =
-    (m p k : ℕ) → IsRetrieveOf m todo → head_point todo ≡ Some p → k < value_count x m → Holds P e args p (Answered k) (slice_index answers k)
+    (m p k : ℕ) → IsRetrieveOf m todo → head_point todo ≡ Some p → k < value_count x m → SlotHolds P e args p (Answered k) (slice_index answers k)
 
 -- a job of the entry, between two steps
 pub record Covered (x : Exchange) (P : Facts) (e : ℕ) (args : List ℕ) (c : Config) : Type 0 where

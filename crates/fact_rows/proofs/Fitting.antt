@@ -11,7 +11,7 @@ use Rattle.flow_points.specs.Places.{Place}
 use Rattle.flow_points.specs.Slots.{IsSlotOf, HasSlot}
 use Rattle.flow_table.specs.declared.row.Row.{Row}
 use Rattle.flow_table.specs.declared.row.FlowTable.{FlowTable}
-use Rattle.flow_table.specs.Rows.{IsRowOf, IsTable}
+use Rattle.flow_table.specs.Rows.{IsRowOf, IsFlowTable}
 use Rattle.fact_rows.specs.Known.{Fits, slots_of}
 use Rattle.fact_rows.specs.Places.{HasPlace, counts_of}
 use Rattle.fact_rows.specs.Values.{HasNumber}
@@ -23,7 +23,7 @@ placed x at row is (Answered k) lt = subst (λ n. k < n) (sym is.answered) lt
 placed x at row is Depth u = tt
 placed x at row is Awaits u = tt
 
-pub table_fits : (x : Exchange) (t : FlowTable) (e p : ℕ) (s : Slot) (v : Value) → IsTable x t → HasSlot x p s → HasNumber s v → Fits (slots_of t) (fact e p s v)
+pub table_fits : (x : Exchange) (t : FlowTable) (e p : ℕ) (s : Slot) (v : Value) → IsFlowTable x t → HasSlot x p s → HasNumber s v → Fits (slots_of t) (fact e p s v)
 table_fits x t e p s v table has number =
     let row = table.rows.each p has.place has.stands in
     record {

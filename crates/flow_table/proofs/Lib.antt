@@ -7,10 +7,11 @@ pub mod Lookups
 pub mod Sourcing
 pub mod Entering
 pub mod Wayfaring
+pub mod Shaping
 pub mod Smallness
 pub mod Rowing
 pub mod Naming
 pub mod Raising
-pub mod Tabling
+pub mod Pointing
 pub mod Reaching
 pub mod Handing

@@ -10,7 +10,7 @@ use Rattle.exchange_model.specs.declared.stmt.Stmt.{Stmt}
 use Rattle.exchange_model.specs.declared.stmt.When.{When, out-When}
 use Rattle.exchange_model.specs.declared.stmt.StmtKind.{out-StmtKind}
 use Rattle.exchange_model.specs.declared.stmt.StmtKind.TheOpen as stmt
-use Rattle.exchange_model.specs.Inside.{Spot, joined, spots, inner_spots}
+use Rattle.exchange_model.specs.Inside.{PointLine, joined, spots, inner_spots}
 use Rattle.exchange_model.specs.Kept.{IsExchange, all_spots}
 use Rattle.exchange_model.specs.PartCounts.{when_spots, parts_spots}
 use Rattle.exchange_model.proofs.Counted.{inner_spots-out}
@@ -26,11 +26,11 @@ use Rattle.flow_table.proofs.Finding.{place_found}
 abbrev points : List Place → List ℕ
 points ps = map (λ (p : Place). p.point) ps
 
-abbrev numbers : List Spot → List ℕ
-numbers ss = map (λ (s : Spot). s.point) ss
+abbrev numbers : List PointLine → List ℕ
+numbers ss = map (λ (s : PointLine). s.point) ss
 
-two : (ps qs : List Place) (ss ts : List Spot) → points ps ≡ numbers ss → points qs ≡ numbers ts → points (ps ++ qs) ≡ numbers (ss ++ ts)
-two ps qs ss ts e f = map-append (λ (p : Place). p.point) ps qs ∙ ap (λ l. l ++ points qs) e ∙ ap (λ l. numbers ss ++ l) f ∙ sym (map-append (λ (s : Spot). s.point) ss ts)
+two : (ps qs : List Place) (ss ts : List PointLine) → points ps ≡ numbers ss → points qs ≡ numbers ts → points (ps ++ qs) ≡ numbers (ss ++ ts)
+two ps qs ss ts e f = map-append (λ (p : Place). p.point) ps qs ∙ ap (λ l. l ++ points qs) e ∙ ap (λ l. numbers ss ++ l) f ∙ sym (map-append (λ (s : PointLine). s.point) ss ts)
 
 none_spots : (l : Layer) → HoldsNone l → [] ≡ numbers (parts_spots l)
 none_spots (stmt.If cond yes_part no_part) none = absurd none

@@ -2,6 +2,8 @@ pub mod Texts
 pub mod Points
 pub mod Ways
 pub mod Alone
+pub mod PointLists
 pub mod Rows
+pub mod Shapes
 pub mod Small
 pub mod Giving

@@ -1,5 +1,5 @@
 -- The rows of the table, one for each point.
-use Rattle.std.specs.Prelude.{◌≡◌, ◌↔◌, ℕ, List, [], ◌∷◌, ◌++◌, length, Option, Some, None, slice_get, slice_index_or, slice_set}
+use Rattle.std.specs.Prelude.{◌≡◌, ◌↔◌, ℕ, List, length, Some, slice_get}
 use Rattle.std.specs.List.{AllByRecursion, Contains}
 use Rattle.exchange_model.specs.declared.exchange.Exchange.{Exchange}
 use Rattle.exchange_model.specs.Fits.{retrieved}
@@ -40,21 +40,12 @@ pub record AreRows (x : Exchange) (rows : List Row) : Type 0 where
 pub record AreRetrieves (x : Exchange) (answer : ℕ) (points : List ℕ) : Type 0 where
   pub exact : (q : ℕ) → Contains points q ↔ IsRetrieveAt x q answer
 
--- one of these lists with a point more
-abbrev pub put : ℕ → ℕ → List (List ℕ) → List (List ℕ)
-put i point lists = slice_set lists i (slice_index_or lists i [] ++ point ∷ [])
-
--- the list of the answer, if there is one, with a point more
-abbrev pub listed_at : Option ℕ → ℕ → List (List ℕ) → List (List ℕ)
-listed_at None point lists = lists
-listed_at (Some answer) point lists = put answer point lists
-
 -- the points of the RETRIEVEs of each signal
 pub record AreAllRetrieves (x : Exchange) (retrieves : List (List ℕ)) : Type 0 where
   pub each_signal : length retrieves ≡ length x.signals
   pub exact : (answer : ℕ) (points : List ℕ) → slice_get retrieves answer ≡ Some points → AreRetrieves x answer points
 
 -- the table of an exchange
-pub record IsTable (x : Exchange) (t : FlowTable) : Type 0 where
+pub record IsFlowTable (x : Exchange) (t : FlowTable) : Type 0 where
   pub rows : AreRows x t.rows
   pub retrieves : AreAllRetrieves x t.retrieves

@@ -1,13 +1,15 @@
 // The table of an exchange.
-ghost use Rattle.std.specs.Prelude.{◌≡◌, [], map, replicate, IfOk, OnOk};
+ghost use Rattle.std.specs.Prelude.{◌≡◌, map, IfOk, OnOk};
 ghost use Rattle.exchange_model.specs.declared.stmt.StmtKind.{out-StmtKind};
 ghost use Rattle.exchange_model.specs.Fits.{retrieved};
 ghost use Rattle.flow_points.specs.Places.{IsPlace};
 ghost use Rattle.flow_points.specs.Slots.{answer_count, temp_count};
-ghost use Rattle.flow_table.specs.Rows.{AreAllRetrieves, AreRows, AreSlotsOf, IsRowOf, IsTable, listed_at, put};
+ghost use Rattle.flow_table.specs.PointLists.{listed_at};
+ghost use Rattle.flow_table.specs.Rows.{AreAllRetrieves, AreRows, AreSlotsOf, IsRowOf, IsFlowTable};
 ghost use Rattle.flow_table.specs.Texts.{ArePlaces, seen};
 
 use crate::place::PlaceAt;
+use crate::point_lists::{empty_lists, push_listed};
 use crate::row::{FlowTable, Row};
 use crate::walk::places_of;
 use crate::ways::{count_of, given_of, ways_of};
@@ -17,7 +19,7 @@ use std::alloc::Global;
 
 /// The table of an exchange, which is made once.
 pub fn table_of(alloc: Global, exchange: &Exchange) -> Result<FlowTable, Memory>
-    ensures { IfOk result (IsTable exchange.now) }
+    ensures { IfOk result (IsFlowTable exchange.now) }
 {
     let places = places_of(alloc, exchange)?;
     let rows = rows_of(alloc, exchange, places.as_slice())?;
@@ -44,39 +46,12 @@ fn all_retrieves(
     Ok(Seq::from_vec(retrieves))
 }
 
-/// So many empty lists.
-#[tactic(auto, using(crate::proofs::Tabling::lists_more, crate::proofs::Tabling::lists_end))]
-fn empty_lists(alloc: Global, count: usize) -> Result<Seq<Seq<u32>>, Memory>
-    ensures { IfOk result (λ lists. lists ≡ replicate count []) }
-{
-    let mut lists = Seq::with_capacity(alloc, count)?;
-    for _ in 0..count {
-        lists.push(Seq::new(alloc))?;
-    }
-    Ok(lists)
-}
-
 /// Appends the point of a statement to the list of the answer that it awaits, if it is a RETRIEVE.
 fn push_retrieve(at: &PlaceAt<'_>, retrieves: &mut Vec<Seq<u32>>) -> Result<(), Memory>
     ensures { OnOk result (retrieves.new.items
         ≡ listed_at (retrieved (out-StmtKind at.now.kind.now)) at.now.point retrieves.old.items) }
 {
-    match awaited_of(at.kind) {
-        Some(answer) => push_at(retrieves, answer as usize, at.point),
-        None => Ok(()),
-    }
-}
-
-/// Appends a point to one of these lists, if there are so many.
-#[tactic(auto, using(crate::proofs::Tabling::put_past, crate::proofs::Tabling::put_at))]
-fn push_at(lists: &mut Vec<Seq<u32>>, i: usize, point: u32) -> Result<(), Memory>
-    ensures { OnOk result (lists.new.items ≡ put i point lists.old.items) }
-{
-    if i >= lists.len() {
-        return Ok(());
-    }
-    lists[i].push(point)?;
-    Ok(())
+    push_listed(awaited_of(at.kind), at.point, retrieves)
 }
 
 /// The rows of all points of an exchange, of which these are the places.
@@ -175,7 +150,7 @@ fn answered_of(exchange: &Exchange, kind: &StmtKind) -> u8
 }
 
 /// The answer of a RETRIEVE; `None` exactly for every other statement.
-fn awaited_of(kind: &StmtKind) -> Option<u32>
+pub fn awaited_of(kind: &StmtKind) -> Option<u32>
     ensures { result ≡ retrieved (out-StmtKind kind.now) }
 {
     match kind {

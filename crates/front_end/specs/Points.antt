@@ -5,10 +5,10 @@ use Rattle.exchange_model.specs.declared.entry.PointInfo.{PointInfo}
 use Rattle.exchange_model.specs.declared.stmt.Stmt.{Stmt}
 use Rattle.exchange_model.specs.declared.stmt.StmtKind.{StmtKind}
 use Rattle.exchange_model.specs.declared.stmt.When.{When}
-use Rattle.exchange_model.specs.Inside.{Spot, inner_spots}
+use Rattle.exchange_model.specs.Inside.{PointLine, inner_spots}
 use Rattle.exchange_model.specs.PartCounts.{stmt_spots, when_spots}
 
-abbrev pub point_of : ℕ → Spot → PointInfo
+abbrev pub point_of : ℕ → PointLine → PointInfo
 point_of b s = record { block = b; line = s.line }
 
 abbrev pub stmt_points : ℕ → Stmt → List PointInfo

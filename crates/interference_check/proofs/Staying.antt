@@ -20,7 +20,7 @@ use Rattle.permit_laws.specs.Permitted.{ArePermitted}
 use Rattle.permit_laws.proofs.Stepping.{job_stays}
 use Rattle.pair_laws.proofs.Keeping.{may_fault}
 use Rattle.register_machine.specs.Faithful.{MayMake}
-use Rattle.checked.specs.Kept.{IsChecked, Kept}
+use Rattle.checked.specs.Kept.{IsChecked, KeptSummaries}
 use Rattle.interference_check.specs.Permits.{IsPermitOf, OfEntry, StaysWithin}
 
 module _ (x : Exchange) (m : Summary) (start : JobStart) (chains : ChainMap) (permit : Permit) (is : IsPermitOf x m start chains permit) where
@@ -29,7 +29,7 @@ module _ (x : Exchange) (m : Summary) (start : JobStart) (chains : ChainMap) (pe
   all_made (Load w v ∷ ts) all = ((is.reads w).1 all.0, all_made ts all.1)
   all_made (Store w v ∷ ts) all = ((is.writes w).1 all.0, all_made ts all.1)
 
-  pub stays_within : (k : Kept) → slice_get k.summaries start.job.entry ≡ Some m → IsExchange x → IsChecked x k → (s : State) → IsValid x s → IsFitting x s start → s.chains ≡ chains → OfEntry k start.job.entry (λ n. StaysWithin x n permit start s.store)
+  pub stays_within : (k : KeptSummaries) → slice_get k.summaries start.job.entry ≡ Some m → IsExchange x → IsChecked x k → (s : State) → IsValid x s → IsFitting x s start → s.chains ≡ chains → OfEntry k start.job.entry (λ n. StaysWithin x n permit start s.store)
   stays_within k there kept checked s valid fits same =
       let told : IsSummary x (Contains k.facts) start.job.entry m = checked.by_facts.is start.job.entry m there in
       let stays = job_stays x kept (Contains k.facts) checked.closed m s valid start fits told in
@@ -45,7 +45,7 @@ module _ (x : Exchange) (m : Summary) (start : JobStart) (chains : ChainMap) (pe
       }
 
 -- so it is of the permit, if it comes
-pub all_stay : (x : Exchange) → IsExchange x → (k : Kept) (m : Summary) (start : JobStart) (chains : ChainMap) → slice_get k.summaries start.job.entry ≡ Some m → (r : Result Permit Memory)
+pub all_stay : (x : Exchange) → IsExchange x → (k : KeptSummaries) (m : Summary) (start : JobStart) (chains : ChainMap) → slice_get k.summaries start.job.entry ≡ Some m → (r : Result Permit Memory)
     → IfOk r (λ permit. (word : ℕ) → (may_read permit word ≡ true) ↔ MayRead x m start chains word)
     → IfOk r (λ permit. (word : ℕ) → (may_write permit word ≡ true) ↔ MayWrite x m start chains word)
     → IfOk r (λ permit. (s : State) → IsChecked x k → IsValid x s → IsFitting x s start → s.chains ≡ chains → OfEntry k start.job.entry (λ n. StaysWithin x n permit start s.store))

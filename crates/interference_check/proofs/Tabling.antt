@@ -10,12 +10,12 @@ use Rattle.plex_num.proofs.Lists.{slice_get-append_left, slice_get-append_seam}
 use Rattle.job_types.specs.declared.job.JobStart.{JobStart}
 use Rattle.entry_summary.specs.declared.summary.Summary.{Summary}
 use Rattle.pair_tests.specs.declared.pair.Test.{Test}
-use Rattle.pair_tests.specs.Pairs.{Holds, IsTest, Passes}
-use Rattle.checked.specs.Kept.{Kept}
+use Rattle.pair_tests.specs.Pairs.{TestHolds, IsTest, Passes}
+use Rattle.checked.specs.Kept.{KeptSummaries}
 use Rattle.interference_check.specs.declared.table.Pair.{Pair}
 use Rattle.interference_check.specs.declared.table.Pair.TheVariants.{Never, Asks}
 use Rattle.interference_check.specs.Pairs.{OfPair}
-use Rattle.interference_check.specs.Tables.{ArePairsOf, HasTests, IsFound, IsTable, IsTold, StandWithin, Tells}
+use Rattle.interference_check.specs.Tables.{ArePairsOf, HasTests, IsFound, IsPairTable, IsTold, StandWithin, Tells}
 
 -- a range of a list stays as the list grows
 range_grown : {A : Type 0} (xs more : List A) (from to : ℕ) → from ≤ to → to ≤ length xs → slice_range (xs ++ more) from to ≡ slice_range xs from to
@@ -34,25 +34,25 @@ tells_grown tests more (Asks from to) s t h = record {
 
 -- one pair after the other
 
-pub table_begin : (k : Kept) (many : ℕ) (pairs : List Pair) (tests : List Test) → pairs ≡ [] → ArePairsOf k many (0 * many) pairs tests
+pub table_begin : (k : KeptSummaries) (many : ℕ) (pairs : List Pair) (tests : List Test) → pairs ≡ [] → ArePairsOf k many (0 * many) pairs tests
 table_begin k many pairs tests none = record {
   long = ap length none ∙ omega arith;
   tells = λ first later pair lt there. absurd (none-some pair (ap (λ (l : List Pair). slice_get l (first * many + later)) (sym none) ∙ there));
 }
 
-pub table_end : (k : Kept) (many first : ℕ) (pairs : List Pair) (tests : List Test) → many ≤ length k.summaries → many ≤ first → first ≤ many → ArePairsOf k many (first * many) pairs tests → IsTable k many pairs tests
+pub table_end : (k : KeptSummaries) (many first : ℕ) (pairs : List Pair) (tests : List Test) → many ≤ length k.summaries → many ≤ first → first ≤ many → ArePairsOf k many (first * many) pairs tests → IsPairTable k many pairs tests
 table_end k many first pairs tests few past within h = record { few = few; all = subst (λ n. ArePairsOf k many (n * many) pairs tests) (omega (arith, past, within)) h }
 
-pub row_begin : (k : Kept) (many first : ℕ) (pairs : List Pair) (tests : List Test) → ArePairsOf k many (first * many) pairs tests → ArePairsOf k many (first * many + 0) pairs tests
+pub row_begin : (k : KeptSummaries) (many first : ℕ) (pairs : List Pair) (tests : List Test) → ArePairsOf k many (first * many) pairs tests → ArePairsOf k many (first * many + 0) pairs tests
 row_begin k many first pairs tests h = subst (λ n. ArePairsOf k many n pairs tests) (omega arith) h
 
-pub row_end : (k : Kept) (many first later : ℕ) (pairs : List Pair) (tests : List Test) → many ≤ later → later ≤ many → ArePairsOf k many (first * many + later) pairs tests → ArePairsOf k many ((first + 1) * many) pairs tests
+pub row_end : (k : KeptSummaries) (many first later : ℕ) (pairs : List Pair) (tests : List Test) → many ≤ later → later ≤ many → ArePairsOf k many (first * many + later) pairs tests → ArePairsOf k many ((first + 1) * many) pairs tests
 row_end k many first later pairs tests past within h = subst (λ n. ArePairsOf k many n pairs tests) (next first many later (omega (arith, past, within))) h
   where
     next : (f n l : ℕ) → l ≡ n → f * n + l ≡ (f + 1) * n
     next f n l is = grind arith
 
-module _ (k : Kept) (many first later : ℕ) (s t : Summary) (tests all : List Test) (pair : Pair) (below : later < many) (of_first : slice_get k.summaries first ≡ Some s) (of_later : slice_get k.summaries later ≡ Some t) (adds : IsTold s t tests all pair) (pairs : List Pair) (so_far : ArePairsOf k many (first * many + later) pairs tests) where
+module _ (k : KeptSummaries) (many first later : ℕ) (s t : Summary) (tests all : List Test) (pair : Pair) (below : later < many) (of_first : slice_get k.summaries first ≡ Some s) (of_later : slice_get k.summaries later ≡ Some t) (adds : IsTold s t tests all pair) (pairs : List Pair) (so_far : ArePairsOf k many (first * many + later) pairs tests) where
   told : OfPair k first later (Tells all pair)
   told = record { one = s; other = t; of_first = of_first; of_later = of_later; holds = adds.tells }
 
@@ -88,10 +88,10 @@ module _ (k : Kept) (many first later : ℕ) (s t : Summary) (tests all : List T
 
 -- a pair that is told of two entries with the same summaries
 
-pub same_pairs : (k : Kept) (many n : ℕ) (pairs shown : List Pair) (tests : List Test) → shown ≡ pairs → ArePairsOf k many n pairs tests → ArePairsOf k many n shown tests
+pub same_pairs : (k : KeptSummaries) (many n : ℕ) (pairs shown : List Pair) (tests : List Test) → shown ≡ pairs → ArePairsOf k many n pairs tests → ArePairsOf k many n shown tests
 same_pairs k many n pairs shown tests same h = subst (λ (l : List Pair). ArePairsOf k many n l tests) (sym same) h
 
-pub told_alike : (k : Kept) (many n first later one other : ℕ) (pair : Pair) (pairs : List Pair) (tests : List Test) → slice_get k.summaries one ≡ slice_get k.summaries first
+pub told_alike : (k : KeptSummaries) (many n first later one other : ℕ) (pair : Pair) (pairs : List Pair) (tests : List Test) → slice_get k.summaries one ≡ slice_get k.summaries first
     → slice_get k.summaries other ≡ slice_get k.summaries later → ArePairsOf k many n pairs tests → IsFound pairs many one other pair → OfPair k first later (λ s t. IsTold s t tests tests pair)
 told_alike k many n first later one other pair pairs tests like_first like_later so_far found =
     let h = so_far.tells one other pair found.below found.there in
@@ -103,7 +103,7 @@ told_alike k many n first later one other pair pairs tests like_first like_later
       holds = record { more = []; grown = sym (append-nil tests); tells = h.holds };
     }
 
-pub told_anew : (k : Kept) (first later : ℕ) (s t : Summary) (tests all : List Test) (pair : Pair) → slice_get k.summaries first ≡ Some s → slice_get k.summaries later ≡ Some t
+pub told_anew : (k : KeptSummaries) (first later : ℕ) (s t : Summary) (tests all : List Test) (pair : Pair) → slice_get k.summaries first ≡ Some s → slice_get k.summaries later ≡ Some t
     → IsTold s t tests all pair → OfPair k first later (λ u v. IsTold u v tests all pair)
 told_anew k first later s t tests all pair of_first of_later told = record { one = s; other = t; of_first = of_first; of_later = of_later; holds = told }
 
@@ -112,20 +112,20 @@ told_anew k first later s t tests all pair of_first of_later told = record { one
 pub pair_found : (pairs : List Pair) (many first later : ℕ) (pair : Pair) → later < many → slice_get pairs (first * many + later) ≡ Some pair → IsFound pairs many first later pair
 pair_found pairs many first later pair below there = record { below = below; there = there }
 
-pub found_tells : (k own : Kept) (many first later : ℕ) (pairs listed : List Pair) (tests shown : List Test) (pair : Pair) → own ≡ k → listed ≡ pairs → shown ≡ tests → IsTable own many pairs tests → IsFound listed many first later pair
+pub found_tells : (k own : KeptSummaries) (many first later : ℕ) (pairs listed : List Pair) (tests shown : List Test) (pair : Pair) → own ≡ k → listed ≡ pairs → shown ≡ tests → IsPairTable own many pairs tests → IsFound listed many first later pair
     → OfPair k first later (Tells shown pair)
 found_tells k own many first later pairs listed tests shown pair same list all table found =
     let at : slice_get pairs (first * many + later) ≡ Some pair = ap (λ (l : List Pair). slice_get l (first * many + later)) (sym list) ∙ found.there in
-    subst (λ (l : List Test). OfPair k first later (Tells l pair)) (sym all) (subst (λ (t : Kept). OfPair t first later (Tells tests pair)) same (table.all.tells first later pair found.below at))
+    subst (λ (l : List Test). OfPair k first later (Tells l pair)) (sym all) (subst (λ (t : KeptSummaries). OfPair t first later (Tells tests pair)) same (table.all.tells first later pair found.below at))
 
 tests_there : (tests : List Test) (pair : Pair) (s t : Summary) → Tells tests pair s t → HasTests tests pair
 tests_there tests Never s t h = tt
 tests_there tests (Asks from to) s t h = (h.ordered, h.within)
 
-pub has_tests : (k : Kept) (first later : ℕ) (tests : List Test) (pair : Pair) → OfPair k first later (Tells tests pair) → HasTests tests pair
+pub has_tests : (k : KeptSummaries) (first later : ℕ) (tests : List Test) (pair : Pair) → OfPair k first later (Tells tests pair) → HasTests tests pair
 has_tests k first later tests pair h = tests_there tests pair h.one h.other h.holds
 
-pub by_told : (k : Kept) (a b : JobStart) (tests : List Test) (pair : Pair) (r : Bool) → OfPair k a.job.entry b.job.entry (Tells tests pair)
+pub by_told : (k : KeptSummaries) (a b : JobStart) (tests : List Test) (pair : Pair) (r : Bool) → OfPair k a.job.entry b.job.entry (Tells tests pair)
     → ((s t : Summary) → Tells tests pair s t → IsTrue r ↔ Passes s t a b) → OfPair k a.job.entry b.job.entry (λ s t. IsTrue r ↔ Passes s t a b)
 by_told k a b tests pair r h tells = record { one = h.one; other = h.other; of_first = h.of_first; of_later = h.of_later; holds = tells h.one h.other h.holds }
 
@@ -138,13 +138,13 @@ never_passes tests pair a b is s t h = (
 )
 
 pub asks_passes : (tests some : List Test) (pair : Pair) (from to : ℕ) (a b : JobStart) (apart hold : Bool) → pair ≡ Asks from to → some ≡ slice_range tests from to
-    → (IsTrue apart ↔ (a.job.forlopp ≡ b.job.forlopp → a.job.forlopp ≡ 0)) → (IsTrue hold ↔ All (Holds a b) some)
+    → (IsTrue apart ↔ (a.job.forlopp ≡ b.job.forlopp → a.job.forlopp ≡ 0)) → (IsTrue hold ↔ All (TestHolds a b) some)
     → (s t : Summary) → Tells tests pair s t → IsTrue (apart && hold) ↔ Passes s t a b
 asks_passes tests some pair from to a b apart hold is range tells_apart tells s t told =
     let h : StandWithin tests from to s t = subst (λ (p : Pair). Tells tests p s t) is told in (
       (λ yes. let both = and_parts apart hold yes in record {
         apart = h.apart;
-        tests = λ test asked. All-contains (Holds a b) some test (tells.0 both.1) (subst (λ (l : List Test). Contains l test) (sym range) ((h.exact test).1 asked));
+        tests = λ test asked. All-contains (TestHolds a b) some test (tells.0 both.1) (subst (λ (l : List Test). Contains l test) (sym range) ((h.exact test).1 asked));
         forlopps = tells_apart.0 both.0;
       }),
       (λ passes. and_from apart hold (tells_apart.1 passes.forlopps)

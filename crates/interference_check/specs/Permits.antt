@@ -14,10 +14,10 @@ use Rattle.permit_laws.specs.Permitted.{AreToLevels}
 use Rattle.order_laws.specs.Windows.{done_by}
 use Rattle.pair_laws.specs.Pairs.{IsFaulted}
 use Rattle.register_machine.specs.Faithful.{MayMake}
-use Rattle.checked.specs.Kept.{Kept}
+use Rattle.checked.specs.Kept.{KeptSummaries}
 
 -- the entry has a summary, and this holds of it
-pub record OfEntry (k : Kept) (entry : ℕ) (Holds : Summary → Type 0) : Type 0 where
+pub record OfEntry (k : KeptSummaries) (entry : ℕ) (Holds : Summary → Type 0) : Type 0 where
   pub summary : Summary
   pub there : slice_get k.summaries entry ≡ Some summary
   pub holds : Holds summary

@@ -4,7 +4,7 @@ use Rattle.std.specs.List.{Contains}
 use Rattle.entry_summary.specs.declared.summary.Summary.{Summary}
 use Rattle.pair_tests.specs.declared.pair.Test.{Test}
 use Rattle.pair_tests.specs.Pairs.{HasNoConflict, IsTest}
-use Rattle.checked.specs.Kept.{Kept}
+use Rattle.checked.specs.Kept.{KeptSummaries}
 use Rattle.interference_check.specs.declared.table.Pair.{Pair}
 use Rattle.interference_check.specs.declared.table.Pair.TheVariants.{Never, Asks}
 use Rattle.interference_check.specs.Pairs.{OfPair}
@@ -28,12 +28,12 @@ pub record IsTold (first later : Summary) (tests all : List Test) (pair : Pair) 
   pub tells : Tells all pair first later
 
 -- so many pairs, each at its place: those of one first entry together, by the later one, where those of the first so many are told
-pub record ArePairsOf (k : Kept) (told count : ℕ) (pairs : List Pair) (tests : List Test) : Type 0 where
+pub record ArePairsOf (k : KeptSummaries) (told count : ℕ) (pairs : List Pair) (tests : List Test) : Type 0 where
   pub long : length pairs ≡ count
   pub tells : (first later : ℕ) (pair : Pair) → later < told → slice_get pairs (first * told + later) ≡ Some pair → OfPair k first later (Tells tests pair)
 
 -- all pairs of the first so many entries
-pub record IsTable (k : Kept) (told : ℕ) (pairs : List Pair) (tests : List Test) : Type 0 where
+pub record IsPairTable (k : KeptSummaries) (told : ℕ) (pairs : List Pair) (tests : List Test) : Type 0 where
   pub few : told ≤ length k.summaries
   pub all : ArePairsOf k told (told * told) pairs tests
 

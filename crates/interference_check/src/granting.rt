@@ -3,7 +3,7 @@ ghost use Rattle.std.specs.Prelude.{◌≡◌, ◌<◌, IfOk, length};
 ghost use Rattle.source_meaning.specs.State.{State};
 ghost use Rattle.source_meaning.specs.Valid.{IsFitting, IsValid};
 ghost use Rattle.store_layout.specs.Laid.{IsLayout};
-ghost use Rattle.start_permit.specs.Granted.{IsTable};
+ghost use Rattle.start_permit.specs.Granted.{IsCellTable};
 ghost use Rattle.checked.specs.Kept.{IsChecked};
 ghost use Rattle.interference_check.specs.Permits.{IsPermitOf, OfEntry, StaysWithin};
 
@@ -31,7 +31,7 @@ pub fn permit(
 ) -> Result<Permit, Memory>
     requires entry { start.now.job.entry < length checked.now.summaries }
     requires layout { IsLayout exchange.now.blocks layout.now }
-    requires table { IsTable exchange.now table.now }
+    requires table { IsCellTable exchange.now table.now }
     ensures exact { IfOk result (λ permit. OfEntry checked.now start.now.job.entry
         (λ m. IsPermitOf exchange.now m start.now chains.now.chains permit)) }
     ensures stays { IfOk result (λ permit. (s : State)

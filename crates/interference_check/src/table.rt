@@ -59,15 +59,15 @@ impl Drop for PairTable<'_> {
 }
 
 impl<'c> Model for PairTable<'c> {
-    ghost use Rattle.checked.specs.Kept.{Kept};
+    ghost use Rattle.checked.specs.Kept.{KeptSummaries};
 
-    ghost Value = { Kept };
+    ghost Value = { KeptSummaries };
 
-    ghost use Rattle.interference_check.specs.Tables.{IsTable};
+    ghost use Rattle.interference_check.specs.Tables.{IsPairTable};
 
     ghost view = { λ t. t.checked.now };
 
-    ghost invariant = { λ t. IsTable t.checked.now t.told t.pairs t.tests };
+    ghost invariant = { λ t. IsPairTable t.checked.now t.told t.pairs t.tests };
 }
 
 impl<'c> PairTable<'c> {

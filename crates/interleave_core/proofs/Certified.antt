@@ -10,11 +10,11 @@ use Rattle.pair_laws.specs.Pairs.{MayRunAtOnce}
 use Rattle.pair_laws.proofs.Joining.{make_way, run_together}
 use Rattle.pair_laws.proofs.Keeping.{keeps_to}
 use Rattle.pair_laws.proofs.Touching.{touched_read}
-use Rattle.checked.specs.Kept.{IsChecked, Kept}
+use Rattle.checked.specs.Kept.{IsChecked, KeptSummaries}
 use Rattle.interleave_core.specs.Allowed.{MayFollow}
 use Rattle.interleave_core.proofs.Joining.{PairGives, PairsGive}
 
-module _ (x : Exchange) (kept : IsExchange x) (facts : Kept) (checked : IsChecked x facts) (a b : JobStart) (p : MayFollow facts a b) where
+module _ (x : Exchange) (kept : IsExchange x) (facts : KeptSummaries) (checked : IsChecked x facts) (a b : JobStart) (p : MayFollow facts a b) where
   makes_way : IsJob x b.job → MakesWay x a b
   makes_way is_job =
       make_way x facts.facts p.one p.other a b kept checked.closed (checked.by_facts.is a.job.entry p.one p.of_first) (checked.by_facts.is b.job.entry p.other p.of_later) is_job p.holds
@@ -38,7 +38,7 @@ module _ (x : Exchange) (kept : IsExchange x) (facts : Kept) (checked : IsChecke
         released = λ w at. together.retires.aside w (touched_read x p.other b s.chains (trace_of x b s.store) w keeps.touches at);
       }
 
-pub pairs_give : (x : Exchange) (facts : Kept) → IsExchange x → IsChecked x facts → PairsGive x (MayFollow facts)
+pub pairs_give : (x : Exchange) (facts : KeptSummaries) → IsExchange x → IsChecked x facts → PairsGive x (MayFollow facts)
 pairs_give x facts kept checked = record {
   way = λ a b is_job p. makes_way x kept facts checked a b p is_job;
   gives = λ a b p s v first_fits later_fits. pair_gives x kept facts checked a b p s v first_fits later_fits;

@@ -18,7 +18,7 @@ use Rattle.retire_order.specs.Stores.{MayStore}
 use Rattle.register_machine.specs.Private.{Private}
 use Rattle.register_machine.specs.Machine.{stepped}
 use Rattle.retire_order.proofs.Arriving.{arrivals_with}
-use Rattle.checked.specs.Kept.{Kept}
+use Rattle.checked.specs.Kept.{KeptSummaries}
 use Rattle.interleave_core.specs.declared.event.CoreEvent.{CoreEvent}
 use Rattle.interleave_core.specs.declared.event.CoreEvent.TheVariants.{Issue, Step, Retire}
 use Rattle.interleave_core.specs.declared.window.RunningCore.{RunningCore}
@@ -118,7 +118,7 @@ has_gone x old mid new oldest younger left books words window retired runs first
 
 -- whoever allows the event, this is the core after it
 abbrev pub MadeAs : Exchange → Code → RunningCore → RunningCore → CoreEvent → Type 0
-MadeAs x code old new e = (kept : Kept) (workers : ℕ) (can : IsAllowed kept workers (running_core old) e) → Becomes (after_event x code kept workers (running_core old) e can) new
+MadeAs x code old new e = (kept : KeptSummaries) (workers : ℕ) (can : IsAllowed kept workers (running_core old) e) → Becomes (after_event x code kept workers (running_core old) e can) new
 
 pub made_issue : (x : Exchange) (code : Code) (old new : RunningCore) (e : CoreEvent) → e ≡ Issue → old.books.running ≡ length old.window.items → ((start : JobStart) → upcoming old.books ≡ Some start → Becomes (issues code start (running_core old)) new) → MadeAs x code old new e
 made_issue x code old new e is runs made =
@@ -134,7 +134,7 @@ made_retire x code old new e is made =
     subst (MadeAs x code old new) (sym is) (λ kept workers can. made can.oldest can.younger can.first)
 
 -- what is allowed in a core in which all that is allowed can be made
-pub can_make : (x : Exchange) (code : Code) (kept : Kept) (workers : ℕ) (r : RunningCore) (e : CoreEvent) → IsSafe x code kept (running_core r) → IsAllowed kept workers (running_core r) e → CanMake x code r e
+pub can_make : (x : Exchange) (code : Code) (kept : KeptSummaries) (workers : ℕ) (r : RunningCore) (e : CoreEvent) → IsSafe x code kept (running_core r) → IsAllowed kept workers (running_core r) e → CanMake x code r e
 can_make x code kept workers r Issue safe can = λ start is. (safe.pick start (next_with r.books.state r.words ∙ is)).address
 can_make x code kept workers r (Step job) safe can = λ place own numbered there.
     let here = can.numbered in

@@ -7,7 +7,7 @@ use Rattle.std.specs.List.{AllByRecursion}
 use Rattle.job_types.specs.declared.job.JobStart.{JobStart}
 use Rattle.plex_num.proofs.Lists.{all_append, all_at}
 use Rattle.retire_order.specs.Accounts.{Account, next_count, upcoming}
-use Rattle.checked.specs.Kept.{Kept}
+use Rattle.checked.specs.Kept.{KeptSummaries}
 use Rattle.interleave_core.specs.declared.window.WindowJob.{WindowJob}
 use Rattle.interleave_core.specs.Cores.{Core, core_of}
 use Rattle.interleave_core.specs.Allowed.{CanIssue, CanStep, IsBefore, MayFollow}
@@ -21,25 +21,25 @@ not_allowed P never = (λ t. cc, λ p. absurd (never p))
 -- ## The tests of pairs
 
 -- the job passes all tests with these
-abbrev pub FollowsAll : Kept → JobStart → List WindowJob → Type 0
+abbrev pub FollowsAll : KeptSummaries → JobStart → List WindowJob → Type 0
 FollowsAll kept later jobs = AllByRecursion (λ (older : WindowJob). MayFollow kept older.start later) jobs
 
-pub follows_more : (kept : Kept) (later : JobStart) (jobs : List WindowJob) (i : ℕ) (job : WindowJob) → i < length jobs → job ≡ get_or jobs i job → MayFollow kept job.start later → FollowsAll kept later (take i jobs) → FollowsAll kept later (take (i + 1) jobs)
+pub follows_more : (kept : KeptSummaries) (later : JobStart) (jobs : List WindowJob) (i : ℕ) (job : WindowJob) → i < length jobs → job ≡ get_or jobs i job → MayFollow kept job.start later → FollowsAll kept later (take i jobs) → FollowsAll kept later (take (i + 1) jobs)
 follows_more kept later jobs i job lt is one all =
     subst (FollowsAll kept later) (sym (take_more jobs i job lt))
     (all_append (λ (older : WindowJob). MayFollow kept older.start later) (take i jobs) (get_or jobs i job ∷ []) all (subst (λ (j : WindowJob). MayFollow kept j.start later) is one, tt))
 
-pub follows_not : (kept : Kept) (later : JobStart) (jobs : List WindowJob) (i : ℕ) (job : WindowJob) → i < length jobs → job ≡ get_or jobs i job → (MayFollow kept job.start later → ⊥) → IsTrue false ↔ FollowsAll kept later jobs
+pub follows_not : (kept : KeptSummaries) (later : JobStart) (jobs : List WindowJob) (i : ℕ) (job : WindowJob) → i < length jobs → job ≡ get_or jobs i job → (MayFollow kept job.start later → ⊥) → IsTrue false ↔ FollowsAll kept later jobs
 follows_not kept later jobs i job lt is never =
     not_allowed (FollowsAll kept later jobs)
     (λ all. never (all_at (λ (older : WindowJob). MayFollow kept older.start later) jobs i job all (slice_get_read jobs (length jobs) i job refl lt is)))
 
-pub follows_end : (kept : Kept) (later : JobStart) (jobs : List WindowJob) → FollowsAll kept later (take (length jobs) jobs) → IsTrue true ↔ FollowsAll kept later jobs
+pub follows_end : (kept : KeptSummaries) (later : JobStart) (jobs : List WindowJob) → FollowsAll kept later (take (length jobs) jobs) → IsTrue true ↔ FollowsAll kept later jobs
 follows_end kept later jobs all = (λ t. subst (FollowsAll kept later) (take_all (length jobs) jobs (omega arith)) all, λ a. refl)
 
 -- ## Issue
 
-module _ (kept : Kept) (workers : ℕ) (b : Account) (words : List ℕ) (window : List WindowJob) (retired : ℕ) (runs : b.running ≡ length window) where
+module _ (kept : KeptSummaries) (workers : ℕ) (b : Account) (words : List ℕ) (window : List WindowJob) (retired : ℕ) (runs : b.running ≡ length window) where
   abbrev pub Here : Type 0
   Here = CanIssue kept workers (core_of b words window retired)
 

@@ -26,7 +26,7 @@ use Rattle.source_meaning.proofs.Retiring.{turn_valid}
 use Rattle.retire_order.specs.Accounts.{next_count}
 use Rattle.register_machine.specs.Faithful.{Faithful, started}
 use Rattle.register_machine.specs.Machine.{Machine, stepped}
-use Rattle.checked.specs.Kept.{Kept}
+use Rattle.checked.specs.Kept.{KeptSummaries}
 use Rattle.order_laws.specs.Books.{AreAhead}
 use Rattle.order_laws.specs.Books as books
 use Rattle.order_laws.specs.Keeps.{NoLineBefore}
@@ -122,7 +122,7 @@ settles_same : (x : Exchange) (code : Code) (base : List ℕ) (js : List Progres
 settles_same x code base [] oldest done s = refl
 settles_same x code base (j ∷ js) oldest done s = refl
 
-module _ (x : Exchange) (kept : IsExchange x) (code : Code) (faithful : Faithful x code) (facts : Kept) (pairs : PairsGive x (MayFollow facts)) (first : State) where
+module _ (x : Exchange) (kept : IsExchange x) (code : Code) (faithful : Faithful x code) (facts : KeptSummaries) (pairs : PairsGive x (MayFollow facts)) (first : State) where
   abbrev Follows : Core → Type 0
   Follows c = Beside x code (MayFollow facts) first c
 

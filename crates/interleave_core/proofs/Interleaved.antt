@@ -8,7 +8,7 @@ use Rattle.source_meaning.specs.State.{State}
 use Rattle.source_meaning.specs.Valid.{IsValid}
 use Rattle.retire_order.specs.Accounts.{Account, with_words}
 use Rattle.register_machine.specs.Faithful.{Faithful}
-use Rattle.checked.specs.Kept.{IsChecked, Kept}
+use Rattle.checked.specs.Kept.{IsChecked, KeptSummaries}
 use Rattle.interleave_core.specs.declared.event.CoreEvent.{CoreEvent}
 use Rattle.interleave_core.specs.declared.event.CoreFault.{CoreFault}
 use Rattle.interleave_core.specs.declared.window.CoreState.{CoreState}
@@ -21,7 +21,7 @@ use Rattle.interleave_core.proofs.Certified.{pairs_give}
 use Rattle.interleave_core.proofs.Following.{Beside, follows_first, follows_runs, follows_single_run}
 use Rattle.interleave_core.proofs.Safety.{follows_stays_safe}
 
-module _ (x : Exchange) (code : Code) (facts : Kept) (workers : ℕ) (b : Account) (words : List ℕ) (kept : IsExchange x) (faithful : Faithful x code) (checked : IsChecked x facts) (valid : IsValid x (with_words b.state words)) (quiet : arrivals x (with_words b.state words) ≡ with_words b.state words) where
+module _ (x : Exchange) (code : Code) (facts : KeptSummaries) (workers : ℕ) (b : Account) (words : List ℕ) (kept : IsExchange x) (faithful : Faithful x code) (checked : IsChecked x facts) (valid : IsValid x (with_words b.state words)) (quiet : arrivals x (with_words b.state words) ≡ with_words b.state words) where
   abbrev first : State
   first = with_words b.state words
 

@@ -20,7 +20,7 @@ use Rattle.retire_order.specs.Stores.{MayStore}
 use Rattle.retire_order.proofs.Cells.{may_store, retired_inside}
 use Rattle.register_machine.specs.Faithful.{Faithful}
 use Rattle.register_machine.specs.Steps.{MayStep}
-use Rattle.checked.specs.Kept.{Kept}
+use Rattle.checked.specs.Kept.{KeptSummaries}
 use Rattle.order_laws.specs.Windows.{done_by}
 use Rattle.order_laws.proofs.Following.{ahead_live}
 use Rattle.interleave_core.specs.declared.window.WindowJob.{WindowJob}
@@ -33,7 +33,7 @@ use Rattle.interleave_core.specs.Safe.{HasEntry, HasSummary, IsSafe, MayRetire, 
 use Rattle.interleave_core.proofs.Following.{Beside, first_at, follows_runs, job_at, stands_at, window_in}
 use Rattle.interleave_core.proofs.Joining.{PairsGive, Progress, Shares, all_fit, may_step, next_is_job, retire, run_of, starts_of, touches_of}
 
-module _ (x : Exchange) (kept : IsExchange x) (code : Code) (faithful : Faithful x code) (facts : Kept) (pairs : PairsGive x (MayFollow facts)) (each : length facts.summaries ≡ length x.entries) (first : State) where
+module _ (x : Exchange) (kept : IsExchange x) (code : Code) (faithful : Faithful x code) (facts : KeptSummaries) (pairs : PairsGive x (MayFollow facts)) (each : length facts.summaries ≡ length x.entries) (first : State) where
   abbrev Follows : Core → Type 0
   Follows c = Beside x code (MayFollow facts) first c
 

@@ -7,7 +7,7 @@ use Rattle.exchange_model.specs.declared.exchange.Exchange.{Exchange}
 use Rattle.source_meaning.specs.SingleRun.{next_start}
 use Rattle.retire_order.specs.Accounts.{next_count}
 use Rattle.pair_tests.specs.Pairs.{Passes}
-use Rattle.checked.specs.Kept.{Kept}
+use Rattle.checked.specs.Kept.{KeptSummaries}
 use Rattle.interference_check.specs.Pairs.{OfPair}
 use Rattle.interleave_core.specs.declared.event.CoreEvent.{CoreEvent}
 use Rattle.interleave_core.specs.declared.event.CoreEvent.TheVariants.{Issue, Step, Retire}
@@ -15,7 +15,7 @@ use Rattle.interleave_core.specs.declared.window.WindowJob.{WindowJob}
 use Rattle.interleave_core.specs.Cores.{Core, begun_jobs, issues, lets_go, steps}
 
 -- the later job passes all tests with the first, by what is kept of their entries
-abbrev pub MayFollow : Kept → JobStart → JobStart → Type 0
+abbrev pub MayFollow : KeptSummaries → JobStart → JobStart → Type 0
 MayFollow kept first later = OfPair kept first.job.entry later.job.entry (λ one other. Passes one other first later)
 
 -- so many jobs are fewer than a line waits for, if there is one
@@ -25,7 +25,7 @@ IsBefore (Some count) jobs = jobs < count
 
 -- this is the next job, which the last restart lets begin; a worker is free; the limit lets one more job begin; the next line does not come
 -- first; and the job passes all tests with each job of the window, which come before it
-pub record CanIssue (kept : Kept) (workers : ℕ) (c : Core) : Type 0 where
+pub record CanIssue (kept : KeptSummaries) (workers : ℕ) (c : Core) : Type 0 where
   pub start : JobStart
   pub picked : next_start c.state ≡ Some start
   pub worker : length c.window < workers
@@ -48,13 +48,13 @@ pub record CanRetire (c : Core) : Type 0 where
   pub first : c.window ≡ oldest ∷ younger
   pub over : IsSome oldest.run.over
 
-abbrev pub IsAllowed : Kept → ℕ → Core → CoreEvent → Type 0
+abbrev pub IsAllowed : KeptSummaries → ℕ → Core → CoreEvent → Type 0
 IsAllowed kept workers c Issue = CanIssue kept workers c
 IsAllowed kept workers c (Step job) = CanStep c job
 IsAllowed kept workers c Retire = CanRetire c
 
 -- the core after an event that is allowed
-abbrev pub after_event : (x : Exchange) (code : Code) (kept : Kept) (workers : ℕ) (c : Core) (e : CoreEvent) → IsAllowed kept workers c e → Core
+abbrev pub after_event : (x : Exchange) (code : Code) (kept : KeptSummaries) (workers : ℕ) (c : Core) (e : CoreEvent) → IsAllowed kept workers c e → Core
 after_event x code kept workers c Issue can = issues code can.start c
 after_event x code kept workers c (Step job) can = steps code can.place can.job c
 after_event x code kept workers c Retire can = lets_go x can.oldest can.younger c

@@ -3,7 +3,7 @@ use Rattle.std.specs.Prelude.{◌≡◌, ℕ, List, [], ◌∷◌, take, slice_g
 use Rattle.machine_code.specs.Coded.{Code}
 use Rattle.exchange_model.specs.declared.exchange.Exchange.{Exchange}
 use Rattle.retire_order.specs.Accounts.{Account}
-use Rattle.checked.specs.Kept.{Kept}
+use Rattle.checked.specs.Kept.{KeptSummaries}
 use Rattle.interleave_core.specs.declared.event.CoreEvent.{CoreEvent}
 use Rattle.interleave_core.specs.declared.event.CoreFault.{CoreFault}
 use Rattle.interleave_core.specs.declared.event.CoreFault.TheVariants.{NotEnabled, Memory}
@@ -15,10 +15,10 @@ use Rattle.interleave_core.specs.Allowed.{IsAllowed, after_event}
 pub record Setting : Type 0 where
   pub exchange : Exchange
   pub code : Code
-  pub kept : Kept
+  pub kept : KeptSummaries
   pub workers : ℕ
 
-abbrev pub setting : Exchange → Code → Kept → ℕ → Setting
+abbrev pub setting : Exchange → Code → KeptSummaries → ℕ → Setting
 setting x code kept workers = record { exchange = x; code = code; kept = kept; workers = workers }
 
 abbrev pub Allows : Setting → Core → CoreEvent → Type 0

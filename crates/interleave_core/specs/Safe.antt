@@ -16,18 +16,18 @@ use Rattle.retire_order.specs.Accounts.{with_words}
 use Rattle.retire_order.specs.Retired.{retired_world}
 use Rattle.retire_order.specs.Stores.{MayStore}
 use Rattle.register_machine.specs.Steps.{MayStep}
-use Rattle.checked.specs.Kept.{Kept}
+use Rattle.checked.specs.Kept.{KeptSummaries}
 use Rattle.interleave_core.specs.declared.event.CoreEvent.{CoreEvent}
 use Rattle.interleave_core.specs.declared.window.WindowJob.{WindowJob}
 use Rattle.interleave_core.specs.Cores.{Core}
 use Rattle.interleave_core.specs.Runs.{Runs, Setting}
 
 -- the entry of the job has a summary
-abbrev pub HasSummary : Kept → JobStart → Type 0
+abbrev pub HasSummary : KeptSummaries → JobStart → Type 0
 HasSummary kept start = start.job.entry < length kept.summaries
 
 -- the entry of the job has a summary, and code
-pub record HasEntry (code : Code) (kept : Kept) (start : JobStart) : Type 0 where
+pub record HasEntry (code : Code) (kept : KeptSummaries) (start : JobStart) : Type 0 where
   pub summary : HasSummary kept start
   pub address : start.job.entry < length code.entries
 
@@ -39,7 +39,7 @@ pub record MayRetire (x : Exchange) (job : WindowJob) (s : State) (words : List 
 -- each event that is allowed in the core can be made: the next job can be tested and begun; each job of the window can be
 -- tested and, if it has not ended, make its next instruction; and the oldest can retire, if it has ended, from books that
 -- stand for the state, whatever they have for words
-pub record IsSafe (x : Exchange) (code : Code) (kept : Kept) (c : Core) : Type 0 where
+pub record IsSafe (x : Exchange) (code : Code) (kept : KeptSummaries) (c : Core) : Type 0 where
   pub pick : (start : JobStart) → next_start c.state ≡ Some start → HasEntry code kept start
   pub tests : AllByRecursion (λ (job : WindowJob). HasSummary kept job.start) c.window
   pub steps : (place : ℕ) (job : WindowJob) → slice_get c.window place ≡ Some job → job.run.over ≡ None → MayStep code.ops (is_word_of c.state.store) (is_word_of c.state.store) job.run

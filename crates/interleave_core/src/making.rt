@@ -3,7 +3,7 @@ ghost use Rattle.std.specs.Prelude.{◌≡◌, ◌+◌, ◌<◌, ◌^◌, ◌∷
 ghost use Rattle.job_types.specs.declared.job.JobStart.{JobStart as StartType};
 ghost use Rattle.retire_order.specs.Accounts.{upcoming};
 ghost use Rattle.store_layout.specs.Laid.{IsLayout};
-ghost use Rattle.checked.specs.Kept.{Kept};
+ghost use Rattle.checked.specs.Kept.{KeptSummaries};
 ghost use Rattle.interleave_core.specs.declared.window.WindowJob.{WindowJob as JobType};
 ghost use Rattle.interleave_core.specs.Allowed.{IsAllowed, after_event};
 ghost use Rattle.interleave_core.specs.Cores.{issues, lets_go, running_core, settles, steps};
@@ -59,7 +59,7 @@ impl RunningCore {
         requires few { self.old.retired < 2 ^ 63 }
         requires layout { IsLayout exchange.now.blocks layout.now }
         requires may { CanMake exchange.now code.now self.old event }
-        ensures { OnOk result ((kept : Kept) (workers : ℕ)
+        ensures { OnOk result ((kept : KeptSummaries) (workers : ℕ)
             (can : IsAllowed kept workers (running_core self.old) event)
             → Becomes (after_event exchange.now code.now kept workers (running_core self.old)
             event can) self.new) }

@@ -19,14 +19,14 @@ use Rattle.exchange_model.specs.Index.{is_entry}
 use Rattle.exchange_model.specs.Kept.{IsExchange, signal_count, signal_name}
 use Rattle.signal_file.specs.declared.before.Before.{Before}
 use Rattle.signal_file.specs.declared.directory.Signal.{Signal}
-use Rattle.signal_file.specs.declared.fault.SignalFault.TheVariants.{BadAs, FallingCount, UnknownBlock, UnknownSignal, WrongData}
+use Rattle.signal_file.specs.declared.fault.SignalsRule.TheVariants.{BadAs, FallingCount, UnknownBlock, UnknownSignal, WrongData}
 use Rattle.signal_file.specs.declared.line.Line.{Line}
 use Rattle.signal_file.specs.declared.line.LineKind.{LineKind}
 use Rattle.signal_file.specs.declared.line.LineKind.TheVariants.{Bare, Fresh, Same}
 use Rattle.signal_file.specs.Form.{Saying, closing, said_in, with}
 use Rattle.text_lines.specs.Words.{has_no_word, is_comment, is_skipped, words}
 use Rattle.signal_file.specs.Lines.{lines_behind, signal_lines}
-use Rattle.signal_file.specs.Rules.{added, and_then, before_of, count_or, entry_of, gives, gives_forlopp, has_origin, if_buffered, is_origin, is_true, last_count, meaning, need, need_that, next_number, says, signal_of, told}
+use Rattle.signal_file.specs.Rules.{added, and_then, before_of, breach, count_or, entry_of, gives, gives_forlopp, has_origin, if_buffered, is_origin, is_true, last_count, meaning, need, need_that, next_number, says, signal_of, told}
 use Rattle.exchange_model.specs.Names.{names_of_blocks, names_of_signals}
 use Rattle.source_meaning.specs.State.{Coming}
 use Rattle.source_meaning.specs.Valid.{HasOrigin, LinesFit, NamesEarlier, entry_count}
@@ -143,11 +143,11 @@ meaning_is x b l r number no_less origin =
     let n = next_number b in
     let s : Saying = record { after = l.after; signal = w.name; block = w.block; values = l.values; kind = l.kind } in
     let line : ℕ → Line = λ m. record { number = m; after = l.after; entry = l.entry; values = l.values; kind = l.kind } in
-    ap (λ o. need (UnknownSignal n) o (after_signal x b s)) w.found
-    ∙ ap (λ o. need (UnknownBlock n) o (after_block x b s w.signal)) w.entry
-    ∙ ap (λ t. need_that (WrongData n) t (need_that (FallingCount n) (nat_le b.last l.after) (need_that (BadAs n) (has_origin b l.kind) (Ok (line n))))) (eq-eqb (length l.values) w.signal.count w.many)
-    ∙ ap (λ t. need_that (FallingCount n) t (need_that (BadAs n) (has_origin b l.kind) (Ok (line n)))) (le-leb b.last l.after no_less)
-    ∙ ap (λ t. need_that (BadAs n) t (Ok (line n))) origin
+    ap (λ o. need (breach UnknownSignal n) o (after_signal x b s)) w.found
+    ∙ ap (λ o. need (breach UnknownBlock n) o (after_block x b s w.signal)) w.entry
+    ∙ ap (λ t. need_that (breach WrongData n) t (need_that (breach FallingCount n) (nat_le b.last l.after) (need_that (breach BadAs n) (has_origin b l.kind) (Ok (line n))))) (eq-eqb (length l.values) w.signal.count w.many)
+    ∙ ap (λ t. need_that (breach FallingCount n) t (need_that (breach BadAs n) (has_origin b l.kind) (Ok (line n)))) (le-leb b.last l.after no_less)
+    ∙ ap (λ t. need_that (breach BadAs n) t (Ok (line n))) origin
     ∙ ap (λ m. Ok (line m)) number
 
 added_is : (x : Exchange) (b : Before) (l : Line) → IsReady x l → next_number b ≡ l.number → b.last ≤ l.after → has_origin b l.kind ≡ true → added x b (line_words x l) ≡ Ok (Some l)

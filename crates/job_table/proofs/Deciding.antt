@@ -5,9 +5,11 @@ use Rattle.exchange_model.specs.declared.exchange.Exchange.{Exchange}
 use Rattle.job_table.specs.declared.fault.TableFault.{TableFault}
 use Rattle.job_table.specs.declared.meaning.Before.{Before}
 use Rattle.job_table.specs.declared.period.Period.{Period}
-use Rattle.job_table.specs.Rules.{added, and_then, behind, signals_in}
+use Rattle.signal_file.specs.Rules.{and_then}
+use Rattle.signal_file.proofs.Behind.{ok_first}
+use Rattle.job_table.specs.Rules.{added, behind, signals_in}
 use Rattle.job_table.specs.Table.{beside, counted_of, periods_behind}
-use Rattle.job_table.proofs.Fitted.{gone, times_in, times_joined}
+use Rattle.job_table.proofs.Fitted.{times_in, times_joined}
 
 -- what counts of these lines behind others
 abbrev counted : Before → List (List ℕ) → List Period → Before
@@ -24,8 +26,8 @@ decides x b [] rest line list f right wrong =
     let here : b ≡ counted b [] list = λ i. record { lines = lines_same i; signals = all_same i } in
     ap (λ r. and_then r (λ first. and_then (periods_behind x (behind b first) rest) (λ ps. Ok (cons_option first ps)))) (ap (λ q. added x q line) here ∙ wrong)
 decides x b (one ∷ front) rest line list f right wrong =
-    let here = gone (added x b one) (λ first. and_then (periods_behind x (behind b first) front) (λ ps. Ok (cons_option first ps))) list right in
-    let more = gone (periods_behind x (behind b here.0) front) (λ ps. Ok (cons_option here.0 ps)) list here.2 in
+    let here = ok_first (added x b one) (λ first. and_then (periods_behind x (behind b first) front) (λ ps. Ok (cons_option first ps))) list right in
+    let more = ok_first (periods_behind x (behind b here.0) front) (λ ps. Ok (cons_option here.0 ps)) list here.2 in
     let told_all : Ok (cons_option here.0 more.0) ≡ Ok list = more.2 in
     let same : cons_option here.0 more.0 ≡ list = cc in
     let times = times_joined here.0 more.0 in

@@ -16,7 +16,9 @@ use Rattle.job_table.specs.declared.meaning.Before.{Before}
 use Rattle.job_table.specs.declared.period.Period.{Period}
 use Rattle.job_table.specs.Form.{Numbered, Saying, fresh_of, numbered, said_in, signal_in}
 use Rattle.job_table.specs.Merged.{IsInRange, line_count}
-use Rattle.job_table.specs.Rules.{added, and_then, behind, signals_in}
+use Rattle.signal_file.specs.Rules.{and_then}
+use Rattle.signal_file.proofs.Behind.{ok_first}
+use Rattle.job_table.specs.Rules.{added, behind, signals_in}
 use Rattle.job_table.specs.Table.{periods_behind, table_periods}
 use Rattle.job_table.proofs.Told.{Adds, says, skips, IsMeant, added_few, adds}
 
@@ -70,16 +72,12 @@ joined : {x : Exchange} {b : Before} {line : List ℕ} {first : Option Period} (
 joined ps skips all = all
 joined {x = x} {b = b} {line = line} ps (says s p said m) all = (meant_fits x b s p (said_words (words line) s said) m, all)
 
-pub gone : {A B : Type 0} (r : Result A TableFault) (go : A → Result B TableFault) (b : B) → and_then r go ≡ Ok b → (a : A) × (r ≡ Ok a) × (go a ≡ Ok b)
-gone (Ok a) go b e = (a, refl, e)
-gone (Err f) go b e = absurd (cc)
-
 periods_behind_fit : (x : Exchange) (b : Before) (rest : List (List ℕ)) (list : List Period) → periods_behind x b rest ≡ Ok list → AllByRecursion (PeriodFits x) list
 unfolding periods_behind
 periods_behind_fit x b [] list e = let same : [] ≡ list = cc in subst (AllByRecursion (PeriodFits x)) same tt
 periods_behind_fit x b (line ∷ rest) list e =
-    let here = gone (added x b line) (λ first. and_then (periods_behind x (behind b first) rest) (λ ps. Ok (cons_option first ps))) list e in
-    let more = gone (periods_behind x (behind b here.0) rest) (λ ps. Ok (cons_option here.0 ps)) list here.2 in
+    let here = ok_first (added x b line) (λ first. and_then (periods_behind x (behind b first) rest) (λ ps. Ok (cons_option first ps))) list e in
+    let more = ok_first (periods_behind x (behind b here.0) rest) (λ ps. Ok (cons_option here.0 ps)) list here.2 in
     let told_all : Ok (cons_option here.0 more.0) ≡ Ok list = more.2 in
     let same : cons_option here.0 more.0 ≡ list = cc in
     subst (AllByRecursion (PeriodFits x)) same (joined more.0 (adds x b line here.0 here.1) (periods_behind_fit x (behind b here.0) rest more.0 more.1))
@@ -95,8 +93,8 @@ periods_behind_few : (x : Exchange) (b : Before) (rest : List (List ℕ)) (list 
 unfolding periods_behind
 periods_behind_few x b [] list e small = let same : [] ≡ list = cc in subst (λ (ps : List Period). b.signals + times_in ps < 2 ^ 32) same (omega (arith, small))
 periods_behind_few x b (line ∷ rest) list e small =
-    let here = gone (added x b line) (λ first. and_then (periods_behind x (behind b first) rest) (λ ps. Ok (cons_option first ps))) list e in
-    let more = gone (periods_behind x (behind b here.0) rest) (λ ps. Ok (cons_option here.0 ps)) list here.2 in
+    let here = ok_first (added x b line) (λ first. and_then (periods_behind x (behind b first) rest) (λ ps. Ok (cons_option first ps))) list e in
+    let more = ok_first (periods_behind x (behind b here.0) rest) (λ ps. Ok (cons_option here.0 ps)) list here.2 in
     let told_all : Ok (cons_option here.0 more.0) ≡ Ok list = more.2 in
     let same : cons_option here.0 more.0 ≡ list = cc in
     let later = periods_behind_few x (behind b here.0) rest more.0 more.1 (added_few x b line here.0 here.1 small) in

@@ -10,15 +10,15 @@ use Rattle.plex_num.proofs.Digits.{below_small, number_small}
 use Rattle.exchange_model.specs.declared.exchange.Exchange.{Exchange}
 use Rattle.signal_file.specs.declared.before.Before.{Before}
 use Rattle.signal_file.specs.declared.directory.Signal.{Signal}
-use Rattle.signal_file.specs.declared.fault.SignalFault.{SignalFault}
-use Rattle.signal_file.specs.declared.fault.SignalFault.TheVariants.{BadAs, FallingCount, UnknownBlock, UnknownSignal, WrongData}
+use Rattle.signal_file.specs.declared.fault.SignalsFault.{SignalsFault}
+use Rattle.signal_file.specs.declared.fault.SignalsRule.TheVariants.{BadAs, FallingCount, UnknownBlock, UnknownSignal, WrongData}
 use Rattle.signal_file.specs.declared.line.Line.{Line}
 use Rattle.signal_file.specs.Form.{Closing, Saying, closing, said_in, with}
 use Rattle.text_lines.specs.Words.{is_skipped, words}
 use Rattle.signal_file.specs.Lines.{lines_behind, signal_lines}
-use Rattle.signal_file.specs.Rules.{added, and_then, before_of, entry_of, has_origin, meaning, need, need_that, next_number, signal_of, told}
+use Rattle.signal_file.specs.Rules.{added, and_then, before_of, breach, entry_of, has_origin, meaning, need, need_that, next_number, signal_of, told}
 use Rattle.signal_file.proofs.Behind.{ok_first}
-use Rattle.retire_order.proofs.Fitting.{needed}
+use Rattle.retire_order.proofs.Fitting.{needed, tests_hold}
 
 -- numbers are small
 
@@ -39,44 +39,38 @@ said_small (first ∷ count ∷ signal ∷ block ∷ rest) s e = count_small (by
 
 -- what a line means
 
-tests_hold : (f g h : SignalFault) (a b c : Bool) (line l : Line) → need_that f a (need_that g b (need_that h c (Ok line))) ≡ Ok l → line ≡ l
-tests_hold f g h false b c line l e = absurd (cc)
-tests_hold f g h true false c line l e = absurd (cc)
-tests_hold f g h true true false line l e = absurd (cc)
-tests_hold f g h true true true line l e = cc
-
 -- a line has a number, and its count is below 2^32
 pub record IsSound (l : Line) : Type 0 where
   pub number : 1 ≤ l.number
   pub after : l.after < 2 ^ 32
 
 -- the rules on the block and on the values
-abbrev pub after_block : Exchange → Before → Saying → Signal → ℕ → Result Line SignalFault
+abbrev pub after_block : Exchange → Before → Saying → Signal → ℕ → Result Line SignalsFault
 after_block x b s signal entry =
-    need_that (WrongData (next_number b)) (nat_eq (length s.values) signal.count) (
-    need_that (FallingCount (next_number b)) (nat_le b.last s.after) (
-    need_that (BadAs (next_number b)) (has_origin b s.kind) (
+    need_that (breach WrongData (next_number b)) (nat_eq (length s.values) signal.count) (
+    need_that (breach FallingCount (next_number b)) (nat_le b.last s.after) (
+    need_that (breach BadAs (next_number b)) (has_origin b s.kind) (
     Ok (record { number = next_number b; after = s.after; entry = entry; values = s.values; kind = s.kind }))))
 
-abbrev pub after_signal : Exchange → Before → Saying → Signal → Result Line SignalFault
-after_signal x b s signal = need (UnknownBlock (next_number b)) (entry_of x signal.number s.block) (after_block x b s signal)
+abbrev pub after_signal : Exchange → Before → Saying → Signal → Result Line SignalsFault
+after_signal x b s signal = need (breach UnknownBlock (next_number b)) (entry_of x signal.number s.block) (after_block x b s signal)
 
 meant : (x : Exchange) (b : Before) (s : Saying) (l : Line) → s.after < 2 ^ 32 → meaning x b s ≡ Ok l → IsSound l
 unfolding meaning
 meant x b s l below_small e =
     let n = next_number b in
     let line : ℕ → Line = λ entry. record { number = n; after = s.after; entry = entry; values = s.values; kind = s.kind } in
-    let signal = needed (UnknownSignal n) (signal_of x s.signal) (after_signal x b s) l e in
-    let entry = needed (UnknownBlock n) (entry_of x signal.0.number s.block) (after_block x b s signal.0) l signal.2 in
-    let same = tests_hold (WrongData n) (FallingCount n) (BadAs n) (nat_eq (length s.values) signal.0.count) (nat_le b.last s.after) (has_origin b s.kind) (line entry.0) l entry.2 in
-    subst IsSound same (record { number = omega arith; after = below_small })
+    let signal = needed (breach UnknownSignal n) (signal_of x s.signal) (after_signal x b s) l e in
+    let entry = needed (breach UnknownBlock n) (entry_of x signal.0.number s.block) (after_block x b s signal.0) l signal.2 in
+    let hold = tests_hold (breach WrongData n) (breach FallingCount n) (breach BadAs n) (nat_eq (length s.values) signal.0.count) (nat_le b.last s.after) (has_origin b s.kind) (line entry.0) l entry.2 in
+    subst IsSound hold.3 (record { number = omega arith; after = below_small })
 
 -- what a line adds
 abbrev AllSound : Option Line → Type 0
 AllSound None = Unit {0}
 AllSound (Some l) = IsSound l
 
-sound_said : (x : Exchange) (b : Before) (s : Saying) (m : Result Line SignalFault) (r : Option Line) → s.after < 2 ^ 32 → meaning x b s ≡ m → and_then m (λ l. Ok (Some l)) ≡ Ok r → AllSound r
+sound_said : (x : Exchange) (b : Before) (s : Saying) (m : Result Line SignalsFault) (r : Option Line) → s.after < 2 ^ 32 → meaning x b s ≡ m → and_then m (λ l. Ok (Some l)) ≡ Ok r → AllSound r
 sound_said x b s (Ok l) r below_small is e = let same : Some l ≡ r = cc in subst AllSound same (meant x b s l below_small is)
 sound_said x b s (Err f) r below_small is e = absurd (cc)
 

@@ -5,11 +5,11 @@ use Rattle.std.specs.Option.{option_to_list}
 use Rattle.std.specs.Str.Lines.{lines}
 use Rattle.exchange_model.specs.declared.exchange.Exchange.{Exchange}
 use Rattle.job_table.specs.declared.fault.TableFault.{TableFault}
-use Rattle.job_table.specs.declared.fault.TableFault.TheVariants.{BadLine, BadRange, Memory, TooMany, UnknownBlock, UnknownSignal, WrongData}
 use Rattle.job_table.specs.declared.meaning.Before.{Before}
 use Rattle.job_table.specs.declared.period.Period.{Period}
-use Rattle.job_table.specs.Rules.{added, and_then, behind}
-use Rattle.job_table.specs.Table.{IsUnlessMemory, periods_behind, table_periods}
+use Rattle.signal_file.specs.Rules.{and_then}
+use Rattle.job_table.specs.Rules.{added, behind}
+use Rattle.job_table.specs.Table.{periods_behind, table_periods}
 use Rattle.job_table.proofs.Told.{added_few}
 
 -- the periods so far, in front of the others
@@ -58,19 +58,9 @@ read_more x signals text rest line after b new list longer first r is shorter e 
       small = omega (arith, signals_are, small);
     }
 
-unless_memory : {A : Type 0} (f : TableFault) (wanted : Result A TableFault) → Err f ≡ wanted → IsUnlessMemory (Err f) wanted
-unless_memory (BadLine l) wanted e = e
-unless_memory (UnknownSignal l) wanted e = e
-unless_memory (UnknownBlock l) wanted e = e
-unless_memory (WrongData l) wanted e = e
-unless_memory (BadRange l) wanted e = e
-unless_memory (TooMany l) wanted e = e
-unless_memory Memory wanted e = tt
-
-pub read_stop : (x : Exchange) (signals : ℕ) (text rest line after : List ℕ) (b : Before) (list : List Period) (f : TableFault) → Reads x signals text rest b list → lines rest ≡ line ∷ lines after → Err f ≡ added x b line → IsUnlessMemory (Err f) (table_periods x signals text)
+pub read_stop : (x : Exchange) (signals : ℕ) (text rest line after : List ℕ) (b : Before) (list : List Period) (f : TableFault) → Reads x signals text rest b list → lines rest ≡ line ∷ lines after → Err f ≡ added x b line → Err f ≡ table_periods x signals text
 read_stop x signals text rest line after b list f r is e =
-    unless_memory f (table_periods x signals text)
-    (sym (r.so ∙ ap (fronted list) (next x rest line after b is ∙ ap (λ a. and_then a (λ first. and_then (periods_behind x (behind b first) (lines after)) (λ ps. Ok (cons_option first ps)))) (sym e))))
+    sym (r.so ∙ ap (fronted list) (next x rest line after b is ∙ ap (λ a. and_then a (λ first. and_then (periods_behind x (behind b first) (lines after)) (λ ps. Ok (cons_option first ps)))) (sym e)))
 
 pub read_end : (x : Exchange) (signals : ℕ) (text rest : List ℕ) (b : Before) (list : List Period) → Reads x signals text rest b list → lines rest ≡ [] → Ok list ≡ table_periods x signals text
 unfolding periods_behind

@@ -5,25 +5,16 @@ use Rattle.std.proofs.lemmas.Bool.{and_parts, eqb-true, leb-true, ltb-true}
 use Rattle.exchange_model.specs.declared.exchange.Exchange.{Exchange}
 use Rattle.signal_file.specs.declared.directory.Signal.{Signal}
 use Rattle.text_lines.specs.Words.{is_skipped, words}
-use Rattle.signal_file.specs.Rules.{entry_of, signal_of}
+use Rattle.signal_file.specs.Rules.{and_then, entry_of, signal_of}
 use Rattle.job_table.specs.declared.fault.TableFault.{TableFault}
-use Rattle.job_table.specs.declared.fault.TableFault.TheVariants.{BadRange, TooMany, UnknownBlock, UnknownSignal, WrongData}
+use Rattle.job_table.specs.declared.fault.TableRule.TheVariants.{BadRange, TooMany, UnknownBlock, UnknownSignal, WrongData}
 use Rattle.job_table.specs.declared.meaning.Before.{Before}
 use Rattle.job_table.specs.declared.period.Period.{Period}
 use Rattle.job_table.specs.declared.period.TheConstants.{MOST_LINES}
 use Rattle.job_table.specs.Form.{Saying, said_in}
-use Rattle.job_table.specs.Rules.{added, and_then, behind, is_in_range, last_count, meaning, need, need_that, signals_in, told}
+use Rattle.job_table.specs.Rules.{added, behind, breach, is_in_range, last_count, meaning, signals_in, told}
+use Rattle.retire_order.proofs.Fitting.{needed, tests_hold}
 use Rattle.job_table.proofs.Meant.{after_block, after_signal}
-
-needed : {A B : Type 0} (f : TableFault) (o : Option A) (go : A → Result B TableFault) (b : B) → need f o go ≡ Ok b → (a : A) × (o ≡ Some a) × (go a ≡ Ok b)
-needed f None go b e = absurd (cc)
-needed f (Some a) go b e = (a, refl, e)
-
-tests_hold : (f g h : TableFault) (a b c : Bool) (period p : Period) → need_that f a (need_that g b (need_that h c (Ok period))) ≡ Ok p → (a ≡ true) × (b ≡ true) × (c ≡ true) × (period ≡ p)
-tests_hold f g h false b c period p e = absurd (cc)
-tests_hold f g h true false c period p e = absurd (cc)
-tests_hold f g h true true false period p e = absurd (cc)
-tests_hold f g h true true true period p e = let same : period ≡ p = cc in (refl, refl, refl, same)
 
 -- the period that a line says, behind those before
 pub record IsMeant (x : Exchange) (b : Before) (s : Saying) (p : Period) : Type 0 where
@@ -46,9 +37,9 @@ unfolding meaning
 meant x b s p e =
     let n = b.lines + 1 in
     let period : ℕ → Period = λ entry. record { number = n; every = s.every; from = s.from; times = s.times; entry = entry; values = s.values; fresh = s.fresh } in
-    let signal = needed (UnknownSignal n) (signal_of x s.signal) (after_signal x b s) p e in
-    let entry = needed (UnknownBlock n) (entry_of x signal.0.number s.block) (after_block b s signal.0) p signal.2 in
-    let hold = tests_hold (WrongData n) (BadRange n) (TooMany n) (nat_eq (length s.values) signal.0.count) (is_in_range s.every s.from s.times) (nat_le (b.signals + s.times) MOST_LINES) (period entry.0) p entry.2 in
+    let signal = needed (breach UnknownSignal n) (signal_of x s.signal) (after_signal x b s) p e in
+    let entry = needed (breach UnknownBlock n) (entry_of x signal.0.number s.block) (after_block b s signal.0) p signal.2 in
+    let hold = tests_hold (breach WrongData n) (breach BadRange n) (breach TooMany n) (nat_eq (length s.values) signal.0.count) (is_in_range s.every s.from s.times) (nat_le (b.signals + s.times) MOST_LINES) (period entry.0) p entry.2 in
     subst (IsMeant x b s) hold.3 (record {
       signal = signal.0;
       named = signal.1;

@@ -2,15 +2,15 @@
 --
 -- Each line is looked at behind all lines before it, those that are skipped too, so that it has their number. The first faulty line
 -- decides.
-use Rattle.std.specs.Prelude.{◌≡◌, ℕ, ◌+◌, List, [], ◌∷◌, length, sum_by, Result, Ok, Err}
+use Rattle.std.specs.Prelude.{ℕ, ◌+◌, List, [], ◌∷◌, length, sum_by, Result, Ok, Err}
 use Rattle.std.specs.Str.Lines.{lines}
 use Rattle.std.specs.List.{cons_option}
 use Rattle.exchange_model.specs.declared.exchange.Exchange.{Exchange}
 use Rattle.job_table.specs.declared.fault.TableFault.{TableFault}
-use Rattle.job_table.specs.declared.fault.TableFault.TheVariants.{Memory}
 use Rattle.job_table.specs.declared.meaning.Before.{Before}
 use Rattle.job_table.specs.declared.period.Period.{Period}
-use Rattle.job_table.specs.Rules.{added, and_then, behind}
+use Rattle.signal_file.specs.Rules.{and_then}
+use Rattle.job_table.specs.Rules.{added, behind}
 
 -- the periods of these lines, which stand behind others
 unfoldable pub periods_behind : Exchange → Before → List (List ℕ) → Result (List Period) TableFault
@@ -30,8 +30,3 @@ counted_of signals lines periods =
 -- the periods of a text beside so many lines of a signal file, or its first fault
 abbrev pub table_periods : Exchange → ℕ → List ℕ → Result (List Period) TableFault
 table_periods x signals text = periods_behind x (beside signals) (lines text)
-
--- the answer is this one, or memory was refused
-abbrev pub IsUnlessMemory : {A : Type 0} → Result A TableFault → Result A TableFault → Type 0
-IsUnlessMemory (Err Memory) wanted = Unit {0}
-IsUnlessMemory told wanted = told ≡ wanted

@@ -16,7 +16,7 @@ mod places;
 mod read;
 mod write;
 
-pub use fault::TableFault;
+pub use fault::{TableFault, TableRule};
 pub use laws::{
     first_faulty_line_decides, merged_lines_fit, merging_keeps_all_lines, written_lines_are_read,
 };

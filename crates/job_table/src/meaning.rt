@@ -2,9 +2,9 @@
 ghost use Rattle.std.specs.Prelude.{◌≡◌, ◌+◌, ◌<◌, ◌^◌};
 ghost use Rattle.signal_file.specs.Rules.{IsDirectory};
 ghost use Rattle.job_table.specs.Form.{IsRead, Saying};
-ghost use Rattle.job_table.specs.Rules.{added, behind, is_in_range, last_count, meaning};
+ghost use Rattle.job_table.specs.Rules.{added, behind, breach, is_in_range, last_count, meaning};
 
-use crate::fault::TableFault;
+use crate::fault::{TableFault, TableRule};
 use crate::form::{Said, said_of};
 use crate::period::{MOST_LINES, Period};
 use exchange_model::Exchange;
@@ -54,9 +54,7 @@ pub fn added(
         return Ok(None);
     }
     let Some(said) = said_of(line) else {
-        return Err(TableFault::BadLine {
-            line: before.lines + 1,
-        });
+        return Err(breach(before.lines + 1, TableRule::BadLine));
     };
     match meaning(exchange, directory, before, &said) {
         Ok(period) => Ok(Some(period)),
@@ -79,19 +77,19 @@ fn meaning(
 {
     let line = before.lines + 1;
     let Some(signal) = signal_of(exchange, directory, said.signal) else {
-        return Err(TableFault::UnknownSignal { line });
+        return Err(breach(line, TableRule::UnknownSignal));
     };
     let Some(entry) = entry_of(exchange, directory, signal.number, said.block) else {
-        return Err(TableFault::UnknownBlock { line });
+        return Err(breach(line, TableRule::UnknownBlock));
     };
     if said.count != usize::from(signal.count) {
-        return Err(TableFault::WrongData { line });
+        return Err(breach(line, TableRule::WrongData));
     }
     if !is_in_range(said.every, said.from, said.times) {
-        return Err(TableFault::BadRange { line });
+        return Err(breach(line, TableRule::BadRange));
     }
     if before.signals + u64::from(said.times) > MOST_LINES {
-        return Err(TableFault::TooMany { line });
+        return Err(breach(line, TableRule::TooMany));
     }
     Ok(Period {
         number: line,
@@ -102,6 +100,13 @@ fn meaning(
         values: said.values.copy(),
         fresh: said.fresh,
     })
+}
+
+/// The fault of a line that breaks this rule.
+fn breach(line: u32, rule: TableRule) -> TableFault
+    ensures { result ≡ breach rule line }
+{
+    TableFault { line, rule }
 }
 
 /// Whether a signal that comes so often has counts that rise and are all below 2^32.

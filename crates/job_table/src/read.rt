@@ -3,7 +3,7 @@ ghost use Rattle.std.specs.Prelude.{◌≡◌, ◌≤◌, ◌<◌, ◌^◌, ◌+
 ghost use Rattle.std.specs.List.{AllByRecursion};
 ghost use Rattle.std.specs.Option.{option_to_list};
 ghost use Rattle.job_table.specs.Merged.{IsInRange, line_count};
-ghost use Rattle.job_table.specs.Table.{IsUnlessMemory, table_periods};
+ghost use Rattle.job_table.specs.Table.{table_periods};
 
 use crate::fault::TableFault;
 use crate::meaning::{Before, added};
@@ -14,21 +14,22 @@ use signal_file::{Line, directory_of};
 use std::alloc::Global;
 use text_lines::next_line;
 
-/// The periods of a table of at most 16 MiB, in order; or the first fault of its first faulty line. It is to be merged with these
-/// lines of a signal file, whose number counts.
+/// The periods of a table of at most 16 MiB, in order; or its first fault. It is to be merged with these lines of a signal file, whose
+/// number counts. It stops where memory is refused.
 #[tactic(auto, using(crate::proofs::Tabled::table_read, crate::proofs::Fitted::table_fits))]
 pub fn read_table(
     alloc: Global,
     exchange: &Exchange,
     lines: &Seq<Line>,
     text: &[u8],
-) -> Result<Seq<Period>, TableFault>
+) -> Result<Result<Seq<Period>, TableFault>, Memory>
     requires few { length lines.now < 2 ^ 32 }
     requires short { length text.now ≤ 2 ^ 24 }
-    ensures told { IsUnlessMemory result
-        (table_periods exchange.now (length lines.now) text.now) }
-    ensures ranges { IfOk result (λ periods. AllByRecursion IsInRange periods) }
-    ensures few { IfOk result (λ periods. line_count lines.now periods < 2 ^ 32) }
+    ensures told { IfOk result (λ told. told
+        ≡ table_periods exchange.now (length lines.now) text.now) }
+    ensures ranges { IfOk result (λ told. IfOk told (λ periods. AllByRecursion IsInRange periods)) }
+    ensures few { IfOk result (λ told. IfOk told
+        (λ periods. line_count lines.now periods < 2 ^ 32)) }
 {
     let directory = directory_of(alloc, exchange)?;
     let mut before = Before {
@@ -38,12 +39,16 @@ pub fn read_table(
     let mut list = Seq::new(alloc);
     let mut rest = text;
     while let Some((line, after)) = next_line(rest) {
-        let period = added(exchange, &directory, before, line)?;
-        before = before.with(&period);
-        push_some(&mut list, period)?;
+        match added(exchange, &directory, before, line) {
+            Ok(period) => {
+                before = before.with(&period);
+                push_some(&mut list, period)?;
+            }
+            Err(fault) => return Ok(Err(fault)),
+        }
         rest = after;
     }
-    Ok(list)
+    Ok(Ok(list))
 }
 
 /// Appends a period, if there is one.

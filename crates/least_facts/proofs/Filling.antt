@@ -22,7 +22,7 @@ use Rattle.flow_points.specs.Sources.{source_of}
 use Rattle.flow_points.proofs.Least.{source_alike}
 use Rattle.flow_table.specs.declared.row.FlowTable.{FlowTable}
 use Rattle.flow_table.specs.Giving.{AreValues, SlotGives}
-use Rattle.flow_table.specs.Rows.{IsTable}
+use Rattle.flow_table.specs.Rows.{IsFlowTable}
 use Rattle.fact_flows.specs.Flows.{FlowsTo}
 use Rattle.fact_rows.specs.declared.place.Counts.{Counts}
 use Rattle.fact_rows.specs.Known.{Adds, Fits, HasSpot, Joins, Knows, Rows, missing}
@@ -215,7 +215,7 @@ slots_begin x e p how q slots k = record {
   all = λ f g. absurd (none_yet slots f.slot g.slot);
 }
 
-module _ (x : Exchange) (t : FlowTable) (e p : ℕ) (how : Passing) (q : ℕ) (k : Rows) (kept : IsExchange x) (table : IsTable x t) (can : CanFlow x t e p how q k) (slots : List Slot) (has : (s : Slot) → Contains slots s → HasSlot x q s) (i : ℕ) (d : Slot) (lt : i < length slots)
+module _ (x : Exchange) (t : FlowTable) (e p : ℕ) (how : Passing) (q : ℕ) (k : Rows) (kept : IsExchange x) (table : IsFlowTable x t) (can : CanFlow x t e p how q k) (slots : List Slot) (has : (s : Slot) → Contains slots s → HasSlot x q s) (i : ℕ) (d : Slot) (lt : i < length slots)
     (grown : Bool) (now : Rows) (g : FillsSlots x e p how q (take i slots) k grown now) where
   abbrev s : Slot
   s = get_or slots i d

@@ -16,7 +16,7 @@ use Rattle.flow_points.specs.Sources.{source_of, start_source}
 use Rattle.flow_points.proofs.Least.{least_in}
 use Rattle.flow_table.specs.declared.row.Row.{Row}
 use Rattle.flow_table.specs.declared.row.FlowTable.{FlowTable}
-use Rattle.flow_table.specs.Rows.{IsRowOf, IsTable}
+use Rattle.flow_table.specs.Rows.{IsRowOf, IsFlowTable}
 use Rattle.flow_table.proofs.Rowing.{place_fits}
 use Rattle.fact_rows.specs.Known.{Fits, HasSpot, slots_of}
 use Rattle.fact_rows.specs.Places.{HasPlace, counts_of}
@@ -63,7 +63,7 @@ module _ (t : FlowTable) where
   slot_placed x at r Depth is h = tt
   slot_placed x at r Awaits is h = tt
 
-  pub fits : (x : Exchange) (f : Fact) → IsTable x t → HasSlot x f.point f.slot → HasNumber f.slot f.value → Fits (slots_of t) f
+  pub fits : (x : Exchange) (f : Fact) → IsFlowTable x t → HasSlot x f.point f.slot → HasNumber f.slot f.value → Fits (slots_of t) f
   fits x f table slot number =
       let r = table.rows.each f.point slot.place slot.stands in
       record {
@@ -73,18 +73,18 @@ module _ (t : FlowTable) where
         number = number;
       }
 
-  rows_closed : (x : Exchange) → IsExchange x → IsTable x t → IsClosed x InRows
+  rows_closed : (x : Exchange) → IsExchange x → IsFlowTable x t → IsClosed x InRows
   rows_closed x kept table f (inl g) = fits x f table g.slot (value_numbered f.entry f.point f.slot (start_source _ f.slot) f.value (start_fits x kept g.entry.signal f.slot) g.gives)
   rows_closed x kept table f (inr (p, g)) =
       let w = g.flow in
       fits x f table w.slot
       (value_numbered f.entry g.at.point f.slot (source_of g.how f.slot) f.value (leads_fit x kept g.at.block g.at.point g.at.next g.at.layer f.point g.how (place_fits x g.at kept g.stands.place) w.leads f.slot) w.gives)
 
-  pub least_fits : (x : Exchange) → IsExchange x → IsTable x t → (f : Fact) → IsLeast x f → Fits (slots_of t) f
+  pub least_fits : (x : Exchange) → IsExchange x → IsFlowTable x t → (f : Fact) → IsLeast x f → Fits (slots_of t) f
   least_fits x kept table f h = least_in x InRows (rows_closed x kept table) f h
 
   -- a slot that is there has its place
-  pub spot_at : (x : Exchange) (q : ℕ) (s : Slot) → IsTable x t → HasSlot x q s → HasSpot (slots_of t) q s
+  pub spot_at : (x : Exchange) (q : ℕ) (s : Slot) → IsFlowTable x t → HasSlot x q s → HasSpot (slots_of t) q s
   spot_at x q s table slot =
       let r = table.rows.each q slot.place slot.stands in
       record { counts = counts_of r.row; there = get_map counts_of t.rows q r.row r.there; slot = slot_placed x slot.place r.row s r.is slot.slot }

@@ -30,7 +30,7 @@ use Rattle.flow_table.specs.declared.row.Row.{Row}
 use Rattle.flow_table.specs.declared.row.FlowTable.{FlowTable}
 use Rattle.flow_table.specs.declared.way.Ends.TheVariants as ends
 use Rattle.flow_table.specs.declared.way.Way.{Way}
-use Rattle.flow_table.specs.Rows.{IsRowOf, IsTable}
+use Rattle.flow_table.specs.Rows.{IsRowOf, IsFlowTable}
 use Rattle.flow_table.specs.Small.{IsSmall}
 use Rattle.flow_table.specs.Ways.{IsEnd}
 use Rattle.flow_table.proofs.Rowing.{place_fits}
@@ -83,13 +83,13 @@ added x t a e kept are s stands f least grown reached k m firsts test adds count
 pub own_entry : (x : Exchange) (t : FlowTable) (e : ℕ) (s : Search) (f : Fact) → Stands x t e s → IsOwnLeast x e f → f.entry ≡ s.rows.entry
 own_entry x t e s f stands least = least.entry ∙ sym stands.of_entry
 
-pub own_fits : (x : Exchange) (t : FlowTable) (e : ℕ) (s : Search) (f : Fact) → IsExchange x → IsTable x t → Stands x t e s → IsOwnLeast x e f → Fits s.rows.marks.slots f
+pub own_fits : (x : Exchange) (t : FlowTable) (e : ℕ) (s : Search) (f : Fact) → IsExchange x → IsFlowTable x t → Stands x t e s → IsOwnLeast x e f → Fits s.rows.marks.slots f
 own_fits x t e s f kept table stands least = subst (λ l. Fits l f) (sym stands.of_slots) (least_fits t x kept table f least.least)
 
 -- ---- what is good to send
 
 -- ways of a row of a point that is reached
-module _ (x : Exchange) (t : FlowTable) (e p : ℕ) (kept : IsExchange x) (table : IsTable x t) (r : Row) (there : slice_get t.rows p ≡ Some r) where
+module _ (x : Exchange) (t : FlowTable) (e p : ℕ) (kept : IsExchange x) (table : IsFlowTable x t) (r : Row) (there : slice_get t.rows p ≡ Some r) where
   below : p < length x.points
   below = (let lt = slice_get_within t.rows p r there in let all = table.rows.each_point in omega (arith, lt, all))
 
@@ -156,7 +156,7 @@ module _ (x : Exchange) (t : FlowTable) (a : AnswerTable) (e p : ℕ) (how : Pas
 
 -- ---- all RETRIEVEs of an answer
 
-module _ (x : Exchange) (t : FlowTable) (a : AnswerTable) (e p : ℕ) (how : Passing) (n : ℕ) (table : IsTable x t) where
+module _ (x : Exchange) (t : FlowTable) (a : AnswerTable) (e p : ℕ) (how : Passing) (n : ℕ) (table : IsFlowTable x t) where
   pub retrieves_good : (listed points : List ℕ) → slice_get t.retrieves n ≡ Some listed → points ≡ listed → ((q : ℕ) → IsRetrieveAt x q n → IsGood x e p how q) → (q : ℕ) → Contains points q → IsGood x e p how q
   retrieves_good listed points there same good q c = good q (((table.retrieves.exact n listed there).exact q).0 (subst (λ l. Contains l q) same c))
 

@@ -11,11 +11,6 @@ use Rattle.std.proofs.lemmas.Option.{none-some, same_Some, slice_get_past}
 use Rattle.plex_num.proofs.Members.{first_or_later, none_in}
 use Rattle.plex_num.proofs.Lists.{some_at}
 use Rattle.exchange_model.specs.declared.exchange.Exchange.{Exchange}
-use Rattle.exchange_model.specs.declared.expr.Expr.{Expr}
-use Rattle.exchange_model.specs.declared.signal.SignalKind.{SignalKind}
-use Rattle.exchange_model.specs.declared.signal.SignalKind.TheVariants.{Buffered, Direct, Combined, Outside}
-use Rattle.exchange_model.specs.declared.stmt.Receiver.{Receiver}
-use Rattle.exchange_model.specs.declared.stmt.StmtKind.TheOpen as stmt
 use Rattle.exchange_model.specs.Fits.{retrieved}
 use Rattle.exchange_model.specs.Kept.{IsExchange}
 use Rattle.source_meaning.specs.Changes.{value_count}
@@ -32,15 +27,20 @@ use Rattle.flow_points.specs.declared.flow.Passing.TheVariants.{Kept, Sets, Take
 use Rattle.flow_points.specs.declared.flow.Source.{Source}
 use Rattle.flow_points.specs.declared.flow.Source.TheVariants.{Is}
 use Rattle.flow_points.specs.Facts.{Facts, fact, Gives, Guarded, IsClosed, IsLeast, Reached, SourceGives, StartGives, PointGives}
-use Rattle.flow_points.specs.Flows.{Leads, LeadsTo, SendLeads}
+use Rattle.flow_points.specs.Flows.{Leads, LeadsTo}
 use Rattle.flow_points.specs.Places.{IsRetrieveAt, Place, StandsAt}
 use Rattle.flow_points.specs.Slots.{HasSlot, answer_count}
 use Rattle.flow_points.specs.Sources.{source_of, start_source}
 use Rattle.flow_points.proofs.Least.{derived_in, gives_more, least_closed, least_in, point_alike, source_alike}
 use Rattle.flow_table.specs.declared.row.FlowTable.{FlowTable}
+use Rattle.flow_table.specs.declared.way.Ends.{Ends}
+use Rattle.flow_table.specs.declared.way.Way.{Way}
 use Rattle.flow_table.specs.Giving.{HasGiven}
-use Rattle.flow_table.specs.Rows.{IsTable}
+use Rattle.flow_table.specs.Rows.{IsFlowTable}
+use Rattle.flow_table.specs.Shapes.{Shape, Stays, Assigns, Finds, TakesGiven, TakesAnswer, Starts, Transfers, Asks, GivesAnswer}
+use Rattle.flow_table.specs.Ways.{IsEnd}
 use Rattle.flow_table.proofs.Rowing.{place_fits}
+use Rattle.flow_table.proofs.Shaping.{led_by}
 use Rattle.fact_flows.specs.Flows.{OneGives}
 use Rattle.fact_flows.specs.Given.{GivenAtStart}
 use Rattle.fact_rows.specs.declared.place.Counts.{Counts}
@@ -67,39 +67,26 @@ pub record ReturnsFrom (x : Exchange) (b p : ℕ) (next : Option ℕ) (l : Layer
 other : {A : Type 0} (values : List Source) (made : Passing) → Answers values ≡ made → is_answer made ≡ false → A
 other values made is no_answer = absurd (let clash : true ≡ false = ap is_answer is ∙ no_answer in cc)
 
-send_other : {A : Type 0} (x : Exchange) (o : Option SignalKind) (next : Option ℕ) (signal : ℕ) (to : Option Receiver) (exprs : List Expr) (q : ℕ) (values : List Source) → SendLeads x o next signal to exprs q (Answers values) → A
-send_other x (Some (Buffered name level count)) next signal to exprs q values g = other values Kept g.is refl
-send_other x (Some (Direct name count)) next signal to exprs q values g = other values _ g.goes.is refl
-send_other x (Some (Combined name count answer)) next signal to exprs q values (inl g) = other values _ g.goes.is refl
-send_other x (Some (Combined name count answer)) next signal to exprs q values (inr g) = other values Kept g.is refl
-send_other x (Some (Outside name count)) next signal to exprs q values g = other values Kept g.is refl
-send_other x _ next signal to exprs q values g = absurd g
-
 pub answered : (x : Exchange) (b p : ℕ) (next : Option ℕ) (l : Layer) (q : ℕ) (values : List Source) → Leads x b p next l q (Answers values) → ReturnsFrom x b p next l q (Answers values)
-answered x b p next (stmt.Enter signal temps) q values g = other values _ g.is refl
-answered x b p next (stmt.SetTemp temp e) q values g = other values _ g.is refl
-answered x b p next (stmt.SetVariable variable e) q values g = other values _ g.is refl
-answered x b p next (stmt.SetField file field pointer e) q values g = other values _ g.is refl
-answered x b p next (stmt.Goto label) q values g = other values _ g.is refl
-answered x b p next (stmt.IfGoto cond label) q values (inl g) = other values _ g.is refl
-answered x b p next (stmt.IfGoto cond label) q values (inr g) = other values _ g.is refl
-answered x b p next (stmt.If cond yes_part no_part) q values (inl g) = other values _ g.is refl
-answered x b p next (stmt.If cond yes_part no_part) q values (inr g) = other values _ g.is refl
-answered x b p next (stmt.Case e whens otherwise) q values (inl g) = other values _ g.goes.is refl
-answered x b p next (stmt.Case e whens otherwise) q values (inr g) = other values _ g.is refl
-answered x b p next (stmt.On temp from upto body) q values (inl g) = other values _ g.is refl
-answered x b p next (stmt.On temp from upto body) q values (inr g) = other values _ g.is refl
-answered x b p next (stmt.ForFirst temp file field rel e label) q values (inl g) = other values _ g.is refl
-answered x b p next (stmt.ForFirst temp file field rel e label) q values (inr g) = other values _ g.is refl
-answered x b p next (stmt.Send signal to exprs fresh) q values g = send_other x (slice_get x.signals signal) next signal to exprs q values g
-answered x b p next (stmt.Retrieve answer temps) q values g = other values _ g.is refl
-answered x b p next (stmt.Return answer exprs) q values g = record { answer = answer; returns = refl; awaits = g.retrieve; others = λ r at. record { retrieve = at; is = g.is } }
-answered x b p next (stmt.Transfer signal to) q values g = other values _ g.goes.is refl
-answered x b p next (stmt.Seize temp file label) q values (inl g) = other values _ g.is refl
-answered x b p next (stmt.Seize temp file label) q values (inr g) = other values _ g.is refl
-answered x b p next (stmt.Free temp file) q values g = other values _ g.is refl
-answered x b p next stmt.Exit q values g = absurd g
-answered x b p next stmt.Finish q values g = absurd g
+answered x b p next l q values g =
+    let led = led_by x (record { block = b; point = p; layer = l; next = next }) q (Answers values) g in
+    by led.way led.shape led.leads.is led.leads.end led.others
+  where
+    by : (w : Way) → Shape x l w → Answers values ≡ w.how → IsEnd x w.ends q → ((r : ℕ) → IsEnd x w.ends r → Leads x b p next l r (Answers values)) → ReturnsFrom x b p next l q (Answers values)
+    by w (Stays is) e end others = other values Kept (e ∙ is) refl
+    by w (Assigns temp a own is) e end others = other values _ (e ∙ is) refl
+    by w (Finds temp is) e end others = other values _ (e ∙ is) refl
+    by w (TakesGiven signal temps kind is) e end others = other values _ (e ∙ is) refl
+    by w (TakesAnswer answer temps kind is) e end others = other values _ (e ∙ is) refl
+    by w (Starts exprs own is) e end others = other values _ (e ∙ is) refl
+    by w (Transfers count is) e end others = other values _ (e ∙ is) refl
+    by w (Asks signal name count answer exprs there own is) e end others = other values _ (e ∙ is) refl
+    by w (GivesAnswer answer exprs kind is to) e end others = record {
+      answer = answer;
+      returns = ap returned kind;
+      awaits = subst (λ (o : Ends). IsEnd x o q) to end;
+      others = λ r at. others r (subst (λ (o : Ends). IsEnd x o r) (sym to) at);
+    }
 
 -- ---- RETRIEVEs and RETURNs by the table
 
@@ -121,7 +108,7 @@ module _ (x : Exchange) (a : AnswerTable) (are : AreAnswers x a) where
   returns_of n r lt h =
       let long = are.returns.each_signal in
       let f = some_at a.returns n (omega (arith, lt, long)) in
-      record { points = f.0; there = f.1; among = ((are.returns.exact n f.0 f.1).exact r).1 h }
+      record { points = f.0; there = f.1; among = (are.returns.exact n f.0 f.1 r).1 h }
 
 -- whether a point is marked
 
@@ -391,7 +378,7 @@ module _ (x : Exchange) (t : FlowTable) (a : AnswerTable) (e : ℕ) (are : AreAn
       (λ (w : IsNew x new.marks f.answer q).
       let from = answered x at.block at.point at.next at.layer q values leads in
       let same : from.answer ≡ f.answer = one_answer x a are q from.answer f.answer from.awaits (g.stands.retrieve f.answer q f.is) in
-      absurd (unmarked (w.returns p (record { place = at; stands = stands; returns = from.returns ∙ ap Some same }))))
+      absurd (unmarked (w.returns p (record { place = at; stands = stands; has = from.returns ∙ ap Some same }))))
       (g.firsts f.answer q f.is)
 
   was_sent : (f : Fact) → SentFrom x new.firsts (Knows new.rows) e p f → SentFrom x s.firsts (Knows s.rows) e p f
@@ -506,7 +493,7 @@ module _ (x : Exchange) (t : FlowTable) (a : AnswerTable) (e : ℕ) where
   stands_by s p stands f (inl h) = (h.given.gives.at, h.given.gives.stands)
   stands_by s p stands f (inr h) = (let w = stands.retrieve h.answer p h.first in (w.place, w.stands))
 
-  pub rowless_visit : (s : Search) (p : ℕ) → IsTable x t → Searches x t e (without s (p ∷ s.marks)) → length t.rows ≤ p → IsVisited x t a e s s
+  pub rowless_visit : (s : Search) (p : ℕ) → IsFlowTable x t → Searches x t e (without s (p ∷ s.marks)) → length t.rows ≤ p → IsVisited x t a e s s
   rowless_visit s p table searches past = visited_none s p searches (λ f h.
       let at = stands_by s p (restand (without s (p ∷ s.marks)) s.marks searches.stands) f h in
       let row = table.rows.each p at.0 at.1 in

@@ -1,5 +1,5 @@
 -- Each source over a flow gives values that have a number in the plane of the slot.
-use Rattle.std.proofs.Common.{◌≡◌, inl, inr, ℕ, zero, suc, ◌+◌, ◌<◌, ◌≤◌, Bool, true, false, nat_lt, nat_eq, if◌then◌else◌, List, [], ◌∷◌, length, map, Option, Some, None, slice_get, refl, sym, subst, arith}
+use Rattle.std.proofs.Common.{◌≡◌, ℕ, zero, suc, ◌+◌, ◌<◌, ◌≤◌, Bool, true, false, nat_lt, nat_eq, if◌then◌else◌, List, [], ◌∷◌, length, map, Option, Some, None, slice_get, refl, sym, ap, subst, arith}
 use Rattle.std.proofs.lemmas.Bool.{ltb-true}
 use Rattle.std.proofs.lemmas.Option.{none-some, same_Some, slice_get_within}
 use Rattle.std.specs.List.{AllByRecursion}
@@ -13,10 +13,9 @@ use Rattle.exchange_model.specs.declared.expr.Factor.{Factor}
 use Rattle.exchange_model.specs.declared.expr.Factor.TheOpen as layer
 use Rattle.exchange_model.specs.declared.expr.Factor.TheVariants as factor
 use Rattle.exchange_model.specs.declared.signal.SignalKind.{SignalKind}
-use Rattle.exchange_model.specs.declared.signal.SignalKind.TheVariants.{Buffered, Direct, Combined, Outside}
-use Rattle.exchange_model.specs.declared.stmt.Receiver.{Receiver}
-use Rattle.exchange_model.specs.declared.stmt.StmtKind.TheOpen as stmt
+use Rattle.exchange_model.specs.declared.signal.SignalKind.TheVariants.{Combined}
 use Rattle.exchange_model.specs.Fits.{Scope, ExprFits, FactorFits}
+use Rattle.exchange_model.specs.Inside.{own_exprs}
 use Rattle.exchange_model.specs.Kept.{IsExchange, IsAnswerOf, signal_count, scope_of}
 use Rattle.exchange_model.specs.PartFits.{TermFits, JoinedFits, FactorOwnFits, InsideFits}
 use Rattle.exchange_model.proofs.Layers.{expr_fits-out, term_fits-out, joined_fits-out, factor_fits-out}
@@ -32,9 +31,12 @@ use Rattle.flow_points.specs.declared.flow.Passing.{Passing}
 use Rattle.flow_points.specs.declared.flow.Passing.TheVariants.{Kept, Sets, Takes, Retrieves, Begins, Passes, Calls, Answers}
 use Rattle.flow_points.specs.declared.flow.Source.{Source}
 use Rattle.flow_points.specs.declared.flow.Source.TheVariants.{Of, Is, Nothing}
-use Rattle.flow_points.specs.Flows.{Leads, Goes, SendLeads}
+use Rattle.flow_points.specs.Flows.{Leads}
 use Rattle.flow_points.specs.Sources.{alone, at_place, expr_source, kept, named, source_of, start_source}
+use Rattle.flow_table.specs.declared.way.Way.{Way}
 use Rattle.flow_table.specs.Alone.{term_source, joined_source, own_source}
+use Rattle.flow_table.specs.Shapes.{Shape, Stays, Assigns, Finds, TakesGiven, TakesAnswer, Starts, Transfers, Asks, GivesAnswer}
+use Rattle.flow_table.proofs.Shaping.{led_by}
 use Rattle.flow_table.proofs.Sourcing.{expr_source-out, term_source-out, joined_source-out, factor_as}
 use Rattle.least_facts.specs.Fit.{HowFits, Numbered, SourceFits}
 
@@ -168,53 +170,39 @@ answer_some signals combined answer (Some s) there is = slice_get_within signals
 as_made : (how made : Passing) → how ≡ made → HowFits made → HowFits how
 as_made how made is h = λ s. subst (λ (k : Passing). SourceFits s (source_of k s)) (sym is) (h s)
 
-goes_fit : (to : Option ℕ) (made : Passing) (q : ℕ) (how : Passing) → HowFits made → Goes to made q how → HowFits how
-goes_fit to made q how h g = as_made how made g.is h
-
 kept_all : HowFits Kept
 kept_all = λ s. kept_fits s
 
 module _ (x : Exchange) (exchange : IsExchange x) where
-  send_fits : (o : Option SignalKind) (next : Option ℕ) (signal : ℕ) (to : Option Receiver) (values : List Expr) (q : ℕ) (how : Passing) → slice_get x.signals signal ≡ o → AllByRecursion Numbered (map expr_source values) → SendLeads x o next signal to values q how → HowFits how
-  send_fits (Some (Buffered name level count)) next signal to values q how there each g = goes_fit next Kept q how kept_all g
-  send_fits (Some (Direct name count)) next signal to values q how there each g = as_made how (Begins (map expr_source values)) g.goes.is (begins_fit (map expr_source values) each)
-  send_fits (Some (Combined name count answer)) next signal to values q how there each (inl g) =
-      let is = exchange.signals.answers signal (Combined name count answer) there in
-      let below = answer_some x.signals signal answer (slice_get x.signals answer) refl is.1 in
-      let few = exchange.signals.few in
-      as_made how (Calls (map expr_source values) answer) g.goes.is (calls_fit (map expr_source values) answer each (omega (arith, below, few)))
-  send_fits (Some (Combined name count answer)) next signal to values q how there each (inr g) = goes_fit next Kept q how kept_all g
-  send_fits (Some (Outside name count)) next signal to values q how there each g = goes_fit next Kept q how kept_all g
-  send_fits _ next signal to values q how there each g = absurd g
+  shape_fits : (b : ℕ) (l : Layer) → IsOfBlock x b l → (w : Way) → Shape x l w → HowFits w.how
+  shape_fits b l of w shape = by shape
+    where
+      each : (exprs : List Expr) → own_exprs l ≡ exprs → AllByRecursion (ExprFits (scope_of x b of.block)) exprs
+      each exprs own = subst (AllByRecursion (ExprFits (scope_of x b of.block))) own of.fits.exprs.each
+
+      values_fit : (exprs : List Expr) → own_exprs l ≡ exprs → AllByRecursion Numbered (map expr_source exprs)
+      values_fit exprs own = exprs_numbered (scope_of x b of.block) exchange.blocks.few exprs (each exprs own)
+
+      by : Shape x l w → HowFits w.how
+      by (Stays is) = as_made w.how Kept is kept_all
+      by (Assigns temp e own is) = as_made w.how (Sets temp (expr_source e)) is (sets_fit temp (expr_source e) (expr_numbered (scope_of x b of.block) exchange.blocks.few e (each (e ∷ []) own).0))
+      by (Finds temp is) = as_made w.how (Sets temp (Is Any)) is (sets_fit temp (Is Any) tt)
+      by (TakesGiven signal temps kind is) = as_made w.how (Takes temps) is (takes_fit temps)
+      by (TakesAnswer answer temps kind is) = as_made w.how (Retrieves temps) is (retrieves_fit temps)
+      by (Starts values own is) = as_made w.how (Begins (map expr_source values)) is (begins_fit (map expr_source values) (values_fit values own))
+      by (Transfers count is) = as_made w.how (Passes count) is (passes_fit count)
+      by (Asks signal name count answer values there own is) =
+          let next = exchange.signals.answers signal (Combined name count answer) there in
+          let below = answer_some x.signals signal answer (slice_get x.signals answer) refl next.1 in
+          let few = exchange.signals.few in
+          as_made w.how (Calls (map expr_source values) answer) is (calls_fit (map expr_source values) answer (values_fit values own) (omega (arith, below, few)))
+      by (GivesAnswer answer values kind is to) =
+          as_made w.how (Answers (map expr_source values)) is (answers_fit (map expr_source values) (values_fit values (ap (λ (k : Layer). own_exprs k) kind)))
 
   pub leads_fit : (b p : ℕ) (next : Option ℕ) (l : Layer) (q : ℕ) (how : Passing) → IsOfBlock x b l → Leads x b p next l q how → HowFits how
-  leads_fit b p next (stmt.Enter signal temps) q how of g = goes_fit next (Takes temps) q how (takes_fit temps) g
-  leads_fit b p next (stmt.SetTemp temp e) q how of g =
-      goes_fit next (Sets temp (expr_source e)) q how (sets_fit temp (expr_source e) (expr_numbered (scope_of x b of.block) exchange.blocks.few e of.fits.exprs.each.0)) g
-  leads_fit b p next (stmt.SetVariable variable e) q how of g = goes_fit next Kept q how kept_all g
-  leads_fit b p next (stmt.SetField file field pointer e) q how of g = goes_fit next Kept q how kept_all g
-  leads_fit b p next (stmt.Goto label) q how of g = as_made how Kept g.is kept_all
-  leads_fit b p next (stmt.IfGoto cond label) q how of (inl g) = as_made how Kept g.is kept_all
-  leads_fit b p next (stmt.IfGoto cond label) q how of (inr g) = as_made how Kept g.is kept_all
-  leads_fit b p next (stmt.If cond yes_part no_part) q how of (inl g) = as_made how Kept g.is kept_all
-  leads_fit b p next (stmt.If cond yes_part no_part) q how of (inr g) = as_made how Kept g.is kept_all
-  leads_fit b p next (stmt.Case e whens otherwise) q how of (inl g) = as_made how Kept g.goes.is kept_all
-  leads_fit b p next (stmt.Case e whens otherwise) q how of (inr g) = as_made how Kept g.is kept_all
-  leads_fit b p next (stmt.On temp from upto body) q how of (inl g) = as_made how (Sets temp (Is Any)) g.is (sets_fit temp (Is Any) tt)
-  leads_fit b p next (stmt.On temp from upto body) q how of (inr g) = as_made how Kept g.is kept_all
-  leads_fit b p next (stmt.ForFirst temp file field rel e label) q how of (inl g) = as_made how (Sets temp (Is Any)) g.is (sets_fit temp (Is Any) tt)
-  leads_fit b p next (stmt.ForFirst temp file field rel e label) q how of (inr g) = as_made how Kept g.is kept_all
-  leads_fit b p next (stmt.Send signal to values fresh) q how of g =
-      send_fits (slice_get x.signals signal) next signal to values q how refl (exprs_numbered (scope_of x b of.block) exchange.blocks.few values of.fits.exprs.each) g
-  leads_fit b p next (stmt.Retrieve answer temps) q how of g = goes_fit next (Retrieves temps) q how (retrieves_fit temps) g
-  leads_fit b p next (stmt.Return answer values) q how of g =
-      as_made how (Answers (map expr_source values)) g.is (answers_fit (map expr_source values) (exprs_numbered (scope_of x b of.block) exchange.blocks.few values of.fits.exprs.each))
-  leads_fit b p next (stmt.Transfer signal to) q how of g = as_made how _ g.goes.is (passes_fit _)
-  leads_fit b p next (stmt.Seize temp file label) q how of (inl g) = as_made how (Sets temp (Is Any)) g.is (sets_fit temp (Is Any) tt)
-  leads_fit b p next (stmt.Seize temp file label) q how of (inr g) = as_made how Kept g.is kept_all
-  leads_fit b p next (stmt.Free temp file) q how of g = as_made how Kept g.is kept_all
-  leads_fit b p next stmt.Exit q how of g = absurd g
-  leads_fit b p next stmt.Finish q how of g = absurd g
+  leads_fit b p next l q how of g =
+      let led = led_by x (record { block = b; point = p; layer = l; next = next }) q how g in
+      as_made how led.way.how led.leads.is (shape_fits b l of led.way led.shape)
 
   -- the start
 

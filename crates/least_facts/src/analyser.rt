@@ -5,7 +5,7 @@ ghost use Rattle.std.specs.List.{Contains};
 ghost use Rattle.std.specs.List.Sorted.{IsStrictlySortedBy};
 ghost use Rattle.flow_points.specs.declared.fact.Fact.{Fact};
 ghost use Rattle.flow_points.specs.Facts.{IsLeast};
-ghost use Rattle.flow_table.specs.Rows.{IsTable};
+ghost use Rattle.flow_table.specs.Rows.{IsFlowTable};
 ghost use Rattle.fact_rows.specs.Orders.{fact_order};
 ghost use Rattle.exchange_model.specs.declared.exchange.Exchange.{Exchange as ExchangeType};
 ghost use Rattle.least_facts.specs.Least.{HasLearned, IsFor, KnowLeast};
@@ -61,7 +61,7 @@ impl Analyser {
         entry: u32,
         most: Option<usize>,
     ) -> Result<Option<usize>, Memory>
-        requires table { IsTable exchange.now table.now }
+        requires table { IsFlowTable exchange.now table.now }
         requires own { IsFor exchange.now table.now self.old }
         ensures learned { IfOk result (λ looked.
             IfSome looked (λ _. HasLearned exchange.now entry self.new)) }
@@ -97,7 +97,7 @@ impl Analyser {
         table: &FlowTable,
         entry: u32,
     ) -> Result<Seq<Fact>, Memory>
-        requires table { IsTable exchange.now table.now }
+        requires table { IsFlowTable exchange.now table.now }
         requires own { IsFor exchange.now table.now self.old }
         ensures exact { IfOk result (λ facts. (f : Fact)
             → Contains facts f ↔ ((f.entry ≡ entry) × IsLeast exchange.now f)) }
@@ -127,7 +127,7 @@ pub fn facts_of(
     table: &FlowTable,
     entry: u32,
 ) -> Result<Seq<Fact>, Memory>
-    requires table { IsTable exchange.now table.now }
+    requires table { IsFlowTable exchange.now table.now }
     ensures exact { IfOk result (λ facts. (f : Fact)
         → Contains facts f ↔ ((f.entry ≡ entry) × IsLeast exchange.now f)) }
     ensures order { IfOk result (λ facts. IsStrictlySortedBy fact_order facts) }

@@ -1,12 +1,12 @@
 // Where answers are retrieved, and from where they return.
-ghost use Rattle.std.specs.Prelude.{◌≡◌, [], length, map, replicate, IfOk, OnOk};
+ghost use Rattle.std.specs.Prelude.{◌≡◌, map, IfOk, OnOk};
 ghost use Rattle.exchange_model.specs.declared.stmt.StmtKind.{out-StmtKind};
-ghost use Rattle.exchange_model.specs.Fits.{retrieved};
+ghost use Rattle.flow_table.specs.PointLists.{ArePointLists, answer_by, listed_at, retrieved_by};
 ghost use Rattle.flow_table.specs.Texts.{ArePlaces, seen};
-ghost use Rattle.least_facts.specs.Answers.{AreAllReturns, AreAnswers, awaited_by as awaited_by_place, listed_at, put, returned};
+ghost use Rattle.least_facts.specs.Answers.{AreAnswers, returned};
 
 use exchange_model::{Exchange, StmtKind};
-use flow_table::{PlaceAt, places_of};
+use flow_table::{PlaceAt, awaited_of, empty_lists, places_of, push_listed};
 use plex_num::{Memory, Seq};
 use std::alloc::Global;
 
@@ -38,23 +38,13 @@ pub fn answers_of(alloc: Global, exchange: &Exchange) -> Result<AnswerTable, Mem
 
 /// The answers that these statements await.
 fn awaited_at(alloc: Global, places: &[PlaceAt<'_>]) -> Result<Seq<Option<u32>>, Memory>
-    ensures { IfOk result (λ awaited. awaited ≡ map awaited_by_place places.now) }
+    ensures { IfOk result (λ awaited. awaited ≡ map (answer_by retrieved_by) places.now) }
 {
     let mut awaited = Seq::with_capacity(alloc, places.len())?;
     for at in places {
-        awaited.push(awaited_by(at.kind))?;
+        awaited.push(awaited_of(at.kind))?;
     }
     Ok(awaited)
-}
-
-/// The answer that a statement awaits, if it is a RETRIEVE.
-fn awaited_by(kind: &StmtKind) -> Option<u32>
-    ensures { result ≡ retrieved (out-StmtKind kind.now) }
-{
-    match kind {
-        StmtKind::Retrieve { answer, .. } => Some(*answer),
-        _ => None,
-    }
 }
 
 /// The answer that a statement returns, if it is a RETURN.
@@ -74,7 +64,7 @@ fn returns_of(
     places: &[PlaceAt<'_>],
 ) -> Result<Seq<Seq<u32>>, Memory>
     requires { ArePlaces exchange.now (map seen places.now) }
-    ensures { IfOk result (AreAllReturns exchange.now) }
+    ensures { IfOk result (ArePointLists returned exchange.now) }
 {
     exchange.kept();
     let count = exchange.signals.len();
@@ -86,37 +76,10 @@ fn returns_of(
     Ok(Seq::from_vec(returns))
 }
 
-/// So many empty lists.
-#[tactic(auto, using(crate::proofs::Answering::lists_more, crate::proofs::Answering::lists_end))]
-fn empty_lists(alloc: Global, count: usize) -> Result<Seq<Seq<u32>>, Memory>
-    ensures { IfOk result (λ lists. lists ≡ replicate count []) }
-{
-    let mut lists = Seq::new(alloc);
-    for _ in 0..count {
-        lists.push(Seq::new(alloc))?;
-    }
-    Ok(lists)
-}
-
 /// Appends the point of a statement to the list of the answer that it returns, if it is a RETURN.
 fn push_return(at: &PlaceAt<'_>, returns: &mut Vec<Seq<u32>>) -> Result<(), Memory>
     ensures { OnOk result (returns.new.items
         ≡ listed_at (returned (out-StmtKind at.now.kind.now)) at.now.point returns.old.items) }
 {
-    match returned_by(at.kind) {
-        Some(answer) => push_at(returns, answer as usize, at.point),
-        None => Ok(()),
-    }
-}
-
-/// Appends a point to one of these lists, if there are so many.
-#[tactic(auto, using(crate::proofs::Answering::put_past, crate::proofs::Answering::put_at))]
-fn push_at(lists: &mut Vec<Seq<u32>>, i: usize, point: u32) -> Result<(), Memory>
-    ensures { OnOk result (lists.new.items ≡ put i point lists.old.items) }
-{
-    if i >= lists.len() {
-        return Ok(());
-    }
-    lists[i].push(point)?;
-    Ok(())
+    push_listed(returned_by(at.kind), at.point, returns)
 }

@@ -6,7 +6,7 @@ ghost use Rattle.flow_points.specs.declared.fact.Fact.{Fact as FactType};
 ghost use Rattle.flow_points.specs.Places.{IsRetrieveAt};
 ghost use Rattle.flow_points.specs.Slots.{answer_count};
 ghost use Rattle.flow_table.specs.declared.way.Way.{Way as WayType};
-ghost use Rattle.flow_table.specs.Rows.{IsTable};
+ghost use Rattle.flow_table.specs.Rows.{IsFlowTable};
 ghost use Rattle.flow_table.specs.Ways.{IsEnd};
 ghost use Rattle.fact_flows.specs.Flows.{FlowsTo, OneGives, WayGives};
 ghost use Rattle.fact_rows.specs.Known.{Knows, slots_of};
@@ -38,7 +38,7 @@ pub(crate) fn find(
     most: Option<usize>,
     rows: &mut FactRows,
 ) -> Result<Option<usize>, Memory>
-    requires table { IsTable exchange.now table.now }
+    requires table { IsFlowTable exchange.now table.now }
     requires answers { AreAnswers exchange.now answers.now }
     requires slots { rows.old.marks.slots ≡ slots_of table.now }
     ensures found { IfOk result (λ looked.
@@ -104,7 +104,7 @@ fn add_all(
     rows: &mut FactRows,
     marked: &mut Marked,
 ) -> Result<(), Memory>
-    requires table { IsTable exchange.now table.now }
+    requires table { IsFlowTable exchange.now table.now }
     requires answers { AreAnswers exchange.now answers.now }
     requires stands { Stands exchange.now table.now entry (search_of rows.old marked.old) }
     requires least { (f : FactType) → Contains facts.now f → IsOwnLeast exchange.now entry f }
@@ -130,7 +130,7 @@ fn add(
     rows: &mut FactRows,
     marked: &mut Marked,
 ) -> Result<(), Memory>
-    requires table { IsTable exchange.now table.now }
+    requires table { IsFlowTable exchange.now table.now }
     requires answers { AreAnswers exchange.now answers.now }
     requires stands { Stands exchange.now table.now entry (search_of rows.old marked.old) }
     requires least { IsOwnLeast exchange.now entry fact }
@@ -159,7 +159,7 @@ fn visit(
     rows: &mut FactRows,
     marked: &mut Marked,
 ) -> Result<usize, Memory>
-    requires table { IsTable exchange.now table.now }
+    requires table { IsFlowTable exchange.now table.now }
     requires answers { AreAnswers exchange.now answers.now }
     requires searches { Searches exchange.now table.now entry
         (without (search_of rows.old marked.old) (point ∷ marks_of marked.old)) }
@@ -207,7 +207,7 @@ fn send_ways(
     rows: &mut FactRows,
     marked: &mut Marked,
 ) -> Result<usize, Memory>
-    requires table { IsTable exchange.now table.now }
+    requires table { IsFlowTable exchange.now table.now }
     requires answers { AreAnswers exchange.now answers.now }
     requires stands { Stands exchange.now table.now entry (search_of rows.old marked.old) }
     requires good { (w : WayType) → Contains ways.now w → (q : ℕ)
@@ -240,7 +240,7 @@ fn send(
     rows: &mut FactRows,
     marked: &mut Marked,
 ) -> Result<usize, Memory>
-    requires table { IsTable exchange.now table.now }
+    requires table { IsFlowTable exchange.now table.now }
     requires answers { AreAnswers exchange.now answers.now }
     requires stands { Stands exchange.now table.now entry (search_of rows.old marked.old) }
     requires good { (q : ℕ)
@@ -299,7 +299,7 @@ fn flow_first(
     rows: &mut FactRows,
     marked: &mut Marked,
 ) -> Result<usize, Memory>
-    requires table { IsTable exchange.now table.now }
+    requires table { IsFlowTable exchange.now table.now }
     requires answers { AreAnswers exchange.now answers.now }
     requires stands { Stands exchange.now table.now entry (search_of rows.old marked.old) }
     requires answer { is_answer_of how.now ≡ true }
@@ -336,7 +336,7 @@ fn flow_retrieves(
     rows: &mut FactRows,
     marked: &mut Marked,
 ) -> Result<usize, Memory>
-    requires table { IsTable exchange.now table.now }
+    requires table { IsFlowTable exchange.now table.now }
     requires answers { AreAnswers exchange.now answers.now }
     requires stands { Stands exchange.now table.now entry (search_of rows.old marked.old) }
     requires good { (q : ℕ)
@@ -372,7 +372,7 @@ fn flow_all(
     rows: &mut FactRows,
     marked: &mut Marked,
 ) -> Result<usize, Memory>
-    requires table { IsTable exchange.now table.now }
+    requires table { IsFlowTable exchange.now table.now }
     requires answers { AreAnswers exchange.now answers.now }
     requires stands { Stands exchange.now table.now entry (search_of rows.old marked.old) }
     requires good { (q : ℕ)
@@ -407,7 +407,7 @@ fn flow(
     rows: &mut FactRows,
     marked: &mut Marked,
 ) -> Result<usize, Memory>
-    requires table { IsTable exchange.now table.now }
+    requires table { IsFlowTable exchange.now table.now }
     requires answers { AreAnswers exchange.now answers.now }
     requires stands { Stands exchange.now table.now entry (search_of rows.old marked.old) }
     requires good { IsGood exchange.now entry from how.now to }
@@ -443,7 +443,7 @@ fn hand_out(
     rows: &mut FactRows,
     marked: &mut Marked,
 ) -> Result<usize, Memory>
-    requires table { IsTable exchange.now table.now }
+    requires table { IsFlowTable exchange.now table.now }
     requires answers { AreAnswers exchange.now answers.now }
     requires stands { Stands exchange.now table.now entry (search_of rows.old marked.old) }
     requires count { (n : ℕ)

@@ -7,7 +7,7 @@ ghost use Rattle.flow_points.specs.declared.fact.Value.{Value as ValueType};
 ghost use Rattle.flow_points.specs.Facts.{SourceGives, fact};
 ghost use Rattle.flow_points.specs.Slots.{HasSlot};
 ghost use Rattle.flow_table.specs.Giving.{SlotGives};
-ghost use Rattle.flow_table.specs.Rows.{IsTable};
+ghost use Rattle.flow_table.specs.Rows.{IsFlowTable};
 ghost use Rattle.fact_rows.specs.Known.{HasSpot, Knows};
 ghost use Rattle.fact_rows.specs.Values.{HasNumber, is_awaits};
 ghost use Rattle.least_facts.specs.Giving.{CanFlow, FillsSlots, Gives, IsFact, OfValues};
@@ -31,7 +31,7 @@ pub(crate) fn give_slots(
     slots: &[Slot],
     rows: &mut FactRows,
 ) -> Result<bool, Memory>
-    requires table { IsTable exchange.now table.now }
+    requires table { IsFlowTable exchange.now table.now }
     requires can { CanFlow exchange.now table.now entry from how.now to rows.old }
     requires slots { (s : SlotType) → Contains slots.now s → HasSlot exchange.now to s }
     ensures { IfOk result (λ grown.

@@ -46,7 +46,7 @@ impl Marked {
 }
 
 /// So many times no RETRIEVE.
-#[tactic(auto, using(crate::proofs::Answering::lists_more, crate::proofs::Answering::lists_end))]
+#[tactic(auto, using(flow_table::proofs::Pointing::items_more, flow_table::proofs::Pointing::items_end))]
 fn no_firsts(alloc: Global, count: usize) -> Result<Seq<Option<u32>>, Memory>
     ensures { IfOk result (λ firsts. firsts ≡ replicate count None) }
 {

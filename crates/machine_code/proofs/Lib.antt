@@ -2,3 +2,4 @@ pub mod Listed
 pub mod Spanned
 pub mod Told
 pub mod Fusing
+pub mod Passing

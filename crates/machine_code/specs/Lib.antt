@@ -4,3 +4,4 @@ pub mod Told
 pub mod Listed
 pub mod Coded
 pub mod Forms
+pub mod Rows

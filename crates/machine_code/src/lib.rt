@@ -7,6 +7,7 @@
 // It knows neither what an instruction does nor which words an exchange has.
 #![tactic(auto)]
 
+mod choices;
 mod code;
 mod crossing;
 mod form;
@@ -17,6 +18,7 @@ mod prepare;
 mod propose;
 mod words;
 
+pub use choices::{Choices, Passed, passed_at};
 pub use code::Code;
 pub use crossing::{code_crosses, permit_crosses};
 pub use form::Form;

@@ -9,7 +9,11 @@ use Rattle.signal_file.specs.declared.line.Line.{Line}
 use Rattle.job_table.specs.Writing.{written_out}
 use Rattle.command_words.specs.Words.{Word}
 use Rattle.command_words.specs.declared.command.TimedWords.{TimedWords}
-use Rattle.plex_program.specs.Answer.{Out, answer_of, exchange_at, goes_on, lines_at, merged_at, refused_status, run_of, timed_of}
+use Rattle.plex_program.specs.Outcome.{Out, goes_on}
+use Rattle.plex_program.specs.Given.{exchange_at, lines_at}
+use Rattle.plex_program.specs.RunAnswer.{run_of}
+use Rattle.plex_program.specs.TimedAnswer.{merged_at, timed_of}
+use Rattle.plex_program.specs.Answer.{answer_of, refused_status}
 use Rattle.plex_program.specs.declared.perform.Answer.{Answer}
 use Rattle.plex_program.specs.declared.perform.Refused.{Refused}
 use Rattle.plex_program.specs.declared.perform.Refused.TheVariants.{Certificate, Filter, NewSource, Signals, Source, Table}

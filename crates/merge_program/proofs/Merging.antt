@@ -2,7 +2,8 @@
 use Rattle.std.proofs.Common.{◌≡◌, ℕ, ◌≤◌, ◌<◌, List, [], ◌∷◌, length, get_or, arith, Option, Some, None, Result, Ok, Err, IfSome, IsSomeAnd, inl, inr, refl, sym, subst, ap, ◌∙◌}
 use Rattle.plex_io.specs.Files.{Files}
 use Rattle.command_words.specs.Words.{Word}
-use Rattle.plex_program.specs.Answer.{Comes, answer_of, refused_answer}
+use Rattle.plex_program.specs.Stages.{Comes}
+use Rattle.plex_program.specs.Answer.{answer_of, refused_answer}
 use Rattle.plex_program.specs.Program.{AnswersOf, IsMade, IsPlain, Makes, QuitsBy}
 use Rattle.plex_program.proofs.Endings.{no_usage_refused, plain_refused}
 use Rattle.plex_program.specs.declared.perform.Answer.{Answer}

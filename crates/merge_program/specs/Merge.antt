@@ -5,7 +5,10 @@ use Rattle.exchange_model.specs.declared.exchange.Exchange.{Exchange}
 use Rattle.signal_file.specs.declared.line.Line.{Line}
 use Rattle.job_table.specs.Writing.{written_out}
 use Rattle.command_words.specs.Words.{Word}
-use Rattle.plex_program.specs.Answer.{Out, answer_of, exchange_at, goes_on, lines_at, merged_at}
+use Rattle.plex_program.specs.Outcome.{Out, goes_on}
+use Rattle.plex_program.specs.Given.{exchange_at, lines_at}
+use Rattle.plex_program.specs.TimedAnswer.{merged_at}
+use Rattle.plex_program.specs.Answer.{answer_of}
 use Rattle.plex_program.specs.Text.{LF}
 use Rattle.plex_program.specs.declared.perform.Answer.{Answer}
 use Rattle.plex_program.specs.declared.program.Status.TheVariants as status

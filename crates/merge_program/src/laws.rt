@@ -2,7 +2,9 @@
 ghost use Rattle.std.specs.Prelude.{◌≡◌, ◌≤◌, List, [], ◌∷◌, Some, length};
 ghost use Rattle.plex_limits.specs.declared.limits.TheConstants.{MOST_BYTES};
 ghost use Rattle.plex_io.specs.Files.{Files};
-ghost use Rattle.plex_program.specs.Answer.{exchange_at, run_of, timed_of};
+ghost use Rattle.plex_program.specs.Given.{exchange_at};
+ghost use Rattle.plex_program.specs.RunAnswer.{run_of};
+ghost use Rattle.plex_program.specs.TimedAnswer.{timed_of};
 ghost use Rattle.plex_program.specs.declared.perform.Answer.{Answer};
 ghost use Rattle.plex_program.specs.declared.program.Status.TheVariants.{Done};
 ghost use Rattle.command_words.specs.Words.{Word};

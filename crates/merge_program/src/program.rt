@@ -1,6 +1,6 @@
 // The program as one call.
 ghost use Rattle.std.specs.Prelude.{◌≡◌, Ok, IfOk, IfSome};
-ghost use Rattle.plex_program.specs.Answer.{Comes, Reads};
+ghost use Rattle.plex_program.specs.Stages.{Comes, Reads};
 ghost use Rattle.plex_program.specs.Program.{AnswersOf, Ends, EndsAs, IsComplete, Makes, ReadCauseOf, WriteCause};
 ghost use Rattle.plex_program.specs.Runs.{AreRead};
 ghost use Rattle.merge_program.specs.Merge.{AreOthers, IsAnswerToNames, IsMergeAnswer, lines_answer, merge_of, usage_answer, usage_text};
@@ -84,7 +84,7 @@ fn answered_of<S: Shelf>(
 }
 
 /// What the files of these names come to.
-#[tactic(auto, using(plex_program::proofs::Stages::comes_stop, plex_program::proofs::Stages::comes_go, plex_program::proofs::Stages::comes_reads))]
+#[tactic(auto, using(plex_program::proofs::Stages::comes_rules))]
 fn merge_files<S: Shelf>(
     alloc: Global,
     shelf: &mut S,

@@ -17,7 +17,7 @@ use Rattle.pair_tests.specs.declared.pair.Test.TheVariants as test
 use Rattle.pair_tests.specs.Clashes.{IsLeast}
 use Rattle.pair_tests.specs.Asked.{asked_of, asks, release_test, AskedWith, Asked, AskedSeizing, AskedRelease, AllHold}
 use Rattle.pair_tests.specs.Nearby.{passes_reads, AreNear}
-use Rattle.pair_tests.specs.Pairs.{Holds, IsConflict, IsTest, Passes}
+use Rattle.pair_tests.specs.Pairs.{TestHolds, IsConflict, IsTest, Passes}
 use Rattle.pair_tests.proofs.Tested.{with_pushed, all_pushed, seizing_pushed, near_asked, asked_all, none_asked_with, writes_asked, of_asked, of_release, test_cases}
 
 sure : (r : Bool) → r ≡ true → IsTrue r
@@ -50,8 +50,8 @@ module _ (a b : JobStart) where
   pub none_asked : IsTrue true ↔ AllHold (λ t. None ≡ Some t) a b
   none_asked = (λ h. none_hold (λ t. None ≡ Some t) (λ t e. none-some t e), λ h. refl)
 
-  pub one_asked : (x : Test) (r : Bool) → IsTrue r ↔ Holds a b x → IsTrue r ↔ AllHold (λ t. Some x ≡ Some t) a b
-  one_asked x r h = (λ k. record { each = λ t e. subst (Holds a b) (same_Some x t e) (h.0 k) }, λ k. h.1 (k.each x refl))
+  pub one_asked : (x : Test) (r : Bool) → IsTrue r ↔ TestHolds a b x → IsTrue r ↔ AllHold (λ t. Some x ≡ Some t) a b
+  one_asked x r h = (λ k. record { each = λ t e. subst (TestHolds a b) (same_Some x t e) (h.0 k) }, λ k. h.1 (k.each x refl))
 
   -- an access of the first with some of the later
 
@@ -146,7 +146,7 @@ module _ (a b : JobStart) where
 
   pub released : (fault : Bool) (others : List Access) (r : Bool) → fault ≡ true → a.job.forlopp ≢ 0 → IsTrue r ↔ AllHold (AskedSeizing others) a b → IsTrue r ↔ AllHold (AskedRelease fault others) a b
   released fault others r e some h = (
-    λ k. record { each = λ t asked. ⊎_elim (λ s. subst (Holds a b) (sym s) some) (λ s. (h.0 k).each t s) asked.asks },
+    λ k. record { each = λ t asked. ⊎_elim (λ s. subst (TestHolds a b) (sym s) some) (λ s. (h.0 k).each t s) asked.asks },
     λ k. h.1 (record { each = λ t s. k.each t (record { fault_may = e; asks = inr s }) }),
   )
 
@@ -186,6 +186,6 @@ held_none chain file r is =
     (λ k h at. All-contains (λ (h : Held). h.file ≢ file) chain h (is.0 k) at, λ each. is.1 (λ k d lt. each (get_or chain k d) (Contains-get_or chain k d lt)))
 
 pub held_test : (a b : JobStart) (t : Test) (chain : List Held) (file : ℕ) (r : Bool) → t ≡ test.HoldsNo file → chain ≡ a.chain
-    → IsTrue r ↔ ((h : Held) → Contains chain h → h.file ≢ file) → IsTrue r ↔ Holds a b t
+    → IsTrue r ↔ ((h : Held) → Contains chain h → h.file ≢ file) → IsTrue r ↔ TestHolds a b t
 held_test a b t chain file r is same h =
-    subst (λ u. IsTrue r ↔ Holds a b u) (sym is) (subst (λ l. IsTrue r ↔ ((h : Held) → Contains l h → h.file ≢ file)) same h)
+    subst (λ u. IsTrue r ↔ TestHolds a b u) (sym is) (subst (λ l. IsTrue r ↔ ((h : Held) → Contains l h → h.file ≢ file)) same h)

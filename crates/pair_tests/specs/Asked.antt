@@ -9,7 +9,7 @@ use Rattle.entry_summary.specs.declared.summary.Access.TheVariants as access
 use Rattle.pair_tests.specs.declared.pair.Test.{Test}
 use Rattle.pair_tests.specs.declared.pair.Test.TheVariants as test
 use Rattle.pair_tests.specs.Clashes.{share}
-use Rattle.pair_tests.specs.Pairs.{Holds}
+use Rattle.pair_tests.specs.Pairs.{TestHolds}
 
 -- the test by which two selectors name two records
 abbrev pub selector_test : Value → Value → Option Test
@@ -67,4 +67,4 @@ pub record Adds (P : Test → Type 0) (old new : List Test) : Type 0 where
 
 -- each of these tests holds of the two jobs
 pub record AllHold (P : Test → Type 0) (a b : JobStart) : Type 0 where
-  pub each : (t : Test) → P t → Holds a b t
+  pub each : (t : Test) → P t → TestHolds a b t

@@ -77,15 +77,15 @@ pub data IsTest (first later : Summary) : Test → Type 0 where
   holds_none : (file : ℕ) → first.fault ≡ true → Contains later.accesses (access.Seizes file) → IsTest first later (test.HoldsNo file)
 
 -- the test holds of these two jobs
-abbrev pub Holds : JobStart → JobStart → Test → Type 0
-Holds a b (test.Differ k l) = slice_index a.job.values k ≢ slice_index b.job.values l
-Holds a b (test.FirstNot k c) = slice_index a.job.values k ≢ c
-Holds a b (test.LaterNot l c) = slice_index b.job.values l ≢ c
-Holds a b test.InForlopp = a.job.forlopp ≢ 0
-Holds a b (test.HoldsNo file) = (h : Held) → Contains a.chain h → h.file ≢ file
+abbrev pub TestHolds : JobStart → JobStart → Test → Type 0
+TestHolds a b (test.Differ k l) = slice_index a.job.values k ≢ slice_index b.job.values l
+TestHolds a b (test.FirstNot k c) = slice_index a.job.values k ≢ c
+TestHolds a b (test.LaterNot l c) = slice_index b.job.values l ≢ c
+TestHolds a b test.InForlopp = a.job.forlopp ≢ 0
+TestHolds a b (test.HoldsNo file) = (h : Held) → Contains a.chain h → h.file ≢ file
 
 -- the two jobs may run at once: no conflict, all tests hold, and they are not of one forlopp
 pub record Passes (first later : Summary) (a b : JobStart) : Type 0 where
   pub apart : HasNoConflict first later
-  pub tests : (t : Test) → IsTest first later t → Holds a b t
+  pub tests : (t : Test) → IsTest first later t → TestHolds a b t
   pub forlopps : a.job.forlopp ≡ b.job.forlopp → a.job.forlopp ≡ 0

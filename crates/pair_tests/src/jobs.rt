@@ -2,7 +2,7 @@
 ghost use Rattle.std.specs.Prelude.{◌≡◌, ◌≢◌, ◌↔◌, IsTrue};
 ghost use Rattle.std.specs.List.{All, Contains};
 ghost use Rattle.job_types.specs.declared.chain.Held.{Held};
-ghost use Rattle.pair_tests.specs.Pairs.{Holds};
+ghost use Rattle.pair_tests.specs.Pairs.{TestHolds};
 
 use crate::pair::Test;
 use job_types::{Held, JobStart};
@@ -24,7 +24,7 @@ fn holds_none(chain: &[Held], file: u32) -> bool
 
 /// Whether a test holds of these two jobs.
 pub(crate) fn holds(test: Test, a: &JobStart, b: &JobStart) -> bool
-    ensures { IsTrue result ↔ Holds a.now b.now test }
+    ensures { IsTrue result ↔ TestHolds a.now b.now test }
 {
     match test {
         Test::Differ { first, later } => {
@@ -42,7 +42,7 @@ pub(crate) fn holds(test: Test, a: &JobStart, b: &JobStart) -> bool
 
 /// Whether all of these tests hold of the two.
 pub fn all_hold(tests: &[Test], a: &JobStart, b: &JobStart) -> bool
-    ensures { IsTrue result ↔ All (Holds a.now b.now) tests.now }
+    ensures { IsTrue result ↔ All (TestHolds a.now b.now) tests.now }
 {
     tests.iter().all(|test| holds(*test, a, b))
 }

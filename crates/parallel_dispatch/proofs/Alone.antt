@@ -19,7 +19,7 @@ use Rattle.source_meaning.specs.Traces.{AreOfCells}
 use Rattle.source_meaning.specs.Valid.{IsValid, MayBe}
 use Rattle.source_meaning.proofs.Retiring.{turn_valid}
 use Rattle.source_meaning.proofs.Touching.{touches_inside}
-use Rattle.checked.specs.Kept.{Kept}
+use Rattle.checked.specs.Kept.{KeptSummaries}
 use Rattle.order_laws.specs.Books.{AreAhead}
 use Rattle.order_laws.proofs.Following.{ahead_none}
 use Rattle.order_laws.proofs.Wording.{over}
@@ -55,18 +55,18 @@ use Rattle.parallel_dispatch.proofs.Lending.{and_not, free_stores}
 -- ## No job flies
 
 -- the state is that of the books
-pub state_is : (x : Exchange) (k : Kept) (s : State) (books : Account) (top : Top) → Fly x k s books top [] → with_words books.state top.values ≡ s
+pub state_is : (x : Exchange) (k : KeptSummaries) (s : State) (books : Account) (top : Top) → Fly x k s books top [] → with_words books.state top.values ≡ s
 state_is x k s books top fly = ap (with_words books.state) fly.values ∙ fly.ahead.same
 
 -- the root has lent nothing
-pub bare_of : (x : Exchange) (k : Kept) (s : State) (books : Account) (top : Top) → Fly x k s books top [] → top.loans ≡ []
+pub bare_of : (x : Exchange) (k : KeptSummaries) (s : State) (books : Account) (top : Top) → Fly x k s books top [] → top.loans ≡ []
 bare_of x k s books top fly = by top.loans fly.listed
   where
     by : (ls : List Lent) → ((l : Lent) → Has ls l → ⊥) → ls ≡ []
     by [] none = refl
     by (l ∷ rest) none = absurd (none l (inl refl))
 
-pub fly_none : (x : Exchange) (k : Kept) (s : State) (books : Account) (top : Top) → IsValid x s → with_words books.state top.values ≡ s → books.running ≡ 0 → top.loans ≡ [] → Fly x k s books top []
+pub fly_none : (x : Exchange) (k : KeptSummaries) (s : State) (books : Account) (top : Top) → IsValid x s → with_words books.state top.values ≡ s → books.running ≡ 0 → top.loans ≡ [] → Fly x k s books top []
 fly_none x k s books top valid same nobody bare = record {
   valid = valid;
   values = ap (λ (t : State). t.store) same;
@@ -133,13 +133,13 @@ faithful_here x code y own same code_is = subst (λ (z : Exchange × Code). Fait
 -- ## It retires
 
 -- the next job may run alone beside these books and this root
-pub record IsNext (x : Exchange) (k : Kept) (books : Account) (top : Top) (start : JobStart) : Type 0 where
+pub record IsNext (x : Exchange) (k : KeptSummaries) (books : Account) (top : Top) (start : JobStart) : Type 0 where
   pub kept : IsExchange x
   pub next : Some start ≡ upcoming books
   pub goes : ending_at books.limit books.state ≡ None
   pub flying : (s : State) × Fly x k s books top []
 
-pub is_next : (x y : Exchange) (k : Kept) (books : Account) (top : Top) (w : View) (start : JobStart) → y ≡ x → IsExchange x → MayRunAlone books w → Some start ≡ upcoming books → ending_at books.limit books.state ≡ None → (s : State) × Fly x k s books top w.loans → IsNext y k books top start
+pub is_next : (x y : Exchange) (k : KeptSummaries) (books : Account) (top : Top) (w : View) (start : JobStart) → y ≡ x → IsExchange x → MayRunAlone books w → Some start ≡ upcoming books → ending_at books.limit books.state ≡ None → (s : State) × Fly x k s books top w.loans → IsNext y k books top start
 is_next x y k books top w start same kept may next goes flying = record {
   kept = subst IsExchange (sym same) kept;
   next = next;
@@ -148,20 +148,20 @@ is_next x y k books top w start same kept may next goes flying = record {
 }
 
 -- the number of the next job is one of 64 bits
-pub number_alone : (x : Exchange) (k : Kept) (books : Account) (top : Top) (w : View) → MayRunAlone books w → ending_at books.limit books.state ≡ None → (s : State) × Fly x k s books top w.loans → books.limit ≤ MOST_JOBS → books.state.ended + books.running + 1 < 2 ^ 64
+pub number_alone : (x : Exchange) (k : KeptSummaries) (books : Account) (top : Top) (w : View) → MayRunAlone books w → ending_at books.limit books.state ≡ None → (s : State) × Fly x k s books top w.loans → books.limit ≤ MOST_JOBS → books.state.ended + books.running + 1 < 2 ^ 64
 number_alone x k books top w may goes flying most =
     let few = (goes_on books.limit books.state goes).few in
     let none : books.running ≡ 0 = flying.1.running ∙ ap length may.alone in
     omega (arith, few, none, most)
 
 -- there is a next job
-pub some_next : (x : Exchange) (k : Kept) (books : Account) (top : Top) (w : View) → MayRunAlone books w → ending_at books.limit books.state ≡ None → (s : State) × Fly x k s books top w.loans → None ≡ upcoming books → ⊥
+pub some_next : (x : Exchange) (k : KeptSummaries) (books : Account) (top : Top) (w : View) → MayRunAlone books w → ending_at books.limit books.state ≡ None → (s : State) × Fly x k s books top w.loans → None ≡ upcoming books → ⊥
 some_next x k books top w may goes flying none =
     let nobody : books.running ≡ 0 = flying.1.running ∙ ap length may.alone in
     let some = some_start books.state books.limit goes in
     none-some some.0 (none ∙ upcoming_is books nobody goes ∙ some.1)
 
-module _ (x : Exchange) (k : Kept) (books : Account) (top : Top) (start : JobStart) (n : IsNext x k books top start) where
+module _ (x : Exchange) (k : KeptSummaries) (books : Account) (top : Top) (start : JobStart) (n : IsNext x k books top start) where
   nobody : books.running ≡ 0
   nobody = n.flying.1.running
 

@@ -5,7 +5,7 @@ use Rattle.std.specs.List.{AllByRecursion}
 use Rattle.std.proofs.lemmas.Option.{none-some, same_Some}
 use Rattle.job_types.specs.declared.job.JobStart.{JobStart}
 use Rattle.source_meaning.specs.State.{Coming}
-use Rattle.checked.specs.Kept.{Kept}
+use Rattle.checked.specs.Kept.{KeptSummaries}
 use Rattle.order_laws.specs.Keeps.{NoLineBefore}
 use Rattle.retire_order.specs.Accounts.{Account, next_count, upcoming}
 use Rattle.shared_store.specs.declared.view.Lent.{Lent}
@@ -36,7 +36,7 @@ none_there (l ∷ rest) e = absurd (omega (arith, e))
 pub may_run_alone : (books : Account) (w : View) → length w.loans ≡ 0 → 0 < w.room → (w.loans ≡ [] → NoLineBefore (books.state.ended + 1) books.state.lines) → MayRunAlone books w
 may_run_alone books w none some line = (let empty = none_there w.loans none in record { alone = empty; room = some; line = line empty })
 
-pub may_fly_alone : (k : Kept) (books : Account) (w : View) (start : JobStart) → Some start ≡ upcoming books → length w.loans ≡ 0 → 0 < w.room → (w.loans ≡ [] → NoLineBefore (books.state.ended + 1) books.state.lines) → MayFly k books w start
+pub may_fly_alone : (k : KeptSummaries) (books : Account) (w : View) (start : JobStart) → Some start ≡ upcoming books → length w.loans ≡ 0 → 0 < w.room → (w.loans ≡ [] → NoLineBefore (books.state.ended + 1) books.state.lines) → MayFly k books w start
 may_fly_alone k books w start is none some line =
     let empty = none_there w.loans none in
     let count : books.state.ended + 1 ≡ books.state.ended + length w.loans + 1 = omega (arith, none) in
@@ -47,7 +47,7 @@ may_fly_alone k books w start is none some line =
       pass = subst (λ (ls : List Lent). AllByRecursion (λ (older : JobStart). MayFollow k older start) (starts_of ls)) (sym empty) tt;
     }
 
-pub may_fly_beside : (k : Kept) (books : Account) (w : View) (start : JobStart) (behind : ℕ) → Some start ≡ upcoming books → length w.loans < w.room → NoLineBefore (books.state.ended + length w.loans + 1) books.state.lines → (behind ≡ 0 → AllByRecursion (λ (older : JobStart). MayFollow k older start) (starts_of w.loans)) → behind ≡ 0 → MayFly k books w start
+pub may_fly_beside : (k : KeptSummaries) (books : Account) (w : View) (start : JobStart) (behind : ℕ) → Some start ≡ upcoming books → length w.loans < w.room → NoLineBefore (books.state.ended + length w.loans + 1) books.state.lines → (behind ≡ 0 → AllByRecursion (λ (older : JobStart). MayFollow k older start) (starts_of w.loans)) → behind ≡ 0 → MayFly k books w start
 may_fly_beside k books w start behind is lt line pass none = record { next = is; room = lt; line = line; pass = pass none }
 
 pub some_fly : (w : View) (o : Option JobStart) → length w.loans ≢ 0 → w.loans ≡ [] → None ≡ o

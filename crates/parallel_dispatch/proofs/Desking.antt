@@ -10,7 +10,7 @@ use Rattle.source_meaning.specs.Arrivals.{arrivals}
 use Rattle.source_meaning.specs.SingleRun.{Ending, after, ending_at}
 use Rattle.source_meaning.specs.State.{State}
 use Rattle.source_meaning.specs.Valid.{IsValid}
-use Rattle.checked.specs.Kept.{Kept}
+use Rattle.checked.specs.Kept.{KeptSummaries}
 use Rattle.order_laws.specs.Keeps.{NoLineBefore}
 use Rattle.retire_order.specs.Accounts.{Account, upcoming, with_words}
 use Rattle.interleave_core.specs.declared.event.CoreEvent.{CoreEvent}
@@ -30,11 +30,11 @@ use Rattle.parallel_dispatch.proofs.Reaching.{reached_ended, reached_issue, reac
 use Rattle.parallel_dispatch.proofs.Standing.{all_summaries, next_summary, none_lent, stand_begin, stand_line, stand_some}
 use Rattle.source_meaning.specs.SingleRun.{turn}
 
-module _ (x : Exchange) (k : Kept) (code : Code) (store : StoreId) (workers : ℕ) (first : State) (limit : ℕ) where
+module _ (x : Exchange) (k : KeptSummaries) (code : Code) (store : StoreId) (workers : ℕ) (first : State) (limit : ℕ) where
   abbrev Here : Account → RootView → View → ℕ → Type 0
   Here books root w steps = IsDesk x k code store workers first limit books root w steps
 
-  module _ (j : Kept) (same : j ≡ k) (layout : Layout) (set : AreOf x layout code j) where
+  module _ (j : KeptSummaries) (same : j ≡ k) (layout : Layout) (set : AreOf x layout code j) where
     pub of_kept : AreOf x layout code k
     of_kept = subst (AreOf x layout code) same set
 
@@ -63,7 +63,7 @@ module _ (x : Exchange) (k : Kept) (code : Code) (store : StoreId) (workers : �
       pub desk_issued : (next : Account) (now : RootView) (v : View) → IsIssued (setting x code j w.room) books root.1 w.loans next now.1 v.loans → next.limit ≡ books.limit → ((s : State) → Fly x j s books root.1 w.loans → Fly x j s next now.1 v.loans) → now.0 ≡ store → v.room ≡ w.room → AreCounted next v → Here next now v steps
       desk_issued next now v issue limit_is fly home room counted = record {
         reached = reached_issue x k code workers first limit books next root.1 now.1 w.loans v.loans steps h.reached
-            (subst (λ (z : Kept × ℕ). IsIssued (setting x code z.0 z.1) books root.1 w.loans next now.1 v.loans) (λ i. (same i, h.room i)) issue)
+            (subst (λ (z : KeptSummaries × ℕ). IsIssued (setting x code z.0 z.1) books root.1 w.loans next now.1 v.loans) (λ i. (same i, h.room i)) issue)
             limit_is
             (subst (λ m. (s : State) → Fly x m s books root.1 w.loans → Fly x m s next now.1 v.loans) same fly);
         home = home;
@@ -75,7 +75,7 @@ module _ (x : Exchange) (k : Kept) (code : Code) (store : StoreId) (workers : �
       pub desk_turned : (events : ℕ → ℕ → List CoreEvent) (next : Account) (left : Retired) (v : View) (total : ℕ) → HasTurned x j code store events books root.1 w next left v → total ≡ (steps + left.steps) % 2 ^ 64 → Here next left.root v total
       desk_turned events next left v total t sum = record {
         reached = reached_turn x k code workers first limit events books next root.1 left.root.1 w.loans v.loans steps left.steps total h.reached
-            (subst (λ (z : Kept × ℕ). IsLed (setting x code z.0 z.1) events books root.1 w.loans next left.root.1 v.loans left.steps) (λ i. (same i, h.room i)) t.led)
+            (subst (λ (z : KeptSummaries × ℕ). IsLed (setting x code z.0 z.1) events books root.1 w.loans next left.root.1 v.loans left.steps) (λ i. (same i, h.room i)) t.led)
             t.limit
             (subst (λ m. (s : State) → Fly x m s books root.1 w.loans → Fly x m (turn x s) next left.root.1 v.loans) same t.fly)
             (subst (λ m. (s : State) → Fly x m s books root.1 w.loans → JobMakes code s left.steps) same t.steps)
@@ -91,10 +91,10 @@ module _ (x : Exchange) (k : Kept) (code : Code) (store : StoreId) (workers : �
       pub desk_line : (w.loans ≡ [] → ending_at books.limit books.state ≡ None) → w.loans ≡ [] → NoLineBefore (books.state.ended + 1) books.state.lines
       desk_line goes = (let o = of_kept in stand_line x k code o.exchange o.checked o.true_of workers limit first books root.1 w.loans steps goes h.reached)
 
-      pub desk_next : (m : Kept) → m ≡ k → (start : JobStart) → Some start ≡ upcoming books → HasSummary m start
+      pub desk_next : (m : KeptSummaries) → m ≡ k → (start : JobStart) → Some start ≡ upcoming books → HasSummary m start
       desk_next m is start next = (let o = of_kept in subst (λ n. HasSummary n start) (sym is) (next_summary x k code o.exchange o.checked o.true_of workers limit first books root.1 w.loans start steps h.reached next))
 
-      pub desk_window : (m : Kept) → m ≡ k → AllByRecursion (HasSummary m) (starts_of w.loans)
+      pub desk_window : (m : KeptSummaries) → m ≡ k → AllByRecursion (HasSummary m) (starts_of w.loans)
       desk_window m is = (let o = of_kept in subst (λ n. AllByRecursion (HasSummary n) (starts_of w.loans)) (sym is) (all_summaries x k code o.exchange o.checked o.true_of workers limit first books root.1 (after x first h.reached.retired) w.loans h.reached.fly.lent))
 
       pub desk_some : (w.loans ≡ [] → ending_at books.limit books.state ≡ None) → (w.loans ≡ [] → None ≡ upcoming books) → 0 < length w.loans

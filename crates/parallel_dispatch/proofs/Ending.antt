@@ -11,7 +11,7 @@ use Rattle.source_meaning.specs.Retirement.{retires}
 use Rattle.source_meaning.specs.SingleRun.{Ending, after, ending_at, jobs_at_end}
 use Rattle.source_meaning.specs.State.{State}
 use Rattle.register_machine.specs.Faithful.{Faithful, started}
-use Rattle.checked.specs.Kept.{Kept}
+use Rattle.checked.specs.Kept.{KeptSummaries}
 use Rattle.order_laws.proofs.Arriving.{arrivals_keep}
 use Rattle.order_laws.proofs.Keeping.{retire_keeps}
 use Rattle.order_laws.specs.Windows.{turns}
@@ -29,7 +29,7 @@ use Rattle.interleave_core.proofs.Following.{Beside, follows_event, follows_sing
 use Rattle.interleave_core.proofs.Joining.{PairsGive, Progress, starts_of}
 use Rattle.parallel_dispatch.specs.Ending.{Went}
 
-module _ (x : Exchange) (kept : IsExchange x) (code : Code) (faithful : Faithful x code) (facts : Kept) (pairs : PairsGive x (MayFollow facts)) (first : State) where
+module _ (x : Exchange) (kept : IsExchange x) (code : Code) (faithful : Faithful x code) (facts : KeptSummaries) (pairs : PairsGive x (MayFollow facts)) (first : State) where
   abbrev Follows : Core → Type 0
   Follows c = Beside x code (MayFollow facts) first c
 

@@ -12,7 +12,7 @@ use Rattle.source_meaning.specs.Retirement.{retires}
 use Rattle.source_meaning.specs.State.{State, Coming}
 use Rattle.register_machine.specs.Faithful.{Ends, begun, started}
 use Rattle.register_machine.specs.Machine.{Machine}
-use Rattle.checked.specs.Kept.{Kept}
+use Rattle.checked.specs.Kept.{KeptSummaries}
 use Rattle.order_laws.specs.Keeps.{NoLineBefore}
 use Rattle.order_laws.proofs.Wording.{arrivals_over}
 use Rattle.retire_order.specs.Accounts.{Account, after_start, next_count, upcoming, with_words}
@@ -38,12 +38,12 @@ line_first : (lines : List Coming) (n : ℕ) → NoLineBefore (n + 1) lines → 
 line_first [] n none = tt
 line_first (l ∷ rest) n le = omega (arith, le)
 
-follows_all : (k : Kept) (code : Code) (start : JobStart) (loans : List Lent) → AllByRecursion (λ (older : JobStart). MayFollow k older start) (starts_of loans) → AllByRecursion (λ (older : WindowJob). MayFollow k older.start start) (standing code loans)
+follows_all : (k : KeptSummaries) (code : Code) (start : JobStart) (loans : List Lent) → AllByRecursion (λ (older : JobStart). MayFollow k older start) (starts_of loans) → AllByRecursion (λ (older : WindowJob). MayFollow k older.start start) (standing code loans)
 follows_all k code start [] all = tt
 follows_all k code start (l ∷ rest) all = (all.0, follows_all k code start rest all.1)
 
 -- the next job may be issued, and what is shown then is the core after it
-pub is_issued : (x : Exchange) (code : Code) (k : Kept) (workers : ℕ) (books : Account) (top : Top) (loans : List Lent) (start : JobStart) (p : Permit) → books.running ≡ length loans → Some start ≡ upcoming books → length loans < workers → NoLineBefore (books.state.ended + length loans + 1) books.state.lines → AllByRecursion (λ (older : JobStart). MayFollow k older start) (starts_of loans)
+pub is_issued : (x : Exchange) (code : Code) (k : KeptSummaries) (workers : ℕ) (books : Account) (top : Top) (loans : List Lent) (start : JobStart) (p : Permit) → books.running ≡ length loans → Some start ≡ upcoming books → length loans < workers → NoLineBefore (books.state.ended + length loans + 1) books.state.lines → AllByRecursion (λ (older : JobStart). MayFollow k older start) (starts_of loans)
     → IsIssued (setting x code k workers) books top loans (after_start (Some start) books) (lender start p top) (loans ++ lent top start p ∷ [])
 is_issued x code k workers books top loans start p running next room line pass retired =
     let c = shown code books top loans retired in
@@ -69,7 +69,7 @@ settles_shown : (x : Exchange) (code : Code) (rest : List Lent) (s : State) (wor
 settles_shown x code [] s words t is = ap (arrivals x) is ∙ arrivals_over x s words
 settles_shown x code (l ∷ rest) s words t is = is
 
-module _ (x : Exchange) (code : Code) (k : Kept) (workers : ℕ) (books : Account) (top : Top) (start : JobStart) (rest : List Lent) (end : Machine) (ends : Ends code.ops (begun (started code start) top.values) end) (next : Account) (words : List ℕ)
+module _ (x : Exchange) (code : Code) (k : KeptSummaries) (workers : ℕ) (books : Account) (top : Top) (start : JobStart) (rest : List Lent) (end : Machine) (ends : Ends code.ops (begun (started code start) top.values) end) (next : Account) (words : List ℕ)
     (left : with_words next.state words ≡ retires x start (done_of end.run.own end.run.over) (with_words books.state end.world.store)) (running : next.running ≡ length rest) (limit : next.limit ≡ books.limit) (now : Top) (values : now.values ≡ words) where
   abbrev last : Account
   last = record next { state = arrived x next.running next.state }

@@ -17,7 +17,7 @@ use Rattle.source_meaning.specs.Valid.{IsFitting, IsJob, IsValid}
 use Rattle.source_meaning.proofs.Retiring.{start_fits}
 use Rattle.entry_summary.specs.declared.summary.Summary.{Summary}
 use Rattle.start_permit.specs.Granted.{MayRead, MayWrite}
-use Rattle.checked.specs.Kept.{IsChecked, Kept}
+use Rattle.checked.specs.Kept.{IsChecked, KeptSummaries}
 use Rattle.order_laws.specs.Books.{AreAhead}
 use Rattle.order_laws.specs.Keeps.{NoLineBefore}
 use Rattle.order_laws.specs.Windows.{MakesWay, jobs_of}
@@ -52,7 +52,7 @@ upcoming_parts b start is = by (nat_lt (b.state.ended + b.running) b.limit) refl
 pub starts_more : (loans : List Lent) (l : Lent) → starts_of (loans ++ l ∷ []) ≡ starts_of loans ++ l.start ∷ []
 starts_more loans l = map-append (λ (o : Lent). o.start) loans (l ∷ [])
 
-pass_more : (k : Kept) (starts : List JobStart) (start : JobStart) → AllPass k starts → AllByRecursion (λ (older : JobStart). PassBy k older start) starts → AllPass k (starts ++ start ∷ [])
+pass_more : (k : KeptSummaries) (starts : List JobStart) (start : JobStart) → AllPass k starts → AllByRecursion (λ (older : JobStart). PassBy k older start) starts → AllPass k (starts ++ start ∷ [])
 pass_more k [] start all new = (tt, tt)
 pass_more k (a ∷ rest) start all new = (all_append (PassBy k a) rest (start ∷ []) all.0 (new.0, tt), pass_more k rest start all.1 new.1)
 
@@ -66,7 +66,7 @@ within_more limit ended (o ∷ rest) l lt = (let e = long_more rest l in omega (
 
 -- ## The job is lent its words, and flies
 
-module _ (x : Exchange) (k : Kept) (kept : IsExchange x) (checked : IsChecked x k) (true_of : AreTrue x k) where
+module _ (x : Exchange) (k : KeptSummaries) (kept : IsExchange x) (checked : IsChecked x k) (true_of : AreTrue x k) where
   ways_of : (s : State) (n : Summary) (start : JobStart) (loans : List Lent) → IsSummaryOf k start n → IsJob x start.job → AllByRecursion (IsLent x k s) loans → AllByRecursion (λ (older : JobStart). PassBy k older start) (starts_of loans)
       → AllByRecursion (λ (older : JobStart). MakesWay x older start) (starts_of loans)
   ways_of s n start [] told is lent pass = tt

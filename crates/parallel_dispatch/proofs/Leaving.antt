@@ -2,7 +2,7 @@
 use Rattle.std.proofs.Common.{◌≡◌, ◌≢◌, inl, inr, List, [], ◌∷◌, refl, sym, ap, ◌∙◌, subst}
 use Rattle.machine_code.specs.Coded.{Code}
 use Rattle.exchange_model.specs.declared.exchange.Exchange.{Exchange}
-use Rattle.checked.specs.Kept.{Kept}
+use Rattle.checked.specs.Kept.{KeptSummaries}
 use Rattle.register_machine.specs.Private.{Private}
 use Rattle.retire_order.specs.Accounts.{Account}
 use Rattle.shared_store.specs.declared.view.Lent.{Lent}
@@ -14,7 +14,7 @@ use Rattle.parallel_dispatch.specs.Moves.{Flying, IsBare, IsLeft}
 use Rattle.parallel_dispatch.specs.Windows.{View}
 
 -- before a move is made
-pub left_flying : (x : Exchange) (k : Kept) (store : StoreId) (books : Account) (root : RootView) (w : View) → root.0 ≡ store → Flying x k books root w → IsLeft store root w.loans
+pub left_flying : (x : Exchange) (k : KeptSummaries) (store : StoreId) (books : Account) (root : RootView) (w : View) → root.0 ≡ store → Flying x k books root w → IsLeft store root w.loans
 left_flying x k store books root w home flying = record { home = home; listed = flying.1.listed }
 
 -- the loans are the same

@@ -14,7 +14,7 @@ use Rattle.source_meaning.specs.SingleRun.{turn}
 use Rattle.source_meaning.specs.State.{State}
 use Rattle.source_meaning.specs.Traces.{trace_of}
 use Rattle.entry_summary.specs.declared.summary.Summary.{Summary}
-use Rattle.checked.specs.Kept.{IsChecked, Kept}
+use Rattle.checked.specs.Kept.{IsChecked, KeptSummaries}
 use Rattle.order_laws.specs.Windows.{done_by}
 use Rattle.register_machine.specs.Faithful.{started}
 use Rattle.register_machine.specs.Private.{Private}
@@ -45,7 +45,7 @@ use Rattle.parallel_dispatch.proofs.Retiring.{Leaves, back, done_is, fly_fewer, 
 
 -- ## One more flies
 
-module _ (x : Exchange) (k : Kept) (kept : IsExchange x) (checked : IsChecked x k) (true_of : AreTrue x k) (books : Account) (root : RootView) (w : View) (start : JobStart) (may : MayFly k books w start) (flying : Flying x k books root w) where
+module _ (x : Exchange) (k : KeptSummaries) (kept : IsExchange x) (checked : IsChecked x k) (true_of : AreTrue x k) (books : Account) (root : RootView) (w : View) (start : JobStart) (may : MayFly k books w start) (flying : Flying x k books root w) where
   entry_there : start.job.entry < length x.entries
   entry_there = (is_job x k kept checked true_of flying.0 books root.1 w.loans flying.1 start may.next).entry
 
@@ -87,7 +87,7 @@ module _ (x : Exchange) (k : Kept) (kept : IsExchange x) (checked : IsChecked x 
 
 -- ## The oldest retires
 
-module _ (x : Exchange) (k : Kept) (kept : IsExchange x) (checked : IsChecked x k) (true_of : AreTrue x k) (books : Account) (top : Top) (w : View) (l : Lent) (rest : List Lent) (loans_are : w.loans ≡ l ∷ rest) (code : Code) (store : StoreId) (seat : JobView) (run : Private) (has : HasRun x code store l seat run) (start : JobStart) (start_is : start ≡ l.start) (done : JobDone) (leaves : Leaves run done) (y : Exchange) (same : y ≡ x) (mid : Top) (mid_is : mid ≡ taken_back top seat.1) where
+module _ (x : Exchange) (k : KeptSummaries) (kept : IsExchange x) (checked : IsChecked x k) (true_of : AreTrue x k) (books : Account) (top : Top) (w : View) (l : Lent) (rest : List Lent) (loans_are : w.loans ≡ l ∷ rest) (code : Code) (store : StoreId) (seat : JobView) (run : Private) (has : HasRun x code store l seat run) (start : JobStart) (start_is : start ≡ l.start) (done : JobDone) (leaves : Leaves run done) (y : Exchange) (same : y ≡ x) (mid : Top) (mid_is : mid ≡ taken_back top seat.1) where
   fly_here : (s : State) → Fly x k s books top w.loans → Fly x k s books top (l ∷ rest)
   fly_here s = subst (Fly x k s books top) loans_are
 

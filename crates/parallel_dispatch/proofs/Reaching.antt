@@ -19,7 +19,7 @@ use Rattle.register_machine.specs.Faithful.{Faithful, started}
 use Rattle.register_machine.specs.Private.{Private}
 use Rattle.run_laws.specs.Alone.{on_words}
 use Rattle.run_laws.proofs.Going.{end_framed}
-use Rattle.checked.specs.Kept.{IsChecked, Kept}
+use Rattle.checked.specs.Kept.{IsChecked, KeptSummaries}
 use Rattle.order_laws.proofs.Following.{ahead_none}
 use Rattle.retire_order.specs.Accounts.{Account, with_words}
 use Rattle.interleave_core.specs.declared.event.CoreEvent.{CoreEvent}
@@ -48,7 +48,7 @@ use Rattle.parallel_dispatch.proofs.Turning.{runs_append}
 -- ## The run of a loan's job, on the root's words
 
 -- the job of a loan, which has come back, comes to the same end on the root's words, and leaves them as the root has them then
-pub ends_on_root : (x : Exchange) (k : Kept) (code : Code) (s : State) (top : Top) (l : Lent) (store : StoreId) (seat : JobView) (run : Private) (mid : Top) → top.values ≡ s.store → IsLent x k s l → HasRun x code store l seat run → mid ≡ taken_back top seat.1 → RunEnds code l.start top.values run mid
+pub ends_on_root : (x : Exchange) (k : KeptSummaries) (code : Code) (s : State) (top : Top) (l : Lent) (store : StoreId) (seat : JobView) (run : Private) (mid : Top) → top.values ≡ s.store → IsLent x k s l → HasRun x code store l seat run → mid ≡ taken_back top seat.1 → RunEnds code l.start top.values run mid
 ends_on_root x k code s top l store seat run mid values lent has mid_is =
     let same = lent.same in
     let there : Answers s.store (trace_of x l.start l.base) = agree_answers (trace_of x l.start l.base) l.base s.store same.long same.same (job_told x l.start l.base) in
@@ -64,7 +64,7 @@ ends_on_root x k code s top l store seat run mid values lent has mid_is =
 
 -- ## The oldest that flies retires
 
-pub retired_led : (x : Exchange) (k : Kept) (code : Code) (workers : ℕ) (s : State) (books : Account) (top : Top) (l : Lent) (rest : List Lent) → Fly x k s books top (l ∷ rest) → (store : StoreId) (seat : JobView) (run : Private) (mid : Top) → HasRun x code store l seat run → mid ≡ taken_back top seat.1
+pub retired_led : (x : Exchange) (k : KeptSummaries) (code : Code) (workers : ℕ) (s : State) (books : Account) (top : Top) (l : Lent) (rest : List Lent) → Fly x k s books top (l ∷ rest) → (store : StoreId) (seat : JobView) (run : Private) (mid : Top) → HasRun x code store l seat run → mid ≡ taken_back top seat.1
     → (done : JobDone) → Leaves run done → (next : Account) (words : List ℕ) → with_words next.state words ≡ retires x l.start done (with_words books.state mid.values) → next.running + 1 ≡ books.running → next.limit ≡ books.limit → (now : Top) → now.values ≡ words → (made : ℕ) → made ≡ run.made
     → IsLed (setting x code k workers) turn_of books top (l ∷ rest) (record next { state = arrived x next.running next.state }) now rest made
 retired_led x k code workers s books top l rest fly store seat run mid has mid_is done leaves next words left running limit now values made made_is =
@@ -76,7 +76,7 @@ retired_led x k code workers s books top l rest fly store seat run mid has mid_i
 
 -- ## From move to move
 
-module _ (x : Exchange) (k : Kept) (code : Code) (workers : ℕ) (first : State) (limit : ℕ) where
+module _ (x : Exchange) (k : KeptSummaries) (code : Code) (workers : ℕ) (first : State) (limit : ℕ) where
   abbrev Here : Account → Top → List Lent → ℕ → Type 0
   Here books top loans steps = IsReached x k code workers first limit books top loans steps
 

@@ -18,7 +18,7 @@ use Rattle.source_meaning.specs.Valid.{IsFitting}
 use Rattle.source_meaning.proofs.Agreeing.{agree_answers, job_length}
 use Rattle.source_meaning.proofs.Growing.{job_store, job_told}
 use Rattle.source_meaning.proofs.Retiring.{turn_valid}
-use Rattle.checked.specs.Kept.{IsChecked, Kept}
+use Rattle.checked.specs.Kept.{IsChecked, KeptSummaries}
 use Rattle.order_laws.specs.Books.{AreAhead, settles}
 use Rattle.order_laws.specs.Ends.{words_left}
 use Rattle.order_laws.specs.Windows.{done_by}
@@ -55,7 +55,7 @@ pub record Leaves (run : Private) (done : JobDone) : Type 0 where
   pub chain : done.chain ≡ run.own.chain
   pub outcome : Some done.outcome ≡ run.over
 
-module _ (x : Exchange) (k : Kept) (kept : IsExchange x) (checked : IsChecked x k) (true_of : AreTrue x k) (s : State) (books : Account) (top : Top) (l : Lent) (rest : List Lent) (fly : Fly x k s books top (l ∷ rest)) where
+module _ (x : Exchange) (k : KeptSummaries) (kept : IsExchange x) (checked : IsChecked x k) (true_of : AreTrue x k) (s : State) (books : Account) (top : Top) (l : Lent) (rest : List Lent) (fly : Fly x k s books top (l ∷ rest)) where
   abbrev a : JobStart
   a = l.start
 

@@ -23,7 +23,7 @@ use Rattle.source_meaning.specs.SingleRun.{Ending, after, begun, ended_as, endin
 use Rattle.source_meaning.specs.State.{State, has_stopped}
 use Rattle.source_meaning.specs.Valid.{IsValid}
 use Rattle.source_meaning.proofs.Retiring.{after_valid}
-use Rattle.checked.specs.Kept.{IsChecked, Kept}
+use Rattle.checked.specs.Kept.{IsChecked, KeptSummaries}
 use Rattle.order_laws.specs.Keeps.{NoneDue}
 use Rattle.order_laws.proofs.Arriving.{arrivals_keep, arrivals_settle}
 use Rattle.order_laws.proofs.Wording.{arrivals_over}
@@ -60,7 +60,7 @@ settled_after x first (suc n) going = by (next_start (after x first n)) (settled
     by None before = before
     by (Some a) before = due_none x (ended_as x a (job x a (after x first n).store) (begun (after x first n)))
 
-module _ (x : Exchange) (k : Kept) (code : Code) (kept : IsExchange x) (checked : IsChecked x k) (true_of : AreTrue x k) (workers limit : ℕ) where
+module _ (x : Exchange) (k : KeptSummaries) (code : Code) (kept : IsExchange x) (checked : IsChecked x k) (true_of : AreTrue x k) (workers limit : ℕ) where
   -- before the first job
   pub stand_begin : (old books : Account) (top : Top) → top ≡ unlent top.values → old.running ≡ 0 → old.limit ≡ limit → IsValid x (with_words old.state top.values)
       → books ≡ record old { state = arrivals x old.state } → IsReached x k code workers (with_words old.state top.values) limit books top [] 0

@@ -29,7 +29,7 @@ use Rattle.source_meaning.proofs.Chains.{chain_same}
 use Rattle.source_meaning.proofs.Growing.{job_store}
 use Rattle.entry_summary.specs.declared.summary.Summary.{Summary}
 use Rattle.start_permit.specs.Granted.{MayRead, MayWrite}
-use Rattle.checked.specs.Kept.{IsChecked, Kept}
+use Rattle.checked.specs.Kept.{IsChecked, KeptSummaries}
 use Rattle.order_laws.specs.Windows.{done_by}
 use Rattle.pair_laws.specs.Orders.{KeepsTo, retirement_touches}
 use Rattle.pair_laws.specs.Pairs.{IsDoneBy, IsFaulted, LeavesChains, MayRunAtOnce}
@@ -46,14 +46,14 @@ use Rattle.parallel_dispatch.specs.Flying.{IsLent}
 use Rattle.parallel_dispatch.specs.Told.{AreTrue, IsSummaryOf, PassBy}
 
 -- two that pass by the tests pass by the summaries that are kept
-pub passes_of : (k : Kept) (a b : JobStart) → MayFollow k a b → PassBy k a b
+pub passes_of : (k : KeptSummaries) (a b : JobStart) → MayFollow k a b → PassBy k a b
 passes_of k a b of = record {
   passes = λ m n one other.
       subst (λ u. Passes u n a b) (same_Some of.one m (sym of.of_first ∙ one))
       (subst (λ u. Passes of.one u a b) (same_Some of.other n (sym of.of_later ∙ other)) of.holds);
 }
 
-pub all_pass_of : (k : Kept) (start : JobStart) (starts : List JobStart) → AllByRecursion (λ (older : JobStart). MayFollow k older start) starts → AllByRecursion (λ (older : JobStart). PassBy k older start) starts
+pub all_pass_of : (k : KeptSummaries) (start : JobStart) (starts : List JobStart) → AllByRecursion (λ (older : JobStart). MayFollow k older start) starts → AllByRecursion (λ (older : JobStart). PassBy k older start) starts
 all_pass_of k start [] all = tt
 all_pass_of k start (a ∷ rest) all = (passes_of k a start all.0, all_pass_of k start rest all.1)
 
@@ -61,7 +61,7 @@ agree_then : (ts : List Touch) (r s t : List ℕ) → AgreeOn ts r s → AgreeOn
 agree_then ts r s t p q = record { long = p.long ∙ q.long; same = λ w at. p.same w at ∙ q.same w at }
 
 -- the job over the words of a loan is the job over these words
-module _ (x : Exchange) (k : Kept) (s : State) (l : Lent) (lent : IsLent x k s l) where
+module _ (x : Exchange) (k : KeptSummaries) (s : State) (l : Lent) (lent : IsLent x k s l) where
   job_there : job x l.start s.store ≡ record (job x l.start l.base) { world = record (job x l.start l.base).world { store = stored s.store (trace_of x l.start l.base) } }
   job_there = job_agrees x l.start l.base s.store lent.same
 
@@ -74,7 +74,7 @@ module _ (x : Exchange) (k : Kept) (s : State) (l : Lent) (lent : IsLent x k s l
   pub same_over : (job x l.start s.store).over ≡ (job x l.start l.base).over
   same_over = ap (λ (c : Config). c.over) job_there
 
-module _ (x : Exchange) (k : Kept) (kept : IsExchange x) (checked : IsChecked x k) (s : State) (valid : IsValid x s) where
+module _ (x : Exchange) (k : KeptSummaries) (kept : IsExchange x) (checked : IsChecked x k) (s : State) (valid : IsValid x s) where
   pub at_once : (m n : Summary) (a b : JobStart) → IsFitting x s a → IsFitting x s b → IsSummaryOf k a m → IsSummaryOf k b n → PassBy k a b → MayRunAtOnce x k.facts s m n a b
   at_once m n a b fits_a fits_b told_a told_b pass = record {
     exchange = kept;

@@ -1,12 +1,12 @@
 -- What the summaries that are kept tell of jobs is true, where they are of the exchange.
 use Rattle.exchange_model.specs.declared.exchange.Exchange.{Exchange}
 use Rattle.exchange_model.specs.Kept.{IsExchange}
-use Rattle.checked.specs.Kept.{IsChecked, Kept}
+use Rattle.checked.specs.Kept.{IsChecked, KeptSummaries}
 use Rattle.pair_laws.proofs.Joining.{make_way}
 use Rattle.pair_laws.proofs.Keeping.{keeps_to}
 use Rattle.parallel_dispatch.specs.Told.{AreTrue}
 
-pub they_are_true : (x : Exchange) (k : Kept) → IsExchange x → IsChecked x k → AreTrue x k
+pub they_are_true : (x : Exchange) (k : KeptSummaries) → IsExchange x → IsChecked x k → AreTrue x k
 they_are_true x k kept checked = record {
   keeps = λ s m start valid fits told. keeps_to x k.facts kept checked.closed s valid m start fits (checked.by_facts.is start.job.entry m told);
   ways = λ m n a b one other is passes. make_way x k.facts m n a b kept checked.closed (checked.by_facts.is a.job.entry m one) (checked.by_facts.is b.job.entry n other) is passes;

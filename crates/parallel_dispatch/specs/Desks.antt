@@ -6,7 +6,7 @@ use Rattle.job_types.specs.Waiting.{nobody}
 use Rattle.machine_code.specs.Coded.{Code}
 use Rattle.exchange_model.specs.declared.exchange.Exchange.{Exchange}
 use Rattle.source_meaning.specs.State.{State}
-use Rattle.checked.specs.Kept.{Kept}
+use Rattle.checked.specs.Kept.{KeptSummaries}
 use Rattle.retire_order.specs.Accounts.{Account}
 use Rattle.shared_store.specs.Seats.{RootView, StoreId}
 use Rattle.parallel_dispatch.specs.Events.{IsReached}
@@ -22,7 +22,7 @@ pub record DeskView : Type 0 where
 
 -- what the type of the desk keeps: from the first state events lead, each as it is allowed, to the state of the core that books, root and
 -- loans are, in which each loaned job stands at its start
-pub record IsDesk (x : Exchange) (k : Kept) (code : Code) (store : StoreId) (workers : ℕ) (first : State) (limit : ℕ) (books : Account) (root : RootView) (window : View) (steps : ℕ) : Type 0 where
+pub record IsDesk (x : Exchange) (k : KeptSummaries) (code : Code) (store : StoreId) (workers : ℕ) (first : State) (limit : ℕ) (books : Account) (root : RootView) (window : View) (steps : ℕ) : Type 0 where
   pub reached : IsReached x k code workers first limit books root.1 window.loans steps
   pub home : root.0 ≡ store
   pub room : window.room ≡ workers
@@ -30,7 +30,7 @@ pub record IsDesk (x : Exchange) (k : Kept) (code : Code) (store : StoreId) (wor
   pub counted : AreCounted books window
 
 -- what stands where no course is named
-abbrev pub no_kept : Kept
+abbrev pub no_kept : KeptSummaries
 no_kept = record { facts = []; summaries = [] }
 
 abbrev pub no_state : State

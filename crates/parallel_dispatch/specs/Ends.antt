@@ -6,7 +6,7 @@ use Rattle.source_meaning.specs.SingleRun.{Ending, end_state, ending_at, jobs_at
 use Rattle.source_meaning.specs.State.{State}
 use Rattle.retire_order.specs.Accounts.{Account, with_words}
 use Rattle.retire_order.specs.Events.{ending_of}
-use Rattle.checked.specs.Kept.{Kept}
+use Rattle.checked.specs.Kept.{KeptSummaries}
 use Rattle.interleave_core.specs.declared.event.CoreEvent.{CoreEvent}
 use Rattle.interleave_core.specs.Cores.{Core}
 use Rattle.interleave_core.specs.Runs.{Runs, Setting, setting}
@@ -35,7 +35,7 @@ pub record AreLedTo (k : Setting) (first : State) (limit : ℕ) (books : State) 
   pub empty : core.window ≡ []
 
 -- the same with the words of a root, which is that of the store and has lent nothing; nobody runs any more
-pub record IsOver (x : Exchange) (code : Code) (k : Kept) (workers : ℕ) (store : StoreId) (first : State) (limit : ℕ) (books : Account) (root : RootView) (ending : Ending) (steps : ℕ) : Type 0 where
+pub record IsOver (x : Exchange) (code : Code) (k : KeptSummaries) (workers : ℕ) (store : StoreId) (first : State) (limit : ℕ) (books : Account) (root : RootView) (ending : Ending) (steps : ℕ) : Type 0 where
   pub nobody : books.running ≡ 0
   pub home : root.0 ≡ store
   pub bare : root.1 ≡ unlent root.1.values
@@ -43,6 +43,6 @@ pub record IsOver (x : Exchange) (code : Code) (k : Kept) (workers : ℕ) (store
   pub ends : EndsAs x code first limit books.state root.1.values ending steps
 
 -- the run is over, with these books
-abbrev pub IsOverFrom : Exchange → Code → Kept → ℕ → StoreId → State → ℕ → Account → Over → Type 0
+abbrev pub IsOverFrom : Exchange → Code → KeptSummaries → ℕ → StoreId → State → ℕ → Account → Over → Type 0
 IsOverFrom x code k workers store first limit books over =
     IsOver x code k workers store first limit books over.root (ending_of over.ending) over.steps

@@ -7,7 +7,7 @@ use Rattle.source_meaning.specs.SingleRun.{after}
 use Rattle.source_meaning.specs.State.{State}
 use Rattle.register_machine.specs.Faithful.{started}
 use Rattle.retire_order.specs.Accounts.{Account}
-use Rattle.checked.specs.Kept.{Kept}
+use Rattle.checked.specs.Kept.{KeptSummaries}
 use Rattle.interleave_core.specs.declared.event.CoreEvent.{CoreEvent}
 use Rattle.interleave_core.specs.declared.event.CoreEvent.TheVariants.{Issue}
 use Rattle.interleave_core.specs.declared.window.WindowJob.{WindowJob}
@@ -51,7 +51,7 @@ pub record IsLed (k : Setting) (events : ℕ → ℕ → List CoreEvent) (books 
 -- what the type of the dispatcher's window keeps: its books, root values and loans are a state of the core, in which each loaned job
 -- stands at its start, to which events lead from this first state, each as it is allowed, so many of them instructions, modulo 2^64; and
 -- beside it what the rule of the words wants of the loans
-pub record IsReached (x : Exchange) (k : Kept) (code : Code) (workers : ℕ) (first : State) (limit : ℕ) (books : Account) (top : Top) (loans : List Lent) (steps : ℕ) : Type 0 where
+pub record IsReached (x : Exchange) (k : KeptSummaries) (code : Code) (workers : ℕ) (first : State) (limit : ℕ) (books : Account) (top : Top) (loans : List Lent) (steps : ℕ) : Type 0 where
   pub retired : ℕ
   pub events : List CoreEvent
   pub runs : Runs (setting x code k workers) events (first_core x first limit) (shown code books top loans retired)

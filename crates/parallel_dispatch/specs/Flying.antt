@@ -11,7 +11,7 @@ use Rattle.source_meaning.specs.Traces.{AgreeOn, trace_of}
 use Rattle.source_meaning.specs.Valid.{IsValid}
 use Rattle.entry_summary.specs.declared.summary.Summary.{Summary}
 use Rattle.start_permit.specs.Granted.{MayRead, MayWrite}
-use Rattle.checked.specs.Kept.{Kept}
+use Rattle.checked.specs.Kept.{KeptSummaries}
 use Rattle.order_laws.specs.Books.{AreAhead}
 use Rattle.retire_order.specs.Accounts.{Account, with_words}
 use Rattle.shared_store.specs.declared.view.Lent.{Lent}
@@ -25,7 +25,7 @@ starts_of loans = map (λ (l : Lent). l.start) loans
 
 -- the loan of a job in this state: the words that the job touches are still as they were lent, and the permit lets touch no more than
 -- the summary of its entry lets the job touch in this state
-pub record IsLent (x : Exchange) (k : Kept) (s : State) (l : Lent) : Type 0 where
+pub record IsLent (x : Exchange) (k : KeptSummaries) (s : State) (l : Lent) : Type 0 where
   pub summary : Summary
   pub told : IsSummaryOf k l.start summary
   pub same : AgreeOn (trace_of x l.start l.base) l.base s.store
@@ -33,7 +33,7 @@ pub record IsLent (x : Exchange) (k : Kept) (s : State) (l : Lent) : Type 0 wher
   pub writes : (w : ℕ) → may_write l.permit w ≡ true → MayWrite x summary l.start s.chains w
 
 -- each older one passes with each younger one, the oldest first
-abbrev pub AllPass : Kept → List JobStart → Type 0
+abbrev pub AllPass : KeptSummaries → List JobStart → Type 0
 AllPass k [] = Unit {0}
 AllPass k (older ∷ rest) = AllByRecursion (PassBy k older) rest × AllPass k rest
 
@@ -44,7 +44,7 @@ AreWithin limit ended (l ∷ rest) = ended + length (l ∷ rest) ≤ limit
 
 -- the jobs of these loans, the oldest first, have begun in the books, and their words are lent by the root: books and root are those
 -- of this state of the single run
-pub record Fly (x : Exchange) (k : Kept) (s : State) (books : Account) (top : Top) (loans : List Lent) : Type 0 where
+pub record Fly (x : Exchange) (k : KeptSummaries) (s : State) (books : Account) (top : Top) (loans : List Lent) : Type 0 where
   pub valid : IsValid x s
   pub values : top.values ≡ s.store
   pub ahead : AreAhead x s (starts_of loans) (with_words books.state s.store)

@@ -11,7 +11,7 @@ use Rattle.store_layout.specs.Laid.{IsLayout}
 use Rattle.source_meaning.specs.SingleRun.{turn}
 use Rattle.source_meaning.specs.State.{State}
 use Rattle.source_meaning.specs.Valid.{IsValid}
-use Rattle.checked.specs.Kept.{IsChecked, Kept}
+use Rattle.checked.specs.Kept.{IsChecked, KeptSummaries}
 use Rattle.order_laws.specs.Keeps.{NoLineBefore}
 use Rattle.register_machine.specs.Faithful.{Faithful}
 use Rattle.retire_order.specs.Accounts.{Account, upcoming, with_words}
@@ -35,7 +35,7 @@ use Rattle.parallel_dispatch.specs.Told.{AreTrue}
 use Rattle.parallel_dispatch.specs.Windows.{View}
 
 -- the layout, the code and the summaries are of the exchange
-pub record AreOf (x : Exchange) (layout : Layout) (code : Code) (k : Kept) : Type 0 where
+pub record AreOf (x : Exchange) (layout : Layout) (code : Code) (k : KeptSummaries) : Type 0 where
   pub exchange : IsExchange x
   pub laid : IsLayout x.blocks layout
   pub faithful : Faithful x code
@@ -51,11 +51,11 @@ abbrev pub IsSet : Exchange → Code → Setting → Type 0
 IsSet x code s = AreOf x s.layout.now code s.checked.now
 
 -- a summary is kept of the entry of the start
-abbrev pub HasSummary : Kept → JobStart → Type 0
+abbrev pub HasSummary : KeptSummaries → JobStart → Type 0
 HasSummary k start = start.job.entry < length k.summaries
 
 -- the next job of the books may fly beside these: it passes with each of them, and they retire before the next line comes
-pub record MayFly (k : Kept) (books : Account) (w : View) (start : JobStart) : Type 0 where
+pub record MayFly (k : KeptSummaries) (books : Account) (w : View) (start : JobStart) : Type 0 where
   pub next : Some start ≡ upcoming books
   pub room : length w.loans < w.room
   pub line : NoLineBefore (books.state.ended + length w.loans + 1) books.state.lines
@@ -68,13 +68,13 @@ pub record MayRunAlone (books : Account) (w : View) : Type 0 where
   pub line : NoLineBefore (books.state.ended + 1) books.state.lines
 
 -- the move may be made: a job that is next runs alone or flies, and the oldest retires where one flies or none is next
-abbrev pub MayMove : Kept → Account → View → Move → Type 0
+abbrev pub MayMove : KeptSummaries → Account → View → Move → Type 0
 MayMove k books w RunAlone = MayRunAlone books w
 MayMove k books w (Issue start) = MayFly k books w start
 MayMove k books w Retire = w.loans ≡ [] → None ≡ upcoming books
 
 -- books, root and window stand beside some state of the single run
-abbrev pub Flying : Exchange → Kept → Account → RootView → View → Type 0
+abbrev pub Flying : Exchange → KeptSummaries → Account → RootView → View → Type 0
 Flying x k books root w = (s : State) × Fly x k s books root.1 w.loans
 
 -- how many jobs the limit leaves to begin, twice, and those that fly
@@ -88,7 +88,7 @@ pub record AreCounted (books : Account) (w : View) : Type 0 where
 
 -- the next job has had its turn by these events: beside whatever state books, root and window stood, what it left stands beside the one
 -- after it; it is the job whose run made so many instructions
-pub record HasTurned (x : Exchange) (k : Kept) (code : Code) (store : StoreId) (events : ℕ → ℕ → List CoreEvent) (books : Account) (top : Top) (w : View) (next : Account) (left : Retired) (v : View) : Type 0 where
+pub record HasTurned (x : Exchange) (k : KeptSummaries) (code : Code) (store : StoreId) (events : ℕ → ℕ → List CoreEvent) (books : Account) (top : Top) (w : View) (next : Account) (left : Retired) (v : View) : Type 0 where
   pub fly : (s : State) → Fly x k s books top w.loans → Fly x k (turn x s) next left.root.1 v.loans
   pub steps : (s : State) → Fly x k s books top w.loans → JobMakes code s left.steps
   pub led : IsLed (setting x code k w.room) events books top w.loans next left.root.1 v.loans left.steps

@@ -6,10 +6,10 @@ use worker_pool::Naming;
 /// arrives, and after how many jobs it ends.
 pub(crate) trait Course: Naming {
     ghost use Rattle.std.specs.Prelude.{ℕ};
-    ghost use Rattle.checked.specs.Kept.{Kept};
+    ghost use Rattle.checked.specs.Kept.{KeptSummaries};
     ghost use Rattle.source_meaning.specs.State.{State};
 
-    ghost kept: { Kept };
+    ghost kept: { KeptSummaries };
 
     ghost workers: { ℕ };
 

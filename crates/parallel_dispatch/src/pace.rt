@@ -1,17 +1,9 @@
 // What the dispatcher has learned of its jobs, and which of them are worth a loan by that. Nothing here has a contract: what comes out of
 // a run is the same whatever is answered.
+use exchange_run::{MOST_COUNTED, long_job};
 use interference_check::PairTable;
 use plex_num::Memory;
 use std::alloc::Global;
-
-/// Jobs of an entry begin to fly where they make so many instructions.
-const LONG: u64 = 6000;
-
-/// They run alone again where they make fewer than that.
-const SHORT: u64 = 3600;
-
-/// What a job counts for at most in the mean of its entry, in instructions, so that a long one among short ones does not make them fly.
-const MOST: u64 = 96_000;
 
 /// Jobs of so many instructions in all are worth a wake-up.
 const WAKE: u64 = 60_000;
@@ -50,7 +42,7 @@ enum Partner {
 struct Known {
     /// Whether one has ended.
     ended: bool,
-    /// How many instructions they make, about, those above `MOST` of a job not counted.
+    /// How many instructions they make, about, those above `MOST_COUNTED` of a job not counted.
     mean: u64,
     /// The same with all counted.
     whole: u64,
@@ -103,12 +95,17 @@ pub(crate) struct Pace {
     helpers: u64,
     most_wait: u64,
     behind: usize,
+    /// Jobs of an entry fly once they make so many instructions in the mean.
+    long_job: u64,
+    /// They run alone again where they make fewer than so many.
+    short_job: u64,
 }
 
 impl Pace {
     /// Before the first job, for so many entries and so many threads beside the dispatcher, where so many jobs may fly. Memory is the
     /// only reason for an error.
     pub fn new(alloc: Global, entries: u32, helpers: u64, room: u32) -> Result<Pace, Memory> {
+        let long = long_job(room);
         match Vec::from_elem(alloc, unknown(), entries as usize) {
             Ok(entries) => Ok(Pace {
                 entries,
@@ -117,6 +114,8 @@ impl Pace {
                 helpers,
                 most_wait: u64::from(room / 2).max(1).min(MOST_WAIT),
                 behind: 0,
+                long_job: long,
+                short_job: (long / 5).saturating_mul(3),
             }),
             Err(_) => Err(Memory),
         }
@@ -153,7 +152,11 @@ impl Pace {
     /// what its jobs take. An entry for which it takes more beside one job never flies.
     pub fn may_ask(&mut self, entry: u32, tests: u64, flying: usize) -> bool {
         let mut known = self.known(entry);
-        let length = if known.ended { known.whole } else { LONG };
+        let length = if known.ended {
+            known.whole
+        } else {
+            self.long_job
+        };
         if tests.saturating_mul(4 * TEST) <= length {
             return true;
         }
@@ -229,15 +232,19 @@ impl Pace {
         let mut known = self.known(entry);
         let was_long = known.ended && known.long;
         if known.ended {
-            known.mean = mean_after(known.mean, steps.min(MOST));
+            known.mean = mean_after(known.mean, steps.min(MOST_COUNTED));
             known.whole = mean_after(known.whole, steps);
-            let bound = if known.long { SHORT } else { LONG };
+            let bound = if known.long {
+                self.short_job
+            } else {
+                self.long_job
+            };
             known.long = known.mean >= bound;
         } else {
             known.ended = true;
-            known.mean = steps.min(MOST);
+            known.mean = steps.min(MOST_COUNTED);
             known.whole = steps;
-            known.long = known.mean >= LONG;
+            known.long = known.mean >= self.long_job;
         }
         self.put(entry, known);
         self.ended = true;

@@ -1,5 +1,5 @@
 // Values in boxes, and lists of few items.
-ghost use Rattle.token_grammar.specs.Gives.{Holds};
+ghost use Rattle.token_grammar.specs.Gives.{IsGiven};
 
 use plex_ast::{Boxed, Few};
 use plex_num::Seq;
@@ -8,7 +8,7 @@ use token_grammar::Fault;
 
 /// The value in a box.
 pub fn boxed<T: Drop>(alloc: Global, value: T) -> Result<Boxed<T>, Fault>
-    ensures { Holds value result }
+    ensures { IsGiven value result }
 {
     match Boxed::new(alloc, value) {
         Ok(place) => Ok(place),
@@ -18,7 +18,7 @@ pub fn boxed<T: Drop>(alloc: Global, value: T) -> Result<Boxed<T>, Fault>
 
 /// These items as a list that mostly is empty.
 pub fn few<T: Drop>(alloc: Global, items: Seq<T>) -> Result<Few<T>, Fault>
-    ensures { Holds items result }
+    ensures { IsGiven items result }
 {
     match Few::from_seq(alloc, items) {
         Ok(list) => Ok(list),

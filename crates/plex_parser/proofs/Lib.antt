@@ -6,3 +6,4 @@ pub mod Loops
 pub mod Parsed
 pub mod PlainStatements
 pub mod Statements
+pub mod Starts

@@ -6,35 +6,13 @@ ghost use Rattle.token_grammar.specs.Reading.{at, many};
 ghost use Rattle.plex_parser.specs.Blocks.{enter_read, item_kind_read, item_read, name_item_read, name_tail_read, named_item, stmt_item_read, ITEM};
 
 use crate::assignment::{assign, assigned};
-use crate::nested::other;
+use crate::nested::{other, starts_stmt};
 use crate::signalling::taken;
 use plex_ast::{Item, ItemKind, Named, Stmt, words};
 use plex_lexer::Cursor;
 use plex_num::Seq;
 use std::alloc::Global;
-use token_grammar::{Fault, line_of, name, starts, starts_in, starts_name, word};
-
-/// What begins an item.
-const ITEMS: [u64; 18] = [
-    words::NAME,
-    words::NAME_A,
-    words::NAME_B,
-    words::NAME_C,
-    words::NAME_D,
-    words::ENTER,
-    words::SEND,
-    words::RETRIEVE,
-    words::RETURN,
-    words::TRANSFER,
-    words::GOTO,
-    words::FOR,
-    words::SEIZE,
-    words::FREE,
-    words::EXIT,
-    words::IF,
-    words::CASE,
-    words::ON,
-];
+use token_grammar::{Fault, line_of, name, starts, starts_name, word};
 
 /// As many items as stand there, and the tokens after them.
 #[tactic(auto, using(crate::proofs::ItemLoops::item_less, crate::proofs::ItemLoops::item_on, crate::proofs::ItemLoops::item_end, crate::proofs::ItemLoops::item_bad))]
@@ -58,10 +36,12 @@ pub fn items(
     Ok((list, left))
 }
 
+/// Whether the first token begins an item: a statement, or an ENTER.
+#[tactic(auto, using(crate::proofs::Starts::item_starts))]
 fn starts_item(tokens: Cursor<'_>) -> bool
     ensures { result ≡ at ITEM (ahead tokens.entry) }
 {
-    starts_in(tokens, &ITEMS)
+    starts_stmt(tokens) || starts(tokens, words::ENTER)
 }
 
 #[tactic(auto, unfolding(crate::specs::Blocks::item_read))]

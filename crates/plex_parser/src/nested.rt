@@ -3,7 +3,7 @@ ghost use Rattle.std.specs.Prelude.{◌≡◌, ◌++◌, ◌∷◌, []};
 ghost use Rattle.plex_lexer.specs.Cursors.{ahead};
 ghost use Rattle.token_grammar.specs.Gives.{Reads};
 ghost use Rattle.token_grammar.specs.Reading.{at, many};
-ghost use Rattle.plex_parser.specs.Statements.{body_read, arms_read, branches_read, case_by, do_read, else_by, else_to_fi_read, gone_read, held_at, if_at, if_tail_at, if_with, kind_at, nest_by, on_by, other_at, otherwise_read, span_read, stmt_read, stmts_read, then_by, upto_read, when_by, STMT};
+ghost use Rattle.plex_parser.specs.Statements.{body_read, arms_read, branches_read, case_by, do_read, else_by, else_to_fi_read, gone_read, held_at, if_at, if_tail_at, if_with, kind_at, nest_by, on_by, other_at, otherwise_read, span_read, stmt_read, stmts_read, then_by, upto_read, when_by, HELD as HELD_WORDS, PLAIN as PLAIN_WORDS, STMT};
 ghost use Rattle.plex_ast.specs.Words as classes;
 
 use crate::assignment::{assign, assigned};
@@ -28,26 +28,8 @@ const PLAIN: [u64; 9] = [
     words::EXIT,
 ];
 
-/// What begins a statement.
-const STATEMENT: [u64; 17] = [
-    words::NAME,
-    words::NAME_A,
-    words::NAME_B,
-    words::NAME_C,
-    words::NAME_D,
-    words::SEND,
-    words::RETRIEVE,
-    words::RETURN,
-    words::TRANSFER,
-    words::GOTO,
-    words::FOR,
-    words::SEIZE,
-    words::FREE,
-    words::EXIT,
-    words::IF,
-    words::CASE,
-    words::ON,
-];
+/// What begins a statement that holds others.
+const HELD: [u64; 3] = [words::IF, words::CASE, words::ON];
 
 /// As many statements as stand there, and the tokens after them.
 #[cycle(statements)]
@@ -72,10 +54,20 @@ fn stmts(
     Ok((list, left))
 }
 
-fn starts_stmt(tokens: Cursor<'_>) -> bool
+/// Whether the first token begins a statement.
+#[tactic(auto, using(crate::proofs::Starts::stmt_starts))]
+pub fn starts_stmt(tokens: Cursor<'_>) -> bool
     ensures { result ≡ at STMT (ahead tokens.entry) }
 {
-    starts_in(tokens, &STATEMENT)
+    starts_name(tokens) || starts_other(tokens)
+}
+
+/// Whether the first token is a word that begins a statement.
+#[tactic(auto, using(crate::proofs::Starts::other_starts))]
+fn starts_other(tokens: Cursor<'_>) -> bool
+    ensures { result ≡ at (PLAIN_WORDS ++ HELD_WORDS) (ahead tokens.entry) }
+{
+    starts_in(tokens, &PLAIN) || starts_in(tokens, &HELD)
 }
 
 #[cycle(statements)]

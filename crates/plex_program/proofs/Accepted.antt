@@ -18,13 +18,14 @@ use Rattle.text_rules.specs.declared.rule.Rule.{Rule}
 use Rattle.text_rules.specs.Texts.{BreaksNoRule, text_told}
 use Rattle.resolved_block.specs.Texts.{exchange_of_tree}
 use Rattle.text_soundness.proofs.Whole.{is_exchange}
-use Rattle.front_end.specs.declared.fault.TextFault.{TextFault}
 use Rattle.front_end.specs.Resolved.{resolved, told_or}
 use Rattle.job_table.specs.Fit.{HasWords}
-use Rattle.plex_program.specs.Answer.{Out, exchange_at, exchange_of_file, goes_on, or_broken, or_fault, text_at, text_held}
-use Rattle.plex_program.specs.Answer as answer
-use Rattle.plex_program.specs.Reading.{IsSpelled, tree_of, tree_of_lexed, tree_or_fault}
-use Rattle.plex_program.specs.declared.fault.SourceFault.{SourceFault}
+use Rattle.plex_program.specs.Outcome.{Out, goes_on, or_refused}
+use Rattle.plex_program.specs.Given.{exchange_at, exchange_of_file, text_at, text_of_file}
+use Rattle.plex_program.specs.Given as given
+use Rattle.plex_program.specs.Reading.{IsSpelled, resolve_fault, tree_of, tree_of_lexed, tree_or_fault}
+use Rattle.plex_program.specs.declared.perform.Refused.{Refused}
+use Rattle.plex_program.specs.declared.perform.Refused.TheVariants.{Source}
 use Rattle.plex_program.proofs.FewTokens.{tokens_few}
 use Rattle.plex_program.proofs.NamedWords.{has_words}
 use Rattle.plex_program.proofs.Spelled.{text_spells}
@@ -40,7 +41,7 @@ fits : (limit : ℕ) (b : Bool) (bytes text : List ℕ) → nat_lt limit (length
 fits limit true bytes text large e = absurd (none-some text e)
 fits limit false bytes text fine e = let le : length bytes ≤ limit = grind (arith, nat_tests, fine) in subst (λ t. length t ≤ limit) (same_Some bytes text e) le
 
-fits_held : (o : Option (List ℕ)) (text : List ℕ) → text_held o ≡ Ok (Some text) → length text ≤ MOST_BYTES
+fits_held : (o : Option (List ℕ)) (text : List ℕ) → text_of_file o ≡ Ok (Some text) → length text ≤ MOST_BYTES
 fits_held None text e = absurd (none-some (Some text) (ap result_ok e))
 fits_held (Some bytes) text e = fits MOST_BYTES (nat_lt MOST_BYTES (length bytes)) bytes text refl (same_Some _ _ (ap result_ok e))
 
@@ -49,9 +50,9 @@ text_small name files text e = fits_held (files name) text e
 
 -- the tree of a text
 
-read : {A : Type 0} (r : Result A SourceFault) (a : A) → or_fault r ≡ Ok a → r ≡ Ok a
-read (Ok b) a e = ap Ok (same_Some b a (ap result_ok e))
-read (Err f) a e = absurd (none-some a (ap result_ok e))
+pub read : {A F : Type 0} (by : F → Refused) (r : Result A F) (a : A) → or_refused by r ≡ Ok a → r ≡ Ok a
+read by (Ok b) a e = ap Ok (same_Some b a (ap result_ok e))
+read by (Err f) a e = absurd (none-some a (ap result_ok e))
 
 module _ (text : List ℕ) (t : Tree) (small : length text ≤ MOST_BYTES) where
   parses : (tokens : List Token) (r : Result Tree ParseFault) → tokens_of text ≡ Ok tokens → parsed tokens ≡ r → tree_or_fault text tokens r ≡ Ok t → IsSpelled t
@@ -68,10 +69,6 @@ module _ (text : List ℕ) (t : Tree) (small : length text ≤ MOST_BYTES) where
   spells e = lexes_to (tokens_of text) refl e
 
 -- the exchange of a tree
-
-unbroken : (r : Result Exchange TextFault) (x : Exchange) → or_broken r ≡ Ok x → r ≡ Ok x
-unbroken (Ok y) x e = ap Ok (same_Some y x (ap result_ok e))
-unbroken (Err f) x e = absurd (none-some x (ap result_ok e))
 
 breaks_none : (t : Tree) (x : Exchange) → resolved t ≡ Ok x → BreaksNoRule t × (exchange_of_tree t ≡ x)
 unfolding resolved
@@ -92,10 +89,10 @@ accepted name files x e = let a = gone_on (text_at name files) exchange_of_file 
     by : (o : Option (List ℕ)) → text_at name files ≡ Ok o → exchange_of_file o ≡ Ok x → IsAccepted x
     by None held e = absurd (none-some x (ap result_ok e))
     by (Some text) held e =
-        let b = gone_on (or_fault (tree_of text)) answer.exchange_of_tree x e in
+        let b = gone_on (or_refused Source (tree_of text)) given.exchange_of_tree x e in
         let t : Tree = b.0 in
-        let s = spells text t (text_small name files text held) (read (tree_of text) t b.1) in
-        let r = breaks_none t x (unbroken (resolved t) x b.2) in
+        let s = spells text t (text_small name files text held) (read Source (tree_of text) t b.1) in
+        let r = breaks_none t x (read (λ f. Source (resolve_fault f)) (resolved t) x b.2) in
         record {
           kept = subst IsExchange r.1 (is_exchange t (record { spelled = s.keeps; few = s.few; fine = r.0 }));
           words = subst HasWords r.1 (has_words t s.keeps);

@@ -14,7 +14,10 @@ use Rattle.machine_code.specs.Coded.{Code}
 use Rattle.stmt_code.specs.Whole.{entry_addresses, whole_code}
 use Rattle.listing.specs.Listing.{IsListing, code_text}
 use Rattle.plex_program.specs.declared.program.Status.TheVariants as status
-use Rattle.plex_program.specs.Answer.{behind, code_of, end_of, ended_answer, ended_status, ending_of, listing_answer, run_answer, summed_answer}
+use Rattle.plex_program.specs.Outcome.{headed_by}
+use Rattle.plex_program.specs.RunAnswer.{end_of, ended_answer, ended_status, ending_of, run_answer}
+use Rattle.plex_program.specs.ListAnswer.{code_of, listing_answer}
+use Rattle.plex_program.specs.LoadAnswer.{summed_answer}
 use Rattle.plex_program.specs.Program.{IsEnding}
 use Rattle.plex_program.specs.declared.perform.Answer.{Answer}
 use Rattle.plex_program.specs.declared.program.Status.{Status}
@@ -29,8 +32,8 @@ pub told_at : (x : Exchange) (s : State) (e : Ending) (a : Answer) → a.status 
 told_at x s e a status_is text_is = λ i. record { status = status_is i; text = text_is i }
 
 -- the same behind a text
-pub told_behind : (x : Exchange) (s : State) (e : Ending) (front : List ℕ) (a : Answer) → a.status ≡ ended_status e → a.text ≡ front ++ report_text x s e → a ≡ behind front (ended_answer x s e)
-told_behind x s e front a status_is text_is = λ i. record { status = status_is i; text = text_is i }
+pub told_headed : (x : Exchange) (s : State) (e : Ending) (front : List ℕ) (a : Answer) → a.status ≡ ended_status e → a.text ≡ front ++ report_text x s e → a ≡ headed_by front (ended_answer x s e)
+told_headed x s e front a status_is text_is = λ i. record { status = status_is i; text = text_is i }
 
 -- the answer at the end of the single run is that of the run
 pub answer_is : (x : Exchange) (lines : List Line) (jobs : ℕ) (s : State) (words : List ℕ) (e : Ending) (a : Answer) → ComesTo x (map coming_of lines) jobs s words e → a ≡ ended_answer x (with_words s words) e → a ≡ run_answer x lines jobs

@@ -1,14 +1,13 @@
 -- A run with a certificate, and its refusals.
 use Rattle.std.proofs.Common.{ℕ, List, Option, Some, None, Result, Ok, Err, refl}
 use Rattle.std.specs.Prelude.{MatchResult}
-use Rattle.std.specs.List.Sorted.{IsStrictlySortedBy}
 use Rattle.exchange_model.specs.declared.exchange.Exchange.{Exchange}
 use Rattle.certificate_text.specs.declared.certificate.Certificate.{Certificate}
 use Rattle.certificate_text.specs.Lines.{HasBadLine, IsTextOf}
-use Rattle.certificate_text.specs.Text.{fact_order}
-use Rattle.checked.specs.Kept.{Kept}
+use Rattle.checked.specs.Kept.{KeptSummaries}
 use Rattle.checked.specs.Verdicts.{Accepts}
-use Rattle.plex_program.specs.Answer.{IsCertifiedRun, Reads, Tells}
+use Rattle.plex_program.specs.Stages.{Reads, Tells}
+use Rattle.plex_program.specs.RunAnswer.{IsCertifiedRun}
 use Rattle.plex_program.specs.Certificates.{IsFaulty, IsJudged, IsKeptBy, IsUnkept, large, bad, read}
 use Rattle.plex_program.specs.declared.certifying.Unkept.{Unkept}
 use Rattle.plex_program.specs.declared.certifying.Unkept.TheVariants.{Faulty, Memory}
@@ -26,13 +25,10 @@ pub judged_bad : (x : Exchange) (text : List ℕ) (line : ℕ) → HasBadLine te
 judged_bad x text line is = bad text line is
 
 -- the verdict on a certificate is that on its text
-pub text_kept : (x : Exchange) (text : List ℕ) (c : Certificate) (r : Result Kept Unkept) → IsTextOf text c → MatchResult r (Accepts x c) (IsFaulty x c) → MatchResult r (IsKeptBy x (Some text)) (IsUnkept x (Some text))
+pub text_kept : (x : Exchange) (text : List ℕ) (c : Certificate) (r : Result KeptSummaries Unkept) → IsTextOf text c → MatchResult r (Accepts x c) (IsFaulty x c) → MatchResult r (IsKeptBy x (Some text)) (IsUnkept x (Some text))
 text_kept x text c (Ok k) is verdict = record { judged = read text c None is verdict.is; checked = verdict.checked }
 text_kept x text c (Err (Faulty f)) is verdict = read text c (Some f) is verdict
 text_kept x text c (Err Memory) is verdict = tt
-
-pub read_rises : (text : List ℕ) (c : Certificate) → IsTextOf text c → IsStrictlySortedBy fact_order c.facts
-read_rises text c is = is.fits.rises
 
 -- the run itself
 pub certified_runs : (x : Exchange) (text : Option (List ℕ)) (a : Answer) (r : Result Answer Stop) → IsJudged x text None → Reads (Ok a) r → Tells (IsCertifiedRun x text a) r

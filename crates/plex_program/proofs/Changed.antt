@@ -22,7 +22,11 @@ use Rattle.report_text.specs.Report.{event_lines, text_of}
 use Rattle.block_change.specs.declared.misfit.Misfit.{Misfit}
 use Rattle.block_change.specs.Carried.{IsCarried}
 use Rattle.block_change.specs.Misfits.{misfit}
-use Rattle.plex_program.specs.Answer.{AnswersChange, ChangesOrNot, Comes, IsChanged, StopsBy, as_new, behind, changed_answer, end_of, ended_answer, ending_of, ends_before, further_answer, is_changed, misfit_answer, new_exchange_at, new_stop, run_answer, state_at, exchange_at}
+use Rattle.plex_program.specs.Outcome.{headed_by}
+use Rattle.plex_program.specs.Stages.{Comes, StopsBy}
+use Rattle.plex_program.specs.Given.{exchange_at}
+use Rattle.plex_program.specs.RunAnswer.{end_of, ended_answer, ending_of, run_answer}
+use Rattle.plex_program.specs.ChangeAnswer.{AnswersChange, ChangesOrNot, IsChanged, as_new, changed_answer, ends_before, further_answer, is_changed, misfit_answer, new_exchange_at, new_stop, state_at}
 use Rattle.plex_program.specs.Runs.{AreRead}
 use Rattle.plex_program.specs.Text.{change_text}
 use Rattle.plex_program.specs.declared.perform.Answer.{Answer}
@@ -44,7 +48,7 @@ new_comes held name b a x c = record { ok = ok held c.ok; stops = tt; later = c.
 pub new_stops : (held : Option Files) (name : List ℕ) (b a : ℕ) (e s : Stop) → Comes {A = Exchange} held (exchange_at name) b a (Err e) → s ≡ new_stop e → Comes {A = Exchange} held (new_exchange_at name) b a (Err s)
 new_stops held name b a e s c is = subst (λ t. Comes {A = Exchange} held (new_exchange_at name) b a (Err t)) (sym is) (record { ok = tt; stops = by held e c.stops; later = c.later })
   where
-    by : (h : Option Files) (e : Stop) → StopsBy h (exchange_at name) b a e → StopsBy h (new_exchange_at name) b a (new_stop e)
+    by : (h : Option Files) (e : Stop) → StopsBy {A = Exchange} h (λ files o. exchange_at name files ≡ o) b a e → StopsBy {A = Exchange} h (λ files o. new_exchange_at name files ≡ o) b a (new_stop e)
     by None (stop.Refused r) s = tt
     by (Some files) (stop.Refused r) s = ap as_new s
     by None stop.NotHeld s = s
@@ -239,7 +243,7 @@ carried_few x y p q words carried jobs is few = (let same : q.ended ≡ p.ended 
 
 -- the answer of a change
 pub changes : (x y : Exchange) (before : State) (q : BookParts) (carried : List ℕ) (jobs at : ℕ) (s : State) (left : List ℕ) (e : Ending) (front : List ℕ) (a : Answer) → IsCarried x y before (with_words (account_of q).state carried)
-    → RunsTo y (with_words (account_of q).state carried) jobs s left e → front ≡ text_of (event_lines x before.events) ++ change_text at → a ≡ behind front (ended_answer y (with_words s left) e) → IsChanged x y before jobs at a
+    → RunsTo y (with_words (account_of q).state carried) jobs s left e → front ≡ text_of (event_lines x before.events) ++ change_text at → a ≡ headed_by front (ended_answer y (with_words s left) e) → IsChanged x y before jobs at a
 changes x y before q carried jobs at s left e front a is runs begins told = record { carried = t; is = is; answers = answers }
   where
     t : State
@@ -252,4 +256,6 @@ changes x y before q carried jobs at s left e front a is runs begins told = reco
     further = ap (λ u. ended_answer y u e) runs.state ∙ ap (ended_answer y (end_state y jobs t)) ends
 
     answers : a ≡ changed_answer x y before t jobs at
-    answers = told ∙ ap (λ f. behind f (ended_answer y (with_words s left) e)) begins ∙ ap (behind (text_of (event_lines x before.events) ++ change_text at)) further
+    answers = told ∙ ap (λ f. headed_by f (ended_answer y (with_words s left) e)) begins ∙ ap (headed_by (text_of (event_lines x before.events) ++ change_text at)) further
+
+pub ruleset raised_rules = (raised_parts, raised_run, raised_valid)

@@ -2,11 +2,13 @@
 use Rattle.std.proofs.Common.{◌≡◌, ℕ, List, Option, Some, None, Result, Ok, Err, IfSome, IsSomeAnd, ◌⊎◌, ap, refl, sym, subst, ◌∙◌, inl, inr}
 use Rattle.plex_io.specs.Files.{Files}
 use Rattle.command_words.specs.Words.{Word, shape}
-use Rattle.plex_program.specs.Answer.{IsAnswer, IsAnswerBy, Out, Performs, answer_of, performed, refused_answer, refused_status, usage_answer}
+use Rattle.plex_program.specs.Outcome.{Out}
+use Rattle.plex_program.specs.Stages.{Performs}
+use Rattle.plex_program.specs.Answer.{IsAnswer, IsAnswerBy, answer_of, performed, refused_answer, refused_status, usage_answer}
 use Rattle.plex_program.specs.Program.{Answers, Ends, EndsAs, IsComplete, IsEnding, IsMade, IsPlain, Makes, QuitsBy, WriteCause, not_held}
 use Rattle.command_words.specs.declared.command.Command.{Command}
 use Rattle.plex_program.specs.declared.perform.Refused.{Refused}
-use Rattle.plex_program.specs.declared.perform.Refused.TheVariants.{Certificate, Filter, NewSource, Signals, Source, Table}
+use Rattle.plex_program.specs.declared.perform.Refused.TheVariants.{Source}
 use Rattle.plex_program.specs.declared.perform.Answer.{Answer}
 use Rattle.plex_program.specs.declared.perform.Stop.TheVariants as stop
 use Rattle.plex_program.specs.declared.program.Quit.{Quit}
@@ -26,17 +28,7 @@ some_none c e = subst IsSomething e tt
 ends_as : (Is : Answer → Type 0) (a : Answer) (before after : Option (List ℕ)) (s : Status) → Is a → Ends a before after s → EndsAs Is before after s
 ends_as Is a before after status.Read is ends = tt
 ends_as Is a before after status.Memory is ends = tt
-ends_as Is a before after status.Write is ends = record { answer = a; is = is; ends = ends }
-ends_as Is a before after status.Done is ends = record { answer = a; is = is; ends = ends }
-ends_as Is a before after status.Usage is ends = record { answer = a; is = is; ends = ends }
-ends_as Is a before after status.Source is ends = record { answer = a; is = is; ends = ends }
-ends_as Is a before after status.Signals is ends = record { answer = a; is = is; ends = ends }
-ends_as Is a before after status.Restart is ends = record { answer = a; is = is; ends = ends }
-ends_as Is a before after status.Limit is ends = record { answer = a; is = is; ends = ends }
-ends_as Is a before after status.Certificate is ends = record { answer = a; is = is; ends = ends }
-ends_as Is a before after status.Table is ends = record { answer = a; is = is; ends = ends }
-ends_as Is a before after status.Change is ends = record { answer = a; is = is; ends = ends }
-ends_as Is a before after status.Filter is ends = record { answer = a; is = is; ends = ends }
+ends_as Is a before after s is ends = record { answer = a; is = is; ends = ends }
 
 pub ends_held : (Is : Files → Answer → Type 0) (held : Option Files) (a : Answer) (before after : Option (List ℕ)) (s : Status) → IfSome held (λ files. Is files a) → Ends a before after s → IfSome held (λ files. EndsAs (Is files) before after s)
 ends_held Is None a before after s is ends = tt
@@ -86,16 +78,8 @@ plain_ending : (s : Status) → IsEnding s → IsPlain s
 plain_ending status.Done e = tt
 plain_ending status.Restart e = tt
 plain_ending status.Limit e = tt
-plain_ending status.Usage e = absurd e
-plain_ending status.Source e = absurd e
-plain_ending status.Signals e = absurd e
-plain_ending status.Read e = absurd e
-plain_ending status.Write e = absurd e
-plain_ending status.Memory e = absurd e
-plain_ending status.Certificate e = absurd e
-plain_ending status.Table e = absurd e
 plain_ending status.Change e = tt
-plain_ending status.Filter e = absurd e
+plain_ending s e = absurd e
 
 no_usage_ending : (s : Status) → IsEnding s → s ≡ status.Usage → ⊥
 no_usage_ending s e is = subst IsEnding is e
@@ -109,7 +93,7 @@ answered_report held words c b a ans e comes ends = record { same = same held co
 
 -- a file that is not held
 pub answered_not_held : (held : Option Files) (words : List Word) (c : Command) (b a : ℕ) → Some c ≡ shape words → Performs held (performed c) b a (Err stop.NotHeld) → QuitsBy (IsAnswer words) held b a quit.Read
-answered_not_held held words c b a e comes = inr (same held comes.halts) where
+answered_not_held held words c b a e comes = inr (same held comes.stops) where
   same : (h : Option Files) → IsSomeAnd h (λ files. performed c files (Err None)) → IsSomeAnd h (λ files. IsAnswer words files not_held)
   same None p = absurd p
   same (Some files) p = answer_is words c files (Err None) e p
@@ -117,25 +101,17 @@ answered_not_held held words c b a e comes = inr (same held comes.halts) where
 -- a status of a refusal
 pub plain_refused : (r : Refused) → IsPlain (refused_status r)
 plain_refused (Source f) = tt
-plain_refused (Signals f) = tt
-plain_refused (Certificate f) = tt
-plain_refused (Table f) = tt
-plain_refused (NewSource f) = tt
-plain_refused (Filter f) = tt
+plain_refused r = tt
 
 pub no_usage_refused : (r : Refused) → refused_status r ≡ status.Usage → ⊥
 unfolding IsUsage
 no_usage_refused (Source f) e = other status.Source (λ u. u) e
-no_usage_refused (Signals f) e = other status.Signals (λ u. u) e
-no_usage_refused (Certificate f) e = other status.Certificate (λ u. u) e
-no_usage_refused (Table f) e = other status.Table (λ u. u) e
-no_usage_refused (NewSource f) e = other status.Source (λ u. u) e
-no_usage_refused (Filter f) e = other status.Filter (λ u. u) e
+no_usage_refused r e = other (refused_status r) (λ u. u) e
 
 -- a refusal
 pub answered_refused : (held : Option Files) (words : List Word) (c : Command) (b a : ℕ) (r : Refused) (res : Result Answer Quit) → Some c ≡ shape words → Performs held (performed c) b a (Err (stop.Refused r)) → Makes (refused_answer r) res → Answers held words b a res
 unfolding IsUsage
-answered_refused held words c b a r (Ok ans) e comes m = record { same = same held comes.halts; plain = rw m (plain_refused r); usage = λ u. absurd (no_usage_refused r (sym (ap (λ x. x.status) m) ∙ u)); unshaped = λ none. absurd (some_none c (e ∙ none)) } where
+answered_refused held words c b a r (Ok ans) e comes m = record { same = same held comes.stops; plain = rw m (plain_refused r); usage = λ u. absurd (no_usage_refused r (sym (ap (λ x. x.status) m) ∙ u)); unshaped = λ none. absurd (some_none c (e ∙ none)) } where
   same : (h : Option Files) → IfSome h (λ files. performed c files (Err (Some r))) → IfSome h (λ files. IsAnswer words files ans)
   same None p = tt
   same (Some files) p = subst (IsAnswer words files) (sym m) (answer_is words c files (Err (Some r)) e p)

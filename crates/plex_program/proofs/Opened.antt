@@ -7,10 +7,17 @@ use Rattle.source_meaning.specs.SingleRun.{Ending}
 use Rattle.source_meaning.specs.State.{State}
 use Rattle.source_meaning.specs.Valid.{IsValid}
 use Rattle.retire_order.specs.Accounts.{with_words}
+use Rattle.retire_order.specs.Events.{ending_of}
 use Rattle.shared_store.specs.Loans.{unlent}
 use Rattle.shared_store.specs.Seats.{RootView, StoreId}
+use Rattle.exchange_run.specs.declared.short.Come.{Come}
+use Rattle.exchange_run.specs.declared.short.Come.TheVariants.{Among, Over}
+use Rattle.exchange_run.specs.declared.turns.Ended.{Ended}
+use Rattle.exchange_run.specs.declared.turns.Standing.{Standing}
+use Rattle.exchange_run.specs.Comes.{HasCome, IsOnTheWay}
 use Rattle.exchange_run.specs.Runs.{RunsTo}
 use Rattle.exchange_run.proofs.Opened.{comes_to}
+use Rattle.exchange_run.proofs.Resting.{way_more, way_over}
 use Rattle.parallel_dispatch.specs.Ends.{EndsAs}
 
 -- before the first line
@@ -19,6 +26,16 @@ pub limit_few : (n limit : ℕ) → n ≡ limit → limit ≤ MOST_JOBS → n �
 limit_few n limit is few = subst (λ k. k ≤ MOST_JOBS) (sym is) few
 
 pub ruleset opened_rules = (limit_few, comes_to)
+
+-- a run on its way goes on: it comes to its end, or rests again
+
+pub come_over : (x : Exchange) (first : State) (limit : ℕ) (run : Standing) (come : Come) (end : Ended) → IsOnTheWay x first limit run → HasCome x (with_words run.books.state run.words) run.books.limit come → come ≡ Over end → RunsTo x first limit end.books.state end.words (ending_of end.ending)
+come_over x first limit run come end way has is =
+    let over = subst (HasCome x (with_words run.books.state run.words) run.books.limit) is has in
+    way_over x first limit run end.books.state end.words (ending_of end.ending) way over.0
+
+pub come_among : (x : Exchange) (first : State) (limit : ℕ) (run next : Standing) (come : Come) → IsOnTheWay x first limit run → HasCome x (with_words run.books.state run.words) run.books.limit come → come ≡ Among next → IsOnTheWay x first limit next
+come_among x first limit run next come way has is = way_more x first limit run next way (subst (HasCome x (with_words run.books.state run.words) run.books.limit) is has)
 
 -- the root
 

@@ -1,31 +1,19 @@
 -- Stages, one after the other.
-use Rattle.std.proofs.Common.{◌≡◌, ℕ, ◌+◌, ◌<◌, ◌≤◌, List, length, take, Option, Some, None, Result, Ok, Err, IfSome, IsSomeAnd, refl, sym, subst, ap, ◌∙◌, arith, min}
+use Rattle.std.proofs.Common.{◌≡◌, ℕ, ◌+◌, ◌<◌, ◌≤◌, Bool, true, false, nat_lt, List, length, take, Option, Some, None, Result, Ok, Err, IfSome, IsSomeAnd, refl, sym, subst, ap, ◌∙◌, arith, min}
 use Rattle.std.proofs.lemmas.List.{take_all, length-take}
 use Rattle.std.proofs.lemmas.Bool.{lt-ltb, le-ltb}
+use Rattle.std.proofs.lemmas.Bool.Decides.{nat_tests}
 use Rattle.plex_io.specs.Files.{Files, Gives, Lacks}
-use Rattle.plex_io.specs.Causes.{Rose}
 use Rattle.plex_limits.specs.declared.limits.TheConstants.{MOST_BYTES}
-use Rattle.plex_program.specs.Answer.{FromExchange, OfExchange, GoesOn, Tells, exchange_at, fitting, Out, goes_on, text_held, text_at, Comes, StopsBy, Reads, HaltsBy, Performs}
+use Rattle.plex_program.specs.Outcome.{GoesOn, Out, goes_on, or_refused}
+use Rattle.plex_program.specs.Stages.{Comes, Performs, Reads, StopsBy, Tells}
+use Rattle.plex_program.specs.Given.{exchange_at, fitting, text_of_file, text_at}
+use Rattle.plex_program.specs.ExchangeAnswer.{FromExchange, OfExchange}
 use Rattle.exchange_model.specs.declared.exchange.Exchange.{Exchange}
 use Rattle.plex_program.specs.declared.perform.Answer.{Answer}
 use Rattle.plex_program.specs.declared.perform.Refused.{Refused}
 use Rattle.plex_program.specs.declared.perform.Stop.{Stop}
 use Rattle.plex_program.specs.declared.perform.Stop.TheVariants as stop
-
-module _ (limit : ℕ) where
-  same_size : (bytes got : List ℕ) → got ≡ take (limit + 1) bytes → length got ≡ min (limit + 1) (length bytes)
-  same_size bytes got e = ap length e ∙ length-take (limit + 1) bytes
-
-  fits_one : (bytes got : List ℕ) → got ≡ take (limit + 1) bytes → length got ≤ limit → fitting limit bytes ≡ Some got
-  fits_one bytes got e le =
-      let all : length bytes ≤ limit = (let n : length got ≡ min (limit + 1) (length bytes) = same_size bytes got e in omega (arith, n, le)) in
-      let same : got ≡ bytes = e ∙ take_all (limit + 1) bytes (let l : length bytes ≤ limit = all in omega (arith, l)) in
-      rw (le-ltb limit (length bytes) all, same) refl
-
-  large_one : (bytes got : List ℕ) → got ≡ take (limit + 1) bytes → limit < length got → fitting limit bytes ≡ None
-  large_one bytes got e lt =
-      let all : limit < length bytes = (let n : length got ≡ min (limit + 1) (length bytes) = same_size bytes got e in omega (arith, n, lt)) in
-      rw (lt-ltb limit (length bytes) all) refl
 
 -- a text that fits, and one that does not
 pub is_fitting : (bytes : List ℕ) → length bytes ≤ MOST_BYTES → Some bytes ≡ fitting MOST_BYTES bytes
@@ -34,103 +22,129 @@ is_fitting bytes le = sym (rw (le-ltb MOST_BYTES (length bytes) le) refl)
 pub none_fitting : (bytes : List ℕ) → MOST_BYTES < length bytes → None ≡ fitting MOST_BYTES bytes
 none_fitting bytes lt = sym (rw (lt-ltb MOST_BYTES (length bytes) lt) refl)
 
-fits_held : (o : Option (List ℕ)) (got : List ℕ) → Gives o MOST_BYTES got → length got ≤ MOST_BYTES → text_held o ≡ Ok (Some got)
-fits_held None got e le = absurd e
-fits_held (Some bytes) got e le = ap Ok (fits_one MOST_BYTES bytes got e le)
+-- what is read of a text fits as the text does
+read_fits : (limit : ℕ) (bytes got : List ℕ) → got ≡ take (limit + 1) bytes → fitting limit bytes ≡ fitting limit got
+read_fits limit bytes got e = by (nat_lt limit (length got)) refl
+  where
+    size : length got ≡ min (limit + 1) (length bytes)
+    size = ap length e ∙ length-take (limit + 1) bytes
 
-large_held : (o : Option (List ℕ)) (got : List ℕ) → Gives o MOST_BYTES got → MOST_BYTES < length got → text_held o ≡ Ok None
-large_held None got e lt = absurd e
-large_held (Some bytes) got e lt = ap Ok (large_one MOST_BYTES bytes got e lt)
+    by : (b : Bool) → nat_lt limit (length got) ≡ b → fitting limit bytes ≡ fitting limit got
+    by true over =
+        let long : limit < length got = grind (arith, nat_tests, over) in
+        rw (lt-ltb limit (length bytes) (let n = size in omega (arith, n, long)), over) refl
+    by false fits =
+        let short : length got ≤ limit = grind (arith, nat_tests, fits) in
+        ap (fitting limit) (sym (e ∙ take_all (limit + 1) bytes (let n = size in omega (arith, n, short))))
 
--- the file fits
-pub text_fits : (files : Option Files) (name got : List ℕ) → IfSome files (λ f. Gives (f name) MOST_BYTES got) → length got ≤ MOST_BYTES → IfSome files (λ f. text_at name f ≡ Ok (Some got))
-text_fits None name got e le = tt
-text_fits (Some files) name got e le = fits_held (files name) got e le
+-- the text of a file
+pub text_comes : (held : Option Files) (name got : List ℕ) (kept : Option (List ℕ)) (b a : ℕ) → IfSome held (λ f. Gives (f name) MOST_BYTES got) → kept ≡ fitting MOST_BYTES got → b ≤ a → Comes held (text_at name) b a (Ok kept)
+text_comes held name got kept b a given is later = record { ok = by held given; stops = tt; later = later }
+  where
+    of : (o : Option (List ℕ)) → Gives o MOST_BYTES got → text_of_file o ≡ Ok kept
+    of None e = absurd e
+    of (Some bytes) e = ap Ok (read_fits MOST_BYTES bytes got e ∙ sym is)
 
--- the file is too large
-pub text_large : (files : Option Files) (name got : List ℕ) → IfSome files (λ f. Gives (f name) MOST_BYTES got) → MOST_BYTES < length got → IfSome files (λ f. text_at name f ≡ Ok None)
-text_large None name got e lt = tt
-text_large (Some files) name got e lt = large_held (files name) got e lt
+    by : (h : Option Files) → IfSome h (λ f. Gives (f name) MOST_BYTES got) → IfSome h (λ f. text_at name f ≡ Ok kept)
+    by None e = tt
+    by (Some files) e = of (files name) e
 
--- the file is not held
+-- there is none
 pub text_absent : (files : Option Files) (name : List ℕ) → Lacks files name → IsSomeAnd files (λ f. text_at name f ≡ Err None)
 text_absent None name e = absurd e
 text_absent (Some files) name e = rw e refl
 
--- a count that rose
-pub rose_on : (b m a : ℕ) → b ≤ m → Rose m a → Rose b a
-rose_on b m a le r = omega arith
+-- a stage that stops, before what comes of it
+stopped : {A B : Type 0} (held : Option Files) (f : Files → Out A) (work : Files → Out B → Type 0) (b a : ℕ) (e : Stop) → ((files : Files) (r : Option Refused) → f files ≡ Err r → work files (Err r)) → Comes held f b a (Err e) → Performs held work b a (Err e)
+stopped {A = A} {B = B} held f work b a e so c = record { ok = tt; stops = by held e c.stops; later = c.later } where
+  by : (h : Option Files) (e : Stop) → StopsBy {A = A} h (λ files o. f files ≡ o) b a e → StopsBy {A = B} h work b a e
+  by None (stop.Refused r) s = tt
+  by (Some files) (stop.Refused r) s = so files (Some r) s
+  by None stop.NotHeld s = s
+  by (Some files) stop.NotHeld s = so files None s
+  by h stop.Failed s = s
+  by h stop.Memory s = tt
 
-pub rose_before : (b m a : ℕ) → m ≤ a → Rose b m → Rose b a
-rose_before b m a le r = omega arith
+-- a stage, and what comes of its value
+went_on : {A B : Type 0} (held : Option Files) (f : Files → Out A) (next work : Files → Out B → Type 0) (b m a : ℕ) (v : A) (r : Result B Stop) → ((files : Files) (o : Out B) → f files ≡ Ok v → next files o → work files o) → Comes held f b m (Ok v) → Performs held next m a r → Performs held work b a r
+went_on held f next work b m a v (Ok w) so c d = record { ok = by held c.ok d.ok; stops = tt; later = omega (arith, c.later, d.later) } where
+  by : (h : Option Files) → IfSome h (λ files. f files ≡ Ok v) → IfSome h (λ files. next files (Ok w)) → IfSome h (λ files. work files (Ok w))
+  by None c d = tt
+  by (Some files) c d = so files (Ok w) c d
+went_on {A = A} {B = B} held f next work b m a v (Err e) so c d = record { ok = tt; stops = by held e c.ok c.later d.stops; later = omega (arith, c.later, d.later) } where
+  by : (h : Option Files) (e : Stop) → IfSome h (λ files. f files ≡ Ok v) → b ≤ m → StopsBy {A = B} h next m a e → StopsBy {A = B} h work b a e
+  by None (stop.Refused r) c le s = tt
+  by (Some files) (stop.Refused r) c le s = so files (Err (Some r)) c s
+  by None stop.NotHeld c le s = s
+  by (Some files) stop.NotHeld c le s = so files (Err None) c s
+  by h stop.Failed c le s = omega (arith, le, s)
+  by h stop.Memory c le s = tt
 
--- a stage that stops
+-- the same of functions
+on_err : {A B : Type 0} (s : Out A) (go : A → Out B) (r : Option Refused) → s ≡ Err r → goes_on s go ≡ Err r
+on_err s go r is = ap (λ s. goes_on s go) is
+
+on_ok : {A B : Type 0} (s : Out A) (go : A → Out B) (v : A) (o : Out B) → s ≡ Ok v → go v ≡ o → goes_on s go ≡ o
+on_ok s go v o is gone = ap (λ s. goes_on s go) is ∙ gone
+
 pub comes_stop : {A B : Type 0} (held : Option Files) (f : Files → Out A) (g : Files → A → Out B) (b a : ℕ) (e : Stop) → Comes held f b a (Err e) → Comes held (λ files. goes_on (f files) (g files)) b a (Err e)
-comes_stop {A = A} {B = B} held f g b a e c = record { ok = tt; stops = stops_on held f g b a e c.stops; later = c.later } where
-  stops_on : (held : Option Files) (f : Files → Out A) (g : Files → A → Out B) (b a : ℕ) (e : Stop) → StopsBy held f b a e → StopsBy held (λ files. goes_on (f files) (g files)) b a e
-  stops_on None f g b a (stop.Refused r) s = tt
-  stops_on (Some files) f g b a (stop.Refused r) s = ap (λ r. goes_on r (g files)) s
-  stops_on None f g b a stop.NotHeld s = s
-  stops_on (Some files) f g b a stop.NotHeld s = ap (λ r. goes_on r (g files)) s
-  stops_on held f g b a stop.Failed s = s
-  stops_on held f g b a stop.Memory s = tt
+comes_stop held f g b a e c = stopped held f (λ files o. goes_on (f files) (g files) ≡ o) b a e (λ files r is. on_err (f files) (g files) r is) c
 
--- a stage after another
 pub comes_go : {A B : Type 0} (held : Option Files) (f : Files → Out A) (g : Files → A → Out B) (b m a : ℕ) (v : A) (r : Result B Stop) → Comes held f b m (Ok v) → Comes held (λ files. g files v) m a r → Comes held (λ files. goes_on (f files) (g files)) b a r
-comes_go {A = A} {B = B} held f g b m a v (Ok w) c d = record { ok = goes held f g v w c.ok d.ok; stops = tt; later = omega (arith, c.later, d.later) } where
-  goes : (held : Option Files) (f : Files → Out A) (g : Files → A → Out B) (v : A) (w : B) → IfSome held (λ files. f files ≡ Ok v) → IfSome held (λ files. g files v ≡ Ok w) → IfSome held (λ files. goes_on (f files) (g files) ≡ Ok w)
-  goes None f g v w c d = tt
-  goes (Some files) f g v w c d = ap (λ r. goes_on r (g files)) c ∙ d
-comes_go {A = A} {B = B} held f g b m a v (Err e) c d = record { ok = tt; stops = goes held f g b m a v e c.ok c.later d.stops; later = omega (arith, c.later, d.later) } where
-  goes : (held : Option Files) (f : Files → Out A) (g : Files → A → Out B) (b m a : ℕ) (v : A) (e : Stop) → IfSome held (λ files. f files ≡ Ok v) → b ≤ m → StopsBy held (λ files. g files v) m a e → StopsBy held (λ files. goes_on (f files) (g files)) b a e
-  goes None f g b m a v (stop.Refused r) c le s = tt
-  goes (Some files) f g b m a v (stop.Refused r) c le s = ap (λ r. goes_on r (g files)) c ∙ s
-  goes None f g b m a v stop.NotHeld c le s = s
-  goes (Some files) f g b m a v stop.NotHeld c le s = ap (λ r. goes_on r (g files)) c ∙ s
-  goes held f g b m a v stop.Failed c le s = rose_on b m a le s
-  goes held f g b m a v stop.Memory c le s = tt
+comes_go held f g b m a v r c d = went_on held f (λ files o. g files v ≡ o) (λ files o. goes_on (f files) (g files) ≡ o) b m a v r (λ files o is gone. on_ok (f files) (g files) v o is gone) c d
 
--- a value that needs no file
-pub comes_value : {A : Type 0} (held : Option Files) (stage : Files → Out A) (n : ℕ) (v : A) → ((files : Files) → stage files ≡ Ok v) → Comes held stage n n (Ok v)
-comes_value None stage n v e = record { ok = tt; stops = tt; later = omega arith }
-comes_value (Some files) stage n v e = record { ok = e files; stops = tt; later = omega arith }
+-- the same of relations
+goes_err : {A : Type 0} (s : Out A) (Go : A → Out Answer → Type 0) (r : Option Refused) → s ≡ Err r → GoesOn s Go (Err r)
+goes_err s Go r is = subst (λ s. GoesOn s Go (Err r)) (sym is) refl
+
+goes_ok : {A : Type 0} (s : Out A) (Go : A → Out Answer → Type 0) (v : A) (o : Out Answer) → s ≡ Ok v → Go v o → GoesOn s Go o
+goes_ok s Go v o is go = subst (λ s. GoesOn s Go o) (sym is) go
+
+pub performs_stop : {A : Type 0} (held : Option Files) (f : Files → Out A) (Go : Files → A → Out Answer → Type 0) (b a : ℕ) (e : Stop) → Comes held f b a (Err e) → Performs held (λ files. GoesOn (f files) (Go files)) b a (Err e)
+performs_stop held f Go b a e c = stopped held f (λ files. GoesOn (f files) (Go files)) b a e (λ files r is. goes_err (f files) (Go files) r is) c
+
+pub performs_go : {A : Type 0} (held : Option Files) (f : Files → Out A) (Go : Files → A → Out Answer → Type 0) (b m a : ℕ) (v : A) (r : Result Answer Stop) → Comes held f b m (Ok v) → Performs held (λ files. Go files v) m a r → Performs held (λ files. GoesOn (f files) (Go files)) b a r
+performs_go held f Go b m a v r c d = went_on held f (λ files. Go files v) (λ files. GoesOn (f files) (Go files)) b m a v r (λ files o is go. goes_ok (f files) (Go files) v o is go) c d
+
+-- an outcome that needs no file
+pub performs_told : {A : Type 0} (held : Option Files) (Is : Out A → Type 0) (n : ℕ) (r : Result A Stop) → Tells Is r → Performs held (λ files. Is) n n r
+performs_told None Is n (Ok v) s = record { ok = tt; stops = tt; later = omega arith }
+performs_told (Some files) Is n (Ok v) s = record { ok = s; stops = tt; later = omega arith }
+performs_told None Is n (Err (stop.Refused r)) s = record { ok = tt; stops = tt; later = omega arith }
+performs_told (Some files) Is n (Err (stop.Refused r)) s = record { ok = tt; stops = s; later = omega arith }
+performs_told held Is n (Err stop.NotHeld) s = absurd s
+performs_told held Is n (Err stop.Failed) s = absurd s
+performs_told held Is n (Err stop.Memory) s = record { ok = tt; stops = tt; later = omega arith }
+
+pub comes_answer : {A : Type 0} (held : Option Files) (said : A) (n : ℕ) (v : A) → v ≡ said → Comes held (λ files. Ok said) n n (Ok v)
+comes_answer held said n v is = performs_told held (λ o. Ok said ≡ o) n (Ok v) (ap Ok (sym is))
+
+-- memory was refused
+refused_memory : {A : Type 0} (held : Option Files) (Is : Files → Out A → Type 0) (b a : ℕ) (e : Stop) → e ≡ stop.Memory → b ≤ a → Performs held Is b a (Err e)
+refused_memory {A = A} held Is b a e is later = subst (λ f. Performs {A = A} held Is b a (Err f)) (sym is) (record { ok = tt; stops = tt; later = later })
+
+pub performs_memory : {A : Type 0} (held : Option Files) (Is : Files → Out A → Type 0) (n : ℕ) (e : Stop) → e ≡ stop.Memory → Performs held Is n n (Err e)
+performs_memory held Is n e is = refused_memory held Is n n e is (omega arith)
+
+pub ruleset comes_rules = (comes_stop, comes_go, comes_answer, performs_told, performs_memory)
+
+pub ruleset performs_rules = (performs_stop, performs_go, performs_told, performs_memory)
 
 -- a text's refusal
 pub reads_stop : {A B : Type 0} (f : Out A) (g : A → Out B) (e : Stop) → Reads f (Err e) → Reads (goes_on f g) (Err e)
-reads_stop f g (stop.Refused r) s = ap (λ o. goes_on o g) s
+reads_stop f g (stop.Refused r) s = on_err f g (Some r) s
 reads_stop f g stop.NotHeld s = s
 reads_stop f g stop.Failed s = s
 reads_stop f g stop.Memory s = tt
 
 -- a text's value, and what comes of it
 pub reads_go : {A B : Type 0} (f : Out A) (g : A → Out B) (v : A) (r : Result B Stop) → f ≡ Ok v → Reads (g v) r → Reads (goes_on f g) r
-reads_go f g v (Ok w) is s = ap (λ o. goes_on o g) is ∙ s
-reads_go f g v (Err (stop.Refused r)) is s = ap (λ o. goes_on o g) is ∙ s
+reads_go f g v (Ok w) is s = on_ok f g v (Ok w) is s
+reads_go f g v (Err (stop.Refused r)) is s = on_ok f g v (Err (Some r)) is s
 reads_go f g v (Err stop.NotHeld) is s = s
 reads_go f g v (Err stop.Failed) is s = s
 reads_go f g v (Err stop.Memory) is s = tt
 
--- a text as a stage
-pub comes_reads : {A : Type 0} (held : Option Files) (f : Out A) (n : ℕ) (r : Result A Stop) → Reads f r → Comes held (λ files. f) n n r
-comes_reads None f n (Ok v) s = record { ok = tt; stops = tt; later = omega arith }
-comes_reads (Some files) f n (Ok v) s = record { ok = s; stops = tt; later = omega arith }
-comes_reads None f n (Err (stop.Refused r)) s = record { ok = tt; stops = tt; later = omega arith }
-comes_reads (Some files) f n (Err (stop.Refused r)) s = record { ok = tt; stops = s; later = omega arith }
-comes_reads held f n (Err stop.NotHeld) s = absurd s
-comes_reads held f n (Err stop.Failed) s = absurd s
-comes_reads held f n (Err stop.Memory) s = record { ok = tt; stops = tt; later = omega arith }
-
--- memory was refused
-pub comes_memory : {A : Type 0} (held : Option Files) (stage : Files → Out A) (n : ℕ) (e : Stop) → e ≡ stop.Memory → Comes held stage n n (Err e)
-comes_memory {A = A} held stage n e is = subst (λ f. Comes {A = A} held stage n n (Err f)) (sym is) (record { ok = tt; stops = tt; later = omega arith })
-
--- an answer that needs no file
-pub comes_answer : {A : Type 0} (held : Option Files) (said : A) (n : ℕ) (v : A) → v ≡ said → Comes held (λ files. Ok said) n n (Ok v)
-comes_answer held said n v is = comes_value held (λ files. Ok said) n v (λ files. ap Ok (sym is))
-
-pub ruleset comes_rules = (comes_stop, comes_go, comes_reads, comes_memory, comes_answer)
-
--- the same of a text
 pub reads_memory : {A : Type 0} (f : Out A) (e : Stop) → e ≡ stop.Memory → Reads f (Err e)
 reads_memory f e is = subst (λ s. Reads f (Err s)) (sym is) tt
 
@@ -139,89 +153,27 @@ reads_answer said v is = ap Ok (sym is)
 
 pub ruleset reads_rules = (reads_stop, reads_go, reads_memory, reads_answer)
 
--- a command that comes to what a stage comes to
-pub performs_comes : (held : Option Files) (f : Files → Out Answer) (b a : ℕ) (r : Result Answer Stop) → Comes held f b a r → Performs held (λ files o. f files ≡ o) b a r
-performs_comes held f b a (Ok v) c = record { ok = c.ok; halts = tt; later = c.later }
-performs_comes held f b a (Err e) c = record { ok = tt; halts = halts held f b a e c.stops; later = c.later } where
-  halts : (held : Option Files) (f : Files → Out Answer) (b a : ℕ) (e : Stop) → StopsBy held f b a e → HaltsBy held (λ files o. f files ≡ o) b a e
-  halts held f b a (stop.Refused r) s = s
-  halts held f b a stop.NotHeld s = s
-  halts held f b a stop.Failed s = s
-  halts held f b a stop.Memory s = tt
+-- the value of a file, or its first fault
+pub refused_ok : {A F : Type 0} (by : F → Refused) (said : Result A F) (a : A) → Ok a ≡ said → Reads (or_refused by said) (Ok a)
+refused_ok by said a is = ap (or_refused by) (sym is)
 
-pub performs_reads : (held : Option Files) (f : Out Answer) (n : ℕ) (r : Result Answer Stop) → Reads f r → Performs held (λ files o. f ≡ o) n n r
-performs_reads held f n r s = performs_comes held (λ files. f) n n r (comes_reads held f n r s)
+pub refused_fault : {A F : Type 0} (by : F → Refused) (said : Result A F) (f : F) → Err f ≡ said → Reads (or_refused by said) (Err (stop.Refused (by f)))
+refused_fault by said f is = ap (or_refused by) (sym is)
+
+pub ruleset refused_rules = (refused_ok, refused_fault)
 
 -- an answer of the exchange of a file
-pub performs_of : (held : Option Files) (name : List ℕ) (Is : Exchange → Answer → Type 0) (b a : ℕ) (x : Exchange) (v : Answer) → Comes held (exchange_at name) b a (Ok x) → Is x v → Performs held (FromExchange name Is) b a (Ok v)
-performs_of held name Is b a x v c is = record { ok = of held c.ok; halts = tt; later = c.later } where
+pub exchange_told : (held : Option Files) (name : List ℕ) (Is : Exchange → Answer → Type 0) (b a : ℕ) (x : Exchange) (v : Answer) → Comes held (exchange_at name) b a (Ok x) → Is x v → Performs held (FromExchange name Is) b a (Ok v)
+exchange_told held name Is b a x v c is = record { ok = of held c.ok; stops = tt; later = c.later } where
   of : (h : Option Files) → IfSome h (λ files. exchange_at name files ≡ Ok x) → IfSome h (λ files. OfExchange name Is files v)
   of None comes = tt
   of (Some files) comes = record { exchange = x; comes = comes; answers = is }
 
--- memory was refused
-pub performs_memory : (held : Option Files) (Is : Files → Out Answer → Type 0) (b a : ℕ) (e : Stop) → e ≡ stop.Memory → b ≤ a → Performs held Is b a (Err e)
-performs_memory held Is b a e is later = subst (λ f. Performs held Is b a (Err f)) (sym is) (record { ok = tt; halts = tt; later = later })
-
-pub from_memory : (held : Option Files) (name : List ℕ) (Is : Exchange → Answer → Type 0) (b a : ℕ) (x : Exchange) (e : Stop) → Comes held (exchange_at name) b a (Ok x) → e ≡ stop.Memory → Performs held (FromExchange name Is) b a (Err e)
-from_memory held name Is b a x e c is = performs_memory held (FromExchange name Is) b a e is c.later
-
 -- a file that is none
-pub performs_stop : (held : Option Files) (name : List ℕ) (Is : Exchange → Answer → Type 0) (b a : ℕ) (e : Stop) → Comes {A = Exchange} held (exchange_at name) b a (Err e) → Performs held (FromExchange name Is) b a (Err e)
-performs_stop held name Is b a e c = record { ok = tt; halts = halts held b a e c.stops; later = c.later } where
-  halts : (held : Option Files) (b a : ℕ) (e : Stop) → StopsBy held (exchange_at name) b a e → HaltsBy held (FromExchange name Is) b a e
-  halts held b a (stop.Refused r) s = s
-  halts held b a stop.NotHeld s = s
-  halts held b a stop.Failed s = s
-  halts held b a stop.Memory s = tt
+pub exchange_stop : (held : Option Files) (name : List ℕ) (Is : Exchange → Answer → Type 0) (b a : ℕ) (e : Stop) → Comes {A = Exchange} held (exchange_at name) b a (Err e) → Performs held (FromExchange name Is) b a (Err e)
+exchange_stop held name Is b a e c = stopped held (exchange_at name) (FromExchange name Is) b a e (λ files r is. is) c
 
--- what comes of a value
-goes_ok : {A : Type 0} (s : Out A) (Go : A → Out Answer → Type 0) (v : A) (o : Out Answer) → s ≡ Ok v → Go v o → GoesOn s Go o
-goes_ok s Go v o is go = subst (λ s. GoesOn s Go o) (sym is) go
+pub exchange_memory : (held : Option Files) (name : List ℕ) (Is : Exchange → Answer → Type 0) (b a : ℕ) (x : Exchange) (e : Stop) → Comes held (exchange_at name) b a (Ok x) → e ≡ stop.Memory → Performs held (FromExchange name Is) b a (Err e)
+exchange_memory held name Is b a x e c is = refused_memory held (FromExchange name Is) b a e is c.later
 
--- a refusal
-goes_err : {A : Type 0} (s : Out A) (Go : A → Out Answer → Type 0) (r : Option Refused) → s ≡ Err r → GoesOn s Go (Err r)
-goes_err s Go r is = subst (λ s. GoesOn s Go (Err r)) (sym is) refl
-
--- a stage that stops, before what comes of its value
-pub performs_halt : {A : Type 0} (held : Option Files) (f : Files → Out A) (Go : Files → A → Out Answer → Type 0) (b a : ℕ) (e : Stop) → Comes held f b a (Err e) → Performs held (λ files. GoesOn (f files) (Go files)) b a (Err e)
-performs_halt {A = A} held f Go b a e c = record { ok = tt; halts = halts held f Go b a e c.stops; later = c.later } where
-  halts : (held : Option Files) (f : Files → Out A) (Go : Files → A → Out Answer → Type 0) (b a : ℕ) (e : Stop) → StopsBy held f b a e → HaltsBy held (λ files. GoesOn (f files) (Go files)) b a e
-  halts None f Go b a (stop.Refused r) s = tt
-  halts (Some files) f Go b a (stop.Refused r) s = goes_err (f files) (Go files) (Some r) s
-  halts None f Go b a stop.NotHeld s = s
-  halts (Some files) f Go b a stop.NotHeld s = goes_err (f files) (Go files) None s
-  halts held f Go b a stop.Failed s = s
-  halts held f Go b a stop.Memory s = tt
-
--- a stage, and what comes of its value
-pub performs_go : {A : Type 0} (held : Option Files) (f : Files → Out A) (Go : Files → A → Out Answer → Type 0) (b m a : ℕ) (v : A) (r : Result Answer Stop) → Comes held f b m (Ok v) → Performs held (λ files. Go files v) m a r → Performs held (λ files. GoesOn (f files) (Go files)) b a r
-performs_go {A = A} held f Go b m a v (Ok w) c d = record { ok = goes held f Go v w c.ok d.ok; halts = tt; later = omega (arith, c.later, d.later) } where
-  goes : (held : Option Files) (f : Files → Out A) (Go : Files → A → Out Answer → Type 0) (v : A) (w : Answer) → IfSome held (λ files. f files ≡ Ok v) → IfSome held (λ files. Go files v (Ok w)) → IfSome held (λ files. GoesOn (f files) (Go files) (Ok w))
-  goes None f Go v w c d = tt
-  goes (Some files) f Go v w c d = goes_ok (f files) (Go files) v (Ok w) c d
-performs_go {A = A} held f Go b m a v (Err e) c d = record { ok = tt; halts = halts held f Go b m a v e c.ok c.later d.halts; later = omega (arith, c.later, d.later) } where
-  halts : (held : Option Files) (f : Files → Out A) (Go : Files → A → Out Answer → Type 0) (b m a : ℕ) (v : A) (e : Stop) → IfSome held (λ files. f files ≡ Ok v) → b ≤ m → HaltsBy held (λ files. Go files v) m a e → HaltsBy held (λ files. GoesOn (f files) (Go files)) b a e
-  halts None f Go b m a v (stop.Refused r) c le s = tt
-  halts (Some files) f Go b m a v (stop.Refused r) c le s = goes_ok (f files) (Go files) v (Err (Some r)) c s
-  halts None f Go b m a v stop.NotHeld c le s = s
-  halts (Some files) f Go b m a v stop.NotHeld c le s = goes_ok (f files) (Go files) v (Err None) c s
-  halts held f Go b m a v stop.Failed c le s = rose_on b m a le s
-  halts held f Go b m a v stop.Memory c le s = tt
-
--- an outcome that needs no file
-pub performs_told : (held : Option Files) (Is : Out Answer → Type 0) (n : ℕ) (r : Result Answer Stop) → Tells Is r → Performs held (λ files. Is) n n r
-performs_told None Is n (Ok v) s = record { ok = tt; halts = tt; later = omega arith }
-performs_told (Some files) Is n (Ok v) s = record { ok = s; halts = tt; later = omega arith }
-performs_told None Is n (Err (stop.Refused r)) s = record { ok = tt; halts = tt; later = omega arith }
-performs_told (Some files) Is n (Err (stop.Refused r)) s = record { ok = tt; halts = s; later = omega arith }
-performs_told held Is n (Err stop.NotHeld) s = absurd s
-performs_told held Is n (Err stop.Failed) s = absurd s
-performs_told held Is n (Err stop.Memory) s = record { ok = tt; halts = tt; later = omega arith }
-
-pub told_memory : (held : Option Files) (Is : Files → Out Answer → Type 0) (n : ℕ) (e : Stop) → e ≡ stop.Memory → Performs held Is n n (Err e)
-told_memory held Is n e is = performs_memory held Is n n e is (omega arith)
-
-pub ruleset performs_rules = (performs_go, performs_halt, performs_told, told_memory)
-
-pub ruleset exchange_rules = (performs_of, performs_stop, from_memory)
+pub ruleset exchange_rules = (exchange_told, exchange_stop, exchange_memory)

@@ -3,7 +3,7 @@ use Rattle.std.proofs.Common.{◌≡◌, ℕ, ◌≤◌, ◌<◌, ◌^◌, List,
 use Rattle.plex_limits.specs.declared.limits.TheConstants.{MOST_BYTES}
 use Rattle.exchange_model.specs.declared.exchange.Exchange.{Exchange}
 use Rattle.signal_file.specs.declared.line.Line.{Line}
-use Rattle.job_table.specs.declared.fault.TableFault.{TableFault as ReadFault}
+use Rattle.job_table.specs.declared.fault.TableFault.{TableFault}
 use Rattle.job_table.specs.declared.period.Period.{Period}
 use Rattle.job_table.specs.Merged.{all_lines, by_count, line_count, merged, number_in}
 use Rattle.job_table.specs.Table.{table_periods}
@@ -11,8 +11,8 @@ use Rattle.job_table.proofs.Fit.{merged_fit}
 use Rattle.job_table.proofs.Numbering.{length-numbered}
 use Rattle.job_table.proofs.Sorting.{length-by_count}
 use Rattle.job_table.proofs.Turns.{length-all_lines}
-use Rattle.plex_program.specs.Answer.{Reads, or_untabled}
-use Rattle.plex_program.specs.Reading.{table_fault}
+use Rattle.plex_program.specs.Outcome.{goes_on, or_refused}
+use Rattle.plex_program.specs.Stages.{Reads}
 use Rattle.plex_program.specs.Runs.{AreOfText, AreRead}
 use Rattle.plex_program.specs.declared.perform.Refused.TheVariants.{Table}
 use Rattle.plex_program.specs.declared.perform.Stop.{Stop}
@@ -25,18 +25,26 @@ table_fits text small = short MOST_BYTES (omega arith) (length text) small
     short : (most : ℕ) → most ≤ 2 ^ 24 → (n : ℕ) → n ≤ most → n ≤ 2 ^ 24
     short most le n few = omega (arith, le, few)
 
-pub table_read : (lines : List Line) (said : Result (List Period) ReadFault) (periods : List Period) (r : Result (List Line) Stop) → Ok periods ≡ said → Reads (Ok (merged lines periods)) r → Reads (or_untabled lines said) r
-table_read lines said periods r is reads = subst (λ s. Reads (or_untabled lines s) r) is reads
+-- the periods of a table, and what comes of them
+pub table_read : (lines : List Line) (said : Result (List Period) TableFault) (periods : List Period) (r : Result (List Line) Stop) → Ok periods ≡ said → Reads (Ok (merged lines periods)) r → Reads (goes_on (or_refused Table said) (λ ps. Ok (merged lines ps))) r
+table_read lines said periods r is reads = subst (λ s. Reads (goes_on (or_refused Table s) (λ ps. Ok (merged lines ps))) r) is reads
 
-pub table_refused : (lines : List Line) (said : Result (List Period) ReadFault) (f : ReadFault) → Err f ≡ said → Reads (or_untabled lines said) (Err (stop.Refused (Table (table_fault f))))
-table_refused lines said f is = ap (or_untabled lines) (sym is)
+pub table_refused : (lines : List Line) (said : Result (List Period) TableFault) (f : TableFault) → Err f ≡ said → Reads (goes_on (or_refused Table said) (λ ps. Ok (merged lines ps))) (Err (stop.Refused (Table f)))
+table_refused lines said f is = ap (λ s. goes_on (or_refused Table s) (λ ps. Ok (merged lines ps))) (sym is)
+
+-- how many merged lines there are
+pub length-merged : (lines : List Line) (periods : List Period) → length (merged lines periods) ≡ line_count lines periods
+length-merged lines periods =
+    let sorted = by_count (all_lines lines periods) in
+    length-numbered (number_in sorted) 1 sorted ∙ length-by_count (all_lines lines periods) ∙ length-all_lines lines periods
 
 -- merged lines fit the exchange, and are few
 pub merged_are_read : (x : Exchange) (lines all : List Line) (table : List ℕ) (periods : List Period) → AreOfText x lines → Ok periods ≡ table_periods x (length lines) table → line_count lines periods < 2 ^ 32 → all ≡ merged lines periods → AreRead x all
 merged_are_read x lines all table periods of_text is few same =
-    let sorted = by_count (all_lines lines periods) in
-    let many : length (merged lines periods) ≡ line_count lines periods = length-numbered (number_in sorted) 1 sorted ∙ length-by_count (all_lines lines periods) ∙ length-all_lines lines periods in
+    let many = length-merged lines periods in
     subst (AreRead x) (sym same) (record {
       fit = merged_fit x of_text.text table lines periods of_text.are (sym is);
       few = omega (arith, many, few);
     })
+
+pub ruleset table_rules = (table_read, table_refused, table_fits)

@@ -11,3 +11,5 @@ line_found tokens i line is = sym (ap line_or_none is)
 
 pub line_absent : (tokens : List Token) (i : ℕ) → length tokens ≤ i → 0 ≡ token_line tokens i
 line_absent tokens i past = sym (ap line_or_none (slice_get-map (λ (t : Token). t.line) tokens i ∙ ap (option_map (λ (t : Token). t.line)) (slice_get_past tokens i past)))
+
+pub ruleset line_rules = (line_found, line_absent)

@@ -1,18 +1,16 @@
 -- A run with a table is the run of the signal file to which the merged lines are written out.
-use Rattle.std.proofs.Common.{◌≡◌, ℕ, ◌≤◌, ◌<◌, ◌^◌, List, [], length, map, Option, Some, None, Result, Ok, Err, refl, sym, ap, subst, ◌∙◌, arith}
+use Rattle.std.proofs.Common.{◌≡◌, ℕ, ◌≤◌, ◌<◌, ◌^◌, List, [], length, map, Option, Some, None, Ok, sym, ap, subst, ◌∙◌, arith}
 use Rattle.std.specs.List.{AllByRecursion}
 use Rattle.std.specs.Result.{result_ok}
 use Rattle.std.proofs.lemmas.Option.{none-some, same_Some}
 use Rattle.plex_io.specs.Files.{Files}
 use Rattle.plex_limits.specs.declared.limits.TheConstants.{MOST_BYTES}
 use Rattle.exchange_model.specs.declared.exchange.Exchange.{Exchange}
-use Rattle.signal_file.specs.declared.fault.SignalFault.{SignalFault}
 use Rattle.signal_file.specs.declared.line.Line.{Line}
 use Rattle.signal_file.specs.Lines.{signal_lines}
 use Rattle.source_meaning.specs.Valid.{LinesFit}
 use Rattle.retire_order.specs.Lines.{coming_of}
 use Rattle.retire_order.proofs.Fitting.{signal_lines_few}
-use Rattle.job_table.specs.declared.fault.TableFault.{TableFault as ReadFault}
 use Rattle.job_table.specs.declared.period.Period.{Period}
 use Rattle.job_table.specs.Fit.{AreNumberedFrom}
 use Rattle.job_table.specs.Merged.{all_lines, by_count, line_count, merged, number_in}
@@ -21,15 +19,16 @@ use Rattle.job_table.specs.Writing.{written_out}
 use Rattle.job_table.proofs.Again.{written_read}
 use Rattle.job_table.proofs.Fit.{merged_fit, merged_small, numbered_are}
 use Rattle.job_table.proofs.Fitted.{table_few}
-use Rattle.job_table.proofs.Numbering.{length-numbered}
-use Rattle.job_table.proofs.Sorting.{length-by_count}
-use Rattle.job_table.proofs.Turns.{length-all_lines}
-use Rattle.plex_program.specs.Answer.{exchange_at, goes_on, lines_at, lines_of_file, merged_at, merged_of_file, or_unread, or_untabled, run_answer, run_of, text_at, text_held, timed_of}
+use Rattle.plex_program.specs.Outcome.{goes_on, or_refused}
+use Rattle.plex_program.specs.Given.{exchange_at, lines_at, lines_of_file, text_at, text_of_file}
+use Rattle.plex_program.specs.RunAnswer.{run_answer, run_of}
+use Rattle.plex_program.specs.TimedAnswer.{merged_at, merged_of_file, timed_of}
 use Rattle.command_words.specs.Words.{Word}
 use Rattle.command_words.specs.declared.command.TimedWords.{TimedWords}
-use Rattle.plex_program.proofs.Accepted.{IsAccepted, accepted, gone_on, text_small}
+use Rattle.plex_program.specs.declared.perform.Refused.TheVariants.{Signals, Table}
+use Rattle.plex_program.proofs.Accepted.{IsAccepted, accepted, gone_on, read, text_small}
 use Rattle.plex_program.proofs.Stages.{is_fitting}
-use Rattle.plex_program.proofs.Tables.{table_fits}
+use Rattle.plex_program.proofs.Tables.{length-merged, table_fits}
 
 -- the text of a signal file has these lines
 record HasLines (x : Exchange) (lines : List Line) : Type 0 where
@@ -37,16 +36,12 @@ record HasLines (x : Exchange) (lines : List Line) : Type 0 where
   pub small : length text ≤ MOST_BYTES
   pub are : signal_lines x text ≡ Ok lines
 
-read : (r : Result (List Line) SignalFault) (lines : List Line) → or_unread r ≡ Ok lines → r ≡ Ok lines
-read (Ok own) lines e = ap Ok (same_Some own lines (ap result_ok e))
-read (Err f) lines e = absurd (none-some lines (ap result_ok e))
-
 has_lines : (x : Exchange) (name : Word) (files : Files) (lines : List Line) → lines_at x name files ≡ Ok lines → HasLines x lines
 has_lines x name files lines e = let a = gone_on (text_at name files) (lines_of_file x) lines e in by a.0 a.1 a.2
   where
     by : (o : Option (List ℕ)) → text_at name files ≡ Ok o → lines_of_file x o ≡ Ok lines → HasLines x lines
     by None held e = absurd (none-some lines (ap result_ok e))
-    by (Some text) held e = record { text = text; small = text_small name files text held; are = read (signal_lines x text) lines e }
+    by (Some text) held e = record { text = text; small = text_small name files text held; are = read Signals (signal_lines x text) lines e }
 
 -- the text of a table has these periods, and these are all lines
 record HasTable (x : Exchange) (lines all : List Line) : Type 0 where
@@ -55,23 +50,21 @@ record HasTable (x : Exchange) (lines all : List Line) : Type 0 where
   pub are : table_periods x (length lines) text ≡ Ok periods
   pub merge : merged lines periods ≡ all
 
-merges : (x : Exchange) (lines all : List Line) (text : List ℕ) (r : Result (List Period) ReadFault) → table_periods x (length lines) text ≡ r → or_untabled lines r ≡ Ok all → HasTable x lines all
-merges x lines all text (Ok periods) is e = record { text = text; periods = periods; are = is; merge = same_Some (merged lines periods) all (ap result_ok e) }
-merges x lines all text (Err f) is e = absurd (none-some all (ap result_ok e))
-
 has_table : (x : Exchange) (lines : List Line) (name : Word) (files : Files) (all : List Line) → merged_at x lines name files ≡ Ok all → HasTable x lines all
 has_table x lines name files all e = let a = gone_on (text_at name files) (merged_of_file x lines) all e in by a.0 a.2
   where
     by : (o : Option (List ℕ)) → merged_of_file x lines o ≡ Ok all → HasTable x lines all
     by None e = absurd (none-some all (ap result_ok e))
-    by (Some text) e = merges x lines all text (table_periods x (length lines) text) refl e
+    by (Some text) e =
+        let p = gone_on (or_refused Table (table_periods x (length lines) text)) (λ periods. Ok (merged lines periods)) all e in
+        record { text = text; periods = p.0; are = read Table (table_periods x (length lines) text) p.0 p.1; merge = same_Some (merged lines p.0) all (ap result_ok p.2) }
 
 -- what is written out is read again
 read_again : (x : Exchange) (lines all : List Line) → IsAccepted x → HasLines x lines → HasTable x lines all → signal_lines x (written_out x all) ≡ Ok all
 read_again x lines all a l t =
     let sorted = by_count (all_lines lines t.periods) in
     let short : length lines < 2 ^ 32 = signal_lines_few x l.text lines (table_fits l.text l.small) l.are in
-    let many : length (merged lines t.periods) ≡ line_count lines t.periods = length-numbered (number_in sorted) 1 sorted ∙ length-by_count (all_lines lines t.periods) ∙ length-all_lines lines t.periods in
+    let many = length-merged lines t.periods in
     let few : line_count lines t.periods < 2 ^ 32 = table_few x lines t.text t.periods (sym t.are) short in
     let fewer : length (merged lines t.periods) < 2 ^ 32 = omega (arith, many, few) in
     subst (λ ls. signal_lines x (written_out x ls) ≡ Ok ls) t.merge
@@ -80,9 +73,9 @@ read_again x lines all a l t =
 -- the lines of a file that has the text of these
 lines_again : (x : Exchange) (name : Word) (others : Files) (all : List Line) → others name ≡ Some (written_out x all) → length (written_out x all) ≤ MOST_BYTES → signal_lines x (written_out x all) ≡ Ok all → lines_at x name others ≡ Ok all
 lines_again x name others all held short are =
-    ap (λ o. goes_on (text_held o) (λ text. lines_of_file x text)) held
+    ap (λ o. goes_on (text_of_file o) (λ text. lines_of_file x text)) held
     ∙ ap (λ (o : Option (List ℕ)). lines_of_file x o) (sym (is_fitting (written_out x all) short))
-    ∙ ap or_unread are
+    ∙ ap (or_refused Signals) are
 
 pub lines_of_text : (name : Word) (files : Files) (x : Exchange) (lines : List Line) → exchange_at name files ≡ Ok x → LinesFit x [] (map coming_of lines) → AreNumberedFrom 1 lines
     → AllByRecursion (λ (l : Line). l.after < 2 ^ 32) lines → length lines < 2 ^ 32 → signal_lines x (written_out x lines) ≡ Ok lines

@@ -3,7 +3,7 @@ use Rattle.std.specs.Prelude.{ℕ, List, Option, Some, None}
 use Rattle.exchange_model.specs.declared.exchange.Exchange.{Exchange}
 use Rattle.certificate_text.specs.declared.certificate.Certificate.{Certificate}
 use Rattle.certificate_text.specs.Lines.{HasBadLine, IsTextOf}
-use Rattle.checked.specs.Kept.{IsChecked, Kept}
+use Rattle.checked.specs.Kept.{IsChecked, KeptSummaries}
 use Rattle.checked.specs.Verdicts.{AreShapes, IsClosedCertificate, IsMissing, IsStrange}
 use Rattle.plex_program.specs.declared.certifying.Unkept.{Unkept}
 use Rattle.plex_program.specs.declared.certifying.Unkept.TheVariants.{Faulty, Memory}
@@ -26,7 +26,7 @@ pub data IsJudged (x : Exchange) : Option (List ℕ) → Option CertificateFault
   read : (text : List ℕ) (c : Certificate) (o : Option CertificateFault) → IsTextOf text c → Judges x c o → IsJudged x (Some text) o
 
 -- this is kept of a certificate of the exchange that has this text
-pub record IsKeptBy (x : Exchange) (text : Option (List ℕ)) (k : Kept) : Type 0 where
+pub record IsKeptBy (x : Exchange) (text : Option (List ℕ)) (k : KeptSummaries) : Type 0 where
   pub judged : IsJudged x text None
   pub checked : IsChecked x k
 

@@ -1,5 +1,4 @@
--- The tree of an exchange text, or its first fault: a fault of its size, then of its tokens, then of its sentence. The fault of a
--- signal file, of a table and of a filter.
+-- The tree of an exchange text, or its first fault: a fault of its size, then of its tokens, then of its sentence.
 use Rattle.std.specs.Prelude.{ℕ, ◌≤◌, ◌+◌, List, slice_get, Option, Some, None, Result, Ok, Err}
 use Rattle.plex_lexer.specs.Lexed.{tokens_of}
 use Rattle.plex_lexer.specs.Cursors.{lines}
@@ -15,26 +14,12 @@ use Rattle.plex_limits.specs.declared.limits.TheConstants.{MOST_WHENS}
 use Rattle.kept_trees.specs.Keeps.{IsKept}
 use Rattle.text_rules.specs.declared.rule.Rule.{Rule as TextRule}
 use Rattle.text_rules.specs.declared.rule.Rule.TheVariants.{Signals, Blocks, Links}
-use Rattle.text_rules.specs.declared.rule.LinkRule.{LinkRule}
-use Rattle.text_rules.specs.declared.rule.LinkRule.TheVariants as links
 use Rattle.text_rules.specs.Signals as signals
 use Rattle.text_rules.specs.Blocks as blocks
 use Rattle.resolved_block.specs.Texts.{choices_in, exchange_of_tree}
 use Rattle.front_end.specs.declared.fault.TextFault.{TextFault}
 use Rattle.front_end.specs.declared.fault.TextFault.TheVariants as resolving
-use Rattle.signal_file.specs.declared.fault.SignalFault.{SignalFault}
-use Rattle.signal_file.specs.declared.fault.SignalFault.TheVariants as reading
-use Rattle.job_table.specs.declared.fault.TableFault.{TableFault as ReadFault}
-use Rattle.job_table.specs.declared.fault.TableFault.TheVariants as tabling
-use Rattle.signal_trace.specs.declared.fault.FilterFault.{FilterFault as ShowFault}
-use Rattle.signal_trace.specs.declared.fault.FilterFault.TheVariants as showing
-use Rattle.plex_program.specs.declared.fault.FilterFault.{FilterFault}
-use Rattle.plex_program.specs.declared.fault.FilterRule.TheVariants as filter_rule
-use Rattle.plex_program.specs.declared.fault.SignalsFault.{SignalsFault}
-use Rattle.plex_program.specs.declared.fault.SignalsRule.TheVariants as signals_rule
 use Rattle.plex_program.specs.declared.fault.SourceFault.{SourceFault}
-use Rattle.plex_program.specs.declared.fault.TableFault.{TableFault}
-use Rattle.plex_program.specs.declared.fault.TableRule.TheVariants as table_rule
 use Rattle.plex_program.specs.declared.fault.Rule.{Rule}
 use Rattle.plex_program.specs.declared.fault.Rule.TheVariants as rule
 
@@ -99,58 +84,13 @@ pub record IsSpelled (t : Tree) : Type 0 where
 
 -- a fault of the rules of a text
 
-abbrev pub link_rule : LinkRule → Rule
-link_rule links.NoReceiver = rule.NoReceiver
-link_rule links.NeedsReference = rule.NeedsReference
-link_rule links.NotReceived = rule.NotReceived
-link_rule links.NotInSurvey = rule.NotInSurvey
-link_rule links.TwoEnters = rule.TwoEnters
-link_rule links.NoEnter = rule.NoEnter
-link_rule links.Limit = rule.Limit
-
 -- a rule of signals or blocks has a number, a link rule has a word
 abbrev pub rule_of : TextRule → Rule
 rule_of (Signals r) = rule.Numbered (signals.number_of r)
 rule_of (Blocks r) = rule.Numbered (blocks.number_of r)
-rule_of (Links r) = link_rule r
+rule_of (Links r) = rule.Link r
 
 -- want of memory is none
 abbrev pub resolve_fault : TextFault → SourceFault
 resolve_fault (resolving.Rule broken line) = at_line line (rule_of broken)
 resolve_fault resolving.Memory = too_large
-
--- the first fault of a signal file; a file that is too large has no line, and want of memory is none
-abbrev pub large_signals : SignalsFault
-large_signals = record { line = 0; rule = signals_rule.TooLarge }
-
-abbrev pub signals_fault : SignalFault → SignalsFault
-signals_fault (reading.BadLine line) = record { line = line; rule = signals_rule.BadLine }
-signals_fault (reading.UnknownSignal line) = record { line = line; rule = signals_rule.UnknownSignal }
-signals_fault (reading.UnknownBlock line) = record { line = line; rule = signals_rule.UnknownBlock }
-signals_fault (reading.WrongData line) = record { line = line; rule = signals_rule.WrongData }
-signals_fault (reading.FallingCount line) = record { line = line; rule = signals_rule.FallingCount }
-signals_fault (reading.BadAs line) = record { line = line; rule = signals_rule.BadAs }
-signals_fault reading.Memory = large_signals
-
--- the same of a table
-abbrev pub large_table : TableFault
-large_table = record { line = 0; rule = table_rule.TooLarge }
-
-abbrev pub table_fault : ReadFault → TableFault
-table_fault (tabling.BadLine line) = record { line = line; rule = table_rule.BadLine }
-table_fault (tabling.UnknownSignal line) = record { line = line; rule = table_rule.UnknownSignal }
-table_fault (tabling.UnknownBlock line) = record { line = line; rule = table_rule.UnknownBlock }
-table_fault (tabling.WrongData line) = record { line = line; rule = table_rule.WrongData }
-table_fault (tabling.BadRange line) = record { line = line; rule = table_rule.BadRange }
-table_fault (tabling.TooMany line) = record { line = line; rule = table_rule.TooMany }
-table_fault tabling.Memory = large_table
-
--- the same of a filter
-abbrev pub large_filter : FilterFault
-large_filter = record { line = 0; rule = filter_rule.TooLarge }
-
-abbrev pub filter_fault : ShowFault → FilterFault
-filter_fault (showing.BadLine line) = record { line = line; rule = filter_rule.BadLine }
-filter_fault (showing.UnknownBlock line) = record { line = line; rule = filter_rule.UnknownBlock }
-filter_fault (showing.UnknownSignal line) = record { line = line; rule = filter_rule.UnknownSignal }
-filter_fault showing.Memory = large_filter

@@ -11,20 +11,18 @@ use Rattle.block_change.specs.declared.misfit.Misfit.TheVariants.{Entry as Entry
 use Rattle.flow_points.specs.declared.fact.Fact.{Fact}
 use Rattle.certificate_text.specs.declared.certificate.Shape.{Shape}
 use Rattle.certificate_text.specs.Text.{fact_line}
+use Rattle.text_rules.specs.declared.rule.LinkRule.{LinkRule}
+use Rattle.text_rules.specs.declared.rule.LinkRule.TheVariants as link
 use Rattle.plex_program.specs.declared.fault.CertificateFault.{CertificateFault}
 use Rattle.plex_program.specs.declared.fault.CertificateFault.TheVariants as certificate
-use Rattle.plex_program.specs.declared.fault.FilterFault.{FilterFault}
-use Rattle.plex_program.specs.declared.fault.FilterRule.{FilterRule}
-use Rattle.plex_program.specs.declared.fault.FilterRule.TheVariants as filter_rule
-use Rattle.plex_program.specs.declared.fault.SourceFault.{SourceFault}
+use Rattle.signal_trace.specs.declared.fault.FilterRule.{FilterRule}
+use Rattle.signal_trace.specs.declared.fault.FilterRule.TheVariants as filter_rule
 use Rattle.plex_program.specs.declared.fault.Rule.{Rule}
 use Rattle.plex_program.specs.declared.fault.Rule.TheVariants as rule
-use Rattle.plex_program.specs.declared.fault.SignalsFault.{SignalsFault}
-use Rattle.plex_program.specs.declared.fault.SignalsRule.{SignalsRule}
-use Rattle.plex_program.specs.declared.fault.SignalsRule.TheVariants as signals_rule
-use Rattle.plex_program.specs.declared.fault.TableFault.{TableFault}
-use Rattle.plex_program.specs.declared.fault.TableRule.{TableRule}
-use Rattle.plex_program.specs.declared.fault.TableRule.TheVariants as table_rule
+use Rattle.signal_file.specs.declared.fault.SignalsRule.{SignalsRule}
+use Rattle.signal_file.specs.declared.fault.SignalsRule.TheVariants as signals_rule
+use Rattle.job_table.specs.declared.fault.TableRule.{TableRule}
+use Rattle.job_table.specs.declared.fault.TableRule.TheVariants as table_rule
 use Rattle.plex_program.specs.declared.perform.Refused.{Refused}
 use Rattle.plex_program.specs.declared.perform.Refused.TheVariants.{Certificate, Filter, NewSource, Signals, Source, Table}
 
@@ -32,9 +30,22 @@ use Rattle.plex_program.specs.declared.perform.Refused.TheVariants.{Certificate,
 abbrev pub LF : List ℕ
 LF = 10 ∷ []
 
+-- these words, the number of a line, and the word of a rule
+abbrev pub rule_line : List ℕ → ℕ → List ℕ → List ℕ
+rule_line words line rule = words ++ decimal line ++ codes " " ++ rule ++ LF
+
 -- `N` and a number
 abbrev pub numbered_name : ℕ → List ℕ
 numbered_name number = codes "N" ++ decimal number
+
+abbrev pub link_name : LinkRule → List ℕ
+link_name link.NoReceiver = codes "NORECEIVER"
+link_name link.NeedsReference = codes "NEEDSREFERENCE"
+link_name link.NotReceived = codes "NOTRECEIVED"
+link_name link.NotInSurvey = codes "NOTINSURVEY"
+link_name link.TwoEnters = codes "TWOENTERS"
+link_name link.NoEnter = codes "NOENTER"
+link_name link.Limit = codes "LIMIT"
 
 abbrev pub rule_name : Rule → List ℕ
 rule_name rule.TooLarge = codes "TOOLARGE"
@@ -45,21 +56,7 @@ rule_name rule.Unexpected = codes "UNEXPECTED"
 rule_name rule.Ended = codes "ENDED"
 rule_name rule.TooDeep = codes "TOODEEP"
 rule_name (rule.Numbered number) = numbered_name number
-rule_name rule.NoReceiver = codes "NORECEIVER"
-rule_name rule.NeedsReference = codes "NEEDSREFERENCE"
-rule_name rule.NotReceived = codes "NOTRECEIVED"
-rule_name rule.NotInSurvey = codes "NOTINSURVEY"
-rule_name rule.TwoEnters = codes "TWOENTERS"
-rule_name rule.NoEnter = codes "NOENTER"
-rule_name rule.Limit = codes "LIMIT"
-
--- `SOURCE line L RULE`
-abbrev pub fault_text : SourceFault → List ℕ
-fault_text f = codes "SOURCE line " ++ decimal f.line ++ codes " " ++ rule_name f.rule ++ LF
-
--- `NEWSOURCE line L RULE`
-abbrev pub new_fault_text : SourceFault → List ℕ
-new_fault_text f = codes "NEW" ++ fault_text f
+rule_name (rule.Link r) = link_name r
 
 abbrev pub signals_rule_name : SignalsRule → List ℕ
 signals_rule_name signals_rule.TooLarge = codes "TOOLARGE"
@@ -70,10 +67,6 @@ signals_rule_name signals_rule.WrongData = codes "WRONGDATA"
 signals_rule_name signals_rule.FallingCount = codes "FALLINGCOUNT"
 signals_rule_name signals_rule.BadAs = codes "BADAS"
 
--- `SIGNALS line L RULE`
-abbrev pub signals_text : SignalsFault → List ℕ
-signals_text f = codes "SIGNALS line " ++ decimal f.line ++ codes " " ++ signals_rule_name f.rule ++ LF
-
 abbrev pub table_rule_name : TableRule → List ℕ
 table_rule_name table_rule.TooLarge = codes "TOOLARGE"
 table_rule_name table_rule.BadLine = codes "BADLINE"
@@ -83,19 +76,11 @@ table_rule_name table_rule.WrongData = codes "WRONGDATA"
 table_rule_name table_rule.BadRange = codes "BADRANGE"
 table_rule_name table_rule.TooMany = codes "TOOMANY"
 
--- `TABLE line L RULE`
-abbrev pub table_text : TableFault → List ℕ
-table_text f = codes "TABLE line " ++ decimal f.line ++ codes " " ++ table_rule_name f.rule ++ LF
-
 abbrev pub filter_rule_name : FilterRule → List ℕ
 filter_rule_name filter_rule.TooLarge = codes "TOOLARGE"
 filter_rule_name filter_rule.BadLine = codes "BADLINE"
 filter_rule_name filter_rule.UnknownBlock = codes "UNKNOWNBLOCK"
 filter_rule_name filter_rule.UnknownSignal = codes "UNKNOWNSIGNAL"
-
--- `FILTER line L RULE`
-abbrev pub filter_text : FilterFault → List ℕ
-filter_text f = codes "FILTER line " ++ decimal f.line ++ codes " " ++ filter_rule_name f.rule ++ LF
 
 -- a number behind a space
 abbrev pub spaced : ℕ → List ℕ
@@ -104,13 +89,6 @@ spaced n = codes " " ++ decimal n
 -- the six numbers of a shape
 abbrev pub shape_numbers : Shape → List ℕ
 shape_numbers s = s.signals ∷ s.blocks ∷ s.points ∷ s.cells ∷ s.entries ∷ s.references ∷ []
-
-abbrev pub large_text : List ℕ
-large_text = codes "CERTIFICATE line 0 TOOLARGE" ++ LF
-
--- `CERTIFICATE line L BADTEXT`
-abbrev pub bad_text : ℕ → List ℕ
-bad_text line = codes "CERTIFICATE line " ++ decimal line ++ (codes " BADTEXT" ++ LF)
 
 -- the numbers of the exchange, then those of the certificate
 abbrev pub other_exchange : Shape → Shape → List ℕ
@@ -123,20 +101,20 @@ fact_text words f = words ++ fact_line f ++ LF
 
 -- the first fault of a certificate
 abbrev pub certificate_text : CertificateFault → List ℕ
-certificate_text certificate.TooLarge = large_text
-certificate_text (certificate.BadText line) = bad_text line
+certificate_text certificate.TooLarge = rule_line (codes "CERTIFICATE line ") 0 (codes "TOOLARGE")
+certificate_text (certificate.BadText line) = rule_line (codes "CERTIFICATE line ") line (codes "BADTEXT")
 certificate_text (certificate.WrongExchange x c) = other_exchange x c
 certificate_text (certificate.Strange f) = fact_text (codes "CERTIFICATE STRANGE ") f
 certificate_text (certificate.Missing f) = fact_text (codes "CERTIFICATE MISSING ") f
 
 -- the first fault of the exchange text, of the signal file, of the certificate, of the table, of the new exchange text or of the filter
 unfoldable pub refusal_text : Refused → List ℕ
-refusal_text (Source f) = fault_text f
-refusal_text (Signals f) = signals_text f
+refusal_text (Source f) = rule_line (codes "SOURCE line ") f.line (rule_name f.rule)
+refusal_text (Signals f) = rule_line (codes "SIGNALS line ") f.line (signals_rule_name f.rule)
 refusal_text (Certificate f) = certificate_text f
-refusal_text (Table f) = table_text f
-refusal_text (NewSource f) = new_fault_text f
-refusal_text (Filter f) = filter_text f
+refusal_text (Table f) = rule_line (codes "TABLE line ") f.line (table_rule_name f.rule)
+refusal_text (NewSource f) = rule_line (codes "NEWSOURCE line ") f.line (rule_name f.rule)
+refusal_text (Filter f) = rule_line (codes "FILTER line ") f.line (filter_rule_name f.rule)
 
 -- `BLOCK.FILE`, a file by its number
 abbrev pub file_words : Exchange → ℕ → List ℕ

@@ -1,6 +1,6 @@
 // What the analysis of an exchange says, and its certificate.
 ghost use Rattle.std.specs.Prelude.{◌≡◌, IfOk};
-ghost use Rattle.plex_program.specs.Answer.{AnswersAnalysis, AnswersCertificate};
+ghost use Rattle.plex_program.specs.ExchangeAnswer.{AnswersAnalysis, AnswersCertificate};
 ghost use Rattle.plex_program.specs.Program.{IsEnding};
 
 use crate::perform::Answer;
@@ -11,7 +11,6 @@ use certificate::text_of_certificate;
 use exchange_model::Exchange;
 use plex_num::Memory;
 use std::alloc::Global;
-use text_parts::Text;
 
 /// The answer with the analysis of an exchange.
 #[tactic(auto, using(crate::proofs::Ordered::in_order))]
@@ -35,6 +34,6 @@ pub fn certificate_answer(alloc: Global, exchange: &Exchange) -> Result<Answer, 
     let text = text_of_certificate(alloc, exchange)?;
     Ok(Answer {
         status: Status::Done,
-        text: Text::whole(alloc, text),
+        text,
     })
 }

@@ -1,8 +1,6 @@
 // What is kept of the certificate of the exchange that a text tells.
 ghost use Rattle.std.specs.Prelude.{◌≤◌, IfOk, IfSome, MatchResult, Some, length};
-ghost use Rattle.std.specs.List.Sorted.{IsStrictlySortedBy};
 ghost use Rattle.plex_limits.specs.declared.limits.TheConstants.{MOST_BYTES};
-ghost use Rattle.certificate_text.specs.Text.{fact_order};
 ghost use Rattle.checked.specs.Verdicts.{Accepts};
 ghost use Rattle.plex_program.specs.Certificates.{IsFaulty, IsKeptBy, IsUnkept};
 
@@ -39,7 +37,7 @@ pub fn kept_of_text(
 }
 
 /// The same of a text that is not too large.
-#[tactic(auto, using(crate::proofs::Certified::text_kept, crate::proofs::Certified::judged_bad, crate::proofs::Certified::read_rises))]
+#[tactic(auto, using(crate::proofs::Certified::text_kept, crate::proofs::Certified::judged_bad))]
 fn kept_of_small(alloc: Global, exchange: &Exchange, text: &[u8]) -> Result<Checked, Unkept>
     requires { length text.now ≤ MOST_BYTES }
     ensures { MatchResult result
@@ -53,9 +51,8 @@ fn kept_of_small(alloc: Global, exchange: &Exchange, text: &[u8]) -> Result<Chec
     }
 }
 
-/// The same of a certificate whose facts rise.
+/// The same of a certificate.
 fn kept_of(alloc: Global, exchange: &Exchange, certificate: Certificate) -> Result<Checked, Unkept>
-    requires { IsStrictlySortedBy fact_order certificate.facts }
     ensures { MatchResult result
         (Accepts exchange.now certificate)
         (IsFaulty exchange.now certificate) }

@@ -8,16 +8,20 @@ ghost use Rattle.retire_order.specs.Events.{ending_of};
 ghost use Rattle.retire_order.specs.Parts.{AreParts, account_of};
 ghost use Rattle.report_text.specs.Report.{event_lines, text_of};
 ghost use Rattle.source_meaning.specs.Valid.{IsValid};
-ghost use Rattle.plex_program.specs.Answer.{ChangeAnswers, ChangeComes, ChangeFrom, ChangesOrNot, Comes, IsChanged, Performs, ends_before, is_changed, misfit_answer, new_exchange_at, new_refusal, new_stop};
+ghost use Rattle.plex_program.specs.Stages.{Comes, Performs};
+ghost use Rattle.plex_program.specs.ChangeAnswer.{ChangeAnswers, ChangeComes, ChangeFrom};
+ghost use Rattle.plex_program.specs.ChangeAnswer.{ChangesOrNot, IsChanged, ends_before, is_changed};
+ghost use Rattle.plex_program.specs.ChangeAnswer.{misfit_answer, new_exchange_at, new_refusal};
+ghost use Rattle.plex_program.specs.ChangeAnswer.{new_stop};
 ghost use Rattle.plex_program.specs.Program.{IsEnding};
 ghost use Rattle.plex_program.specs.Runs.{AreRead};
 ghost use Rattle.command_words.specs.Bounded.{AreWithin, HasBounds};
 ghost use Rattle.plex_program.specs.Text.{change_text, file_words, misfit_text};
 
-use crate::going::{go_on, kept_for, run_first};
+use crate::going::{go_on, run_first};
 use crate::perform::{Answer, Refused, Stop, exchange_in, lines_in};
 use crate::program::Status;
-use crate::running::{answer_at, answer_behind, code_answer};
+use crate::running::{answer_at, code_answer, headed_answer};
 use block_change::{Misfit, carry, misfit_of};
 use command_words::{Bounds, ChangeWords};
 use exchange_model::Exchange;
@@ -104,9 +108,7 @@ fn new_stop(stop: Stop) -> Stop
 {
     match stop {
         Stop::Refused(refused) => Stop::Refused(new_refusal(refused)),
-        Stop::NotHeld => Stop::NotHeld,
-        Stop::Failed => Stop::Failed,
-        Stop::Memory => Stop::Memory,
+        other => other,
     }
 }
 
@@ -115,11 +117,7 @@ fn new_refusal(refused: Refused) -> Refused
 {
     match refused {
         Refused::Source(fault) => Refused::NewSource(fault),
-        Refused::Signals(fault) => Refused::Signals(fault),
-        Refused::Certificate(fault) => Refused::Certificate(fault),
-        Refused::Table(fault) => Refused::Table(fault),
-        Refused::NewSource(fault) => Refused::NewSource(fault),
-        Refused::Filter(fault) => Refused::Filter(fault),
+        other => other,
     }
 }
 
@@ -225,8 +223,7 @@ fn fitting_answer<R: Threads + Wait + Sync, G: Gate + Sync>(
         return code_answer(rt, alloc, old, lines, bounds, gate);
     }
     let until = Bounds { workers, jobs: at };
-    let checked = kept_for(alloc, old, workers)?;
-    let mut end = run_first(rt, alloc, old, checked, lines, until, gate)?;
+    let mut end = run_first(rt, alloc, old, None, lines, until, gate)?;
     if ends_before(end.ending, end.books.ended(), at) {
         return answer_at(alloc, old, &mut end.books, &end.words, end.ending);
     }
@@ -268,7 +265,7 @@ fn changed_answer<R: Threads + Wait + Sync, G: Gate + Sync>(
     let text = text_before(alloc, change.old, &parts, change.at)?;
     let (moved, carried) = carried_over(alloc, change, parts, words)?;
     let mut end = run_further(rt, alloc, change.new, moved, carried, bounds, gate)?;
-    let answer = answer_behind(text, change.new, &mut end.books, &end.words, end.ending)?;
+    let answer = headed_answer(text, change.new, &mut end.books, &end.words, end.ending)?;
     Ok(answer)
 }
 
@@ -323,7 +320,7 @@ fn carried_over(
 }
 
 /// What the single run comes to that goes on from these parts and words, which ends after so many jobs at the latest.
-#[tactic(auto, using(crate::proofs::Changed::raised_parts, crate::proofs::Changed::raised_run, crate::proofs::Changed::raised_valid))]
+#[tactic(auto, using(crate::proofs::Changed::raised_rules))]
 fn run_further<R: Threads + Wait + Sync, G: Gate + Sync>(
     rt: &R,
     alloc: Global,

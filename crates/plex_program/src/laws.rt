@@ -10,7 +10,9 @@ ghost use Rattle.source_meaning.specs.Valid.{LinesFit};
 ghost use Rattle.retire_order.specs.Lines.{coming_of};
 ghost use Rattle.job_table.specs.Fit.{AreNumberedFrom};
 ghost use Rattle.job_table.specs.Writing.{written_out};
-ghost use Rattle.plex_program.specs.Answer.{exchange_at, lines_at, merged_at, run_of, timed_of};
+ghost use Rattle.plex_program.specs.Given.{exchange_at, lines_at};
+ghost use Rattle.plex_program.specs.RunAnswer.{run_of};
+ghost use Rattle.plex_program.specs.TimedAnswer.{merged_at, timed_of};
 ghost use Rattle.command_words.specs.Words.{Word};
 ghost use Rattle.command_words.specs.declared.command.TimedWords.{TimedWords};
 

@@ -22,12 +22,12 @@ mod timing;
 mod tracing;
 
 pub use certifying::Unkept;
-pub use fault::{
-    CertificateFault, FilterFault, FilterRule, Rule, SignalsFault, SignalsRule, SourceFault,
-    TableFault, TableRule,
-};
+pub use fault::{CertificateFault, Rule, SourceFault};
+pub use job_table::{TableFault, TableRule};
 pub use laws::{timed_runs_are_runs, written_lines_of_texts_are_read};
 pub use perform::{Answer, Refused, Stop, exchange_in, lines_in};
 pub use program::{Quit, Status, plex, refused_answer, write_answer};
+pub use signal_file::{SignalsFault, SignalsRule};
+pub use signal_trace::{FilterFault, FilterRule};
 pub use steady::plex_steady;
 pub use timing::merged_in;

@@ -1,36 +1,42 @@
 // The work of each command, up to its answer.
 ghost use Rattle.std.specs.Prelude.{◌≡◌, ◌≤◌, Ok, IfOk, IfSome, length};
-ghost use Rattle.signal_file.specs.Lines.{signal_lines};
 ghost use Rattle.plex_limits.specs.declared.limits.TheConstants.{MOST_BYTES, MOST_JOBS};
 ghost use Rattle.front_end.specs.Resolved.{resolved};
 ghost use Rattle.plex_program.specs.Program.{IsEnding};
-ghost use Rattle.plex_program.specs.Reading.{IsSpelled, signals_fault};
-ghost use Rattle.load_maker.specs.Exchange.{exchange_text};
-ghost use Rattle.load_maker.specs.Signals.{signals_text};
-ghost use Rattle.plex_program.specs.Answer.{AnswersAnalysis, AnswersCertificate, Comes, FromExchange, IsCertifiedRun, Performs, Reads, RunComes, RunsWith, Tells, exchange_at, exchange_of_file, exchange_of_tree, fitting, lines_at, lines_of_file, list_of, listing_answer, load_answer, load_of, or_broken, or_unread, performed, run_answer, run_of, text_at};
+ghost use Rattle.plex_program.specs.Reading.{IsSpelled};
+ghost use Rattle.plex_program.specs.Stages.{Comes, Performs, Reads, Tells};
+ghost use Rattle.plex_program.specs.Given.{exchange_at, exchange_of_file, exchange_of_tree};
+ghost use Rattle.plex_program.specs.Given.{fitting, lines_at, lines_of_file, text_at};
+ghost use Rattle.plex_program.specs.RunAnswer.{IsCertifiedRun, RunComes, RunsWith, run_answer};
+ghost use Rattle.plex_program.specs.RunAnswer.{run_of};
+ghost use Rattle.plex_program.specs.ListAnswer.{list_of, listing_answer};
+ghost use Rattle.plex_program.specs.LoadAnswer.{load_answer, load_of};
+ghost use Rattle.plex_program.specs.ExchangeAnswer.{AnswersAnalysis, AnswersCertificate};
+ghost use Rattle.plex_program.specs.ExchangeAnswer.{FromExchange};
+ghost use Rattle.plex_program.specs.Answer.{performed};
 ghost use Rattle.plex_program.specs.Runs.{AreOfText, AreRead};
 ghost use Rattle.command_words.specs.Bounded.{AreWithin, HasBounds, IsBounded};
 
 use crate::analysing::{analysis_answer, certificate_answer};
 use crate::certifying::{Unkept, kept_of_text};
 use crate::changing::perform_change;
-use crate::fault::{
-    CertificateFault, FilterFault, SignalsFault, SignalsRule, SourceFault, TableFault,
-};
+use crate::fault::{CertificateFault, SourceFault};
 use crate::program::Status;
-use crate::reading::{refused, rule_of, tree_of_file};
+use crate::reading::{rule_of, source_stop, tree_of_file};
 use crate::running::{answer_by, code_answer, listing_answer, load_answer, source_answer};
 use crate::timing::perform_timed;
 use crate::tracing::perform_trace;
 use command_words::{Bounds, Command, RunWords};
 use exchange_model::Exchange;
 use front_end::{TextFault, resolve};
+use job_table::TableFault;
 use load_maker::{load_exchange, load_signals};
 use plex_ast::Tree;
 use plex_io::{Gate, Shelf, ShelfFault, Word};
 use plex_limits::MOST_BYTES;
 use plex_num::{Memory, Seq};
-use signal_file::{Line, SignalFault, read_signals};
+use signal_file::{Line, SignalsFault, SignalsRule, read_signals};
+use signal_trace::FilterFault;
 use std::alloc::Global;
 use std::sync::Wait;
 use std::thread::Threads;
@@ -88,7 +94,7 @@ impl From<Memory> for Stop {
 }
 
 /// The text of a file, where it is not too large.
-#[tactic(auto, using(crate::proofs::Stages::text_absent))]
+#[tactic(auto, using(crate::proofs::Stages::text_comes, crate::proofs::Stages::text_absent))]
 pub(crate) fn text_in<S: Shelf>(
     alloc: Global,
     shelf: &mut S,
@@ -100,13 +106,7 @@ pub(crate) fn text_in<S: Shelf>(
     ensures size { IfOk result (λ t. IfSome t (λ text. length text ≤ MOST_BYTES)) }
 {
     match shelf.read_file(alloc, name, MOST_BYTES as u64) {
-        Ok(text) => {
-            if text.len() > MOST_BYTES {
-                Ok(None)
-            } else {
-                Ok(Some(text))
-            }
-        }
+        Ok(text) => Ok(fitting(text)),
         Err(ShelfFault::Absent) => Err(Stop::NotHeld),
         Err(ShelfFault::Failed) => Err(Stop::Failed),
         Err(ShelfFault::Memory) => Err(Stop::Memory),
@@ -135,14 +135,14 @@ fn exchange_of_file(alloc: Global, text: &Option<Seq<u8>>) -> Result<Exchange, S
 }
 
 /// The exchange of a tree that breaks no rule.
-#[tactic(auto, using(crate::proofs::Resolving::resolves_ok, crate::proofs::Resolving::resolves_rule))]
+#[tactic(auto, using(crate::proofs::Resolving::resolve_rules))]
 fn exchange_of_tree(alloc: Global, tree: &Tree) -> Result<Exchange, Stop>
     requires { IsSpelled tree.now }
     ensures { Reads (exchange_of_tree tree.now) result }
 {
     match resolve(alloc, tree) {
         Ok(exchange) => Ok(exchange),
-        Err(TextFault::Rule { rule, line }) => Err(refused(line, rule_of(rule))),
+        Err(TextFault::Rule { rule, line }) => Err(source_stop(line, rule_of(rule))),
         Err(TextFault::Memory) => Err(Stop::Memory),
     }
 }
@@ -166,6 +166,7 @@ pub fn lines_in<S: Shelf>(
 }
 
 /// The signal lines of a file's text, which may be too large.
+#[tactic(auto, using(crate::proofs::Stages::refused_rules, crate::proofs::Signals::lines_of_text))]
 fn lines_of_file(
     alloc: Global,
     exchange: &Exchange,
@@ -176,37 +177,16 @@ fn lines_of_file(
     ensures read { IfOk result (λ lines. AreRead exchange.now lines) }
     ensures of_text { IfOk result (λ lines. AreOfText exchange.now lines) }
 {
-    match text {
-        Some(text) => lines_of_text(alloc, exchange, text.as_slice()),
-        None => Err(unread(0, SignalsRule::TooLarge)),
-    }
-}
-
-/// The signal lines of a text.
-#[tactic(auto, using(crate::proofs::Signals::lines_read, crate::proofs::Signals::lines_refused, crate::proofs::Signals::lines_are_read, crate::proofs::Signals::lines_of_text))]
-fn lines_of_text(alloc: Global, exchange: &Exchange, text: &[u8]) -> Result<Seq<Line>, Stop>
-    requires { length text.now ≤ MOST_BYTES }
-    ensures reads { Reads (or_unread (signal_lines exchange.now text.now)) result }
-    ensures read { IfOk result (λ lines. AreRead exchange.now lines) }
-    ensures of_text { IfOk result (λ lines. AreOfText exchange.now lines) }
-{
-    match read_signals(alloc, exchange, text) {
+    let Some(text) = text else {
+        return Err(Stop::Refused(Refused::Signals(SignalsFault {
+            line: 0,
+            rule: SignalsRule::TooLarge,
+        })));
+    };
+    match read_signals(alloc, exchange, text.as_slice())? {
         Ok(lines) => Ok(lines),
-        Err(SignalFault::BadLine { line }) => Err(unread(line, SignalsRule::BadLine)),
-        Err(SignalFault::UnknownSignal { line }) => Err(unread(line, SignalsRule::UnknownSignal)),
-        Err(SignalFault::UnknownBlock { line }) => Err(unread(line, SignalsRule::UnknownBlock)),
-        Err(SignalFault::WrongData { line }) => Err(unread(line, SignalsRule::WrongData)),
-        Err(SignalFault::FallingCount { line }) => Err(unread(line, SignalsRule::FallingCount)),
-        Err(SignalFault::BadAs { line }) => Err(unread(line, SignalsRule::BadAs)),
-        Err(SignalFault::Memory) => Err(Stop::Memory),
+        Err(fault) => Err(Stop::Refused(Refused::Signals(fault))),
     }
-}
-
-/// The stop at a fault of the signal file.
-fn unread(line: u32, rule: SignalsRule) -> Stop
-    ensures { result ≡ Stop.Refused (Refused.Signals (record { line = line; rule = rule })) }
-{
-    Stop::Refused(Refused::Signals(SignalsFault { line, rule }))
 }
 
 /// `single`.
@@ -298,7 +278,6 @@ fn answer_certified<R: Threads + Wait + Sync, G: Gate + Sync>(
 }
 
 /// `run`, with a certificate or without one.
-#[tactic(auto, using(crate::proofs::Stages::performs_comes))]
 fn perform_code<R: Threads + Wait + Sync, S: Shelf, G: Gate + Sync>(
     rt: &R,
     alloc: Global,
@@ -364,28 +343,12 @@ fn perform_load<R: Threads + Wait + Sync, G: Gate + Sync>(
     ensures reads { Reads (load_of calls) result }
     ensures ending { IfOk result (λ a. IsEnding a.status) }
 {
-    let exchange = exchange_of_load(alloc, calls)?;
-    let lines = lines_of_load(alloc, &exchange, calls)?;
+    let text = load_exchange(alloc, calls)?;
+    let exchange = exchange_of_file(alloc, &fitting(text))?;
+    let text = load_signals(alloc, calls)?;
+    let lines = lines_of_file(alloc, &exchange, &fitting(text))?;
     let answer = load_answer(rt, alloc, calls, &exchange, lines, gate)?;
     Ok(answer)
-}
-
-/// The exchange of a load.
-fn exchange_of_load(alloc: Global, calls: u32) -> Result<Exchange, Stop>
-    ensures { Reads (exchange_of_file (fitting MOST_BYTES (exchange_text calls))) result }
-{
-    let text = load_exchange(alloc, calls)?;
-    exchange_of_file(alloc, &fitting(text))
-}
-
-/// The signal lines of a load.
-fn lines_of_load(alloc: Global, exchange: &Exchange, calls: u32) -> Result<Seq<Line>, Stop>
-    ensures reads { Reads (lines_of_file exchange.now (fitting MOST_BYTES (signals_text calls)))
-        result }
-    ensures read { IfOk result (λ lines. AreRead exchange.now lines) }
-{
-    let text = load_signals(alloc, calls)?;
-    lines_of_file(alloc, exchange, &fitting(text))
 }
 
 /// A text, where it is not too large for a file.
@@ -402,7 +365,7 @@ fn fitting(text: Seq<u8>) -> Option<Seq<u8>>
 }
 
 /// What a command comes to. Jobs may run at once on the threads of the handle, and the thread of each calls the gate.
-#[tactic(auto, using(crate::proofs::Stages::performs_comes, crate::proofs::Stages::performs_reads))]
+#[tactic(auto, using(crate::proofs::Stages::performs_told))]
 pub fn perform<R: Threads + Wait + Sync, S: Shelf, G: Gate + Sync>(
     rt: &R,
     alloc: Global,

@@ -1,7 +1,8 @@
 // The program as one call.
 ghost use Rattle.std.specs.Prelude.{◌≡◌, IfSome, None, Some, ◌⊎◌};
 ghost use Rattle.plex_program.specs.Answer.{IsAnswer, refused_answer, refused_status, usage_answer};
-ghost use Rattle.plex_program.specs.Program.{Answers, Ends, EndsAs, IsComplete, IsPlain, Makes, ReadCause, WriteCause, exit_number};
+ghost use Rattle.plex_program.specs.Program.{Answers, Ends, EndsAs, IsComplete, IsPlain, Makes};
+ghost use Rattle.plex_program.specs.Program.{ReadCause, WriteCause, exit_number};
 ghost use Rattle.command_words.specs.Bounded.{IsBounded};
 ghost use Rattle.command_words.specs.Words.{shape};
 

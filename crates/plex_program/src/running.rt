@@ -5,15 +5,18 @@ ghost use Rattle.plex_limits.specs.declared.limits.TheConstants.{MOST_JOBS};
 ghost use Rattle.checked.specs.Kept.{IsChecked};
 ghost use Rattle.retire_order.specs.Accounts.{with_words};
 ghost use Rattle.retire_order.specs.Events.{ending_of};
-ghost use Rattle.plex_program.specs.Answer.{behind, ended_answer, ended_status, listing_answer, load_answer, run_answer};
+ghost use Rattle.plex_program.specs.Outcome.{headed_by};
+ghost use Rattle.plex_program.specs.RunAnswer.{ended_answer, ended_status, run_answer};
+ghost use Rattle.plex_program.specs.ListAnswer.{listing_answer};
+ghost use Rattle.plex_program.specs.LoadAnswer.{load_answer};
 ghost use Rattle.plex_program.specs.Program.{IsEnding};
 ghost use Rattle.plex_program.specs.Runs.{AreRead};
 ghost use Rattle.command_words.specs.Bounded.{AreWithin};
 
-use crate::going::{kept_for, run_first};
+use crate::going::run_first;
 use crate::perform::Answer;
 use crate::program::Status;
-use checked::{Checked, keep_own};
+use checked::Checked;
 use code_gen::compile;
 use command_words::{Bounds, USUAL_JOBS, USUAL_WORKERS};
 use exchange_model::Exchange;
@@ -69,8 +72,7 @@ pub fn code_answer<R: Threads + Wait + Sync, G: Gate + Sync>(
     ensures answer { IfOk result (λ a. a ≡ run_answer exchange.now lines bounds.jobs) }
     ensures ending { IfOk result (λ a. IsEnding a.status) }
 {
-    let kept = kept_for(alloc, exchange, bounds.workers)?;
-    answer_by(rt, alloc, exchange, kept, lines, bounds, gate)
+    answer_by(rt, alloc, exchange, None, lines, bounds, gate)
 }
 
 /// The same answer, as far as what is kept of a certificate lets jobs run at once; one job after the other where nothing is kept.
@@ -79,18 +81,18 @@ pub fn answer_by<R: Threads + Wait + Sync, G: Gate + Sync>(
     rt: &R,
     alloc: Global,
     exchange: &Exchange,
-    kept: Option<Checked>,
+    given: Option<Checked>,
     lines: Seq<Line>,
     bounds: Bounds,
     gate: &G,
 ) -> Result<Answer, Memory>
-    requires kept { IfSome kept (IsChecked exchange.now) }
+    requires given { IfSome given (IsChecked exchange.now) }
     requires lines { AreRead exchange.now lines }
     requires bounds { AreWithin bounds }
     ensures answer { IfOk result (λ a. a ≡ run_answer exchange.now lines bounds.jobs) }
     ensures ending { IfOk result (λ a. IsEnding a.status) }
 {
-    let mut end = run_first(rt, alloc, exchange, kept, lines, bounds, gate)?;
+    let mut end = run_first(rt, alloc, exchange, given, lines, bounds, gate)?;
     let answer = answer_at(alloc, exchange, &mut end.books, &end.words, end.ending)?;
     Ok(answer)
 }
@@ -116,15 +118,15 @@ pub(crate) fn answer_at(
 }
 
 /// The same report behind a text, and the status of its ending.
-#[tactic(auto, using(crate::proofs::Answering::told_behind, crate::proofs::Answering::status_ends))]
-pub(crate) fn answer_behind(
+#[tactic(auto, using(crate::proofs::Answering::told_headed, crate::proofs::Answering::status_ends))]
+pub(crate) fn headed_answer(
     text: Text,
     exchange: &Exchange,
     books: &mut Books,
     words: &Seq<u32>,
     ending: Ending,
 ) -> Result<Answer, Memory>
-    ensures answer { IfOk result (λ a. a ≡ behind text (ended_answer exchange.now
+    ensures answer { IfOk result (λ a. a ≡ headed_by text (ended_answer exchange.now
         (with_words books.old.state words.now) (ending_of ending))) }
     ensures ending { IfOk result (λ a. IsEnding a.status) }
 {
@@ -150,12 +152,11 @@ pub fn load_answer<R: Threads + Wait + Sync, G: Gate + Sync>(
     ensures answer { IfOk result (λ a. a ≡ load_answer calls exchange.now lines) }
     ensures ending { IfOk result (λ a. IsEnding a.status) }
 {
-    let checked = keep_own(alloc, exchange)?;
     let bounds = Bounds {
         workers: USUAL_WORKERS,
         jobs: USUAL_JOBS,
     };
-    let mut end = run_first(rt, alloc, exchange, Some(checked), lines, bounds, gate)?;
+    let mut end = run_first(rt, alloc, exchange, None, lines, bounds, gate)?;
     let text = load_summary(alloc, calls, &mut end.books, end.ending)?;
     Ok(Answer {
         status: status_of(end.ending),

@@ -1,17 +1,21 @@
 // The lines that are written in place of a report.
 ghost use Rattle.std.specs.Prelude.{◌≡◌, ◌++◌, IfOk, OnOk};
 ghost use Rattle.std.specs.List.{flat_map};
-ghost use Rattle.plex_program.specs.Text.{bad_text, certificate_text, new_fault_text, fact_text, fault_text, filter_rule_name, filter_text, numbered_name, other_exchange, refusal_text, rule_name, shape_numbers, signals_rule_name, signals_text, spaced, table_rule_name, table_text, usage_text};
+ghost use Rattle.plex_program.specs.Text.{certificate_text, fact_text, filter_rule_name, link_name};
+ghost use Rattle.plex_program.specs.Text.{numbered_name, other_exchange, refusal_text, rule_line};
+ghost use Rattle.plex_program.specs.Text.{rule_name, shape_numbers, signals_rule_name, spaced};
+ghost use Rattle.plex_program.specs.Text.{table_rule_name, usage_text};
 
-use crate::fault::{
-    CertificateFault, FilterFault, FilterRule, Rule, SignalsFault, SignalsRule, SourceFault,
-    TableFault, TableRule,
-};
+use crate::fault::{CertificateFault, Rule, SourceFault};
 use crate::perform::Refused;
 use certificate_text::{Shape, print_fact};
 use flow_points::Fact;
+use job_table::TableRule;
 use plex_num::{Memory, Seq, print_number};
+use signal_file::SignalsRule;
+use signal_trace::FilterRule;
 use std::alloc::Global;
+use text_rules::LinkRule;
 
 /// The usage line.
 #[tactic(auto, unfolding(crate::specs::Text::usage_text))]
@@ -27,20 +31,31 @@ pub fn refusal_line(alloc: Global, refused: Refused) -> Result<Seq<u8>, Memory>
     ensures { IfOk result (λ text. text ≡ refusal_text refused) }
 {
     match refused {
-        Refused::Source(fault) => fault_line(alloc, fault),
-        Refused::Signals(fault) => signals_line(alloc, fault),
+        Refused::Source(fault) => source_line(alloc, b"SOURCE line ", fault),
+        Refused::Signals(fault) => {
+            line_of(
+                alloc,
+                b"SIGNALS line ",
+                fault.line,
+                signals_word(fault.rule),
+            )
+        }
         Refused::Certificate(fault) => certificate_line(alloc, fault),
-        Refused::Table(fault) => table_line(alloc, fault),
-        Refused::NewSource(fault) => new_fault_line(alloc, fault),
-        Refused::Filter(fault) => filter_line(alloc, fault),
+        Refused::Table(fault) => {
+            line_of(alloc, b"TABLE line ", fault.line, table_word(fault.rule))
+        }
+        Refused::NewSource(fault) => source_line(alloc, b"NEWSOURCE line ", fault),
+        Refused::Filter(fault) => {
+            line_of(alloc, b"FILTER line ", fault.line, filter_word(fault.rule))
+        }
     }
 }
 
-/// `SOURCE line L RULE`.
-fn fault_line(alloc: Global, fault: SourceFault) -> Result<Seq<u8>, Memory>
-    ensures { IfOk result (λ text. text ≡ fault_text fault) }
+/// These words, the number of the line of a fault, and its rule.
+fn source_line(alloc: Global, words: &[u8], fault: SourceFault) -> Result<Seq<u8>, Memory>
+    ensures { IfOk result (λ text. text ≡ rule_line words.now fault.line (rule_name fault.rule)) }
 {
-    let mut text = Seq::copied(alloc, b"SOURCE line ")?;
+    let mut text = Seq::copied(alloc, words)?;
     print_number(u64::from(fault.line), &mut text)?;
     text.append(b" ")?;
     add_rule(&mut text, fault.rule)?;
@@ -48,48 +63,14 @@ fn fault_line(alloc: Global, fault: SourceFault) -> Result<Seq<u8>, Memory>
     Ok(text)
 }
 
-/// `NEWSOURCE line L RULE`.
-fn new_fault_line(alloc: Global, fault: SourceFault) -> Result<Seq<u8>, Memory>
-    ensures { IfOk result (λ text. text ≡ new_fault_text fault) }
+/// These words, the number of a line, and the word of a rule.
+fn line_of(alloc: Global, words: &[u8], line: u32, rule: &[u8]) -> Result<Seq<u8>, Memory>
+    ensures { IfOk result (λ text. text ≡ rule_line words.now line rule.now) }
 {
-    let line = fault_line(alloc, fault)?;
-    let mut text = Seq::copied(alloc, b"NEW")?;
-    text.append(line.as_slice())?;
-    Ok(text)
-}
-
-/// `SIGNALS line L RULE`.
-fn signals_line(alloc: Global, fault: SignalsFault) -> Result<Seq<u8>, Memory>
-    ensures { IfOk result (λ text. text ≡ signals_text fault) }
-{
-    let mut text = Seq::copied(alloc, b"SIGNALS line ")?;
-    print_number(u64::from(fault.line), &mut text)?;
+    let mut text = Seq::copied(alloc, words)?;
+    print_number(u64::from(line), &mut text)?;
     text.append(b" ")?;
-    add_signals_rule(&mut text, fault.rule)?;
-    text.append(b"\n")?;
-    Ok(text)
-}
-
-/// `TABLE line L RULE`.
-fn table_line(alloc: Global, fault: TableFault) -> Result<Seq<u8>, Memory>
-    ensures { IfOk result (λ text. text ≡ table_text fault) }
-{
-    let mut text = Seq::copied(alloc, b"TABLE line ")?;
-    print_number(u64::from(fault.line), &mut text)?;
-    text.append(b" ")?;
-    add_table_rule(&mut text, fault.rule)?;
-    text.append(b"\n")?;
-    Ok(text)
-}
-
-/// `FILTER line L RULE`.
-fn filter_line(alloc: Global, fault: FilterFault) -> Result<Seq<u8>, Memory>
-    ensures { IfOk result (λ text. text ≡ filter_text fault) }
-{
-    let mut text = Seq::copied(alloc, b"FILTER line ")?;
-    print_number(u64::from(fault.line), &mut text)?;
-    text.append(b" ")?;
-    add_filter_rule(&mut text, fault.rule)?;
+    text.append(rule)?;
     text.append(b"\n")?;
     Ok(text)
 }
@@ -99,8 +80,10 @@ fn certificate_line(alloc: Global, fault: CertificateFault) -> Result<Seq<u8>, M
     ensures { IfOk result (λ text. text ≡ certificate_text fault) }
 {
     match fault {
-        CertificateFault::TooLarge => Seq::copied(alloc, b"CERTIFICATE line 0 TOOLARGE\n"),
-        CertificateFault::BadText { line } => bad_line(alloc, line),
+        CertificateFault::TooLarge => line_of(alloc, b"CERTIFICATE line ", 0, b"TOOLARGE"),
+        CertificateFault::BadText { line } => {
+            line_of(alloc, b"CERTIFICATE line ", line, b"BADTEXT")
+        }
         CertificateFault::WrongExchange {
             exchange,
             certificate,
@@ -108,16 +91,6 @@ fn certificate_line(alloc: Global, fault: CertificateFault) -> Result<Seq<u8>, M
         CertificateFault::Strange { fact } => fact_line(alloc, b"CERTIFICATE STRANGE ", fact),
         CertificateFault::Missing { fact } => fact_line(alloc, b"CERTIFICATE MISSING ", fact),
     }
-}
-
-/// `CERTIFICATE line L BADTEXT`.
-fn bad_line(alloc: Global, line: u32) -> Result<Seq<u8>, Memory>
-    ensures { IfOk result (λ text. text ≡ bad_text line) }
-{
-    let mut text = Seq::copied(alloc, b"CERTIFICATE line ")?;
-    print_number(u64::from(line), &mut text)?;
-    text.append(b" BADTEXT\n")?;
-    Ok(text)
 }
 
 /// `CERTIFICATE WRONGEXCHANGE` and the numbers of two shapes.
@@ -181,45 +154,45 @@ fn fact_line(alloc: Global, words: &[u8], fact: Fact) -> Result<Seq<u8>, Memory>
     Ok(text)
 }
 
-/// Appends the word of a rule of signal files.
-fn add_signals_rule(text: &mut Seq<u8>, rule: SignalsRule) -> Result<(), Memory>
-    ensures { OnOk result (text.new ≡ text.old ++ signals_rule_name rule) }
+/// The word of a rule of signal files.
+fn signals_word(rule: SignalsRule) -> &'static [u8]
+    ensures { result.now ≡ signals_rule_name rule }
 {
     match rule {
-        SignalsRule::TooLarge => add_word(text, b"TOOLARGE"),
-        SignalsRule::BadLine => add_word(text, b"BADLINE"),
-        SignalsRule::UnknownSignal => add_word(text, b"UNKNOWNSIGNAL"),
-        SignalsRule::UnknownBlock => add_word(text, b"UNKNOWNBLOCK"),
-        SignalsRule::WrongData => add_word(text, b"WRONGDATA"),
-        SignalsRule::FallingCount => add_word(text, b"FALLINGCOUNT"),
-        SignalsRule::BadAs => add_word(text, b"BADAS"),
+        SignalsRule::TooLarge => b"TOOLARGE",
+        SignalsRule::BadLine => b"BADLINE",
+        SignalsRule::UnknownSignal => b"UNKNOWNSIGNAL",
+        SignalsRule::UnknownBlock => b"UNKNOWNBLOCK",
+        SignalsRule::WrongData => b"WRONGDATA",
+        SignalsRule::FallingCount => b"FALLINGCOUNT",
+        SignalsRule::BadAs => b"BADAS",
     }
 }
 
-/// Appends the word of a rule of tables.
-fn add_table_rule(text: &mut Seq<u8>, rule: TableRule) -> Result<(), Memory>
-    ensures { OnOk result (text.new ≡ text.old ++ table_rule_name rule) }
+/// The word of a rule of tables.
+fn table_word(rule: TableRule) -> &'static [u8]
+    ensures { result.now ≡ table_rule_name rule }
 {
     match rule {
-        TableRule::TooLarge => add_word(text, b"TOOLARGE"),
-        TableRule::BadLine => add_word(text, b"BADLINE"),
-        TableRule::UnknownSignal => add_word(text, b"UNKNOWNSIGNAL"),
-        TableRule::UnknownBlock => add_word(text, b"UNKNOWNBLOCK"),
-        TableRule::WrongData => add_word(text, b"WRONGDATA"),
-        TableRule::BadRange => add_word(text, b"BADRANGE"),
-        TableRule::TooMany => add_word(text, b"TOOMANY"),
+        TableRule::TooLarge => b"TOOLARGE",
+        TableRule::BadLine => b"BADLINE",
+        TableRule::UnknownSignal => b"UNKNOWNSIGNAL",
+        TableRule::UnknownBlock => b"UNKNOWNBLOCK",
+        TableRule::WrongData => b"WRONGDATA",
+        TableRule::BadRange => b"BADRANGE",
+        TableRule::TooMany => b"TOOMANY",
     }
 }
 
-/// Appends the word of a rule of filters.
-fn add_filter_rule(text: &mut Seq<u8>, rule: FilterRule) -> Result<(), Memory>
-    ensures { OnOk result (text.new ≡ text.old ++ filter_rule_name rule) }
+/// The word of a rule of filters.
+fn filter_word(rule: FilterRule) -> &'static [u8]
+    ensures { result.now ≡ filter_rule_name rule }
 {
     match rule {
-        FilterRule::TooLarge => add_word(text, b"TOOLARGE"),
-        FilterRule::BadLine => add_word(text, b"BADLINE"),
-        FilterRule::UnknownBlock => add_word(text, b"UNKNOWNBLOCK"),
-        FilterRule::UnknownSignal => add_word(text, b"UNKNOWNSIGNAL"),
+        FilterRule::TooLarge => b"TOOLARGE",
+        FilterRule::BadLine => b"BADLINE",
+        FilterRule::UnknownBlock => b"UNKNOWNBLOCK",
+        FilterRule::UnknownSignal => b"UNKNOWNSIGNAL",
     }
 }
 
@@ -254,12 +227,21 @@ fn add_rule(text: &mut Seq<u8>, rule: Rule) -> Result<(), Memory>
         Rule::Ended => add_word(text, b"ENDED"),
         Rule::TooDeep => add_word(text, b"TOODEEP"),
         Rule::Numbered(number) => add_number(text, number),
-        Rule::NoReceiver => add_word(text, b"NORECEIVER"),
-        Rule::NeedsReference => add_word(text, b"NEEDSREFERENCE"),
-        Rule::NotReceived => add_word(text, b"NOTRECEIVED"),
-        Rule::NotInSurvey => add_word(text, b"NOTINSURVEY"),
-        Rule::TwoEnters => add_word(text, b"TWOENTERS"),
-        Rule::NoEnter => add_word(text, b"NOENTER"),
-        Rule::Limit => add_word(text, b"LIMIT"),
+        Rule::Link(rule) => add_word(text, link_word(rule)),
+    }
+}
+
+/// The word of a rule of links.
+fn link_word(rule: LinkRule) -> &'static [u8]
+    ensures { result.now ≡ link_name rule }
+{
+    match rule {
+        LinkRule::NoReceiver => b"NORECEIVER",
+        LinkRule::NeedsReference => b"NEEDSREFERENCE",
+        LinkRule::NotReceived => b"NOTRECEIVED",
+        LinkRule::NotInSurvey => b"NOTINSURVEY",
+        LinkRule::TwoEnters => b"TWOENTERS",
+        LinkRule::NoEnter => b"NOENTER",
+        LinkRule::Limit => b"LIMIT",
     }
 }

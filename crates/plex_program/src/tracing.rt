@@ -5,17 +5,16 @@ ghost use Rattle.source_meaning.specs.SingleRun.{opening};
 ghost use Rattle.retire_order.specs.Events.{ending_of};
 ghost use Rattle.retire_order.specs.Lines.{coming_of};
 ghost use Rattle.exchange_run.specs.Runs.{ComesTo};
-ghost use Rattle.signal_trace.specs.Filter.{filter_of};
 ghost use Rattle.signal_trace.specs.Text.{trace_text};
 ghost use Rattle.signal_trace.specs.Trace.{trace};
-ghost use Rattle.plex_program.specs.Answer.{Comes, Reads, or_unshown, shows_at, shows_of_file, trace_answer, trace_of};
+ghost use Rattle.plex_program.specs.Stages.{Comes, Reads};
+ghost use Rattle.plex_program.specs.TraceAnswer.{shows_at, shows_of_file, trace_answer, trace_of};
 ghost use Rattle.plex_program.specs.Program.{IsEnding};
 ghost use Rattle.plex_program.specs.Runs.{AreRead};
 
-use crate::fault::{FilterFault, FilterRule};
 use crate::going::has_short_code;
 use crate::perform::{Answer, Refused, Stop, exchange_in, lines_in, text_in};
-use crate::running::answer_behind;
+use crate::running::headed_answer;
 use code_gen::compile;
 use command_words::TraceWords;
 use exchange_model::Exchange;
@@ -23,7 +22,7 @@ use exchange_run::{ByCode, BySource, before_lines};
 use plex_io::{NoGate, Shelf, Word};
 use plex_num::{Memory, Seq};
 use signal_file::Line;
-use signal_trace::{FilterFault as ShowFault, Show, Traced, read_filter, trace_run};
+use signal_trace::{FilterFault, FilterRule, Show, Traced, read_filter, trace_run};
 use std::alloc::Global;
 use store_layout::layout_of;
 
@@ -63,6 +62,7 @@ fn shows_in<S: Shelf>(
 }
 
 /// The lines of a filter's text, which may be too large.
+#[tactic(auto, using(crate::proofs::Stages::refused_rules, crate::proofs::Tables::table_fits))]
 fn shows_of_file(
     alloc: Global,
     exchange: &Exchange,
@@ -71,32 +71,16 @@ fn shows_of_file(
     requires { IfSome text.now (λ t. length t ≤ MOST_BYTES) }
     ensures { Reads (shows_of_file exchange.now text.now) result }
 {
-    match text {
-        Some(text) => shows_of_text(alloc, exchange, text.as_slice()),
-        None => Err(unshown(0, FilterRule::TooLarge)),
-    }
-}
-
-/// The lines of a filter's text.
-#[tactic(auto, using(crate::proofs::Traced::filter_read, crate::proofs::Traced::filter_refused, crate::proofs::Tables::table_fits))]
-fn shows_of_text(alloc: Global, exchange: &Exchange, text: &[u8]) -> Result<Seq<Show>, Stop>
-    requires { length text.now ≤ MOST_BYTES }
-    ensures { Reads (or_unshown (filter_of exchange.now text.now)) result }
-{
-    match read_filter(alloc, exchange, text) {
+    let Some(text) = text else {
+        return Err(Stop::Refused(Refused::Filter(FilterFault {
+            line: 0,
+            rule: FilterRule::TooLarge,
+        })));
+    };
+    match read_filter(alloc, exchange, text.as_slice())? {
         Ok(shows) => Ok(shows),
-        Err(ShowFault::BadLine { line }) => Err(unshown(line, FilterRule::BadLine)),
-        Err(ShowFault::UnknownBlock { line }) => Err(unshown(line, FilterRule::UnknownBlock)),
-        Err(ShowFault::UnknownSignal { line }) => Err(unshown(line, FilterRule::UnknownSignal)),
-        Err(ShowFault::Memory) => Err(Stop::Memory),
+        Err(fault) => Err(Stop::Refused(Refused::Filter(fault))),
     }
-}
-
-/// The stop at a fault of the filter.
-fn unshown(line: u32, rule: FilterRule) -> Stop
-    ensures { result ≡ Stop.Refused (Refused.Filter (record { line = line; rule = rule })) }
-{
-    Stop::Refused(Refused::Filter(FilterFault { line, rule }))
 }
 
 /// The jobs of the single run of these lines that the filter shows, and then its report.
@@ -114,7 +98,7 @@ fn trace_answer(
     ensures ending { IfOk result (λ a. IsEnding a.status) }
 {
     let Traced { text, mut end } = run_traced(alloc, exchange, lines, shows, jobs)?;
-    let answer = answer_behind(text, exchange, &mut end.books, &end.words, end.ending)?;
+    let answer = headed_answer(text, exchange, &mut end.books, &end.words, end.ending)?;
     Ok(answer)
 }
 

@@ -10,35 +10,53 @@ use std::sync::atomic::{AtomicU64, Ordering};
 use std::test::Fail;
 use std::thread::{Threads, available_parallelism};
 
-/// Jobs of this exchange may run at once: each shows what it was asked, in nine instructions.
+/// Jobs of this exchange may run at once: each counts to 8,000 and shows what it was asked, in 72,013
+/// instructions, which makes it a long one. The first of them runs before any other: by it is seen
+/// that they are long. Each has a forlopp of its own, since a job with a loop may fault, and one that
+/// may fault runs alone where it has none.
 const QUESTIONS: &str = "SIGNAL ASK SINGLE BUFFERED B DATA 1;
 SIGNAL SHOW OUTSIDE DATA 1;
 BLOCK Q;
-DECLARE; TEMPORARY T;
+DECLARE; TEMPORARY T; TEMPORARY I;
 SURVEY; RECEIVE ASK; SEND SHOW;
 PROGRAM;
 ENTER ASK WITH T;
+ON I FROM 1 UPTO 8000 DO NO;
 SEND SHOW WITH T;
 EXIT;
 END BLOCK;
 ";
 
-const TWO_ASKS: &str = "AFTER 0 ASK Q 7 NONE
-AFTER 0 ASK Q 8 NONE
+const THREE_ASKS: &str = "AFTER 0 ASK Q 7 NEW
+AFTER 0 ASK Q 8 NEW
+AFTER 0 ASK Q 9 NEW
 ";
 
-const THREE_ASKS: &str = "AFTER 0 ASK Q 7 NONE
-AFTER 0 ASK Q 8 NONE
-AFTER 0 ASK Q 9 NONE
+const THREE_SHOWN: &str = "OUT 1 SHOW 7 F1
+OUT 2 SHOW 8 F2
+OUT 3 SHOW 9 F3
+JOBS 3
+END DONE
 ";
 
-/// The report of two asks.
-const TWO_SHOWN: &str = "OUT 1 SHOW 7 F0\nOUT 2 SHOW 8 F0\nJOBS 2\nEND DONE\n";
+const FOUR_ASKS: &str = "AFTER 0 ASK Q 7 NEW
+AFTER 0 ASK Q 8 NEW
+AFTER 0 ASK Q 9 NEW
+AFTER 0 ASK Q 10 NEW
+";
+
+const FOUR_SHOWN: &str = "OUT 1 SHOW 7 F1
+OUT 2 SHOW 8 F2
+OUT 3 SHOW 9 F3
+OUT 4 SHOW 10 F4
+JOBS 4
+END DONE
+";
 
 /// How long a job is held at a gate, in looks.
 const TURNS: u64 = 20_000_000;
 
-/// A gate at which jobs meet, and that adds up the steps that it is told.
+/// A gate at which all jobs but the first meet, and that adds up the steps that it is told.
 #[derive(Drop)]
 struct StepsGate {
     meet: MeetGate,
@@ -47,7 +65,9 @@ struct StepsGate {
 
 impl Gate for StepsGate {
     fn at(&self, job: u64, place: Place) {
-        self.meet.at(job, place);
+        if job > 1 {
+            self.meet.at(job, place);
+        }
         if let Place::After { steps } = place {
             self.steps.fetch_add(steps, Ordering::SeqCst);
         }
@@ -111,7 +131,8 @@ fn runs<R: Threads + Wait + Sync, G: Gate + Sync>(
     answers(rt, alloc, &words, &files, gate, wanted)
 }
 
-/// How many jobs of two asks found that two had begun, and how many steps the gate was told of.
+/// How many jobs of the last two of three asks found that both had begun, and how many steps the gate
+/// was told of.
 fn meetings<R: Threads + Wait + Sync>(
     rt: &R,
     alloc: Global,
@@ -121,15 +142,16 @@ fn meetings<R: Threads + Wait + Sync>(
         meet: MeetGate::new(TURNS),
         steps: AtomicU64::new(0),
     };
-    runs(rt, alloc, (QUESTIONS, TWO_ASKS), workers, &gate, TWO_SHOWN)?;
+    let files = (QUESTIONS, THREE_ASKS);
+    runs(rt, alloc, files, workers, &gate, THREE_SHOWN)?;
     Ok((gate.meet.seen(), gate.steps.load(Ordering::SeqCst)))
 }
 
 /// The gate is told of as many steps as the dispatcher counts.
 #[test]
 fn two_jobs_meet(rt: HostRuntime) -> Result<(), Fail> {
-    let steps = steps_of(&rt, rt.alloc(), QUESTIONS, TWO_ASKS)?;
-    assert_eq!(rt; steps, 18);
+    let steps = steps_of(&rt, rt.alloc(), QUESTIONS, THREE_ASKS)?;
+    assert_eq!(rt; steps, 216_039);
     assert_eq!(rt; meetings(&rt, rt.alloc(), "2")?, (2, steps));
     assert_eq!(rt; meetings(&rt, rt.alloc(), "1")?, (1, steps));
     Ok(())
@@ -138,8 +160,8 @@ fn two_jobs_meet(rt: HostRuntime) -> Result<(), Fail> {
 /// Whether the third of three asks begins while the second one waits for it: 1 if so.
 fn slides<R: Threads + Wait + Sync>(rt: &R, alloc: Global, workers: &str) -> Result<u64, NotMade> {
     let gate = SlideGate::new(TURNS);
-    let report = "OUT 1 SHOW 7 F0\nOUT 2 SHOW 8 F0\nOUT 3 SHOW 9 F0\nJOBS 3\nEND DONE\n";
-    runs(rt, alloc, (QUESTIONS, THREE_ASKS), workers, &gate, report)?;
+    let files = (QUESTIONS, THREE_ASKS);
+    runs(rt, alloc, files, workers, &gate, THREE_SHOWN)?;
     Ok(gate.seen())
 }
 
@@ -149,6 +171,37 @@ fn a_job_begins_while_an_older_one_runs(rt: HostRuntime) -> Result<(), Fail> {
     assert_eq!(rt; slides(&rt, rt.alloc(), "1")?, 0);
     Ok(())
 }
+
+/// The same questions, and each job makes nine instructions.
+const SHORT_QUESTIONS: &str = "SIGNAL ASK SINGLE BUFFERED B DATA 1;
+SIGNAL SHOW OUTSIDE DATA 1;
+BLOCK Q;
+DECLARE; TEMPORARY T;
+SURVEY; RECEIVE ASK; SEND SHOW;
+PROGRAM;
+ENTER ASK WITH T;
+SEND SHOW WITH T;
+EXIT;
+END BLOCK;
+";
+
+/// The certificate of that exchange.
+const SHORT_CERTIFICATE: &str = "PLEX CERTIFICATE 2
+EXCHANGE signals 2 blocks 1 points 4 cells 0 entries 1 references 0
+FACT 0 0 T0 CONST 0
+FACT 0 0 E0 ARG 0
+FACT 0 0 DEPTH CONST 0
+FACT 0 0 AWAITS CONST 0
+FACT 0 1 T0 ARG 0
+FACT 0 1 E0 ARG 0
+FACT 0 1 DEPTH CONST 0
+FACT 0 1 AWAITS CONST 0
+FACT 0 2 T0 ARG 0
+FACT 0 2 E0 ARG 0
+FACT 0 2 DEPTH CONST 0
+FACT 0 2 AWAITS CONST 0
+END CERTIFICATE
+";
 
 const TWELVE_ASKS: &str = "AFTER 0 ASK Q 1 NONE
 AFTER 0 ASK Q 2 NONE
@@ -180,32 +233,35 @@ JOBS 12
 END DONE
 ";
 
-/// Three jobs begin before any of them goes on where there are three threads, and two where there are two: two workers are used, or one.
+/// Behind the first job three begin before any of them goes on where there are three threads, and two
+/// where there are two: two workers are used, or one.
 #[test]
 fn each_worker_is_used(rt: HostRuntime) -> Result<(), Fail> {
     let threads = match available_parallelism(&rt) {
         Ok(count) => count.get() as u64,
         Err(_) => 2,
     };
-    let gate = CrowdGate::new(1, 3, threads.max(2).min(3));
-    let report = "OUT 1 SHOW 7 F0\nOUT 2 SHOW 8 F0\nOUT 3 SHOW 9 F0\nJOBS 3\nEND DONE\n";
-    runs(&rt, rt.alloc(), (QUESTIONS, THREE_ASKS), "3", &gate, report)?;
+    let gate = CrowdGate::new(2, 4, threads.max(2).min(3) + 1);
+    let files = (QUESTIONS, FOUR_ASKS);
+    runs(&rt, rt.alloc(), files, "3", &gate, FOUR_SHOWN)?;
     assert_eq!(rt; gate.seen.load(Ordering::SeqCst), 3);
     Ok(())
 }
 
-/// The second job goes on when all twelve have begun: so eleven fly, whatever number of threads runs them.
+/// The second job goes on when all twelve have begun: so eleven fly, whatever number of threads runs
+/// them. With a certificate the dispatcher runs the first job too, and until one has ended it takes
+/// the jobs of an entry for long ones.
 #[test]
 fn more_jobs_fly_than_threads_run(rt: HostRuntime) -> Result<(), Fail> {
     let gate = CrowdGate::new(2, 2, 12);
-    runs(
-        &rt,
-        rt.alloc(),
-        (QUESTIONS, TWELVE_ASKS),
-        "64",
-        &gate,
-        TWELVE_SHOWN,
-    )?;
+    let words = ["run", "E", "S", "--workers", "64", "--cert", "C"];
+    let files = [
+        ("E", SHORT_QUESTIONS),
+        ("S", TWELVE_ASKS),
+        ("C", SHORT_CERTIFICATE),
+    ];
+    let wanted = (Status::Done, TWELVE_SHOWN);
+    answers(&rt, rt.alloc(), &words, &files, &gate, wanted)?;
     assert_eq!(rt; gate.seen.load(Ordering::SeqCst), 1);
     Ok(())
 }

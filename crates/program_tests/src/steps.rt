@@ -18,6 +18,9 @@ use std::sync::Wait;
 use std::thread::Threads;
 use store_layout::layout_of;
 
+/// How many looks at facts the analysis may take.
+const LOOKS: usize = 65_536;
+
 /// How many instructions the jobs of these signal lines make, two of them at once, as the
 /// dispatcher counts them.
 pub fn steps_of<R: Threads + Wait + Sync>(
@@ -49,7 +52,7 @@ fn counted<R: Threads + Wait + Sync>(
     let layout = layout_of(alloc, exchange)?;
     let run = before_lines(alloc, exchange, &layout, lines, 100)?;
     let code = compile(alloc, exchange, &layout)?;
-    let Some(checked) = keep_own_if_few(alloc, exchange)? else {
+    let Some(checked) = keep_own_if_few(alloc, exchange, LOOKS)? else {
         return Err(NotMade);
     };
     let (store, root) = SharedStore::new(alloc, &run.words)?;

@@ -1,5 +1,6 @@
 pub mod Ahead
 pub mod Acting
+pub mod Choosing
 pub mod Counting
 pub mod Going
 pub mod Meaning
@@ -7,3 +8,4 @@ pub mod Returning
 pub mod Searching
 pub mod Stopping
 pub mod Framing
+pub mod Turning

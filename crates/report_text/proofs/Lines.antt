@@ -5,7 +5,7 @@ use Rattle.std.proofs.lemmas.List.{append-nil, drop_more, drop_all}
 use Rattle.std.proofs.lemmas.List.Concat.{flat_map-append}
 use Rattle.std.proofs.lemmas.List.FromFn.{get_or-range_with_len, length-range_with_len}
 use Rattle.exchange_model.specs.declared.exchange.Exchange.{Exchange}
-use Rattle.source_meaning.specs.State.{Event}
+use Rattle.source_meaning.specs.State.{RunEvent}
 use Rattle.report_text.specs.Report.{event_line, event_lines, text_of, written}
 
 -- the text so far and the lines that are left are the text before and all lines
@@ -24,12 +24,12 @@ pub left_end : {before text : List ℕ} {rest all : List (List ℕ)} → rest �
 left_end {text = text} none l = sym (append-nil text) ∙ ap (λ ls. text ++ text_of ls) (sym none) ∙ l.same
 
 -- the lines of events, the next of which is this one
-pub events_more : (x : Exchange) (before text next : List ℕ) (left rest : List Event) (all : List (List ℕ)) (e : Event) → left ≡ e ∷ rest → next ≡ text ++ written (event_line x e)
+pub events_more : (x : Exchange) (before text next : List ℕ) (left rest : List RunEvent) (all : List (List ℕ)) (e : RunEvent) → left ≡ e ∷ rest → next ≡ text ++ written (event_line x e)
     → Left before text (event_lines x left) all → Left before next (event_lines x rest) all
 events_more x before text next left rest all e is wrote l =
     left_more next (event_line x e ∷ []) (event_lines x rest) (ap (event_lines x) is) (wrote ∙ ap (λ t. text ++ t) (sym (append-nil (written (event_line x e))))) l
 
-pub events_end : (x : Exchange) (before text : List ℕ) (left : List Event) (all : List (List ℕ)) → left ≡ [] → Left before text (event_lines x left) all → text ≡ before ++ text_of all
+pub events_end : (x : Exchange) (before text : List ℕ) (left : List RunEvent) (all : List (List ℕ)) → left ≡ [] → Left before text (event_lines x left) all → text ≡ before ++ text_of all
 events_end x before text left all none l = left_end (ap (event_lines x) none) l
 
 -- the next number of a range and those after it; after the last one there is none

@@ -4,18 +4,18 @@ use Rattle.std.specs.Prelude.{ℕ, Bool, true, false, List, [], ◌∷◌, ◌++
 use Rattle.std.specs.List.{count_by}
 use Rattle.std.specs.Fmt.{decimal}
 use Rattle.source_meaning.specs.SingleRun.{Ending}
-use Rattle.source_meaning.specs.State.{Event, Lost, Out, Release, Restart, State}
+use Rattle.source_meaning.specs.State.{RunEvent, Lost, Out, Release, Restart, State}
 use Rattle.report_text.specs.Report.{end_line, jobs_line, text_of}
 
-abbrev pub is_out : Event → Bool
+abbrev pub is_out : RunEvent → Bool
 is_out (Out job signal values forlopp) = true
 is_out _ = false
 
-abbrev pub is_release : Event → Bool
+abbrev pub is_release : RunEvent → Bool
 is_release (Release forlopp job fault point jobs records) = true
 is_release _ = false
 
-abbrev pub is_lost : Event → Bool
+abbrev pub is_lost : RunEvent → Bool
 is_lost (Lost line) = true
 is_lost _ = false
 

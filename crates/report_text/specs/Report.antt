@@ -16,7 +16,7 @@ use Rattle.job_types.specs.declared.chain.Held.{Held}
 use Rattle.job_types.specs.declared.fault.Fault.{Fault}
 use Rattle.job_types.specs.Forlopps.{ChainMap, chain_at}
 use Rattle.source_meaning.specs.SingleRun.{Ending, Finished, Limited, Restarted}
-use Rattle.source_meaning.specs.State.{Event, Lost, Out, Release, Restart, State}
+use Rattle.source_meaning.specs.State.{RunEvent, Lost, Out, Release, Restart, State}
 use Rattle.report_text.specs.Names.{fault_word, name_of_held, name_of_point, record_name}
 use Rattle.exchange_model.specs.Names.{name_of_signal}
 
@@ -44,14 +44,14 @@ fault_words x job fault point jobs records =
     codes " job " ++ decimal job ++ codes " " ++ fault_word fault ++ codes " at " ++ name_of_point x point ++ codes " jobs " ++ decimal jobs ++ codes " records " ++ decimal records
 
 -- the line of an event
-abbrev pub event_line : Exchange → Event → List ℕ
+abbrev pub event_line : Exchange → RunEvent → List ℕ
 event_line x (Out job signal values forlopp) = out_line x job signal values forlopp
 event_line x (Release forlopp job fault point jobs records) = codes "RELEASE F" ++ decimal forlopp ++ fault_words x job fault point jobs records
 event_line x (Lost line) = codes "LOST line " ++ decimal line
 event_line x (Restart job fault point jobs records) = codes "RESTART" ++ fault_words x job fault point jobs records
 
 -- the line of each event
-abbrev pub event_lines : Exchange → List Event → List (List ℕ)
+abbrev pub event_lines : Exchange → List RunEvent → List (List ℕ)
 event_lines x events = map (event_line x) events
 
 -- `JOBS n`: so many jobs have ended

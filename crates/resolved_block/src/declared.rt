@@ -7,14 +7,14 @@ ghost use Rattle.resolved_block.specs.Tables.{meanings_in};
 
 use crate::numbers::sum;
 use indexmap::IndexMap;
-use plex_num::{Memory, Name, Seed};
+use plex_num::{Memory, Seed};
 use std::alloc::Global;
 use text_events::{Event, Meaning, Place};
 use token_grammar::KeptName;
 
 /// The names that a block declares. Of a name that stands twice the last counts.
 pub struct Declared {
-    pub(crate) names: IndexMap<Name, Meaning, Seed>,
+    pub(crate) names: IndexMap<KeptName, Meaning, Seed>,
 }
 
 impl Drop for Declared {
@@ -76,7 +76,8 @@ impl Declared {
     {
         if let Place::Declares { name, meaning } = place {
             let meaning = counted_on(first_file, meaning)?;
-            match self.names.insert(name.copy(), meaning) {
+            let kept = name.again(*self.names.allocator())?;
+            match self.names.insert(kept, meaning) {
                 Ok(_) => {}
                 Err(_) => return Err(Memory),
             }
@@ -88,6 +89,6 @@ impl Declared {
     pub(crate) fn meaning(&self, name: &KeptName) -> Option<Meaning>
         ensures { result ≡ meanings_in self.now name.now }
     {
-        self.names.get(&name.copy()).copied()
+        self.names.get(name).copied()
     }
 }

@@ -21,15 +21,15 @@ use Rattle.exchange_model.specs.Index.{is_entry}
 use Rattle.exchange_model.specs.Kept.{signal_count}
 use Rattle.signal_file.specs.declared.before.Before.{Before}
 use Rattle.signal_file.specs.declared.directory.Signal.{Signal}
-use Rattle.signal_file.specs.declared.fault.SignalFault.{SignalFault}
-use Rattle.signal_file.specs.declared.fault.SignalFault.TheVariants.{BadAs, FallingCount, UnknownBlock, UnknownSignal, WrongData}
+use Rattle.signal_file.specs.declared.fault.SignalsFault.{SignalsFault}
+use Rattle.signal_file.specs.declared.fault.SignalsRule.TheVariants.{BadAs, FallingCount, UnknownBlock, UnknownSignal, WrongData}
 use Rattle.signal_file.specs.declared.line.Line.{Line}
 use Rattle.signal_file.specs.declared.line.LineKind.{LineKind}
 use Rattle.signal_file.specs.declared.line.LineKind.TheVariants.{Bare, Fresh, Same}
 use Rattle.signal_file.specs.Form.{Closing, Saying, closing, end_or_value, ending, one_more, said_in, with}
 use Rattle.text_lines.specs.Words.{is_skipped, words}
 use Rattle.signal_file.specs.Lines.{lines_behind, signal_lines}
-use Rattle.signal_file.specs.Rules.{added, and_then, before_of, count_or, entry_of, gives, gives_forlopp, has_origin, if_buffered, is_origin, is_true, last_count, meaning, need, need_that, next_number, says, signal_of, told}
+use Rattle.signal_file.specs.Rules.{added, and_then, before_of, breach, count_or, entry_of, gives, gives_forlopp, has_origin, if_buffered, is_origin, is_true, last_count, meaning, need, need_that, next_number, says, signal_of, told}
 use Rattle.exchange_model.specs.Names.{names_of_blocks, names_of_signals}
 use Rattle.signal_file.proofs.Behind.{ok_first}
 use Rattle.source_meaning.specs.State.{Coming}
@@ -130,11 +130,11 @@ entry_there x signal name block entry is at =
 
 -- ---- what a signal line means
 
-pub needed : {A B : Type 0} (f : SignalFault) (o : Option A) (go : A → Result B SignalFault) (b : B) → need f o go ≡ Ok b → (a : A) × (o ≡ Some a) × (go a ≡ Ok b)
+pub needed : {A B F : Type 0} (f : F) (o : Option A) (go : A → Result B F) (b : B) → need f o go ≡ Ok b → (a : A) × (o ≡ Some a) × (go a ≡ Ok b)
 needed f None go b e = absurd (cc)
 needed f (Some a) go b e = (a, refl, e)
 
-tests_hold : (f g h : SignalFault) (a b c : Bool) (line l : Line) → need_that f a (need_that g b (need_that h c (Ok line))) ≡ Ok l → (a ≡ true) × (b ≡ true) × (c ≡ true) × (line ≡ l)
+pub tests_hold : {A F : Type 0} (f g h : F) (a b c : Bool) (line l : A) → need_that f a (need_that g b (need_that h c (Ok line))) ≡ Ok l → (a ≡ true) × (b ≡ true) × (c ≡ true) × (line ≡ l)
 tests_hold f g h false b c line l e = absurd (cc)
 tests_hold f g h true false c line l e = absurd (cc)
 tests_hold f g h true true false line l e = absurd (cc)
@@ -156,10 +156,10 @@ unfolding meaning
 meant x b s l e =
     let n = next_number b in
     let line : ℕ → Line = λ entry. record { number = n; after = s.after; entry = entry; values = s.values; kind = s.kind } in
-    let tests : ℕ → ℕ → Result Line SignalFault = λ count entry. need_that (WrongData n) (nat_eq (length s.values) count) (need_that (FallingCount n) (nat_le b.last s.after) (need_that (BadAs n) (has_origin b s.kind) (Ok (line entry)))) in
-    let signal = needed (UnknownSignal n) (signal_of x s.signal) (λ (q : Signal). need (UnknownBlock n) (entry_of x q.number s.block) (tests q.count)) l e in
-    let entry = needed (UnknownBlock n) (entry_of x signal.0.number s.block) (tests signal.0.count) l signal.2 in
-    let hold = tests_hold (WrongData n) (FallingCount n) (BadAs n) (nat_eq (length s.values) signal.0.count) (nat_le b.last s.after) (has_origin b s.kind) (line entry.0) l entry.2 in
+    let tests : ℕ → ℕ → Result Line SignalsFault = λ count entry. need_that (breach WrongData n) (nat_eq (length s.values) count) (need_that (breach FallingCount n) (nat_le b.last s.after) (need_that (breach BadAs n) (has_origin b s.kind) (Ok (line entry)))) in
+    let signal = needed (breach UnknownSignal n) (signal_of x s.signal) (λ (q : Signal). need (breach UnknownBlock n) (entry_of x q.number s.block) (tests q.count)) l e in
+    let entry = needed (breach UnknownBlock n) (entry_of x signal.0.number s.block) (tests signal.0.count) l signal.2 in
+    let hold = tests_hold (breach WrongData n) (breach FallingCount n) (breach BadAs n) (nat_eq (length s.values) signal.0.count) (nat_le b.last s.after) (has_origin b s.kind) (line entry.0) l entry.2 in
     let there = entry_there x signal.0 s.signal s.block entry.0 signal.1 entry.1 in
     let as_many : length s.values ≡ signal.0.count = eqb-true (length s.values) signal.0.count hold.0 in
     subst (IsMeant x b s) hold.3 (record {
@@ -178,7 +178,7 @@ abbrev Adds : Exchange → Before → Option Saying → Option Line → Type 0
 Adds x b None r = r ≡ None
 Adds x b (Some s) r = (l : Line) × (r ≡ Some l) × IsMeant x b s l
 
-adds_line : (x : Exchange) (b : Before) (s : Saying) (m : Result Line SignalFault) (r : Option Line) → m ≡ meaning x b s → and_then m (λ l. Ok (Some l)) ≡ Ok r → Adds x b (Some s) r
+adds_line : (x : Exchange) (b : Before) (s : Saying) (m : Result Line SignalsFault) (r : Option Line) → m ≡ meaning x b s → and_then m (λ l. Ok (Some l)) ≡ Ok r → Adds x b (Some s) r
 adds_line x b s (Ok l) r is e = let same : Some l ≡ r = cc in (l, sym same, meant x b s l (sym is))
 adds_line x b s (Err f) r is e = absurd (cc)
 

@@ -10,7 +10,7 @@ use Rattle.job_types.specs.Forlopps.{ChainMap, Dead, with_chain}
 use Rattle.job_types.specs.Waiting.{Waiting}
 use Rattle.forlopp_chain.specs.Chains.{AreBelow}
 use Rattle.forlopp_chain.proofs.Sound.{below_empty, below_with}
-use Rattle.source_meaning.specs.State.{Event}
+use Rattle.source_meaning.specs.State.{RunEvent}
 use Rattle.source_meaning.specs.Valid.{MayBe}
 use Rattle.source_meaning.proofs.States.{live_of}
 use Rattle.retire_order.specs.Accounts.{Account, IsKept, account}
@@ -20,7 +20,7 @@ use Rattle.retire_order.proofs.Settled.{moved}
 use Rattle.retire_order.specs.Lines.{Timetable, coming_of}
 
 -- before the first line has arrived
-pub opening_kept : (t : Timetable) (lines : List Line) (waiting : Waiting) (chains : ChainMap) (dead : Dead) (events : List Event) (limit : ℕ)
+pub opening_kept : (t : Timetable) (lines : List Line) (waiting : Waiting) (chains : ChainMap) (dead : Dead) (events : List RunEvent) (limit : ℕ)
     → t.lines ≡ map coming_of lines → t.arrived ≡ [] → chains ≡ fin.empty → limit ≤ MOST_JOBS → length lines < 2 ^ 32 → IsKept (account t waiting chains dead events 1 0 0 0 limit)
 opening_kept t lines waiting chains dead events limit left none empty few short = record {
   few = few;
@@ -34,7 +34,7 @@ opening_kept t lines waiting chains dead events limit left none empty few short 
 }
 
 -- no matter which events there are
-pub untold_kept : (t : Timetable) (waiting : Waiting) (chains : ChainMap) (dead : Dead) (before events : List Event) (next ended restarts running limit : ℕ)
+pub untold_kept : (t : Timetable) (waiting : Waiting) (chains : ChainMap) (dead : Dead) (before events : List RunEvent) (next ended restarts running limit : ℕ)
     → IsKept (account t waiting chains dead before next ended restarts running limit) → IsKept (account t waiting chains dead events next ended restarts running limit)
 untold_kept t waiting chains dead before events next ended restarts running limit kept = record {
   few = kept.few;
@@ -56,7 +56,7 @@ below_kept (suc n) chain m before next below some up =
     let drawn : suc n < before = some (λ none. absurd (omega (arith, none))) in
     below_with m (suc n) chain next (λ q held. let under = below q held in omega (arith, under, up)) (omega (arith, drawn, up))
 
-pub retired_kept : (old : Account) (w : Waiting) (es : List Event) (n e k r : ℕ) (m : ChainMap) (d : Dead) → IsKept old → e ≡ old.state.ended + 1 → r + 1 ≡ old.running → k ≤ old.state.restarts + 1
+pub retired_kept : (old : Account) (w : Waiting) (es : List RunEvent) (n e k r : ℕ) (m : ChainMap) (d : Dead) → IsKept old → e ≡ old.state.ended + 1 → r + 1 ≡ old.running → k ≤ old.state.restarts + 1
     → old.state.next ≤ n → n ≤ old.state.next + MOST_SENT → AreBelow m n → fin.len m ≤ MOST_CELLS + e → IsKept (moved old w es n e k r m d)
 retired_kept old w es n e k r m d kept ends one again up few below short = record {
   few = kept.few;

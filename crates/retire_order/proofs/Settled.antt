@@ -20,7 +20,7 @@ use Rattle.job_types.proofs.ChainMaps.{chain_same}
 use Rattle.machine_code.specs.Told.{told_all}
 use Rattle.source_meaning.specs.Config.{files_of}
 use Rattle.source_meaning.specs.Retirement.{all_cleared, all_delivered, begins_anew, keeps_chain, release_world, releases, restart_world, with_outcome, with_sends}
-use Rattle.source_meaning.specs.State.{Event, Release, Restart, State}
+use Rattle.source_meaning.specs.State.{RunEvent, Release, Restart, State}
 use Rattle.retire_order.specs.Accounts.{Account, with_words}
 use Rattle.retire_order.specs.Retired.{HasRetired, HasSettled, chain_kept, outcome_world}
 use Rattle.retire_order.specs.Stores.{IsAftermath, all_clear_stores, all_stores, restart_stores, touch_of}
@@ -61,12 +61,12 @@ keeps zero chain s = refl
 keeps (suc n) chain s = refl
 
 -- the sends and the chain of a job have taken effect, so that the state is of these parts
-pub record AreSent (start : JobStart) (done : JobDone) (s : State) (w : Waiting) (es : List Event) (n e : ℕ) (m : ChainMap) (d : Dead) : Type 0 where
+pub record AreSent (start : JobStart) (done : JobDone) (s : State) (w : Waiting) (es : List RunEvent) (n e : ℕ) (m : ChainMap) (d : Dead) : Type 0 where
   pub state : (ws : List ℕ) → with_sends start done (with_words s ws) ≡ record s { store = ws; waiting = w; chains = m; dead = d; next = n; ended = e; events = es }
   pub held : start.job.forlopp ≢ 0 → chain_at m start.job.forlopp ≡ done.chain
   pub same : start.job.forlopp ≡ 0 → m ≡ s.chains
 
-pub are_sent : (start : JobStart) (done : JobDone) (ms : List Sent) (s : State) (w0 w : Waiting) (es0 es : List Event) (n0 n e : ℕ) (m0 m : ChainMap) (d0 d : Dead)
+pub are_sent : (start : JobStart) (done : JobDone) (ms : List Sent) (s : State) (w0 w : Waiting) (es0 es : List RunEvent) (n0 n e : ℕ) (m0 m : ChainMap) (d0 d : Dead)
     → ms ≡ done.sends → w0 ≡ s.waiting → es0 ≡ s.events → n0 ≡ s.next → m0 ≡ s.chains → d0 ≡ s.dead → e ≡ s.ended + 1
     → ((t : State) → t.ended ≡ e → all_delivered start.job.forlopp ms (with_traffic w0 es0 n0 t) ≡ with_traffic w es n t)
     → m ≡ chain_kept start.job.forlopp done.chain m0 → d ≡ d0 → AreSent start done s w es n e m d
@@ -86,7 +86,7 @@ are_sent start done ms s w0 w es0 es n0 n e m0 m d0 d sends waits tells draws ch
     }
 
 -- these parts of the books have changed
-abbrev pub moved : Account → Waiting → List Event → (next ended restarts running : ℕ) → ChainMap → Dead → Account
+abbrev pub moved : Account → Waiting → List RunEvent → (next ended restarts running : ℕ) → ChainMap → Dead → Account
 moved old w es n e k r m d = record {
   state = record old.state { waiting = w; chains = m; dead = d; next = n; ended = e; restarts = k; events = es };
   running = r;
@@ -94,7 +94,7 @@ moved old w es n e k r m d = record {
 }
 
 -- a job ended of itself
-pub settled_ended : (x : Exchange) (start : JobStart) (done : JobDone) (old : Account) (a : Aftermath) (w : Waiting) (es : List Event) (n e r : ℕ) (m : ChainMap) (d : Dead) (chains : ChainMap)
+pub settled_ended : (x : Exchange) (start : JobStart) (done : JobDone) (old : Account) (a : Aftermath) (w : Waiting) (es : List RunEvent) (n e r : ℕ) (m : ChainMap) (d : Dead) (chains : ChainMap)
     → AreSent start done old.state w es n e m d → done.outcome ≡ Ended → IsAftermath x start.job.forlopp done.outcome done.chain chains a → r + 1 ≡ old.running
     → HasSettled x start done old (moved old w es n e old.state.restarts r m d) a.stores
 settled_ended x start done old a w es n e r m d chains sent is after one =
@@ -129,10 +129,10 @@ unfolding files_of
 release_made x c chain us ws is listed = ap (λ (vs : List Write). made vs (untouched ws)) listed ∙ sym (all_made (placed_files x.blocks) chain (untouched ws)) ∙ ap (λ (hs : List Held). release_world x hs (untouched ws)) (sym is)
 
 -- with no words the chains are the same
-sent_chains : (start : JobStart) (done : JobDone) (s : State) (w : Waiting) (es : List Event) (n e : ℕ) (m : ChainMap) (d : Dead) → AreSent start done s w es n e m d → (with_sends start done s).chains ≡ m
+sent_chains : (start : JobStart) (done : JobDone) (s : State) (w : Waiting) (es : List RunEvent) (n e : ℕ) (m : ChainMap) (d : Dead) → AreSent start done s w es n e m d → (with_sends start done s).chains ≡ m
 sent_chains start done s w es n e m d sent = ap (λ (t : State). t.chains) (sent.state s.store)
 
-pub settled_released : (x : Exchange) (start : JobStart) (done : JobDone) (old : Account) (a : Aftermath) (fault : Fault) (p : ℕ) (w w2 : Waiting) (es es2 : List Event) (n e r : ℕ) (m m2 : ChainMap) (d d2 : Dead) (chains : ChainMap)
+pub settled_released : (x : Exchange) (start : JobStart) (done : JobDone) (old : Account) (a : Aftermath) (fault : Fault) (p : ℕ) (w w2 : Waiting) (es es2 : List RunEvent) (n e r : ℕ) (m m2 : ChainMap) (d d2 : Dead) (chains : ChainMap)
     → AreSent start done old.state w es n e m d → start.job.forlopp ≢ 0 → done.outcome ≡ Faulted fault p → IsAftermath x start.job.forlopp done.outcome done.chain chains a → r + 1 ≡ old.running
     → w2 ≡ others start.job.forlopp w → m2 ≡ with_chain m start.job.forlopp [] → d2 ≡ with_dead d start.job.forlopp
     → es2 ≡ es ++ Release start.job.forlopp e fault p (count_of start.job.forlopp w) (length (chain_at m start.job.forlopp)) ∷ []
@@ -180,7 +180,7 @@ restart_made x chains m us ws is listed =
     ∙ ap (all_cleared 0 x.blocks) (sym (all_made (placed_files x.blocks) (all_records chains) (untouched ws)))
     ∙ ap (λ (c : ChainMap). restart_world x c (untouched ws)) (sym is)
 
-pub settled_anew : (x : Exchange) (start : JobStart) (done : JobDone) (old : Account) (a : Aftermath) (fault : Fault) (p : ℕ) (w w2 : Waiting) (es es2 : List Event) (n e k r : ℕ) (m m2 : ChainMap) (d d2 : Dead) (chains : ChainMap)
+pub settled_anew : (x : Exchange) (start : JobStart) (done : JobDone) (old : Account) (a : Aftermath) (fault : Fault) (p : ℕ) (w w2 : Waiting) (es es2 : List RunEvent) (n e k r : ℕ) (m m2 : ChainMap) (d d2 : Dead) (chains : ChainMap)
     → AreSent start done old.state w es n e m d → start.job.forlopp ≡ 0 → done.outcome ≡ Faulted fault p → IsAftermath x start.job.forlopp done.outcome done.chain chains a → chains ≡ old.state.chains
     → r + 1 ≡ old.running → k ≡ old.state.restarts + 1 → w2 ≡ nobody → m2 ≡ fin.empty → d2 ≡ dead_below d n
     → es2 ≡ es ++ Restart e fault p (waiting_count w) a.records ∷ []

@@ -6,7 +6,7 @@ use Rattle.std.proofs.lemmas.List.Concat.{flat_map-append}
 use Rattle.plex_limits.specs.declared.limits.TheConstants.{MOST_VALUES}
 use Rattle.job_types.specs.declared.fault.Fault.{Fault}
 use Rattle.job_types.specs.declared.fault.Fault.TheVariants.{Pointer, Range, Divide, NotOwn, NoForlopp, Chain, BadEnd, Depth, Sends, Budget}
-use Rattle.source_meaning.specs.State.{Event, Out, Release, Lost, Restart}
+use Rattle.source_meaning.specs.State.{RunEvent, Out, Release, Lost, Restart}
 use Rattle.retire_order.specs.Bytes.{AreBytesOf, IsNarrow, after_event, after_kind, after_number, after_words, event_bytes, event_numbers, event_of_kind, events_in, fault_number, fault_of, first_event, long_at, number_at, number_bytes, told, word_at, words_at}
 use Rattle.retire_order.proofs.Numbered.{number_read, some_bytes}
 
@@ -63,11 +63,11 @@ begins bytes n kind more ns rest is both low few =
     record { event = λ i. event_of_kind (says i) (counts i) (left i); after = λ i. after_kind (says i) (counts i) (left i) }
 
 -- an event is told again
-record Again (e : Event) (bytes rest : List ℕ) : Type 0 where
+record Again (e : RunEvent) (bytes rest : List ℕ) : Type 0 where
   event : first_event bytes ≡ e
   left : after_event bytes ≡ rest
 
-again : (e : Event) (bytes rest : List ℕ) → bytes ≡ event_bytes e ++ rest → IsNarrow e → Again e bytes rest
+again : (e : RunEvent) (bytes rest : List ℕ) → bytes ≡ event_bytes e ++ rest → IsNarrow e → Again e bytes rest
 again (Out job signal values forlopp) bytes rest is narrow =
     let begin = begins bytes (4 * length values) 0 (length values) (job ∷ signal ∷ forlopp ∷ values) rest is (omega arith) (omega arith) (omega (arith, narrow.2)) in
     let one = row (job ∷ signal ∷ forlopp ∷ values) rest in
@@ -131,7 +131,7 @@ again (Restart job fault point jobs records) bytes rest is narrow =
 
 -- all events
 
-numbered : (e : Event) → 0 < length (event_numbers e)
+numbered : (e : RunEvent) → 0 < length (event_numbers e)
 numbered (Out job signal values forlopp) = omega arith
 numbered (Release forlopp job fault point jobs records) = omega arith
 numbered (Lost line) = omega arith
@@ -141,7 +141,7 @@ row_some : (ns : List ℕ) → 0 < length ns → 0 < length (flat_map number_byt
 row_some [] some = absurd (omega (arith, some))
 row_some (n ∷ ns) some = omega (arith, some_bytes n, length-append (number_bytes n) (flat_map number_bytes ns))
 
-event_some : (e : Event) → 0 < length (event_bytes e)
+event_some : (e : RunEvent) → 0 < length (event_bytes e)
 event_some e = row_some (event_numbers e) (numbered e)
 
 next_in : (most : ℕ) (bytes : List ℕ) → 0 < length bytes → events_in (suc most) bytes ≡ first_event bytes ∷ events_in most (after_event bytes)
@@ -149,7 +149,7 @@ unfolding events_in
 next_in most [] some = absurd (omega (arith, some))
 next_in most (b ∷ bytes) some = refl
 
-told_in : (most : ℕ) (es : List Event) → length es ≤ most → AllByRecursion IsNarrow es → events_in most (flat_map event_bytes es) ≡ es
+told_in : (most : ℕ) (es : List RunEvent) → length es ≤ most → AllByRecursion IsNarrow es → events_in most (flat_map event_bytes es) ≡ es
 unfolding events_in
 told_in zero [] few narrow = refl
 told_in (suc most) [] few narrow = refl
@@ -161,18 +161,18 @@ told_in (suc most) (e ∷ es) few narrow =
     let others : events_in most (after_event bytes) ≡ es = ap (events_in most) first.left ∙ told_in most es (omega (arith, few)) narrow.1 in
     next_in most bytes some ∙ (λ i. first.event i ∷ others i)
 
-few_events : (es : List Event) → length es ≤ length (flat_map event_bytes es)
+few_events : (es : List RunEvent) → length es ≤ length (flat_map event_bytes es)
 few_events [] = omega arith
 few_events (e ∷ es) = omega (arith, few_events es, event_some e, length-append (event_bytes e) (flat_map event_bytes es))
 
-told_is : (es : List Event) → AllByRecursion IsNarrow es → told (flat_map event_bytes es) ≡ es
+told_is : (es : List RunEvent) → AllByRecursion IsNarrow es → told (flat_map event_bytes es) ≡ es
 unfolding told
 told_is es narrow = told_in (length (flat_map event_bytes es)) es (few_events es) narrow
 
-pub are_of : (bytes : List ℕ) (es : List Event) → AreBytesOf bytes es → told bytes ≡ es
+pub are_of : (bytes : List ℕ) (es : List RunEvent) → AreBytesOf bytes es → told bytes ≡ es
 are_of bytes es are = ap told are.are ∙ told_is es are.narrow
 
-are_told : (bytes : List ℕ) (es : List Event) → AreBytesOf bytes es → AreBytesOf bytes (told bytes)
+are_told : (bytes : List ℕ) (es : List RunEvent) → AreBytesOf bytes es → AreBytesOf bytes (told bytes)
 are_told bytes es are = subst (AreBytesOf bytes) (sym (are_of bytes es are)) are
 
 -- no bytes tell nothing
@@ -193,11 +193,11 @@ told_few bytes are = omega (arith, few_events (told bytes), ap length are.are)
 
 -- an event more
 
-all_more : (es : List Event) (e : Event) → AllByRecursion IsNarrow es → IsNarrow e → AllByRecursion IsNarrow (es ++ e ∷ [])
+all_more : (es : List RunEvent) (e : RunEvent) → AllByRecursion IsNarrow es → IsNarrow e → AllByRecursion IsNarrow (es ++ e ∷ [])
 all_more [] e all last = (last, tt)
 all_more (d ∷ es) e all last = (all.0, all_more es e all.1 last)
 
-are_more : (bytes more : List ℕ) (e : Event) → AreBytesOf bytes (told bytes) → more ≡ bytes ++ event_bytes e → IsNarrow e → AreBytesOf more (told bytes ++ e ∷ [])
+are_more : (bytes more : List ℕ) (e : RunEvent) → AreBytesOf bytes (told bytes) → more ≡ bytes ++ event_bytes e → IsNarrow e → AreBytesOf more (told bytes ++ e ∷ [])
 are_more bytes more e are put narrow = record {
   are =
       put ∙ ap (λ bs. bs ++ event_bytes e) are.are ∙ ap (λ bs. flat_map event_bytes (told bytes) ++ bs) (sym (append-nil (event_bytes e)))
@@ -205,19 +205,19 @@ are_more bytes more e are put narrow = record {
   narrow = all_more (told bytes) e are.narrow narrow;
 }
 
-pub told_more : (bytes more : List ℕ) (e : Event) → AreBytesOf bytes (told bytes) → more ≡ bytes ++ event_bytes e → IsNarrow e → told more ≡ told bytes ++ e ∷ []
+pub told_more : (bytes more : List ℕ) (e : RunEvent) → AreBytesOf bytes (told bytes) → more ≡ bytes ++ event_bytes e → IsNarrow e → told more ≡ told bytes ++ e ∷ []
 told_more bytes more e are put narrow = are_of more (told bytes ++ e ∷ []) (are_more bytes more e are put narrow)
 
-pub more_told : (bytes more : List ℕ) (e : Event) → AreBytesOf bytes (told bytes) → more ≡ bytes ++ event_bytes e → IsNarrow e → AreBytesOf more (told more)
+pub more_told : (bytes more : List ℕ) (e : RunEvent) → AreBytesOf bytes (told bytes) → more ≡ bytes ++ event_bytes e → IsNarrow e → AreBytesOf more (told more)
 more_told bytes more e are put narrow = are_told more (told bytes ++ e ∷ []) (are_more bytes more e are put narrow)
 
 -- the next one
 
-record Next (bytes left : List ℕ) (e : Event) : Type 0 where
+record Next (bytes left : List ℕ) (e : RunEvent) : Type 0 where
   told_now : told bytes ≡ e ∷ told left
   are : AreBytesOf left (told left)
 
-next_of : (bytes left : List ℕ) (e : Event) (es : List Event) → AreBytesOf bytes es → 0 < length bytes → e ≡ first_event bytes → left ≡ after_event bytes → Next bytes left e
+next_of : (bytes left : List ℕ) (e : RunEvent) (es : List RunEvent) → AreBytesOf bytes es → 0 < length bytes → e ≡ first_event bytes → left ≡ after_event bytes → Next bytes left e
 next_of bytes left e [] are some first after = absurd (omega (arith, some, ap length are.are))
 next_of bytes left e (d ∷ es) are some first after =
     let here = again d bytes (flat_map event_bytes es) are.are are.narrow.0 in
@@ -227,15 +227,15 @@ next_of bytes left e (d ∷ es) are some first after =
       are = are_told left es others;
     }
 
-pub told_next : (bytes left : List ℕ) (e : Event) → AreBytesOf bytes (told bytes) → 0 < length bytes → e ≡ first_event bytes → left ≡ after_event bytes → told bytes ≡ e ∷ told left
+pub told_next : (bytes left : List ℕ) (e : RunEvent) → AreBytesOf bytes (told bytes) → 0 < length bytes → e ≡ first_event bytes → left ≡ after_event bytes → told bytes ≡ e ∷ told left
 told_next bytes left e are some first after = (next_of bytes left e (told bytes) are some first after).told_now
 
-pub next_told : (bytes left : List ℕ) (e : Event) → AreBytesOf bytes (told bytes) → 0 < length bytes → e ≡ first_event bytes → left ≡ after_event bytes → AreBytesOf left (told left)
+pub next_told : (bytes left : List ℕ) (e : RunEvent) → AreBytesOf bytes (told bytes) → 0 < length bytes → e ≡ first_event bytes → left ≡ after_event bytes → AreBytesOf left (told left)
 next_told bytes left e are some first after = (next_of bytes left e (told bytes) are some first after).are
 
 -- by the code
 
-pub first_by : (bytes left : List ℕ) (kind n : ℕ) (e : Event) → n ≡ long_at bytes → left ≡ after_number bytes → n % 4 ≡ kind → e ≡ event_of_kind kind (n / 4) left → e ≡ first_event bytes
+pub first_by : (bytes left : List ℕ) (kind n : ℕ) (e : RunEvent) → n ≡ long_at bytes → left ≡ after_number bytes → n % 4 ≡ kind → e ≡ event_of_kind kind (n / 4) left → e ≡ first_event bytes
 unfolding first_event
 first_by bytes left kind n e number after is tells = tells ∙ (λ i. event_of_kind (sym (ap (λ m. m % 4) (sym number) ∙ is) i) (number i / 4) (after i))
 

@@ -8,7 +8,7 @@ use Rattle.job_types.specs.declared.job.Job.{Job}
 use Rattle.job_types.specs.declared.job.JobStart.{JobStart}
 use Rattle.exchange_model.specs.declared.exchange.Exchange.{Exchange}
 use Rattle.forlopp_chain.specs.Chains.{AreBelow}
-use Rattle.source_meaning.specs.State.{Coming, Event, Origin, State}
+use Rattle.source_meaning.specs.State.{Coming, RunEvent, Origin, State}
 use Rattle.source_meaning.specs.Arrivals.{arrivals, arrives, forlopp_for, is_due}
 use Rattle.exchange_model.specs.Names.{level_of}
 use Rattle.source_meaning.specs.SingleRun.{begun, next_start}
@@ -37,7 +37,7 @@ pub record IsKept (b : Account) : Type 0 where
   pub chains : map.len b.state.chains ≤ MOST_CELLS + b.state.ended
 
 -- the account of these parts
-abbrev pub account : Timetable → Waiting → ChainMap → Dead → List Event → (next ended restarts running limit : ℕ) → Account
+abbrev pub account : Timetable → Waiting → ChainMap → Dead → List RunEvent → (next ended restarts running limit : ℕ) → Account
 account t waiting chains dead events next ended restarts running limit = record {
   state = record {
     store = [];

@@ -5,7 +5,7 @@ use Rattle.std.specs.List.{AllByRecursion}
 use Rattle.plex_limits.specs.declared.limits.TheConstants.{MOST_VALUES}
 use Rattle.job_types.specs.declared.fault.Fault.{Fault}
 use Rattle.job_types.specs.declared.fault.Fault.TheVariants.{Pointer, Range, Divide, NotOwn, NoForlopp, Chain, BadEnd, Depth, Sends, Budget}
-use Rattle.source_meaning.specs.State.{Event, Out, Release, Lost, Restart}
+use Rattle.source_meaning.specs.State.{RunEvent, Out, Release, Lost, Restart}
 
 -- the digits of a number, of which more than so many others never follow the first one
 unfoldable pub digits : ℕ → ℕ → List ℕ
@@ -29,13 +29,13 @@ fault_number Sends = 8
 fault_number Budget = 9
 
 -- the numbers of an event
-abbrev pub event_numbers : Event → List ℕ
+abbrev pub event_numbers : RunEvent → List ℕ
 event_numbers (Out job signal values forlopp) = 4 * length values ∷ job ∷ signal ∷ forlopp ∷ values
 event_numbers (Release forlopp job fault point jobs records) = (4 * fault_number fault + 1) ∷ forlopp ∷ job ∷ point ∷ jobs ∷ records ∷ []
 event_numbers (Lost line) = 2 ∷ line ∷ []
 event_numbers (Restart job fault point jobs records) = (4 * fault_number fault + 3) ∷ job ∷ point ∷ jobs ∷ records ∷ []
 
-abbrev pub event_bytes : Event → List ℕ
+abbrev pub event_bytes : RunEvent → List ℕ
 event_bytes e = flat_map number_bytes (event_numbers e)
 
 -- what is read from bytes: the number that stands first, and what comes behind it
@@ -68,7 +68,7 @@ abbrev pub fault_of : ℕ → Fault
 fault_of n = unwrap_or (slice_get (Pointer ∷ Range ∷ Divide ∷ NotOwn ∷ NoForlopp ∷ Chain ∷ BadEnd ∷ Depth ∷ Sends ∷ Budget ∷ []) n) Budget
 
 -- the event of this kind, with so many values or this fault, whose other numbers stand first
-abbrev pub event_of_kind : ℕ → ℕ → List ℕ → Event
+abbrev pub event_of_kind : ℕ → ℕ → List ℕ → RunEvent
 event_of_kind zero more bytes =
     let second = after_number bytes in
     let third = after_number second in
@@ -92,30 +92,30 @@ after_kind (suc (suc zero)) more bytes = after_number bytes
 after_kind (suc (suc (suc _))) more bytes = after_number (after_number (after_number (after_number bytes)))
 
 -- the event that stands first, and what comes behind it
-unfoldable pub first_event : List ℕ → Event
+unfoldable pub first_event : List ℕ → RunEvent
 first_event bytes = event_of_kind (long_at bytes % 4) (long_at bytes / 4) (after_number bytes)
 
 unfoldable pub after_event : List ℕ → List ℕ
 after_event bytes = after_kind (long_at bytes % 4) (long_at bytes / 4) (after_number bytes)
 
 -- the events that these bytes tell, but no more than so many
-unfoldable pub events_in : ℕ → List ℕ → List Event
+unfoldable pub events_in : ℕ → List ℕ → List RunEvent
 events_in zero bytes = []
 events_in (suc most) [] = []
 events_in (suc most) (b ∷ bytes) = first_event (b ∷ bytes) ∷ events_in most (after_event (b ∷ bytes))
 
 -- the events that these bytes tell: an event takes a byte or more
-unfoldable pub told : List ℕ → List Event
+unfoldable pub told : List ℕ → List RunEvent
 told bytes = events_in (length bytes) bytes
 
 -- the numbers of an event have the width of those that are read
-abbrev pub IsNarrow : Event → Type 0
+abbrev pub IsNarrow : RunEvent → Type 0
 IsNarrow (Out job signal values forlopp) = (job < 2 ^ 64) × (signal < 2 ^ 32) × (length values ≤ MOST_VALUES) × AllByRecursion (λ (v : ℕ). v < 2 ^ 32) values × (forlopp < 2 ^ 64)
 IsNarrow (Release forlopp job fault point jobs records) = (forlopp < 2 ^ 64) × (job < 2 ^ 64) × (point < 2 ^ 32) × (jobs < 2 ^ 64) × (records < 2 ^ 32)
 IsNarrow (Lost line) = line < 2 ^ 32
 IsNarrow (Restart job fault point jobs records) = (job < 2 ^ 64) × (point < 2 ^ 32) × (jobs < 2 ^ 64) × (records < 2 ^ 32)
 
 -- these bytes are those of these events, one after the other
-pub record AreBytesOf (bytes : List ℕ) (es : List Event) : Type 0 where
+pub record AreBytesOf (bytes : List ℕ) (es : List RunEvent) : Type 0 where
   pub are : bytes ≡ flat_map event_bytes es
   pub narrow : AllByRecursion IsNarrow es

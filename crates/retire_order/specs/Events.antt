@@ -8,7 +8,7 @@ use Rattle.retire_order.specs.declared.event.Ending.{Ending}
 use Rattle.retire_order.specs.declared.event.Ending.TheVariants.{Done, Restart as Restarted, Limit}
 
 -- an event
-abbrev pub event_of : Event → state.Event
+abbrev pub event_of : Event → state.RunEvent
 event_of (Out job signal values forlopp) = state.Out job signal values forlopp
 event_of (Release forlopp job fault point jobs records) = state.Release forlopp job fault point jobs records
 event_of (Lost line) = state.Lost line
@@ -22,5 +22,5 @@ ending_of Limit = run.Limited
 
 -- events, and for how many more there is room
 pub record Logged : Type 0 where
-  pub events : List state.Event
+  pub events : List state.RunEvent
   pub room : ℕ

@@ -2,10 +2,10 @@
 use Rattle.std.specs.Prelude.{ℕ, ◌+◌, ◌≤◌, List}
 use Rattle.job_buffers.specs.Room.{Room}
 use Rattle.job_types.specs.Waiting.{Waiting}
-use Rattle.source_meaning.specs.State.{Event, State}
+use Rattle.source_meaning.specs.State.{RunEvent, State}
 
 -- the state with these jobs that wait, these events and this next new number
-abbrev pub with_traffic : Waiting → List Event → ℕ → State → State
+abbrev pub with_traffic : Waiting → List RunEvent → ℕ → State → State
 with_traffic waiting events next s = record s { waiting = waiting; events = events; next = next }
 
 -- there is room for so many more jobs at each level

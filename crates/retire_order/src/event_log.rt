@@ -106,10 +106,10 @@ pub struct EventQueue {
 
 impl Model for EventQueue {
     ghost use Rattle.std.specs.Prelude.{List, reverse};
-    ghost use Rattle.source_meaning.specs.State.{Event};
+    ghost use Rattle.source_meaning.specs.State.{RunEvent};
     ghost use Rattle.retire_order.specs.Bytes.{AreBytesOf, told};
 
-    ghost Value = { List Event };
+    ghost Value = { List RunEvent };
 
     ghost view = { λ q. told (reverse q.last_first.items) };
 

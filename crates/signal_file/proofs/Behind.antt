@@ -9,13 +9,13 @@ use Rattle.std.proofs.lemmas.List.Sums.{fold-append}
 use Rattle.exchange_model.specs.declared.exchange.Exchange.{Exchange}
 use Rattle.signal_file.specs.declared.before.Before.{Before}
 use Rattle.signal_file.specs.declared.directory.Signal.{Signal}
-use Rattle.signal_file.specs.declared.fault.SignalFault.{SignalFault}
-use Rattle.signal_file.specs.declared.fault.SignalFault.TheVariants.{BadAs, BadLine, FallingCount, Memory, UnknownBlock, UnknownSignal, WrongData}
+use Rattle.signal_file.specs.declared.fault.SignalsFault.{SignalsFault}
+use Rattle.signal_file.specs.declared.fault.SignalsRule.TheVariants.{BadAs, FallingCount, UnknownBlock, UnknownSignal, WrongData}
 use Rattle.signal_file.specs.declared.line.Line.{Line}
 use Rattle.signal_file.specs.Form.{Saying, said_in}
 use Rattle.text_lines.specs.Words.{is_skipped, words}
-use Rattle.signal_file.specs.Lines.{IsUnlessMemory, lines_behind, signal_lines}
-use Rattle.signal_file.specs.Rules.{added, and_then, before_of, count_or, entry_of, gives, gives_forlopp, has_origin, is_origin, last_count, meaning, need, need_that, next_number, says, signal_of, told}
+use Rattle.signal_file.specs.Lines.{lines_behind, signal_lines}
+use Rattle.signal_file.specs.Rules.{added, and_then, before_of, breach, count_or, entry_of, gives, gives_forlopp, has_origin, is_origin, last_count, meaning, need, need_that, next_number, says, signal_of, told}
 
 -- what a right line says
 
@@ -24,41 +24,41 @@ record Noted (l : Line) (o : Option Saying) : Type 0 where
   pub count : (n : ℕ) → count_or n o ≡ l.after
   pub origin : gives_forlopp o ≡ gives l.kind
 
-noted_that : (f : SignalFault) (t : Bool) (go : Result Line SignalFault) (l : Line) → need_that f t go ≡ Ok l → go ≡ Ok l
+noted_that : (f : SignalsFault) (t : Bool) (go : Result Line SignalsFault) (l : Line) → need_that f t go ≡ Ok l → go ≡ Ok l
 noted_that f true go l e = e
 noted_that f false go l e = cc
 
-noted_entry : (f : SignalFault) (o : Option ℕ) (go : ℕ → Result Line SignalFault) (l : Line) → need f o go ≡ Ok l → (entry : ℕ) × (go entry ≡ Ok l)
+noted_entry : (f : SignalsFault) (o : Option ℕ) (go : ℕ → Result Line SignalsFault) (l : Line) → need f o go ≡ Ok l → (entry : ℕ) × (go entry ≡ Ok l)
 noted_entry f None go l e = cc
 noted_entry f (Some entry) go l e = (entry, e)
 
-noted_signal : (f : SignalFault) (o : Option Signal) (go : Signal → Result Line SignalFault) (l : Line) → need f o go ≡ Ok l → (signal : Signal) × (go signal ≡ Ok l)
+noted_signal : (f : SignalsFault) (o : Option Signal) (go : Signal → Result Line SignalsFault) (l : Line) → need f o go ≡ Ok l → (signal : Signal) × (go signal ≡ Ok l)
 noted_signal f None go l e = cc
 noted_signal f (Some signal) go l e = (signal, e)
 
-same_line : (r : Result Line SignalFault) (k l : Line) → r ≡ Ok l → r ≡ Ok k → k ≡ l
+same_line : (r : Result Line SignalsFault) (k l : Line) → r ≡ Ok l → r ≡ Ok k → k ≡ l
 same_line r k l e d = cc
 
 noted_meaning : (x : Exchange) (b : Before) (s : Saying) (l : Line) → meaning x b s ≡ Ok l → Noted l (Some s)
 unfolding meaning
 noted_meaning x b s l e =
     let n = next_number b in
-    let signal = noted_signal (UnknownSignal n) (signal_of x s.signal) (after_signal x b s) l e in
-    let entry = noted_entry (UnknownBlock n) (entry_of x signal.0.number s.block) (after_block x b s signal.0) l signal.1 in
-    let data_right = noted_that (WrongData n) (nat_eq (length s.values) signal.0.count) (after_data x b s entry.0) l entry.1 in
-    let count_right = noted_that (FallingCount n) (nat_le b.last s.after) (after_count x b s entry.0) l data_right in
-    let origin_right = noted_that (BadAs n) (has_origin b s.kind) (after_as x b s entry.0) l count_right in
+    let signal = noted_signal (breach UnknownSignal n) (signal_of x s.signal) (after_signal x b s) l e in
+    let entry = noted_entry (breach UnknownBlock n) (entry_of x signal.0.number s.block) (after_block x b s signal.0) l signal.1 in
+    let data_right = noted_that (breach WrongData n) (nat_eq (length s.values) signal.0.count) (after_data x b s entry.0) l entry.1 in
+    let count_right = noted_that (breach FallingCount n) (nat_le b.last s.after) (after_count x b s entry.0) l data_right in
+    let origin_right = noted_that (breach BadAs n) (has_origin b s.kind) (after_as x b s entry.0) l count_right in
     let line : Line = record { number = n; after = s.after; entry = entry.0; values = s.values; kind = s.kind } in
     let same : line ≡ l = same_line (after_as x b s entry.0) line l origin_right refl in
     record { count = λ n. ap (λ (k : Line). k.after) same; origin = ap (λ (k : Line). gives k.kind) same }
 
 -- a line that is skipped adds nothing, and every other one a line
 
-none_from : (r : Result Line SignalFault) → and_then r (λ l. Ok (Some l)) ≡ Ok None → ⊥
+none_from : (r : Result Line SignalsFault) → and_then r (λ l. Ok (Some l)) ≡ Ok None → ⊥
 none_from (Ok l) e = cc
 none_from (Err f) e = cc
 
-some_from : (r : Result Line SignalFault) (l : Line) → and_then r (λ k. Ok (Some k)) ≡ Ok (Some l) → r ≡ Ok l
+some_from : (r : Result Line SignalsFault) (l : Line) → and_then r (λ k. Ok (Some k)) ≡ Ok (Some l) → r ≡ Ok l
 some_from (Ok k) l e = cc
 some_from (Err f) l e = cc
 
@@ -98,7 +98,7 @@ before_more done line b last origin is count gives_one =
 
 -- the lines so far, in front of the others
 
-abbrev fronted : List Line → Result (List Line) SignalFault → Result (List Line) SignalFault
+abbrev fronted : List Line → Result (List Line) SignalsFault → Result (List Line) SignalsFault
 fronted front rest = and_then rest (λ ls. Ok (front ++ ls))
 
 -- the lines of a text are these, and those of the rest
@@ -108,7 +108,7 @@ pub record Reads (x : Exchange) (text rest : List ℕ) (b : Before) (list : List
   pub so : signal_lines x text ≡ fronted list (lines_behind x done (lines rest))
   pub few : length b.origins + length rest ≤ length text
 
-fronted_none : (o : Result (List Line) SignalFault) → o ≡ fronted [] o
+fronted_none : (o : Result (List Line) SignalsFault) → o ≡ fronted [] o
 fronted_none (Ok ls) = refl
 fronted_none (Err f) = refl
 
@@ -122,11 +122,11 @@ unfolding lines_behind
 next x done rest line after b stands is =
     ap (lines_behind x done) is ∙ ap (λ k. and_then (added x k line) (λ first. and_then (lines_behind x (done ++ line ∷ []) (lines after)) (λ ls. Ok (cons_option first ls)))) (sym stands)
 
-skip_front : (list : List Line) (o : Result (List Line) SignalFault) → fronted list (and_then o (λ ls. Ok (cons_option None ls))) ≡ fronted list o
+skip_front : (list : List Line) (o : Result (List Line) SignalsFault) → fronted list (and_then o (λ ls. Ok (cons_option None ls))) ≡ fronted list o
 skip_front list (Ok ls) = refl
 skip_front list (Err f) = refl
 
-more_front : (list : List Line) (l : Line) (o : Result (List Line) SignalFault) → fronted list (and_then o (λ ls. Ok (cons_option (Some l) ls))) ≡ fronted (list ++ l ∷ []) o
+more_front : (list : List Line) (l : Line) (o : Result (List Line) SignalsFault) → fronted list (and_then o (λ ls. Ok (cons_option (Some l) ls))) ≡ fronted (list ++ l ∷ []) o
 more_front list l (Ok ls) = ap Ok (sym (append_assoc list (l ∷ []) ls))
 more_front list l (Err f) = refl
 
@@ -163,19 +163,9 @@ read_more x text rest line after b list l r is shorter e =
       few = omega (arith, few, longer, shorter);
     }
 
-unless_memory : {A : Type 0} (f : SignalFault) (wanted : Result A SignalFault) → Err f ≡ wanted → IsUnlessMemory (Err f) wanted
-unless_memory (BadLine l) wanted e = e
-unless_memory (UnknownSignal l) wanted e = e
-unless_memory (UnknownBlock l) wanted e = e
-unless_memory (WrongData l) wanted e = e
-unless_memory (FallingCount l) wanted e = e
-unless_memory (BadAs l) wanted e = e
-unless_memory Memory wanted e = tt
-
-pub read_stop : (x : Exchange) (text rest line after : List ℕ) (b : Before) (list : List Line) (f : SignalFault) → Reads x text rest b list → lines rest ≡ line ∷ lines after → Err f ≡ added x b line → IsUnlessMemory (Err f) (signal_lines x text)
+pub read_stop : (x : Exchange) (text rest line after : List ℕ) (b : Before) (list : List Line) (f : SignalsFault) → Reads x text rest b list → lines rest ≡ line ∷ lines after → Err f ≡ added x b line → Err f ≡ signal_lines x text
 read_stop x text rest line after b list f r is e =
-    unless_memory f (signal_lines x text)
-    (sym (r.so ∙ ap (fronted list) (next x r.done rest line after b r.stands is ∙ ap (λ a. and_then a (λ first. and_then (lines_behind x (r.done ++ line ∷ []) (lines after)) (λ ls. Ok (cons_option first ls)))) (sym e))))
+    sym (r.so ∙ ap (fronted list) (next x r.done rest line after b r.stands is ∙ ap (λ a. and_then a (λ first. and_then (lines_behind x (r.done ++ line ∷ []) (lines after)) (λ ls. Ok (cons_option first ls)))) (sym e)))
 
 pub read_end : (x : Exchange) (text rest : List ℕ) (b : Before) (list : List Line) → Reads x text rest b list → lines rest ≡ [] → Ok list ≡ signal_lines x text
 unfolding lines_behind
@@ -187,11 +177,11 @@ read_few x text rest after b list r shorter small = let few = r.few in omega (ar
 
 -- the first faulty line decides
 
-pub ok_first : {A B : Type 0} (r : Result A SignalFault) (go : A → Result B SignalFault) (b : B) → and_then r go ≡ Ok b → (a : A) × (r ≡ Ok a) × (go a ≡ Ok b)
+pub ok_first : {A B F : Type 0} (r : Result A F) (go : A → Result B F) (b : B) → and_then r go ≡ Ok b → (a : A) × (r ≡ Ok a) × (go a ≡ Ok b)
 ok_first (Ok a) go b e = (a, refl, e)
 ok_first (Err f) go b e = cc
 
-decides : (x : Exchange) (before front rest : List (List ℕ)) (line : List ℕ) (list : List Line) (f : SignalFault) → lines_behind x before front ≡ Ok list → added x (before_of (before ++ front)) line ≡ Err f → lines_behind x before (front ++ line ∷ rest) ≡ Err f
+decides : (x : Exchange) (before front rest : List (List ℕ)) (line : List ℕ) (list : List Line) (f : SignalsFault) → lines_behind x before front ≡ Ok list → added x (before_of (before ++ front)) line ≡ Err f → lines_behind x before (front ++ line ∷ rest) ≡ Err f
 unfolding lines_behind
 decides x before [] rest line list f right wrong =
     ap (λ r. and_then r (λ first. and_then (lines_behind x (before ++ line ∷ []) rest) (λ ls. Ok (cons_option first ls)))) (ap (λ b. added x (before_of b) line) (sym (append-nil before)) ∙ wrong)
@@ -202,7 +192,7 @@ decides x before (one ∷ front) rest line list f right wrong =
     ap (λ r. and_then r (λ first. and_then (lines_behind x (before ++ one ∷ []) (front ++ line ∷ rest)) (λ ls. Ok (cons_option first ls)))) here.1
     ∙ ap (λ r. and_then r (λ ls. Ok (cons_option here.0 ls))) later
 
-pub first_faulty : (x : Exchange) (front rest : List (List ℕ)) (line : List ℕ) (list : List Line) (f : SignalFault) → lines_behind x [] front ≡ Ok list → added x (before_of front) line ≡ Err f → lines_behind x [] (front ++ line ∷ rest) ≡ Err f
+pub first_faulty : (x : Exchange) (front rest : List (List ℕ)) (line : List ℕ) (list : List Line) (f : SignalsFault) → lines_behind x [] front ≡ Ok list → added x (before_of front) line ≡ Err f → lines_behind x [] (front ++ line ∷ rest) ≡ Err f
 first_faulty x front rest line list f right wrong = decides x [] front rest line list f right wrong
 
 -- for `search`

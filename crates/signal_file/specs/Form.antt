@@ -1,7 +1,6 @@
 -- The form of a line of a signal file, whatever its names mean.
-use Rattle.std.specs.Prelude.{◌≡◌, ◌==◌, ℕ, nat_eq, Bool, true, false, ◌||◌, List, [], ◌∷◌, take, length, filter, Option, Some, None, if◌then◌else◌, codes}
+use Rattle.std.specs.Prelude.{◌≡◌, ℕ, List, [], ◌∷◌, take, length, Option, Some, None, if◌then◌else◌, codes}
 use Rattle.std.specs.Str.{bytes_eq}
-use Rattle.std.specs.List.{slice_split}
 use Rattle.plex_limits.specs.declared.limits.TheConstants.{MOST_VALUES}
 use Rattle.plex_num.specs.Number.{number_of}
 use Rattle.signal_file.specs.declared.form.Said.{Said}

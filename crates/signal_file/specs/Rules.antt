@@ -12,8 +12,9 @@ use Rattle.exchange_model.specs.Names.{names_of_blocks, names_of_signals}
 use Rattle.signal_file.specs.declared.before.Before.{Before}
 use Rattle.signal_file.specs.declared.directory.Directory.{Directory}
 use Rattle.signal_file.specs.declared.directory.Signal.{Signal}
-use Rattle.signal_file.specs.declared.fault.SignalFault.{SignalFault}
-use Rattle.signal_file.specs.declared.fault.SignalFault.TheVariants.{BadLine, UnknownSignal, UnknownBlock, WrongData, FallingCount, BadAs}
+use Rattle.signal_file.specs.declared.fault.SignalsFault.{SignalsFault}
+use Rattle.signal_file.specs.declared.fault.SignalsRule.{SignalsRule}
+use Rattle.signal_file.specs.declared.fault.SignalsRule.TheVariants.{BadLine, UnknownSignal, UnknownBlock, WrongData, FallingCount, BadAs}
 use Rattle.signal_file.specs.declared.line.Line.{Line}
 use Rattle.signal_file.specs.declared.line.LineKind.{LineKind}
 use Rattle.signal_file.specs.declared.line.LineKind.TheVariants.{Fresh, Bare, Same}
@@ -82,35 +83,39 @@ has_origin b (Same line) = (if nat_eq line 0 then false else is_true (slice_get 
 -- the rules
 
 -- goes on with what there is, or stops with this fault
-abbrev pub need : {A B : Type 0} → SignalFault → Option A → (A → Result B SignalFault) → Result B SignalFault
+abbrev pub need : {A B F : Type 0} → F → Option A → (A → Result B F) → Result B F
 need fault None go = Err fault
 need fault (Some a) go = go a
 
 -- goes on where the test holds, or stops with this fault
-abbrev pub need_that : {B : Type 0} → SignalFault → Bool → Result B SignalFault → Result B SignalFault
+abbrev pub need_that : {B F : Type 0} → F → Bool → Result B F → Result B F
 need_that fault false go = Err fault
 need_that fault true go = go
 
 -- goes on with what came, or stops with the fault
-abbrev pub and_then : {A B : Type 0} → Result A SignalFault → (A → Result B SignalFault) → Result B SignalFault
+abbrev pub and_then : {A B F : Type 0} → Result A F → (A → Result B F) → Result B F
 and_then (Ok a) go = go a
 and_then (Err f) go = Err f
 
+-- the fault of a line that breaks this rule
+abbrev pub breach : SignalsRule → ℕ → SignalsFault
+breach rule line = record { line = line; rule = rule }
+
 -- what a signal line means, or its first fault
-unfoldable pub meaning : Exchange → Before → Saying → Result Line SignalFault
+unfoldable pub meaning : Exchange → Before → Saying → Result Line SignalsFault
 meaning x b s =
-    need (UnknownSignal (next_number b)) (signal_of x s.signal) (λ signal.
-    need (UnknownBlock (next_number b)) (entry_of x signal.number s.block) (λ entry.
-    need_that (WrongData (next_number b)) (nat_eq (length s.values) signal.count) (
-    need_that (FallingCount (next_number b)) (nat_le b.last s.after) (
-    need_that (BadAs (next_number b)) (has_origin b s.kind) (
+    need (breach UnknownSignal (next_number b)) (signal_of x s.signal) (λ signal.
+    need (breach UnknownBlock (next_number b)) (entry_of x signal.number s.block) (λ entry.
+    need_that (breach WrongData (next_number b)) (nat_eq (length s.values) signal.count) (
+    need_that (breach FallingCount (next_number b)) (nat_le b.last s.after) (
+    need_that (breach BadAs (next_number b)) (has_origin b s.kind) (
     Ok (record { number = next_number b; after = s.after; entry = entry; values = s.values; kind = s.kind }))))))
 
 -- what a line adds, nothing where it is skipped; or its first fault
-abbrev pub told : Exchange → Before → Option Saying → Result (Option Line) SignalFault
-told x b o = need (BadLine (next_number b)) o (λ s. and_then (meaning x b s) (λ l. Ok (Some l)))
+abbrev pub told : Exchange → Before → Option Saying → Result (Option Line) SignalsFault
+told x b o = need (breach BadLine (next_number b)) o (λ s. and_then (meaning x b s) (λ l. Ok (Some l)))
 
-unfoldable pub added : Exchange → Before → List ℕ → Result (Option Line) SignalFault
+unfoldable pub added : Exchange → Before → List ℕ → Result (Option Line) SignalsFault
 added x b line = (if is_skipped line then Ok None else told x b (said_in (words line)))
 
 -- the names of an exchange, in the order of their numbers

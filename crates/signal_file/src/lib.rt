@@ -17,7 +17,7 @@ mod names;
 mod read;
 
 pub use directory::{Directory, Signal, directory_of, entry_of, signal_of};
-pub use fault::SignalFault;
+pub use fault::{SignalsFault, SignalsRule};
 pub use form::{Tail, tail_of};
 pub use laws::first_faulty_line_decides;
 pub use line::{Line, LineKind};

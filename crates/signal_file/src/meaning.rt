@@ -1,11 +1,11 @@
 // What a line means in an exchange, or its first fault.
 ghost use Rattle.std.specs.Prelude.{◌≡◌, ◌<◌, ◌^◌, length};
 ghost use Rattle.signal_file.specs.Form.{IsRead, Saying};
-ghost use Rattle.signal_file.specs.Rules.{IsDirectory, added, meaning};
+ghost use Rattle.signal_file.specs.Rules.{IsDirectory, added, breach, meaning};
 
 use crate::before::Before;
 use crate::directory::{Directory, entry_of, signal_of};
-use crate::fault::SignalFault;
+use crate::fault::{SignalsFault, SignalsRule};
 use crate::form::{Said, said_of};
 use crate::line::Line;
 use exchange_model::Exchange;
@@ -18,7 +18,7 @@ pub fn added(
     directory: &Directory,
     before: &Before,
     line: &[u8],
-) -> Result<Option<Line>, SignalFault>
+) -> Result<Option<Line>, SignalsFault>
     requires directory { IsDirectory exchange.now directory.now }
     requires few { length before.now.origins < 2 ^ 24 }
     ensures { result ≡ added exchange.now before.now line.now }
@@ -27,9 +27,7 @@ pub fn added(
         return Ok(None);
     }
     let Some(said) = said_of(line) else {
-        return Err(SignalFault::BadLine {
-            line: before.next_number(),
-        });
+        return Err(breach(before.next_number(), SignalsRule::BadLine));
     };
     match meaning(exchange, directory, before, &said) {
         Ok(line) => Ok(Some(line)),
@@ -44,26 +42,26 @@ fn meaning(
     directory: &Directory,
     before: &Before,
     said: &Said<'_>,
-) -> Result<Line, SignalFault>
+) -> Result<Line, SignalsFault>
     requires directory { IsDirectory exchange.now directory.now }
     requires few { length before.now.origins < 2 ^ 24 }
     ensures { (s : Saying) → IsRead s said.now → result ≡ meaning exchange.now before.now s }
 {
     let line = before.next_number();
     let Some(signal) = signal_of(exchange, directory, said.signal) else {
-        return Err(SignalFault::UnknownSignal { line });
+        return Err(breach(line, SignalsRule::UnknownSignal));
     };
     let Some(entry) = entry_of(exchange, directory, signal.number, said.block) else {
-        return Err(SignalFault::UnknownBlock { line });
+        return Err(breach(line, SignalsRule::UnknownBlock));
     };
     if said.count != usize::from(signal.count) {
-        return Err(SignalFault::WrongData { line });
+        return Err(breach(line, SignalsRule::WrongData));
     }
     if said.after < before.last {
-        return Err(SignalFault::FallingCount { line });
+        return Err(breach(line, SignalsRule::FallingCount));
     }
     if !before.has_origin(said.kind) {
-        return Err(SignalFault::BadAs { line });
+        return Err(breach(line, SignalsRule::BadAs));
     }
     Ok(Line {
         number: line,
@@ -72,4 +70,11 @@ fn meaning(
         values: said.values.copy(),
         kind: said.kind,
     })
+}
+
+/// The fault of a line that breaks this rule.
+fn breach(line: u32, rule: SignalsRule) -> SignalsFault
+    ensures { result ≡ breach rule line }
+{
+    SignalsFault { line, rule }
 }

@@ -1,26 +1,26 @@
 // A whole signal file.
-ghost use Rattle.std.specs.Prelude.{◌≡◌, ◌≤◌, ◌^◌, length};
-ghost use Rattle.signal_file.specs.Lines.{IsUnlessMemory, signal_lines};
+ghost use Rattle.std.specs.Prelude.{◌≡◌, ◌≤◌, ◌^◌, IfOk, length};
+ghost use Rattle.signal_file.specs.Lines.{signal_lines};
 
 use crate::before::Before;
 use crate::directory::directory_of;
-use crate::fault::SignalFault;
+use crate::fault::SignalsFault;
 use crate::line::Line;
 use crate::meaning::added;
 use exchange_model::Exchange;
-use plex_num::Seq;
+use plex_num::{Memory, Seq};
 use std::alloc::Global;
 use text_lines::next_line;
 
-/// The signal lines of a text of at most 16 MiB, in order; or the first fault of its first faulty line.
+/// The signal lines of a text of at most 16 MiB, in order; or its first fault. It stops where memory is refused.
 #[tactic(auto, using(crate::proofs::Behind::file_read))]
 pub fn read_signals(
     alloc: Global,
     exchange: &Exchange,
     text: &[u8],
-) -> Result<Seq<Line>, SignalFault>
+) -> Result<Result<Seq<Line>, SignalsFault>, Memory>
     requires { length text.now ≤ 2 ^ 24 }
-    ensures { IsUnlessMemory result (signal_lines exchange.now text.now) }
+    ensures { IfOk result (λ told. told ≡ signal_lines exchange.now text.now) }
 {
     let directory = directory_of(alloc, exchange)?;
     let mut before = Before {
@@ -36,9 +36,9 @@ pub fn read_signals(
                 before.note(&signal)?;
                 list.push(signal)?;
             }
-            Err(fault) => return Err(fault),
+            Err(fault) => return Ok(Err(fault)),
         }
         rest = after;
     }
-    Ok(list)
+    Ok(Ok(list))
 }

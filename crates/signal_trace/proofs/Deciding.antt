@@ -4,12 +4,9 @@ use Rattle.std.specs.List.{cons_option}
 use Rattle.signal_file.specs.declared.directory.Directory.{Directory}
 use Rattle.signal_trace.specs.declared.fault.FilterFault.{FilterFault}
 use Rattle.signal_trace.specs.declared.show.Show.{Show}
-use Rattle.signal_trace.specs.Filter.{added, and_then, lines_from}
-
--- the first of two stages that are right
-ok_first : {A B : Type 0} (r : Result A FilterFault) (go : A → Result B FilterFault) (b : B) → and_then r go ≡ Ok b → (a : A) × (r ≡ Ok a) × (go a ≡ Ok b)
-ok_first (Ok a) go b e = (a, refl, e)
-ok_first (Err f) go b e = absurd (cc)
+use Rattle.signal_file.specs.Rules.{and_then}
+use Rattle.signal_file.proofs.Behind.{ok_first}
+use Rattle.signal_trace.specs.Filter.{added, lines_from}
 
 pub first_faulty : (d : Directory) (number : ℕ) (front rest : List (List ℕ)) (line : List ℕ) (list : List Show) (f : FilterFault)
     → lines_from d number front ≡ Ok list → added d (number + length front) line ≡ Err f → lines_from d number (front ++ line ∷ rest) ≡ Err f

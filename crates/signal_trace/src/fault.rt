@@ -1,25 +1,20 @@
-use plex_num::Memory;
-
-/// Why a filter is refused: its first faulty line, by its number from 1, with the first fault there, or that memory was
-/// refused. Faults are looked for in this order.
-#[derive(Clone, Copy, Debug, PartialEq, Eq)]
-pub enum FilterFault {
-    /// The line is no line of a filter.
-    BadLine { line: u32 },
-    /// The exchange has no block of that name.
-    UnknownBlock { line: u32 },
-    /// The exchange has no signal of that name.
-    UnknownSignal { line: u32 },
-    Memory,
+/// The first fault of a filter: its first faulty line, and the first rule that this line breaks.
+#[derive(Clone, Copy, Debug)]
+pub struct FilterFault {
+    /// The line, from 1; 0 where the text is too large.
+    pub line: u32,
+    pub rule: FilterRule,
 }
 
-impl From<Memory> for FilterFault {
-    ghost use Rattle.std.specs.Prelude.{◌≡◌};
-    ghost use Rattle.signal_trace.specs.declared.fault.FilterFault.TheVariants.{Memory};
-
-    ghost from_gives = { λ _ e. e ≡ Memory };
-
-    fn from(_: Memory) -> FilterFault {
-        FilterFault::Memory
-    }
+/// The rules of a filter (docs/FORMATS.md, Filter and trace), in the order in which a line is looked at.
+#[derive(Clone, Copy, Debug)]
+pub enum FilterRule {
+    /// The text has more than 16,777,216 bytes; told where it is read from a file.
+    TooLarge,
+    /// The line is no line of a filter.
+    BadLine,
+    /// The exchange has no block of that name.
+    UnknownBlock,
+    /// The exchange has no signal of that name.
+    UnknownSignal,
 }

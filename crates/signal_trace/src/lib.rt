@@ -17,7 +17,7 @@ mod table;
 mod text;
 mod tracer;
 
-pub use fault::FilterFault;
+pub use fault::{FilterFault, FilterRule};
 pub use laws::{
     all_jobs_are_traced, both_filters_show_what_either_shows, first_faulty_line_decides,
     no_lines_show_nothing,

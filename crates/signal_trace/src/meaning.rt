@@ -1,49 +1,18 @@
 // What a line shows in an exchange, or its first fault.
-ghost use Rattle.std.specs.Prelude.{◌≡◌, ◌≤◌, Ok, Some, length, MatchResult};
+ghost use Rattle.std.specs.Prelude.{◌≡◌, ◌≤◌, length};
 ghost use Rattle.plex_limits.specs.declared.limits.TheConstants.{MOST_BLOCKS, MOST_SIGNALS};
-ghost use Rattle.signal_trace.specs.Filter.{Adds, IsFault, added, meaning, sought};
+ghost use Rattle.signal_trace.specs.Filter.{added, breach, meaning, sought};
 ghost use Rattle.signal_trace.specs.Form.{asking_of, named};
 
-use crate::fault::FilterFault;
+use crate::fault::{FilterFault, FilterRule};
 use crate::form::{Asked, asked_of};
 use crate::show::Show;
-use plex_num::Seq;
 use signal_file::{Directory, Names};
 use text_lines::is_skipped;
 
-/// Adds what a line of this number shows, nothing where it is skipped; or tells its first fault.
-pub fn add_line(
-    shows: &mut Seq<Show>,
-    directory: &Directory,
-    number: u32,
-    line: &[u8],
-) -> Result<(), FilterFault>
-    requires blocks { length directory.now.blocks ≤ MOST_BLOCKS }
-    requires signals { length directory.now.signals ≤ MOST_SIGNALS }
-    ensures { MatchResult result
-        (λ _. Adds (added directory.now number line.now) shows.old shows.new)
-        (λ fault. IsFault fault (added directory.now number line.now)) }
-{
-    match added(directory, number, line) {
-        Ok(None) => Ok(()),
-        Ok(Some(show)) => push(shows, show),
-        Err(fault) => Err(fault),
-    }
-}
-
-/// Appends a line of a filter.
-fn push(shows: &mut Seq<Show>, show: Show) -> Result<(), FilterFault>
-    ensures { MatchResult result
-        (λ _. Adds (Ok (Some show)) shows.old shows.new)
-        (λ fault. IsFault fault (Ok (Some show))) }
-{
-    shows.push(show)?;
-    Ok(())
-}
-
 /// What a line of this number shows, `None` where it is skipped; or its first fault.
 #[tactic(auto, unfolding(crate::specs::Filter::added))]
-fn added(directory: &Directory, number: u32, line: &[u8]) -> Result<Option<Show>, FilterFault>
+pub fn added(directory: &Directory, number: u32, line: &[u8]) -> Result<Option<Show>, FilterFault>
     requires blocks { length directory.now.blocks ≤ MOST_BLOCKS }
     requires signals { length directory.now.signals ≤ MOST_SIGNALS }
     ensures { result ≡ added directory.now number line.now }
@@ -52,7 +21,7 @@ fn added(directory: &Directory, number: u32, line: &[u8]) -> Result<Option<Show>
         return Ok(None);
     }
     let Some(asked) = asked_of(line) else {
-        return Err(FilterFault::BadLine { line: number });
+        return Err(breach(number, FilterRule::BadLine));
     };
     match meaning(directory, number, &asked) {
         Ok(show) => Ok(Some(show)),
@@ -68,10 +37,10 @@ fn meaning(directory: &Directory, number: u32, asked: &Asked<'_>) -> Result<Show
     ensures { result ≡ meaning directory.now number (asking_of asked.now) }
 {
     let Some(block) = sought(&directory.blocks, asked.block) else {
-        return Err(FilterFault::UnknownBlock { line: number });
+        return Err(breach(number, FilterRule::UnknownBlock));
     };
     let Some(signal) = sought(&directory.signals, asked.signal) else {
-        return Err(FilterFault::UnknownSignal { line: number });
+        return Err(breach(number, FilterRule::UnknownSignal));
     };
     Ok(Show {
         block,
@@ -81,6 +50,13 @@ fn meaning(directory: &Directory, number: u32, asked: &Asked<'_>) -> Result<Show
         upto: asked.upto,
         faults: asked.faults,
     })
+}
+
+/// The fault of a line that breaks this rule.
+fn breach(line: u32, rule: FilterRule) -> FilterFault
+    ensures { result ≡ breach rule line }
+{
+    FilterFault { line, rule }
 }
 
 /// The number of what has this name, if one is asked for; `None` where nothing has it.

@@ -1,26 +1,26 @@
 // A whole filter.
-ghost use Rattle.std.specs.Prelude.{◌≤◌, ◌^◌, length};
-ghost use Rattle.signal_trace.specs.Filter.{IsUnlessMemory, filter_of};
+ghost use Rattle.std.specs.Prelude.{◌≡◌, ◌≤◌, ◌^◌, IfOk, length};
+ghost use Rattle.signal_trace.specs.Filter.{filter_of};
 
 use crate::fault::FilterFault;
-use crate::meaning::add_line;
+use crate::meaning::added;
 use crate::show::Show;
 use exchange_model::Exchange;
-use plex_num::Seq;
+use plex_num::{Memory, Seq};
 use signal_file::directory_of;
 use std::alloc::Global;
 use text_lines::next_line;
 
-/// The lines of a filter of at most 16 MiB, in order, without those that are skipped; or the first fault of its first faulty
-/// line.
+/// The lines of a filter of at most 16 MiB, in order, without those that are skipped; or its first fault. It stops where memory is
+/// refused.
 #[tactic(auto, using(crate::proofs::Behind::file_read))]
 pub fn read_filter(
     alloc: Global,
     exchange: &Exchange,
     text: &[u8],
-) -> Result<Seq<Show>, FilterFault>
+) -> Result<Result<Seq<Show>, FilterFault>, Memory>
     requires { length text.now ≤ 2 ^ 24 }
-    ensures { IsUnlessMemory result (filter_of exchange.now text.now) }
+    ensures { IfOk result (λ told. told ≡ filter_of exchange.now text.now) }
 {
     let directory = directory_of(alloc, exchange)?;
     let mut shows = Seq::new(alloc);
@@ -28,8 +28,12 @@ pub fn read_filter(
     let mut rest = text;
     while let Some((line, after)) = next_line(rest) {
         number += 1;
-        add_line(&mut shows, &directory, number, line)?;
+        match added(&directory, number, line) {
+            Ok(None) => {}
+            Ok(Some(show)) => shows.push(show)?,
+            Err(fault) => return Ok(Err(fault)),
+        }
         rest = after;
     }
-    Ok(shows)
+    Ok(Ok(shows))
 }

@@ -15,7 +15,7 @@ use Rattle.exchange_model.specs.declared.stmt.StmtKind.{out-StmtKind}
 use Rattle.exchange_model.specs.declared.stmt.StmtKind.TheOpen as stmt
 use Rattle.exchange_model.proofs.Counted.{inner_spots-out}
 use Rattle.exchange_model.specs.PartCounts.{stmt_spots, when_spots, parts_spots}
-use Rattle.exchange_model.specs.Inside.{Spot, joined, spots, inner_spots}
+use Rattle.exchange_model.specs.Inside.{PointLine, joined, spots, inner_spots}
 use Rattle.exchange_model.specs.Kept.{IsExchange, all_spots, points_from, entries_from, entries_in}
 use Rattle.source_meaning.specs.Config.{Item}
 use Rattle.source_meaning.specs.Deeds.{Deed, Doing, Starting, Turning, deed_point, IsBranch}
@@ -63,8 +63,8 @@ pub points_many : (b : ℕ) (blocks : List Block) → length (points_from b bloc
 unfolding points_from
 points_many b [] = refl
 points_many b (k ∷ blocks) =
-    let here : List PointInfo = map (λ (s : Spot). record { block = b; line = s.line }) (spots k.body) in
-    let long : length here ≡ length (spots k.body) = length-map (spots k.body) (λ (s : Spot). record { block = b; line = s.line }) in
+    let here : List PointInfo = map (λ (s : PointLine). record { block = b; line = s.line }) (spots k.body) in
+    let long : length here ≡ length (spots k.body) = length-map (spots k.body) (λ (s : PointLine). record { block = b; line = s.line }) in
     let rest = points_many (b + 1) blocks in
     let left = length-append here (points_from (b + 1) blocks) in
     let right = length-append (spots k.body) (all_spots blocks) in
@@ -82,7 +82,7 @@ range_below n v h =
 module _ (x : Exchange) (kept : IsExchange x) where
   spot_below : (p line : ℕ) → Contains (all_spots x.blocks) (record { point = p; line = line }) → p < length x.points
   spot_below p line h =
-      let point : Spot → ℕ = λ s. s.point in
+      let point : PointLine → ℕ = λ s. s.point in
       let at : Contains (range_with_len 0 (length (all_spots x.blocks))) p = subst (λ l. Contains l p) kept.numbered.statements (in_map point (all_spots x.blocks) (record { point = p; line = line }) h) in
       let below = range_below (length (all_spots x.blocks)) p at in
       let many : length x.points ≡ length (all_spots x.blocks) = ap length kept.numbered.points ∙ points_many 0 x.blocks in

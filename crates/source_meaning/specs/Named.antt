@@ -2,14 +2,8 @@
 use Rattle.std.specs.Prelude.{ℕ, List, [], ◌∷◌}
 use Rattle.exchange_model.specs.declared.expr.Expr.{Expr, fold-Expr}
 use Rattle.exchange_model.specs.declared.expr.Factor.TheOpen.{Factor-F, Variable, Field, Bracket}
-use Rattle.exchange_model.specs.declared.stmt.Stmt.{Stmt}
-use Rattle.exchange_model.specs.declared.stmt.When.{When}
-use Rattle.exchange_model.specs.declared.stmt.StmtKind.{StmtKind, StmtKind-F}
+pub use Rattle.exchange_model.specs.Everywhere.{Layer}
 use Rattle.exchange_model.specs.Inside.{joined}
-
--- one layer of a statement, with the statements in it
-abbrev pub Layer : Type 0
-Layer = StmtKind-F StmtKind Stmt When
 
 pub data Named : Type 0 where
   NamedVariable : (variable : ℕ) → Named

@@ -12,11 +12,11 @@ use Rattle.job_types.specs.Waiting.{Waiting}
 -- what leaves the exchange, and what happens to forlopps, in order: by which job, as the number of jobs that have ended with
 -- it; a release tells the forlopp, a restart has none; both tell the fault, its point, how many waiting jobs were removed
 -- and how many records were freed
-pub data Event : Type 0 where
-  Out : (number signal : ℕ) (values : List ℕ) (forlopp : ℕ) → Event
-  Release : (forlopp number : ℕ) (fault : Fault) (point jobs records : ℕ) → Event
-  Lost : (line : ℕ) → Event
-  Restart : (number : ℕ) (fault : Fault) (point jobs records : ℕ) → Event
+pub data RunEvent : Type 0 where
+  Out : (number signal : ℕ) (values : List ℕ) (forlopp : ℕ) → RunEvent
+  Release : (forlopp number : ℕ) (fault : Fault) (point jobs records : ℕ) → RunEvent
+  Lost : (line : ℕ) → RunEvent
+  Restart : (number : ℕ) (fault : Fault) (point jobs records : ℕ) → RunEvent
 
 -- the forlopp of a line: a new one, none, or that of an earlier line
 pub data Origin : Type 0 where
@@ -48,7 +48,7 @@ pub record State : Type 0 where
   pub next : ℕ
   pub ended : ℕ
   pub restarts : ℕ
-  pub events : List Event
+  pub events : List RunEvent
   pub lines : List Coming
   pub arrived : List Arrived
 

@@ -19,7 +19,7 @@ use Rattle.exchange_model.specs.Cells.{Placed, variable_cell, field_cell, mark_c
 use Rattle.exchange_model.specs.Kept.{signal_count}
 use Rattle.job_types.specs.Chain.{holds}
 use Rattle.source_meaning.specs.Config.{files_of}
-use Rattle.source_meaning.specs.State.{State, Coming, Origin, Bare, Same, Arrived, Event, Out, Release, Lost, Restart, chain_in}
+use Rattle.source_meaning.specs.State.{State, Coming, Origin, Bare, Same, Arrived, RunEvent, Out, Release, Lost, Restart, chain_in}
 use Rattle.exchange_model.specs.Names.{level_of}
 
 -- a number of 32 bits
@@ -141,7 +141,7 @@ abbrev pub IsOutside : Option SignalKind → Type 0
 IsOutside (Some (OutsideKind name count)) = Unit {0}
 IsOutside _ = ⊥
 
-abbrev pub EventFits : Exchange → Event → Type 0
+abbrev pub EventFits : Exchange → RunEvent → Type 0
 EventFits x (Out number signal values forlopp) = IsOutside (slice_get x.signals signal)
 EventFits x (Release forlopp number f point jobs records) = point < length x.points
 EventFits x (Lost line) = Unit {0}

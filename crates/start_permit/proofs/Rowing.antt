@@ -27,7 +27,7 @@ use Rattle.entry_summary.specs.declared.summary.Summary.{Summary}
 use Rattle.start_permit.specs.declared.runs.Run.{Run}
 use Rattle.start_permit.specs.declared.table.CellTable.{CellTable}
 use Rattle.start_permit.specs.declared.table.FieldPlace.{FieldPlace}
-use Rattle.start_permit.specs.Granted.{Does, HasWord, IsField, IsOfField, IsOfMark, IsOfRecord, IsTable, IsVariable, Lets, MayRead, MayWrite, OneOf, Selects}
+use Rattle.start_permit.specs.Granted.{Does, HasWord, IsField, IsOfField, IsOfMark, IsOfRecord, IsCellTable, IsVariable, Lets, MayRead, MayWrite, OneOf, Selects}
 use Rattle.start_permit.specs.Recorded.{AreBelow, AreRuns, Gains, InRow, IsBelow, IsRowOf, IsRunOf, RowFits, spanned}
 use Rattle.start_permit.proofs.Gaining.{gains_as, none_gained, push_gains}
 
@@ -61,7 +61,7 @@ mark_fits x l file row laid r =
     let same : row.fields ≡ length r.placed.file.fields = ap (λ (q : FileRow). q.fields) r.is in
     fits_at x l file row.fields r.placed row laid r.there r.is (omega (arith, same))
 
-module _ (x : Exchange) (t : CellTable) (table : IsTable x t) (number : ℕ) (at : FieldPlace) (found : Some at ≡ slice_get t.fields number) where
+module _ (x : Exchange) (t : CellTable) (table : IsCellTable x t) (number : ℕ) (at : FieldPlace) (found : Some at ≡ slice_get t.fields number) where
   is_field : IsField x number at.file at.field
   is_field = (table.fields number at).0 (sym found)
 
@@ -89,12 +89,12 @@ module _ (x : Exchange) (t : CellTable) (table : IsTable x t) (number : ℕ) (at
       from w k e = subst (λ (q : FieldPlace). (f : IsField x number q.file q.field) → IsOfRecord f.placed q.field (Chosen q.file) w → IsOfRecord is_field.placed at.field (Chosen at.file) w) e (base w)
 
 -- no such field
-pub no_field : (x : Exchange) (t : CellTable) (number : ℕ) (Chosen : ℕ → ℕ → Type 0) (old : List Span) → IsTable x t → None ≡ slice_get t.fields number → Gains (IsOfField x number Chosen) old old
+pub no_field : (x : Exchange) (t : CellTable) (number : ℕ) (Chosen : ℕ → ℕ → Type 0) (old : List Span) → IsCellTable x t → None ≡ slice_get t.fields number → Gains (IsOfField x number Chosen) old old
 no_field x t number Chosen old table none = none_gained (IsOfField x number Chosen) old
     (λ w k. none-some (record { file = k.file; field = k.field }) (none ∙ (table.fields number (record { file = k.file; field = k.field })).1 k.at))
 
 -- a field that is there has a file
-pub no_row : (x : Exchange) (t : CellTable) (number : ℕ) (at : FieldPlace) (Chosen : ℕ → ℕ → Type 0) (old : List Span) → IsTable x t → Some at ≡ slice_get t.fields number → slice_get (files_of x) at.file ≡ None → Gains (IsOfField x number Chosen) old old
+pub no_row : (x : Exchange) (t : CellTable) (number : ℕ) (at : FieldPlace) (Chosen : ℕ → ℕ → Type 0) (old : List Span) → IsCellTable x t → Some at ≡ slice_get t.fields number → slice_get (files_of x) at.file ≡ None → Gains (IsOfField x number Chosen) old old
 no_row x t number at Chosen old table found none = (let f = (table.fields number at).0 (sym found) in absurd (none-some f.placed (sym none ∙ f.there)))
 
 pub no_mark : (x : Exchange) (file : ℕ) (Chosen : ℕ → Type 0) (old : List Span) → slice_get (files_of x) file ≡ None → Gains (IsOfMark x file Chosen) old old
@@ -130,12 +130,12 @@ runs_records p row place Chosen runs old new is = subst (λ (r : FileRow). AreRu
 
 -- what the calls append
 
-pub selected_field : (x : Exchange) (t : CellTable) (number : ℕ) (at : FieldPlace) (row : FileRow) (Chosen : ℕ → ℕ → Type 0) (run : Run) (old new : List Span) → IsTable x t → Some at ≡ slice_get t.fields number → IsRowOf x at.file row
+pub selected_field : (x : Exchange) (t : CellTable) (number : ℕ) (at : FieldPlace) (row : FileRow) (Chosen : ℕ → ℕ → Type 0) (run : Run) (old new : List Span) → IsCellTable x t → Some at ≡ slice_get t.fields number → IsRowOf x at.file row
     → IsRunOf row.size (Chosen at.file) run → Gains (InRow row at.field run) old new → Gains (IsOfField x number Chosen) old new
 selected_field x t number at row Chosen run old new table found r are g =
     field_gained x t table number at found Chosen old new (run_records (is_field x t table number at found).placed row at.field (Chosen at.file) run old new (row_is x t table number at found row r) are g)
 
-pub own_field : (x : Exchange) (t : CellTable) (number : ℕ) (at : FieldPlace) (row : FileRow) (Chosen : ℕ → ℕ → Type 0) (runs list : List Run) (old new : List Span) → IsTable x t → Some at ≡ slice_get t.fields number → IsRowOf x at.file row
+pub own_field : (x : Exchange) (t : CellTable) (number : ℕ) (at : FieldPlace) (row : FileRow) (Chosen : ℕ → ℕ → Type 0) (runs list : List Run) (old new : List Span) → IsCellTable x t → Some at ≡ slice_get t.fields number → IsRowOf x at.file row
     → list ≡ runs → AreRuns row.size (Chosen at.file) runs → Gains (OneOf (InRow row at.field) list) old new → Gains (IsOfField x number Chosen) old new
 own_field x t number at row Chosen runs list old new table found r read are g =
     field_gained x t table number at found Chosen old new (runs_records (is_field x t table number at found).placed row at.field (Chosen at.file) list old new (row_is x t table number at found row r) (subst (AreRuns row.size (Chosen at.file)) (sym read) are) g)
@@ -158,12 +158,12 @@ one_word word w h = (let s = spans_out (record { first = word; count = 1; stride
 its_word : (word : ℕ) → spans (record { first = word; count = 1; stride = 1 }) word ≡ true
 its_word word = (let at : word + 0 * 1 ≡ word = omega arith in subst (λ v. spans (record { first = word; count = 1; stride = 1 }) v ≡ true) at (spans_in (record { first = word; count = 1; stride = 1 }) 0 (omega arith)))
 
-pub variable_gained : (x : Exchange) (t : CellTable) (number word : ℕ) (old new : List Span) → IsTable x t → Some word ≡ slice_get t.variables number → new ≡ old ++ record { first = word; count = 1; stride = 1 } ∷ [] → Gains (IsVariable x number) old new
+pub variable_gained : (x : Exchange) (t : CellTable) (number word : ℕ) (old new : List Span) → IsCellTable x t → Some word ≡ slice_get t.variables number → new ≡ old ++ record { first = word; count = 1; stride = 1 } ∷ [] → Gains (IsVariable x number) old new
 variable_gained x t number word old new table found made = push_gains (IsVariable x number) old new (record { first = word; count = 1; stride = 1 }) made
     (λ w h. subst (IsVariable x number) (one_word word w h) ((table.variables number word).0 (sym found)))
     (λ w v. subst (λ u. spans (record { first = word; count = 1; stride = 1 }) u ≡ true) (same_Some word w (found ∙ (table.variables number w).1 v)) (its_word word))
 
-pub no_variable : (x : Exchange) (t : CellTable) (number : ℕ) (old : List Span) → IsTable x t → None ≡ slice_get t.variables number → Gains (IsVariable x number) old old
+pub no_variable : (x : Exchange) (t : CellTable) (number : ℕ) (old : List Span) → IsCellTable x t → None ≡ slice_get t.variables number → Gains (IsVariable x number) old old
 no_variable x t number old table none = none_gained (IsVariable x number) old (λ w v. none-some w (none ∙ (table.variables number w).1 v))
 
 -- accesses

@@ -22,7 +22,7 @@ use Rattle.exchange_model.proofs.Places.{block_below, sum_by_within}
 use Rattle.source_meaning.specs.Config.{files_of}
 use Rattle.start_permit.specs.declared.table.CellTable.{CellTable}
 use Rattle.start_permit.specs.declared.table.FieldPlace.{FieldPlace}
-use Rattle.start_permit.specs.Granted.{IsField, IsTable, IsVariable}
+use Rattle.start_permit.specs.Granted.{IsField, IsCellTable, IsVariable}
 use Rattle.start_permit.specs.Listed.{AllSmall, AreSmall, block_places, field_places, file_places, place_at, variable_words, words_from}
 
 -- one item more
@@ -275,7 +275,7 @@ fields_are x kept n f = (there, back)
         ∙ range_at (place_at k.placed.file.number) (length k.placed.file.fields) f.field lt
         ∙ ap (λ i. Some (place_at i f.field)) (files_number x kept f.file k.placed k.there)
 
-pub table_is : (x : Exchange) (t : CellTable) (blocks others : List Block) → IsExchange x → blocks ≡ x.blocks → others ≡ x.blocks → t.variables ≡ variable_words 0 blocks → t.fields ≡ field_places others → IsTable x t
+pub table_is : (x : Exchange) (t : CellTable) (blocks others : List Block) → IsExchange x → blocks ≡ x.blocks → others ≡ x.blocks → t.variables ≡ variable_words 0 blocks → t.fields ≡ field_places others → IsCellTable x t
 table_is x t blocks others kept same alike variables fields = record {
   variables = λ n w. subst (λ l. (slice_get l n ≡ Some w) ↔ IsVariable x n w) (sym (variables ∙ ap (variable_words 0) same)) (variables_are x n w);
   fields = λ n f. subst (λ l. (slice_get l n ≡ Some f) ↔ IsField x n f.file f.field) (sym (fields ∙ ap field_places alike)) (fields_are x kept n f);

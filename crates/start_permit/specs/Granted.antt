@@ -119,11 +119,11 @@ abbrev pub MayRead : Exchange → Summary → JobStart → ChainMap → ℕ → 
 MayRead x s start chains word = OneOf (Lets x s.accesses start chains false) s.accesses word ⊎ MayWrite x s start chains word
 
 -- where the variables and fields of an exchange stand, by their numbers
-pub record IsTable (x : Exchange) (t : CellTable) : Type 0 where
+pub record IsCellTable (x : Exchange) (t : CellTable) : Type 0 where
   pub variables : (number word : ℕ) → (slice_get t.variables number ≡ Some word) ↔ IsVariable x number word
   pub fields : (number : ℕ) (f : FieldPlace) → (slice_get t.fields number ≡ Some f) ↔ IsField x number f.file f.field
 
 -- the layout and the table are those of the exchange
 pub record AreGrounds (g : Grounds) : Type 0 where
   pub layout : IsLayout g.exchange.now.blocks g.layout.now
-  pub table : IsTable g.exchange.now g.table.now
+  pub table : IsCellTable g.exchange.now g.table.now

@@ -4,7 +4,7 @@ ghost use Rattle.exchange_model.specs.declared.exchange.Exchange as declared;
 ghost use Rattle.job_types.specs.Forlopps.{ChainMap, all_records};
 ghost use Rattle.source_meaning.specs.Config.{files_of};
 ghost use Rattle.store_layout.specs.Laid.{IsLayout};
-ghost use Rattle.start_permit.specs.Granted.{AreGrounds, Does, HasWord, IsOfField, IsOfMark, IsTable, IsVariable, Lets, Marks, MayHold, OneOf, Selects};
+ghost use Rattle.start_permit.specs.Granted.{AreGrounds, Does, HasWord, IsOfField, IsOfMark, IsCellTable, IsVariable, Lets, Marks, MayHold, OneOf, Selects};
 ghost use Rattle.start_permit.specs.Recorded.{AreBelow, Gains, InRow, IsBelow, IsRowOf, RowFits, spanned};
 
 use crate::runs::{Run, all_below, free_runs, own_runs, selected};
@@ -92,7 +92,7 @@ fn push_variable(
     number: u32,
     spans: &mut Seq<Span>,
 ) -> Result<(), Memory>
-    requires { IsTable exchange.now table.now }
+    requires { IsCellTable exchange.now table.now }
     ensures { OnOk result (Gains (IsVariable exchange.now number) spans.old spans.new) }
 {
     let _ = exchange;
@@ -118,7 +118,7 @@ fn push_selected(
     spans: &mut Seq<Span>,
 ) -> Result<(), Memory>
     requires layout { IsLayout exchange.now.blocks layout.now }
-    requires table { IsTable exchange.now table.now }
+    requires table { IsCellTable exchange.now table.now }
     ensures { OnOk result (Gains
         (IsOfField exchange.now number (λ file. Selects values.now selector))
         spans.old spans.new) }
@@ -147,7 +147,7 @@ fn push_own(
     spans: &mut Seq<Span>,
 ) -> Result<(), Memory>
     requires layout { IsLayout exchange.now.blocks layout.now }
-    requires table { IsTable exchange.now table.now }
+    requires table { IsCellTable exchange.now table.now }
     ensures { OnOk result ((chains : ChainMap) → held.now ≡ all_records chains → Gains
         (IsOfField exchange.now number (MayHold accesses.now chain.now chains))
         spans.old spans.new) }

@@ -3,7 +3,7 @@ ghost use Rattle.std.specs.Prelude.{◌≡◌, ◌+◌, ◌<◌, ◌^◌, ◌++�
 ghost use Rattle.std.specs.List.{range_with_len};
 ghost use Rattle.exchange_model.specs.Cells.{cell_count};
 ghost use Rattle.exchange_model.specs.Inside.{joined};
-ghost use Rattle.start_permit.specs.Granted.{IsTable};
+ghost use Rattle.start_permit.specs.Granted.{IsCellTable};
 ghost use Rattle.start_permit.specs.Listed.{AllSmall, AreSmall, field_places, file_places, place_at, variable_words, words_from};
 
 use exchange_model::{Block, Exchange, File};
@@ -34,7 +34,7 @@ impl Drop for CellTable {
 
 /// The table of an exchange, which is made once. Memory is the only reason for an error.
 pub fn table_of(alloc: Global, exchange: &Exchange) -> Result<CellTable, Memory>
-    ensures { IfOk result (λ table. IsTable exchange.now table) }
+    ensures { IfOk result (λ table. IsCellTable exchange.now table) }
 {
     exchange.kept();
     let variables = words_of_variables(alloc, exchange.blocks.as_slice())?;

@@ -2,7 +2,7 @@
 ghost use Rattle.std.specs.Prelude.{◌≡◌, ◌↔◌, ℕ, true, IfOk};
 ghost use Rattle.machine_code.specs.Permits.{may_read, may_write};
 ghost use Rattle.store_layout.specs.Laid.{IsLayout};
-ghost use Rattle.start_permit.specs.Granted.{IsTable, MayRead, MayWrite};
+ghost use Rattle.start_permit.specs.Granted.{IsCellTable, MayRead, MayWrite};
 
 use crate::granting::{Grounds, words_of};
 use crate::table::CellTable;
@@ -27,7 +27,7 @@ pub fn permit(
     start: &JobStart,
 ) -> Result<Permit, Memory>
     requires layout { IsLayout exchange.now.blocks layout.now }
-    requires table { IsTable exchange.now table.now }
+    requires table { IsCellTable exchange.now table.now }
     ensures reads { IfOk result (λ permit. (word : ℕ) → (may_read permit word ≡ true)
         ↔ MayRead exchange.now summary.now start.now chains.now.chains word) }
     ensures writes { IfOk result (λ permit. (word : ℕ) → (may_write permit word ≡ true)

@@ -11,14 +11,14 @@ ghost use Rattle.text_rules.specs.Blocks.{has_choice};
 
 use crate::names::NameSet;
 use indexmap::{IndexMap, IndexSet};
-use plex_num::{Memory, Name, Seed};
+use plex_num::{Memory, Seed};
 use std::alloc::Global;
 use text_events::{Event, Meaning, Place};
 use token_grammar::KeptName;
 
 /// The names that are declared so far.
 pub(crate) struct Declared {
-    pub(crate) names: IndexMap<Name, Meaning, Seed>,
+    pub(crate) names: IndexMap<KeptName, Meaning, Seed>,
 }
 
 impl Drop for Declared {
@@ -40,7 +40,7 @@ impl Declared {
     pub(crate) fn meaning(&self, name: &KeptName) -> Option<Meaning>
         ensures { result ≡ get bytes_eq self.now.names name.now }
     {
-        self.names.get(&name.copy()).copied()
+        self.names.get(name).copied()
     }
 
     #[tactic(auto, using(crate::proofs::BlockSteps::see_declared))]
@@ -48,7 +48,8 @@ impl Declared {
         ensures { OnOk result ((n : List ℕ) → get bytes_eq self.new.names n ≡ or_else (meaning_of_note n (note_of place.entry)) (get bytes_eq self.old.names n)) }
     {
         if let Place::Declares { name, meaning } = place {
-            match self.names.insert(name.copy(), meaning) {
+            let kept = name.again(*self.names.allocator())?;
+            match self.names.insert(kept, meaning) {
                 Ok(_) => {}
                 Err(_) => return Err(Memory),
             }

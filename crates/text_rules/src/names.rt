@@ -3,13 +3,13 @@ ghost use Rattle.std.specs.Str.{bytes_eq};
 ghost use Rattle.indexmap.specs.IndexSet.{contains};
 
 use indexmap::IndexSet;
-use plex_num::{Memory, Name, Seed};
+use plex_num::{Memory, Seed};
 use std::alloc::Global;
 use token_grammar::KeptName;
 
 /// A set of names.
 pub(crate) struct NameSet {
-    pub(crate) names: IndexSet<Name, Seed>,
+    pub(crate) names: IndexSet<KeptName, Seed>,
 }
 
 impl Drop for NameSet {
@@ -30,14 +30,15 @@ impl NameSet {
     pub(crate) fn has(&self, name: &KeptName) -> bool
         ensures { result ≡ contains bytes_eq self.now.names name.now }
     {
-        self.names.contains(&name.copy())
+        self.names.contains(name)
     }
 
     /// Takes in a name.
     pub(crate) fn add(&mut self, name: &KeptName) -> Result<(), Memory>
         ensures { OnOk result ((n : List ℕ) → contains bytes_eq self.new.names n ≡ (contains bytes_eq self.old.names n || bytes_eq name.now n)) }
     {
-        match self.names.insert(name.copy()) {
+        let kept = name.again(*self.names.allocator())?;
+        match self.names.insert(kept) {
             Ok(_) => Ok(()),
             Err(_) => Err(Memory),
         }

@@ -51,7 +51,8 @@ use Rattle.resolved_block.specs.Expressions.{typed_temps}
 use Rattle.resolved_block.specs.Meant.{signal_of}
 use Rattle.resolved_block.specs.Statements.{typed_kind, typed_stmt}
 use Rattle.resolved_block.specs.Blocks.{items_made, kind_made, ended, labels_from, kind_labels, body_of, env_of, typed_of}
-use Rattle.text_soundness.specs.Everywhere.{Layer, Everywhere, AllIn, PartsKeep, everywhere-built}
+use Rattle.exchange_model.specs.Everywhere.{Layer, Everywhere, AllIn, PartsKeep}
+use Rattle.exchange_model.proofs.Everywhere.{everywhere-built}
 use Rattle.text_soundness.specs.Shares.{PartsStand}
 use Rattle.text_soundness.specs.Blocks.{IsBuilt}
 use Rattle.text_soundness.proofs.BuiltText.{statement_in, statements_in, begin_total, Begin, begin_all, begin_then, begin_add, Sound, sound_front, sound_last, sound_whole}

@@ -35,7 +35,7 @@ use Rattle.resolved_block.specs.Expressions.{typed_expr, typed_cond, typed_value
 use Rattle.resolved_block.specs.Names.{Env, Naming}
 use Rattle.resolved_block.specs.Statements.{typed_list, typed_when, kind_layer, in_turn as made_in_turn}
 use Rattle.resolved_block.proofs.Turns.{opened}
-use Rattle.text_soundness.specs.Everywhere.{Layer, PartsKeep}
+use Rattle.exchange_model.specs.Everywhere.{Layer, PartsKeep}
 use Rattle.text_soundness.specs.Shares.{PartsStand, ChoosesOnce}
 use Rattle.text_soundness.proofs.BuiltText.{statement_in, begin_total, Begin, begin_all, begin_then, begin_add, Sound, sound_front, sound_last}
 use Rattle.text_events.proofs.Layers.{opened as opened_walk}

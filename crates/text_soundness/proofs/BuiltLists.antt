@@ -17,7 +17,8 @@ use Rattle.text_rules.specs.declared.rule.BlockRule.TheVariants as rule
 use Rattle.text_soundness.specs.Fine.{Text}
 use Rattle.resolved_block.specs.Names.{Env}
 use Rattle.resolved_block.specs.Statements.{typed_kind, typed_stmt, typed_list}
-use Rattle.text_soundness.specs.Everywhere.{Layer, Everywhere, AllIn, PartsKeep, everywhere-built}
+use Rattle.exchange_model.specs.Everywhere.{Layer, Everywhere, AllIn, PartsKeep}
+use Rattle.exchange_model.proofs.Everywhere.{everywhere-built}
 use Rattle.text_soundness.specs.Shares.{PartsStand, ChoosesOnce}
 use Rattle.text_soundness.proofs.BuiltText.{statement_in, statements_in, Begin, begin_all, begin_then, begin_add, Sound, sound_front, sound_last}
 use Rattle.text_events.proofs.Layers.{stmt_walk-out}

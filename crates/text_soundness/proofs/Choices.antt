@@ -19,7 +19,7 @@ use Rattle.text_rules.specs.declared.rule.BlockRule.TheVariants as rule
 use Rattle.text_rules.specs.Blocks.{chooses}
 use Rattle.resolved_block.specs.Names.{Env}
 use Rattle.resolved_block.specs.Statements.{in_turn, typed_list, typed_when}
-use Rattle.text_soundness.specs.Everywhere.{AllIn}
+use Rattle.exchange_model.specs.Everywhere.{AllIn}
 use Rattle.text_soundness.specs.Shares.{PartsStand}
 use Rattle.text_soundness.proofs.BuiltText.{statement_in, statements_in, begin_total, Begin, begin_all, begin_then, begin_add, Sound, sound_front, sound_last}
 use Rattle.text_events.proofs.Layers.{when_walk-out}

@@ -5,7 +5,8 @@ use Rattle.exchange_model.specs.declared.stmt.Stmt.{Stmt, roll-Stmt}
 use Rattle.exchange_model.specs.declared.stmt.When.{When, out-When, roll-When, map-When, out-roll-When}
 use Rattle.exchange_model.specs.declared.stmt.StmtKind.{StmtKind, StmtKind-F, out-StmtKind, roll-StmtKind, ind-StmtKind, out-roll-StmtKind, map-StmtKind}
 use Rattle.exchange_model.specs.declared.stmt.StmtKind.TheOpen as layer
-use Rattle.text_soundness.specs.Everywhere.{Layer, Everywhere, AllIn, PartsKeep, everywhere-own, everywhere-parts, everywhere-built}
+use Rattle.exchange_model.specs.Everywhere.{Layer, Everywhere, AllIn, PartsKeep}
+use Rattle.exchange_model.proofs.Everywhere.{everywhere-own, everywhere-parts, everywhere-built}
 
 module _ (P Q R : Layer → Type 0) (joins : (l : Layer) → P l → Q l → R l) where
   abbrev pub KindJoined : StmtKind → Type 0

@@ -12,7 +12,7 @@ use Rattle.exchange_model.specs.declared.block.Variable.{Variable}
 use Rattle.exchange_model.specs.declared.entry.PointInfo.{PointInfo}
 use Rattle.exchange_model.specs.Cells.{block_cells, file_cells, cell_count, marks}
 use Rattle.exchange_model.specs.Fits.{Scope}
-use Rattle.exchange_model.specs.Inside.{spots, Spot, joined}
+use Rattle.exchange_model.specs.Inside.{spots, PointLine, joined}
 use Rattle.exchange_model.specs.Kept.{entries_in, entries_from, points_from}
 use Rattle.plex_ast.specs.declared.block.Block.{Block as TreeBlock}
 use Rattle.plex_ast.specs.declared.block.Decl.{Decl}
@@ -127,7 +127,7 @@ module _ (signals : List SignalKind) (blocks : List TreeBlock) where
   all_statements first [] number kept = omega arith
   all_statements first (b ∷ rest) number kept =
       let t = typed_of signals blocks first b in
-      let point : Spot → PointInfo = λ s. record { block = number; line = s.line } in
+      let point : PointLine → PointInfo = λ s. record { block = number; line = s.line } in
       omega (arith, length-append (map point (spots t.block.body)) (points_from (number + 1) (typed_from signals blocks t.next rest)), length-map (spots t.block.body) point, has_statements signals blocks first b kept.0.0 kept.0.1, all_statements t.next rest (number + 1) kept.1, total_append statement_in (block_events b) (joined (map block_events rest)))
 
   pub all_entries : (first : First) (list : List TreeBlock) (number : ℕ) → AllByRecursion Kept list → length (entries_from signals number (typed_from signals blocks first list)) ≤ (all_told list).entries

@@ -14,7 +14,7 @@ use Rattle.text_soundness.specs.Fine.{IsFineBlock, text_of}
 use Rattle.resolved_block.specs.declared.parts.First.{First}
 use Rattle.resolved_block.specs.Blocks.{items_made, typed_of}
 use Rattle.text_soundness.specs.Blocks.{IsNamed}
-use Rattle.text_soundness.specs.Everywhere.{Everywhere, AllIn}
+use Rattle.exchange_model.specs.Everywhere.{Everywhere, AllIn}
 use Rattle.text_soundness.specs.Shares.{NamesStand}
 use Rattle.text_soundness.proofs.ServedSaid.{said_whole}
 use Rattle.text_soundness.proofs.NamedLists.{all_append}

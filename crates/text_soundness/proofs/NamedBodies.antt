@@ -26,7 +26,7 @@ use Rattle.resolved_block.specs.Names.{Env}
 use Rattle.resolved_block.specs.Meant.{signal_of}
 use Rattle.resolved_block.specs.Statements.{typed_stmt, typed_list}
 use Rattle.resolved_block.specs.Blocks.{kind_made, items_made}
-use Rattle.text_soundness.specs.Everywhere.{AllIn}
+use Rattle.exchange_model.specs.Everywhere.{AllIn}
 use Rattle.text_soundness.specs.Shares.{NamesStand}
 use Rattle.text_soundness.proofs.ServedWalks.{Tells, tells_none, tells_add, tells_then, tells_so, tells_same}
 use Rattle.text_events.proofs.Layers.{opened, kind_walk-out, stmt_walk-out}

@@ -46,7 +46,8 @@ use Rattle.resolved_block.specs.Meant.{signal_of, sent_to}
 use Rattle.resolved_block.specs.Statements.{in_turn, kind_layer, typed_when, typed_list}
 use Rattle.resolved_block.proofs.Turns.{opened}
 use Rattle.text_soundness.specs.Blocks.{IsPlaced}
-use Rattle.text_soundness.specs.Everywhere.{Layer, Everywhere, AllIn, PartsKeep, everywhere-built}
+use Rattle.exchange_model.specs.Everywhere.{Layer, Everywhere, AllIn, PartsKeep}
+use Rattle.exchange_model.proofs.Everywhere.{everywhere-built}
 use Rattle.text_soundness.specs.Meanings.{Suits}
 use Rattle.text_soundness.specs.Shares.{NamesStand}
 use Rattle.text_soundness.specs.Served.{Said, HeadSaid, IsSending, IsSent, WayLeads}

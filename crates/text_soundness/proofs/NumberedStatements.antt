@@ -11,7 +11,7 @@ use Rattle.exchange_model.specs.declared.stmt.Stmt.{Stmt as MStmt}
 use Rattle.exchange_model.specs.declared.stmt.When.{When as MWhen, When-F as MWhen-F, out-roll-When as out-roll-MWhen}
 use Rattle.exchange_model.specs.declared.stmt.StmtKind.{StmtKind as MKind, StmtKind-F as MKind-F, out-StmtKind as out-MKind}
 use Rattle.exchange_model.specs.declared.stmt.StmtKind.TheVariants as stmt
-use Rattle.exchange_model.specs.Inside.{Spot, spots, joined, inner_spots}
+use Rattle.exchange_model.specs.Inside.{PointLine, spots, joined, inner_spots}
 use Rattle.exchange_model.specs.PartCounts.{parts_spots, when_spots, stmt_spots}
 use Rattle.exchange_model.proofs.Counted.{inner_spots-out}
 use Rattle.resolved_block.specs.Meant.{byte_of, target_in}
@@ -65,7 +65,7 @@ module _ (env : Env) where
       let r = in_turn (map (typed_when env) (map (λ e. e.0) ws)) m.1 in
       follows_join (when_spots m.0) (joined (map when_spots r.0)) p m.1 r.1 (w.1 p) (whens_follow ws m.1)
 
-  two_follow : (k : MKind) (xs ys : List Spot) (p q r : ℕ) → inner_spots k ≡ xs ++ ys → Follows xs p q → Follows ys q r → Follows (inner_spots k) p r
+  two_follow : (k : MKind) (xs ys : List PointLine) (p q r : ℕ) → inner_spots k ≡ xs ++ ys → Follows xs p q → Follows ys q r → Follows (inner_spots k) p r
   two_follow k xs ys p q r is f g = rw is (follows_join xs ys p q r f g)
 
   layer_follows : (y : StmtKind-F ((k : StmtKind) × KindFollows k) ((s : Stmt) × StmtFollows s) ((w : When) × WhenFollows w)) → LayerFollows (map-StmtKind _ _ _ _ _ _ (λ e. e.0) (λ e. e.0) (λ e. e.0) y)

@@ -8,7 +8,7 @@ use Rattle.exchange_model.specs.declared.block.Enter.{Enter as Row}
 use Rattle.exchange_model.specs.declared.stmt.Stmt.{Stmt}
 use Rattle.exchange_model.specs.declared.stmt.StmtKind.TheOpen as layer
 use Rattle.exchange_model.specs.declared.signal.SignalKind.{SignalKind}
-use Rattle.exchange_model.specs.Fits.{Scope, StmtFits, LayerFits, KindNames, Receives}
+use Rattle.exchange_model.specs.Fits.{Scope, LayerFits, KindNames, Receives}
 use Rattle.exchange_model.specs.Kept.{BlockKept, CanBeSent, IsExchange, SignalsKept, enters_from, scope_of}
 use Rattle.plex_ast.specs.declared.block.Block.{Block as TreeBlock}
 use Rattle.plex_ast.specs.declared.tree.Tree.{Tree}
@@ -20,7 +20,7 @@ use Rattle.resolved_block.specs.declared.parts.First.{First}
 use Rattle.resolved_block.specs.Blocks.{env_of, typed_of, sends_of}
 use Rattle.resolved_block.specs.Texts.{none_before, typed_from, typed_blocks, exchange_of, exchange_of_tree}
 use Rattle.text_soundness.specs.Blocks.{IsDeclared, IsBuilt, IsNamed}
-use Rattle.text_soundness.specs.Everywhere.{Layer, Everywhere, AllIn}
+use Rattle.exchange_model.specs.Everywhere.{Layer, AllIn}
 use Rattle.text_soundness.specs.Fine.{IsFineBlock, IsFineTree}
 use Rattle.text_soundness.specs.Meanings.{Suits}
 use Rattle.text_soundness.specs.Shares.{NamesStand, NamesOf, PartsStand, ChoosesOnce}
@@ -66,13 +66,8 @@ layer_joined s l n p = record {
   lists = p.lists;
 }
 
-all_fit : (s : Scope) (body : List Stmt) → AllIn (LayerFits s) body → AllByRecursion (λ (one : Stmt). StmtFits s one.kind) body
-unfolding Everywhere StmtFits
-all_fit s [] h = tt
-all_fit s (one ∷ rest) h = (h.0, all_fit s rest h.1)
-
-body_fits : (s : Scope) (body : List Stmt) → AllIn (NamesStand s) body → AllIn (PartsStand s) body → AllByRecursion (λ (one : Stmt). StmtFits s one.kind) body
-body_fits s body n p = all_fit s body (all_joined (NamesStand s) (PartsStand s) (LayerFits s) (layer_joined s) body n p)
+body_fits : (s : Scope) (body : List Stmt) → AllIn (NamesStand s) body → AllIn (PartsStand s) body → AllIn (LayerFits s) body
+body_fits s body n p = all_joined (NamesStand s) (PartsStand s) (LayerFits s) (layer_joined s) body n p
 
 -- blocks
 

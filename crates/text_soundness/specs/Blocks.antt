@@ -9,7 +9,7 @@ use Rattle.exchange_model.specs.declared.block.File.{File}
 use Rattle.exchange_model.specs.Fits.{Scope, ArePaired}
 use Rattle.exchange_model.specs.Inside.{text_depth}
 use Rattle.exchange_model.specs.Kept.{VariableFits, FileFits, CanBeSent, IsText, IsLabelAt, block_names}
-use Rattle.text_soundness.specs.Everywhere.{AllIn}
+use Rattle.exchange_model.specs.Everywhere.{AllIn}
 use Rattle.text_soundness.specs.Shares.{NamesStand, PartsStand}
 
 -- a file of the block stands in the exchange, from the number of the block's first file on

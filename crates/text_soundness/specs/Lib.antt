@@ -1,5 +1,4 @@
 pub mod Blocks
-pub mod Everywhere
 pub mod Fine
 pub mod Meanings
 pub mod Served

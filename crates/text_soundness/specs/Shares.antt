@@ -6,7 +6,7 @@ use Rattle.exchange_model.specs.declared.stmt.When.{out-When}
 use Rattle.exchange_model.specs.declared.stmt.StmtKind.TheOpen as layer
 use Rattle.exchange_model.specs.Inside.{own_exprs, bracket_depth, operand_count, total}
 use Rattle.exchange_model.specs.Fits.{Scope, KindNames, ExprFits, ListsFit}
-use Rattle.text_soundness.specs.Everywhere.{Layer}
+use Rattle.exchange_model.specs.Everywhere.{Layer}
 
 -- names
 

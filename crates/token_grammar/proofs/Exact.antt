@@ -6,7 +6,7 @@ use Rattle.std.proofs.lemmas.Bool.{false≢true}
 use Rattle.plex_lexer.specs.declared.token.Token.{Token}
 use Rattle.token_grammar.specs.Language.{class, mem, Lang, ◌·◌, word, each, maybe, flag}
 use Rattle.token_grammar.specs.Reading.{Stuck, Reader, ◌>>=◌, with_front, shorter, done, optional, flag_read, after, ended, closed, pair, at, word_of, up_to, many, both, branch, halt, lined}
-pub use Rattle.token_grammar.proofs.Sequences.{Both, Exact, Exact-both, Exact-lined, Exact-same, Exact-word, Lined, SameHead, SameHead-refl, at_append, dot_left, dot_right, mem_split, one, then_to, three_left, three_right}
+pub use Rattle.token_grammar.proofs.Sequences.{Both, Exact, Exact-both, Exact-lined, Exact-same, Exact-word, Lined, SameHead, SameHead-refl, at_append, at_both, dot_left, dot_right, mem_split, one, then_to, three_left, three_right}
 use Rattle.token_grammar.proofs.Sequences.{Bad, Begins, Good, SameHead-append, apart, apart_mem, at_same, begins_right, both_bad1, both_good, both_second, either, firsts, lasts, lined_bad, mem_left, within, within_mem, word_bad, word_end}
 
 -- one of two, told by the next token

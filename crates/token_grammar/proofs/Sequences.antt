@@ -138,9 +138,12 @@ mem_right c xs ys h = mem_append c xs ys ∙ or_right (mem c xs) (mem c ys) h
 pub mem_split : (c : ℕ) (xs ys : List ℕ) → mem c (xs ++ ys) ≡ true → (mem c xs ≡ true) ⊎ (mem c ys ≡ true)
 mem_split c xs ys h = or_true (mem c xs) (mem c ys) (sym (mem_append c xs ys) ∙ h)
 
+pub at_both : (xs ys : List ℕ) (w : List Token) → at (xs ++ ys) w ≡ (at xs w || at ys w)
+at_both xs ys [] = refl
+at_both xs ys (t ∷ ts) = mem_append (class t) xs ys
+
 pub at_append : (xs ys : List ℕ) (w : List Token) → at (xs ++ ys) w ≡ false → (at xs w ≡ false) × (at ys w ≡ false)
-at_append xs ys [] h = (refl, refl)
-at_append xs ys (t ∷ ts) h = or_false (mem (class t) xs) (mem (class t) ys) (sym (mem_append (class t) xs ys) ∙ h)
+at_append xs ys w h = or_false (at xs w) (at ys w) (sym (at_both xs ys w) ∙ h)
 
 pub apart_mem : (xs ys : List ℕ) (c : ℕ) → apart xs ys ≡ true → mem c xs ≡ true → mem c ys ≡ false
 apart_mem [] ys c h m = cc

@@ -15,10 +15,10 @@ abbrev pub Gives : {X Y : Type 0} → (X → Y) → Result X Fault → Result Y 
 Gives view (Ok x) read = read ≡ Ok (view x)
 Gives view (Err e) read = Fails e read
 
-abbrev pub Holds : {X : Type 0} → X → Result X Fault → Type 0
-Holds x (Ok y) = y ≡ x
-Holds x (Err faults.Memory) = Unit {0}
-Holds x (Err (faults.Stuck left deep)) = ⊥
+abbrev pub IsGiven : {X : Type 0} → X → Result X Fault → Type 0
+IsGiven x (Ok y) = y ≡ x
+IsGiven x (Err faults.Memory) = Unit {0}
+IsGiven x (Err (faults.Stuck left deep)) = ⊥
 
 -- a function of the parser does what a reader does with the tokens ahead
 abbrev pub Reads : {Y : Type 0} → Result (Y × Cursor) Fault → Reader Y → Cursor → Type 0

@@ -1,8 +1,15 @@
 // Names as a tree keeps them.
 ghost use Rattle.std.specs.Prelude.{◌≡◌, ◌<◌, ◌≤◌, ◌++◌, ◌∷◌, [], length, IfOk};
+ghost use Rattle.std.proofs.Common.{rules};
+ghost use Rattle.std.specs.Cmp.{partial_equiv_from_equiv};
+ghost use Rattle.std.specs.Cmp.Lexicographic.{nat_list_eq_equiv};
+ghost use Rattle.std.specs.Cmp.Rules.{hashing};
+ghost use Rattle.std.specs.Hash as fed;
+ghost use Rattle.std.specs.Str.{bytes_eq};
 
 use plex_num::{Memory, Name};
 use std::alloc::Global;
+use std::hash::{Hash, Hasher};
 use std::marker::Model;
 
 /// How many bytes of a name stand in its own place.
@@ -129,5 +136,36 @@ impl KeptName {
         ensures { result ≡ self.now }
     {
         Name::of(self.as_slice())
+    }
+
+    /// Another such name of the same bytes, or no memory.
+    pub fn again(&self, alloc: Global) -> Result<KeptName, Memory>
+        ensures { IfOk result (λ kept. kept ≡ self.now) }
+    {
+        KeptName::new(alloc, self.copy())
+    }
+}
+
+impl PartialEq for KeptName {
+    ghost eq = { bytes_eq };
+
+    ghost laws = { partial_equiv_from_equiv nat_list_eq_equiv };
+
+    fn eq(&self, other: &KeptName) -> bool {
+        self.as_slice() == other.as_slice()
+    }
+}
+
+impl Eq for KeptName {
+    ghost laws = { nat_list_eq_equiv };
+}
+
+impl Hash for KeptName {
+    ghost hash_input = { fed.slice fed.u8 };
+
+    ghost respects_eq = { Prim.search (hashing, rules) };
+
+    fn hash<H: Hasher>(&self, state: &mut H) {
+        self.as_slice().hash(state);
     }
 }

@@ -1,13 +1,21 @@
 use Rattle.std.specs.List.{Contains}
-use Rattle.checked.proofs.Checking.{accepted, wrong_shape}
+use Rattle.checked.proofs.Checking.{accepted, known_own, missing_told, wrong_shape}
 use Rattle.checked.proofs.Summing.{can_be_kept}
 use Rattle.checked.proofs.deciding.check.Goals as goal
 
 pub returns-then-not-is_same : goal.returns-then-not-is_same
-returns-then-not-is_same c = wrong_shape c.args.exchange.now c.args.certificate c.shape_over-own.result c.is_same.result c.shape_over-own.ensures c.is_same.ensures c.if-not-is_same.true
+returns-then-not-is_same c = wrong_shape c.args.exchange.now c.args.certificate c.shape_of-own.result c.is_same.result c.shape_of-own.ensures c.is_same.ensures c.if-not-is_same.true
+
+pub missing_from-requires-clause-fit : goal.missing_from-requires-clause-fit
+missing_from-requires-clause-fit c = known_own c.args.exchange.now c.args.certificate.facts c.as_slice.result.now c.new-known.result c.in_order.result c.as_slice.ensures c.in_default.ensures c.new-known.ensures c.in_order.ensures.same
+
+pub returns-in-Some-2 : goal.returns-in-Some-2
+returns-in-Some-2 c =
+    missing_told c.args.exchange.now c.args.certificate c.shape_of-own.result c.is_same.result c.as_slice.result.now c.new-known.result c.in_order.result c.in_ok-fact.field-0 c.shape_of-own.ensures c.is_same.ensures c.if-not-is_same.false c.as_slice.ensures c.in_default.ensures c.new-known.ensures c.in_order.ensures.same c.in_ok-fact.ensures c.in-Some-2.fact c.in-Some-2.is
 
 pub new-requires : goal.new-requires
 new-requires c = can_be_kept c.args.exchange.now (Contains c.new-known.result) c.in_ok-summaries.summaries c.kept.ensures.limited.entries c.in_ok-summaries.ensures
 
 pub returns : goal.returns
-returns c = accepted c.args.exchange.now c.args.certificate c.new.result c.shape_over-own.result c.is_same.result c.as_slice-2.result.now c.new-known.result c.in_ok-fact.field-0 c.in_ok-summaries.summaries c.shape_over-own.ensures c.is_same.ensures c.if-not-is_same.false c.as_slice-2.ensures c.in_default.ensures c.new-known.ensures c.in_ok-fact.ensures c.in_default-2.is c.in_ok-summaries.ensures c.new.ensures.facts c.new.ensures.summaries
+returns c =
+    accepted c.args.exchange.now c.args.certificate c.shape_of-own.result c.is_same.result c.as_slice.result.now c.new-known.result c.in_order.result c.in_ok-fact.field-0 c.shape_of-own.ensures c.is_same.ensures c.if-not-is_same.false c.as_slice.ensures c.in_default.ensures c.new-known.ensures c.in_order.ensures.same c.in_ok-fact.ensures c.new.result c.in_ok-summaries.summaries c.in_default-2.is c.in_order.ensures.rising c.in_ok-summaries.ensures c.new.ensures.facts c.new.ensures.summaries

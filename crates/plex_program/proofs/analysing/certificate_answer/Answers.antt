@@ -1,4 +1,4 @@
-use Rattle.std.proofs.Common.{refl, ◌∙◌}
+use Rattle.std.proofs.Common.{refl}
 use Rattle.plex_program.proofs.analysing.certificate_answer.Goals as goal
 
 pub returns-clause-answer : goal.returns-clause-answer
@@ -6,5 +6,5 @@ returns-clause-answer c = record {
   status = refl;
   certificate = c.in_ok-text.ensures.certificate;
   is = c.in_ok-text.ensures.is;
-  told = c.whole.ensures ∙ c.in_ok-text.ensures.told;
+  told = c.in_ok-text.ensures.told;
 }

@@ -1,6 +1,6 @@
 use Rattle.std.proofs.Common.{◌≡◌, ◌≤◌, true, false, ap, arith, refl, sym, ◌∙◌}
 use Rattle.retire_order.specs.Events.{ending_of}
-use Rattle.plex_program.specs.Answer.{ends_before}
+use Rattle.plex_program.specs.ChangeAnswer.{ends_before}
 use Rattle.plex_program.proofs.Changed.{is_changed_so, not_changed, parts_few, parts_valid}
 use Rattle.plex_program.proofs.changing.fitting_answer.Goals as goal
 

@@ -1,0 +1,32 @@
+-- The lines of the facts of an entry.
+use Rattle.std.specs.Prelude.{◌≡◌, ◌↔◌, ℕ, ◌<◌, List, ◌++◌, Contains}
+use Rattle.std.specs.List.Sorted.{IsStrictlySortedBy}
+use Rattle.exchange_model.specs.declared.exchange.Exchange.{Exchange}
+use Rattle.flow_points.specs.declared.fact.Fact.{Fact}
+use Rattle.flow_points.specs.declared.fact.Slot.{Slot}
+use Rattle.flow_points.specs.Facts.{Facts, IsLeast}
+use Rattle.certificate_text.specs.Text.{fact_order, facts_text}
+
+-- a fact that is known, of the entry and the point, in one of some slots
+pub record IsKnownIn (P : Facts) (e p : ℕ) (S : Slot → Type 0) (f : Fact) : Type 0 where
+  pub entry : f.entry ≡ e
+  pub point : f.point ≡ p
+  pub slot : S f.slot
+  pub known : P f
+
+-- the least facts of the entry: all of them, those at the point, and those before it
+abbrev pub LeastOf : Exchange → ℕ → Facts
+LeastOf x e f = (f.entry ≡ e) × IsLeast x f
+
+abbrev pub LeastAt : Exchange → ℕ → ℕ → Facts
+LeastAt x e p f = (f.point ≡ p) × LeastOf x e f
+
+abbrev pub LeastBefore : Exchange → ℕ → ℕ → Facts
+LeastBefore x e p f = (f.point < p) × LeastOf x e f
+
+-- behind a text come the lines of exactly these facts, in their order
+pub record AddsLines (G : Facts) (old new : List ℕ) : Type 0 where
+  pub facts : List Fact
+  pub exact : (f : Fact) → Contains facts f ↔ G f
+  pub rising : IsStrictlySortedBy fact_order facts
+  pub is : new ≡ old ++ facts_text facts

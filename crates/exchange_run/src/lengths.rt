@@ -1,0 +1,64 @@
+// How long the jobs of a run have been of late. Nothing here has a contract: what comes out of a run
+// is the same whatever is told.
+
+/// What a job makes at the least, in instructions, that is worth it to be run at once with others,
+/// however many are.
+const LEAST: u64 = 12_000;
+
+/// What it makes beside that where one alone may be handed over at a time, in instructions. Where
+/// several may, they share the cost of waking a thread, and of one that looks for work.
+const ALONE: u64 = 96_000;
+
+/// What a job counts for at most in a mean, in instructions, so that a very long one among many short
+/// ones does not make them long.
+pub const MOST_COUNTED: u64 = 480_000;
+
+/// How many jobs count in full.
+const LATE: u64 = 64;
+
+/// How many instructions jobs make in the mean where they are long for so many workers: it is worth it
+/// then to run them at once.
+pub fn long_job(workers: u32) -> u64 {
+    LEAST.saturating_add(ALONE / u64::from(workers).max(1))
+}
+
+/// How many jobs count, how many instructions they made, of each at most so many as count, and how
+/// many instructions all jobs made.
+#[derive(Drop)]
+pub(crate) struct Lengths {
+    jobs: u64,
+    counted: u64,
+    made: u64,
+}
+
+impl Lengths {
+    /// Before the first job.
+    pub fn new() -> Lengths {
+        Lengths {
+            jobs: 0,
+            counted: 0,
+            made: 0,
+        }
+    }
+
+    /// A job has ended that made so many instructions.
+    pub fn add(&mut self, steps: u64) {
+        if self.jobs >= LATE {
+            self.jobs /= 2;
+            self.counted /= 2;
+        }
+        self.jobs = self.jobs.saturating_add(1);
+        self.counted = self.counted.saturating_add(steps.min(MOST_COUNTED));
+        self.made = self.made.saturating_add(steps);
+    }
+
+    /// Whether the jobs of late made more than so many instructions in the mean.
+    pub fn are_above(&self, mean: u64) -> bool {
+        self.counted > self.jobs.saturating_mul(mean)
+    }
+
+    /// How many instructions all jobs made.
+    pub fn made(&self) -> u64 {
+        self.made
+    }
+}

@@ -1,0 +1,32 @@
+-- What a stage of a command comes to, and one stage after another.
+use Rattle.std.specs.Prelude.{◌≡◌, ℕ, List, ◌++◌, Option, Some, Result, Ok, Err}
+use Rattle.plex_program.specs.declared.perform.Answer.{Answer}
+use Rattle.plex_program.specs.declared.perform.Refused.{Refused}
+
+-- a value, or the first refusal, or none where a file is not held
+abbrev pub Out : Type 0 → Type 0
+Out A = Result A (Option Refused)
+
+-- the value, or the refusal by its fault
+abbrev pub or_refused : {A F : Type 0} → (F → Refused) → Result A F → Out A
+or_refused by (Ok a) = Ok a
+or_refused by (Err f) = Err (Some (by f))
+
+-- goes on with the value
+abbrev pub goes_on : {A B : Type 0} → Out A → (A → Out B) → Out B
+goes_on (Ok a) go = go a
+goes_on (Err r) go = Err r
+
+-- an answer, and this text before its own
+abbrev pub headed_by : List ℕ → Answer → Answer
+headed_by text a = record { status = a.status; text = text ++ a.text }
+
+-- what comes of the value, or the refusal
+abbrev pub GoesOn : {A : Type 0} → Out A → (A → Out Answer → Type 0) → Out Answer → Type 0
+GoesOn (Ok a) Go o = Go a o
+GoesOn (Err r) Go o = Err r ≡ o
+
+-- an answer comes, which is such a one
+abbrev pub IsAnAnswer : (Answer → Type 0) → Out Answer → Type 0
+IsAnAnswer Is (Ok a) = Is a
+IsAnAnswer Is (Err r) = ⊥
