@@ -94,8 +94,6 @@ pub summary_alike : (x : Exchange) (P Q : Facts) (e : ℕ) (s : Summary) → OnE
 summary_alike x P Q e s there back is = record {
   level = is.level;
   accesses = λ a. ((λ c. access_on x P Q e there a ((is.accesses a).0 c)), (λ c. (is.accesses a).1 (access_on x Q P e back a c)));
-  rising = is.rising;
   levels = λ l. ((λ c. level_on x P Q e there l ((is.levels l).0 c)), (λ c. (is.levels l).1 (level_on x Q P e back l c)));
-  levels_rising = is.levels_rising;
   fault = ((λ c. fault_on x P Q e there (is.fault.0 c)), (λ c. is.fault.1 (fault_on x Q P e back c)));
 }

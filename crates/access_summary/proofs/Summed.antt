@@ -1,8 +1,7 @@
 -- What is made for one entry after the other.
 use Rattle.std.proofs.Common.{◌≡◌, ◌⊎◌, ◌↔◌, inl, inr, ⊎_elim, ℕ, Bool, true, false, nat_lt, ◌+◌, ◌<◌, ◌≤◌, List, [], ◌∷◌, ◌++◌, length, map, Option, Some, None, slice_get, Contains, refl, sym, ap, ◌∙◌, subst, arith, length-append}
 use Rattle.std.proofs.lemmas.List.Elements.{Contains-append_left, Contains-append_right, Contains-append_cases}
-use Rattle.std.proofs.lemmas.Option.{none-some, same_Some, slice_get_within}
-use Rattle.std.specs.Prelude.{IfSome}
+use Rattle.std.proofs.lemmas.Option.{none-some, slice_get_within}
 use Rattle.std.specs.List.Sorted.{IsStrictlySortedBy}
 use Rattle.std.specs.declared.cmp.Ordering.TheVariants.{Less}
 use Rattle.std.specs.Ordering.{nat_cmp, ordering_then}
@@ -14,15 +13,22 @@ use Rattle.exchange_model.specs.declared.exchange.Exchange.{Exchange}
 use Rattle.flow_points.specs.declared.fact.Fact.{Fact}
 use Rattle.flow_points.specs.Facts.{Facts, IsLeast}
 use Rattle.flow_points.proofs.Least.{least_in}
+use Rattle.flow_points.specs.Orders.{fact_order}
 use Rattle.flow_table.specs.declared.place.PlaceAt.{PlaceAt}
 use Rattle.flow_table.specs.Texts.{ArePlaces, AreReachedAmong, seen}
 use Rattle.fact_rows.specs.Known.{Rows, Knows}
-use Rattle.fact_rows.specs.Orders.{fact_order}
 use Rattle.fact_rows.proofs.Listing.{nat_less, sorted_append, sorted_none}
+use Rattle.least_facts.specs.declared.looks.Looked.{Looked}
+use Rattle.least_facts.specs.declared.looks.Looked.TheVariants.{Whole, Over}
 use Rattle.least_facts.specs.Least.{KnowLeast}
+use Rattle.least_facts.specs.Looks.{FindsWithin, IsOver}
 use Rattle.entry_summary.specs.declared.summary.Summary.{Summary}
 use Rattle.entry_summary.specs.Summaries.{IsSummary}
+use Rattle.access_summary.specs.declared.looks.Excess.{Excess}
+use Rattle.access_summary.specs.declared.looks.FewOrMany.{FewOrMany}
+use Rattle.access_summary.specs.declared.looks.FewOrMany.TheVariants.{Few, Many}
 use Rattle.access_summary.specs.Least.{AreSummaries}
+use Rattle.access_summary.specs.Looks.{ComeWithin, most_of}
 use Rattle.access_summary.proofs.Alike.{summary_alike}
 
 -- the statements that are reached, as a slice of the list
@@ -58,14 +64,21 @@ summaries_more x n one all new is grown g = record {
 pub summaries_end : (x : Exchange) (n count : ℕ) (all : List Summary) → count ≡ length x.entries → n ≤ count → count ≤ n → SummariesGo x n all → AreSummaries x all
 summaries_end x n count all is low high g = (let h = g.long in record { each_entry = omega (arith, is, low, high, h); is = g.is })
 
--- what holds where something is told
-pub some_has : {A P : Type 0} (o : Option A) (a : A) → o ≡ Some a → IfSome o (λ x. P) → P
-some_has None a is h = absurd (none-some a is)
-some_has (Some b) a is h = h
+-- what a search ends with
 
-pub told_is : (x : Exchange) (o : Option (List Summary)) (all : List Summary) → o ≡ Some all → IfSome o (AreSummaries x) → AreSummaries x all
-told_is x None all is h = absurd (none-some all is)
-told_is x (Some l) all is h = subst (AreSummaries x) (same_Some l all is) h
+pub all_found : {F : Type 0} (bound : Option ℕ) (o : Looked) (looks : ℕ) → o ≡ Whole looks → FindsWithin bound F o → F
+all_found {F = F} bound o looks is h = subst (FindsWithin bound F) is h
+
+pub passed_one : (F : Type 0) (most bound : Option ℕ) (before : ℕ) (o : Looked) (looks : ℕ) → bound ≡ most_of most before → o ≡ Over looks → FindsWithin bound F o → IsOver (most_of most before) looks
+passed_one F most bound before o looks same is h = subst (λ b. IsOver b looks) same (subst (FindsWithin bound F) is h)
+
+-- where there is no bound, summaries come
+
+pub summaries_come : (x : Exchange) (most : Option ℕ) (o : FewOrMany) (all : List Summary) → o ≡ Few all → ComeWithin x most o → AreSummaries x all
+summaries_come x most o all is h = subst (ComeWithin x most) is h
+
+pub never_many : (x : Exchange) (o : FewOrMany) (excess : Excess) → o ≡ Many excess → ComeWithin x None o → ⊥
+never_many x o excess is h = subst (ComeWithin x None) is h
 
 -- facts
 
@@ -92,7 +105,7 @@ facts_begin x facts none = subst (FactsGo x 0) (sym none) (record {
 entry_less : (f g : Fact) → f.entry < g.entry → fact_order f g ≡ Less
 entry_less f g lt = ap (λ o. ordering_then o (ordering_then (nat_cmp f.point g.point) (ordering_then (slots.ghosts.cmp f.slot g.slot) (values.ghosts.cmp f.value g.value)))) (nat_less f.entry g.entry lt)
 
-below_or_last : (m n : ℕ) → m < n + 1 → (m < n) ⊎ (m ≡ n)
+pub below_or_last : (m n : ℕ) → m < n + 1 → (m < n) ⊎ (m ≡ n)
 below_or_last m n lt = by (nat_lt m n) refl
   where
     by : (t : Bool) → nat_lt m n ≡ t → (m < n) ⊎ (m ≡ n)

@@ -1,18 +1,20 @@
 // The least facts of an exchange, and the summaries by them.
-ghost use Rattle.std.specs.Prelude.{◌≡◌, ◌↔◌, ◌++◌, None, map, IfOk, IfSome, OnOk};
-ghost use Rattle.std.specs.Option.{IsSome};
+ghost use Rattle.std.specs.Prelude.{◌≡◌, ◌↔◌, Some, map, IfOk};
 ghost use Rattle.std.specs.List.{Contains};
 ghost use Rattle.std.specs.List.Sorted.{IsStrictlySortedBy};
 ghost use Rattle.flow_points.specs.declared.fact.Fact.{Fact as FactType};
 ghost use Rattle.flow_points.specs.Facts.{IsLeast};
+ghost use Rattle.flow_points.specs.Orders.{fact_order};
 ghost use Rattle.flow_table.specs.Rows.{IsFlowTable};
 ghost use Rattle.flow_table.specs.Texts.{ArePlaces, seen};
-ghost use Rattle.fact_rows.specs.Orders.{fact_order};
 ghost use Rattle.least_facts.specs.Least.{HasLearned};
+ghost use Rattle.least_facts.specs.Looks.{IsOver};
 ghost use Rattle.entry_accesses.specs.Numbered.{AreNumbers};
 ghost use Rattle.entry_summary.specs.Summaries.{IsSummary};
 ghost use Rattle.access_summary.specs.Least.{AreSummaries};
+ghost use Rattle.access_summary.specs.Looks.{ComeWithin, IsPast, most_of};
 
+use crate::looks::{Excess, FewOrMany, PART_OF_ENTRY};
 use crate::summary::summary_of;
 use entry_accesses::{CellNumbers, numbers_of};
 use entry_summary::Summary;
@@ -20,12 +22,9 @@ use exchange_model::Exchange;
 use flow_points::Fact;
 use flow_table::{FlowTable, PlaceAt, places_of, table_of};
 use kept_summaries::Summaries;
-use least_facts::Analyser;
+use least_facts::{Analyser, Looked};
 use plex_num::{Memory, Seq};
 use std::alloc::Global;
-
-/// The part of all looks that may be spent on one entry: what they find takes memory, some 100 bytes for each.
-const PART_OF_ENTRY: usize = 16;
 
 /// So many points of the table are gone over for an entry in the time of a look at a fact.
 const POINTS_OF_LOOK: usize = 6;
@@ -35,17 +34,20 @@ pub fn summaries_of(alloc: Global, exchange: &Exchange) -> Result<Summaries, Mem
     ensures { IfOk result (AreSummaries exchange.now) }
 {
     let told = summaries_within(alloc, exchange, None)?;
-    Ok(told.unwrap())
+    match told {
+        FewOrMany::Few(summaries) => Ok(summaries),
+        FewOrMany::Many(_) => unreachable!(),
+    }
 }
 
-/// The same with so many looks at facts, about, each of which takes a quarter of a microsecond; `None` where more are wanted, or more
-/// than a sixteenth of them for one entry.
+/// The same with so many looks at facts, about, each of which takes a quarter of a microsecond. Where more are wanted, in all or for
+/// one entry, for which there may be a sixteenth of them, it tells how many were made.
 pub fn summaries_if_few(
     alloc: Global,
     exchange: &Exchange,
     looks: usize,
-) -> Result<Option<Summaries>, Memory>
-    ensures { IfOk result (λ told. IfSome told (AreSummaries exchange.now)) }
+) -> Result<FewOrMany, Memory>
+    ensures { IfOk result (ComeWithin exchange.now (Some looks)) }
 {
     summaries_within(alloc, exchange, Some(looks))
 }
@@ -55,9 +57,8 @@ fn summaries_within(
     alloc: Global,
     exchange: &Exchange,
     most: Option<usize>,
-) -> Result<Option<Summaries>, Memory>
-    ensures told { IfOk result (λ told. IfSome told (AreSummaries exchange.now)) }
-    ensures all { IfOk result (λ told. most ≡ None → IsSome told) }
+) -> Result<FewOrMany, Memory>
+    ensures { IfOk result (ComeWithin exchange.now most) }
 {
     exchange.kept();
     let table = table_of(alloc, exchange)?;
@@ -66,14 +67,17 @@ fn summaries_within(
     let mut analyser = Analyser::new(alloc, exchange, &table)?;
     let points = table.rows.len() / POINTS_OF_LOOK;
     let mut summaries = Summaries::new(alloc);
-    let mut left = most;
+    let mut before: usize = 0;
     for entry in 0..exchange.entries.len() {
-        let bound = most_of_entry(most, left);
-        let told = analyser.learn(alloc, exchange, &table, entry as u32, bound)?;
-        let Some(looked) = told else {
-            return Ok(None);
+        let bound = most_of_entry(most, before);
+        let looked = analyser.learn(alloc, exchange, &table, entry as u32, bound)?;
+        let looks = match looked {
+            Looked::Whole { looks } => looks,
+            Looked::Over { looks } => {
+                return Ok(FewOrMany::Many(excess_of(most, before, looks)));
+            }
         };
-        left = less(left, looked.saturating_add(points));
+        before = before.saturating_add(looks).saturating_add(points);
         summaries.push(summarise(
             alloc,
             exchange,
@@ -84,31 +88,37 @@ fn summaries_within(
             entry as u32,
         )?)?;
     }
-    Ok(Some(summaries))
+    Ok(FewOrMany::Few(summaries))
 }
 
-/// How many looks there may be for one entry, of so many in all, so many of which are left.
-fn most_of_entry(most: Option<usize>, left: Option<usize>) -> Option<usize>
-    ensures { left ≡ None → result ≡ None }
+/// How many looks there may be for one entry, where so many were made for those before.
+fn most_of_entry(most: Option<usize>, before: usize) -> Option<usize>
+    ensures { result ≡ most_of most before }
 {
-    match (most, left) {
-        (Some(most), Some(left)) => Some(left.min(most / PART_OF_ENTRY)),
-        _ => None,
-    }
-}
-
-/// What is left of a bound, if there is one.
-fn less(left: Option<usize>, looked: usize) -> Option<usize>
-    ensures { left ≡ None → result ≡ None }
-{
-    match left {
-        Some(left) => Some(left.saturating_sub(looked)),
+    match most {
+        Some(most) => Some(most.saturating_sub(before).min(most / PART_OF_ENTRY)),
         None => None,
     }
 }
 
+/// Which bound is passed by so many looks for one entry, and so many for those before.
+fn excess_of(most: Option<usize>, before: usize, looks: usize) -> Excess
+    requires { IsOver (most_of most before) looks }
+    ensures { IsPast most result }
+{
+    match most {
+        Some(most) => {
+            if looks > most / PART_OF_ENTRY {
+                Excess::ForOne { looks }
+            } else {
+                Excess::InAll { before, looks }
+            }
+        }
+        None => unreachable!(),
+    }
+}
+
 /// The summary of an entry of which the analyser has learned the least facts.
-#[tactic(auto, using(crate::proofs::Summed::summary_of_least))]
 fn summarise(
     alloc: Global,
     exchange: &Exchange,

@@ -5,7 +5,9 @@
 #![tactic(auto)]
 
 mod least;
+mod looks;
 mod summary;
 
 pub use least::{least_facts, summaries_if_few, summaries_of};
+pub use looks::{Excess, FewOrMany, PART_OF_ENTRY};
 pub use summary::summary_of;

@@ -58,13 +58,11 @@ module _ (x : Exchange) (known : List Fact) (e : ℕ) where
   with_fault b fault =
       let own = in_order access_order order_laws.total-law access_tied (IsAccess x P e) (accesses x known e) in
       let sent = in_order level_order levels_total level_tied (MaySendTo x P e) (levels x known e) in (
-        record { level = level_of x e; accesses = own.listed.items; levels = sent.listed.items; fault = b },
+        record { level = level_of x e; accesses = own.listed.items; levels = sent.listed.items; fault = b; rising = own.rising; levels_rising = sent.rising },
         record {
           level = refl;
           accesses = exactly access_order (IsAccess x P e) own;
-          rising = own.rising;
           levels = exactly level_order (MaySendTo x P e) sent;
-          levels_rising = sent.rising;
           fault = fault;
         },
       )

@@ -2,8 +2,9 @@
 use Rattle.std.proofs.Common.{◌≡◌, ℕ, List, sym, ap, ◌∙◌}
 use Rattle.exchange_model.specs.declared.exchange.Exchange.{Exchange}
 use Rattle.flow_points.specs.contracts.fact.FactOrd.TheImpl.Laws as fact_laws
+use Rattle.flow_points.specs.Orders.{fact_order}
 use Rattle.certificate_text.specs.declared.certificate.Certificate.{Certificate}
-use Rattle.certificate_text.specs.Text.{certificate_text, fact_order}
+use Rattle.certificate_text.specs.Text.{certificate_text}
 use Rattle.certificate.specs.Certified.{IsCertificate, IsTextOfCertificate}
 use Rattle.checked.proofs.Checking.{same_shape}
 use Rattle.analysis_laws.proofs.Rising.{rising_once, same_sides}

@@ -1,5 +1,5 @@
 -- One reason for which a certificate is refused.
-use Rattle.std.proofs.Common.{◌≡◌, ◌≢◌, true, List, [], ◌∷◌, ◌++◌, All, Contains, refl, sym, ap, ◌∙◌, subst, rules}
+use Rattle.std.proofs.Common.{◌≡◌, ◌≢◌, List, [], ◌∷◌, ◌++◌, All, Contains, refl, sym, ap, ◌∙◌, subst}
 use Rattle.std.specs.declared.cmp.Ordering.{Ordering}
 use Rattle.std.specs.declared.cmp.Ordering.TheVariants.{Less, Equal, Greater}
 use Rattle.std.specs.Ordering.{ordering_reverse}
@@ -8,10 +8,10 @@ use Rattle.plex_num.proofs.Members.{first_is}
 use Rattle.exchange_model.specs.declared.exchange.Exchange.{Exchange}
 use Rattle.flow_points.specs.declared.fact.Fact.{Fact}
 use Rattle.flow_points.specs.Facts.{Facts, Gives}
-use Rattle.flow_points.specs.contracts.fact.FactPartialEq.TheImpl as equal
 use Rattle.flow_points.specs.contracts.fact.FactOrd.TheImpl.Laws as fact_laws
+use Rattle.flow_points.specs.Orders.{fact_order}
+use Rattle.flow_points.proofs.Orders.{order_same}
 use Rattle.certificate_text.specs.declared.certificate.Certificate.{Certificate}
-use Rattle.certificate_text.specs.Text.{fact_order}
 use Rattle.certificate.specs.Missing.{IsLeastIn}
 use Rattle.certificate.specs.Strange.{IsFirstStrange, IsOfExchange}
 use Rattle.checked.proofs.Checking.{same_shape}
@@ -38,12 +38,6 @@ not_all_own x facts f first all =
     first.strange (All-contains (IsOfExchange x) facts f all (subst (λ l. Contains l f) (sym first.so) (Contains-append_right first.before (f ∷ first.after) f (first_is f first.after))))
 
 -- the least missing fact
-
-same_fact : (f g : Fact) → equal.ghosts.eq f g ≡ true → f ≡ g
-same_fact f g is = search (rules, is)
-
-order_same : (f g : Fact) → fact_order f g ≡ Equal → f ≡ g
-order_same f g tied = same_fact f g (search (rules, fact_laws.matches_eq-law, tied))
 
 least_once : (P G : Facts) (f g : Fact) → IsLeastIn P G f → IsLeastIn P G g → f ≡ g
 least_once P G f g one other = by (fact_order f g) refl

@@ -1,15 +1,14 @@
 // What has one value alone, said by clauses.
 ghost use Rattle.std.specs.Prelude.{◌≡◌, ◌≢◌, ℕ, List};
 ghost use Rattle.std.specs.List.{Contains};
-ghost use Rattle.std.specs.List.Sorted.{IsStrictlySortedBy};
 ghost use Rattle.exchange_model.specs.declared.exchange.Exchange.{Exchange};
 ghost use Rattle.flow_points.specs.declared.fact.Fact.{Fact};
 ghost use Rattle.flow_points.specs.Facts.{IsLeast};
+ghost use Rattle.flow_points.specs.Orders.{fact_order};
 ghost use Rattle.entry_summary.specs.declared.summary.Summary.{Summary};
 ghost use Rattle.entry_summary.specs.Summaries.{IsSummary};
 ghost use Rattle.access_summary.specs.Least.{AreSummaries};
 ghost use Rattle.analysis_text.specs.Analysis.{IsAnalysis};
-ghost use Rattle.certificate_text.specs.Text.{fact_order};
 ghost use Rattle.certificate_text.specs.declared.certificate.Certificate.{Certificate};
 ghost use Rattle.certificate.specs.Certified.{IsCertificate, IsTextOfCertificate};
 ghost use Rattle.checked.specs.declared.fault.CertFault.{CertFault};
@@ -47,10 +46,8 @@ pub fn refusals_are_one()
         → one ≢ Memory → other ≢ Memory → Refuses x c one → Refuses x c other → one ≡ other }
 {}
 
-/// What is kept of a certificate is one, and its facts are kept as they are where they stand in their order, each once.
+/// What is kept of a certificate is one.
 pub fn kept_summaries_are_one()
-    ensures kept { (x : Exchange) (c : Certificate) (k l : KeptSummaries)
+    ensures { (x : Exchange) (c : Certificate) (k l : KeptSummaries)
         → Accepts x c k → Accepts x c l → k ≡ l }
-    ensures facts { (x : Exchange) (c : Certificate) (k : KeptSummaries)
-        → IsStrictlySortedBy fact_order c.facts → Accepts x c k → k.facts ≡ c.facts }
 {}

@@ -14,7 +14,7 @@ use Rattle.analysis_text.specs.Lines.{if_line, never_line, text_of, written}
 use Rattle.analysis_text.specs.declared.told.Told.{Told}
 use Rattle.analysis_text.specs.declared.told.Told.TheVariants.{Never, Asks}
 use Rattle.analysis_text.specs.declared.told.ToldPair.{ToldPair}
-use Rattle.analysis_text.specs.Telling.{IsToldOf, Tells}
+use Rattle.analysis_text.specs.Telling.{IsToldOf, TellsPair}
 use Rattle.text_parts.proofs.Joined.{put_back}
 use Rattle.analysis_text.specs.Pairs.{IsPairText, never, tested, InTurn, IsTextWith, IsTextOf, Grows}
 
@@ -71,10 +71,10 @@ pub row_begin : (names : Names) (summaries : List Summary) (i : ℕ) (old : List
 row_begin names summaries i old lt = (let s = some_at summaries i lt in record { first = s.0; there = s.1; grown = turns_begin (IsTextWith names summaries i s.0) old })
 
 pub row_more : (names : Names) (summaries : List Summary) (i j : ℕ) (pair : ToldPair) (old now new : List ℕ) → IsToldOf summaries i j pair
-    → ((first later : Summary) → Tells first later pair.told → Grows (IsPairText names i j first later) now new) → RowGoes names summaries i j old now → RowGoes names summaries i (j + 1) old new
+    → ((first later : Summary) → TellsPair first later pair.told → Grows (IsPairText names i j first later) now new) → RowGoes names summaries i j old now → RowGoes names summaries i (j + 1) old new
 row_more names summaries i j pair old now new of written_so before =
     let same : of.told.first ≡ before.first = same_Some of.told.first before.first (sym of.told.of_first ∙ of.like_first ∙ before.there) in
-    let tells : Tells before.first of.told.later pair.told = subst (λ (s : Summary). Tells s of.told.later pair.told) same of.told.tells in
+    let tells : TellsPair before.first of.told.later pair.told = subst (λ (s : Summary). TellsPair s of.told.later pair.told) same of.told.tells in
     let here = written_so before.first of.told.later tells in
     record {
       first = before.first;
@@ -94,14 +94,14 @@ row_end names summaries i n m old new is most least h =
 -- what is told of a pair
 
 pub never_told : (names : Names) (i j : ℕ) (told : Told) (c : Conflict) (old new : List ℕ) → told ≡ Never c → new ≡ old ++ written (never_line names i j c)
-    → (first later : Summary) → Tells first later told → Grows (IsPairText names i j first later) old new
+    → (first later : Summary) → TellsPair first later told → Grows (IsPairText names i j first later) old new
 never_told names i j told c old new is wrote first later tells =
-    record { added = written (never_line names i j c); is = wrote; tells = never c (subst (Tells first later) is tells) }
+    record { added = written (never_line names i j c); is = wrote; tells = never c (subst (TellsPair first later) is tells) }
 
 pub tests_told : (names : Names) (i j : ℕ) (told : Told) (tests listed : List Test) (old new : List ℕ) → told ≡ Asks tests → listed ≡ tests → new ≡ old ++ text_of (map (if_line names i j) listed)
-    → (first later : Summary) → Tells first later told → Grows (IsPairText names i j first later) old new
+    → (first later : Summary) → TellsPair first later told → Grows (IsPairText names i j first later) old new
 tests_told names i j told tests listed old new is same wrote first later tells =
-    let both : Tells first later (Asks tests) = subst (Tells first later) is tells in
+    let both : TellsPair first later (Asks tests) = subst (TellsPair first later) is tells in
     record {
       added = text_of (map (if_line names i j) tests);
       is = wrote ∙ ap (λ l. old ++ text_of (map (if_line names i j) l)) same;

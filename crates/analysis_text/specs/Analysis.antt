@@ -3,16 +3,9 @@
 use Rattle.std.specs.Prelude.{◌≡◌, ℕ, List, ◌++◌, codes}
 use Rattle.exchange_model.specs.declared.exchange.Exchange.{Exchange}
 use Rattle.entry_summary.specs.declared.summary.Summary.{Summary}
-use Rattle.entry_summary.specs.Orders.{access_order}
-use Rattle.std.specs.List.{All}
-use Rattle.std.specs.List.Sorted.{IsStrictlySortedBy}
 use Rattle.analysis_text.specs.Lines.{entries_text, written}
 use Rattle.analysis_text.specs.Names.{names_of}
 use Rattle.analysis_text.specs.Pairs.{ArePairs}
-
--- the accesses of each summary stand in order
-abbrev pub AreInOrder : List Summary → Type 0
-AreInOrder summaries = All (λ (s : Summary). IsStrictlySortedBy access_order s.accesses) summaries
 
 pub record IsAnalysis (x : Exchange) (summaries : List Summary) (text : List ℕ) : Type 0 where
   pub pairs : List ℕ

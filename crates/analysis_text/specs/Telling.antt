@@ -8,9 +8,9 @@ use Rattle.analysis_text.specs.declared.told.ToldPair.{ToldPair}
 use Rattle.analysis_text.specs.Pairs.{AreTests}
 
 -- what is told of two summaries is so
-abbrev pub Tells : Summary → Summary → Told → Type 0
-Tells first later (Never c) = IsFirstConflict first later c
-Tells first later (Asks tests) = HasNoConflict first later × AreTests first later tests
+abbrev pub TellsPair : Summary → Summary → Told → Type 0
+TellsPair first later (Never c) = IsFirstConflict first later c
+TellsPair first later (Asks tests) = HasNoConflict first later × AreTests first later tests
 
 -- it is so of those at its places
 pub record IsToldPair (summaries : List Summary) (pair : ToldPair) : Type 0 where
@@ -18,7 +18,7 @@ pub record IsToldPair (summaries : List Summary) (pair : ToldPair) : Type 0 wher
   pub later : Summary
   pub of_first : slice_get summaries pair.first ≡ Some first
   pub of_later : slice_get summaries pair.later ≡ Some later
-  pub tells : Tells first later pair.told
+  pub tells : TellsPair first later pair.told
 
 -- all that are kept are told of these summaries
 abbrev pub AreTold : List Summary → List (Option ToldPair) → Type 0

@@ -1,10 +1,9 @@
 // The lines of the pairs.
 ghost use Rattle.std.specs.Prelude.{◌≡◌, ◌<◌, ◌++◌, OnOk, map, length};
 ghost use Rattle.entry_summary.specs.declared.summary.Summary.{Summary};
-ghost use Rattle.analysis_text.specs.Analysis.{AreInOrder};
 ghost use Rattle.analysis_text.specs.Lines.{conflict_words, if_line, never_line, pair_words, test_words, text_of, written};
 ghost use Rattle.analysis_text.specs.Pairs.{ArePairs, Grows, IsPairText, IsTextOf};
-ghost use Rattle.analysis_text.specs.Telling.{AreTold, Tells};
+ghost use Rattle.analysis_text.specs.Telling.{AreTold, TellsPair};
 
 use crate::names::{Names, add_value, level_word, name_at};
 use crate::told::{Told, ToldPairs};
@@ -21,7 +20,6 @@ pub fn add_pairs(
     names: &Names,
     summaries: &Summaries,
 ) -> Result<(), Memory>
-    requires { AreInOrder summaries.now }
     ensures { OnOk result (Grows (ArePairs names.now summaries.now) text.old text.new) }
 {
     let mut told = ToldPairs::new(alloc, summaries.len())?;
@@ -43,7 +41,6 @@ fn add_row(
     told: &mut ToldPairs,
 ) -> Result<(), Memory>
     requires number { number < length summaries.now }
-    requires order { AreInOrder summaries.now }
     requires told { AreTold summaries.now told.old.pairs.items }
     ensures row { OnOk result
         (Grows (IsTextOf names.now summaries.now number) text.old text.new) }
@@ -66,7 +63,7 @@ fn add_told(
     other: usize,
     told: &Told,
 ) -> Result<(), Memory>
-    ensures { OnOk result ((first later : Summary) → Tells first later told.now
+    ensures { OnOk result ((first later : Summary) → TellsPair first later told.now
         → Grows (IsPairText names.now number other first later) text.old text.new) }
 {
     match told {

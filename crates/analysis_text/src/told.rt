@@ -1,10 +1,7 @@
 // What is told of pairs of summaries, each pair of equal ones once.
 ghost use Rattle.std.specs.Prelude.{◌≡◌, ◌<◌, List, length, IfOk, IfSome, IsTrue};
-ghost use Rattle.std.specs.List.Sorted.{IsStrictlySortedBy};
 ghost use Rattle.entry_summary.specs.declared.summary.Summary.{Summary};
-ghost use Rattle.entry_summary.specs.Orders.{access_order};
-ghost use Rattle.analysis_text.specs.Analysis.{AreInOrder};
-ghost use Rattle.analysis_text.specs.Telling.{AreTold, IsToldOf, IsToldPair, Tells};
+ghost use Rattle.analysis_text.specs.Telling.{AreTold, IsToldOf, IsToldPair, TellsPair};
 
 use entry_summary::Summary;
 use kept_summaries::Summaries;
@@ -61,7 +58,6 @@ impl ToldPairs {
     ) -> Result<ToldPair, Memory>
         requires first { first < length summaries.now }
         requires later { later < length summaries.now }
-        requires order { AreInOrder summaries.now }
         requires told { AreTold summaries.now self.old.pairs.items }
         ensures kept { AreTold summaries.now self.new.pairs.items }
         ensures pair { IfOk result (IsToldOf summaries.now first later) }
@@ -136,7 +132,6 @@ fn tell(
 ) -> Result<ToldPair, Memory>
     requires first { first < length summaries.now }
     requires later { later < length summaries.now }
-    requires order { AreInOrder summaries.now }
     ensures told { IfOk result (IsToldPair summaries.now) }
     ensures places { IfOk result (λ pair. (pair.first ≡ first) × (pair.later ≡ later)) }
 {
@@ -146,8 +141,7 @@ fn tell(
 
 /// What is told of two summaries.
 fn told_of(alloc: Global, first: &Summary, later: &Summary) -> Result<Told, Memory>
-    requires { IsStrictlySortedBy access_order later.now.accesses }
-    ensures { IfOk result (Tells first.now later.now) }
+    ensures { IfOk result (TellsPair first.now later.now) }
 {
     match verdict_of(first, later) {
         Verdict::Never(conflict) => Ok(Told::Never(conflict)),

@@ -1,6 +1,6 @@
 // The text of an analysis.
 ghost use Rattle.std.specs.Prelude.{◌≡◌, IfOk};
-ghost use Rattle.analysis_text.specs.Analysis.{AreInOrder, IsAnalysis};
+ghost use Rattle.analysis_text.specs.Analysis.{IsAnalysis};
 
 use crate::entries::add_entries;
 use crate::names::names_of;
@@ -16,7 +16,6 @@ use text_parts::{Parts, Text};
 /// tests. Memory is the only reason for an error.
 #[tactic(auto, using(crate::proofs::Joined::whole))]
 pub fn analysis(alloc: Global, exchange: &Exchange, summaries: &Summaries) -> Result<Text, Memory>
-    requires { AreInOrder summaries.now }
     ensures { IfOk result (IsAnalysis exchange.now summaries.now) }
 {
     let names = names_of(alloc, exchange)?;

@@ -13,11 +13,12 @@ use Rattle.command_words.specs.declared.command.Command.TheVariants.{Run, Single
 use Rattle.command_words.specs.declared.command.ChangeWords.{ChangeWords}
 use Rattle.command_words.specs.declared.command.RunWords.{RunWords}
 use Rattle.plex_program.specs.Outcome.{GoesOn, Out}
-use Rattle.plex_program.specs.Given.{exchange_at, lines_at, text_at}
-use Rattle.plex_program.specs.RunAnswer.{IsCertifiedRun, RunComes, or_certificate_fault, run_answer, run_of}
+use Rattle.plex_program.specs.declared.fault.Which.TheVariants.{First, New}
+use Rattle.plex_program.specs.Given.{exchange_as, exchange_at, lines_at, text_at}
+use Rattle.plex_program.specs.RunAnswer.{IsCertifiedRun, RunComes, end_of, or_certificate_fault, run_answer, run_of}
 use Rattle.plex_program.specs.TimedAnswer.{timed_of}
 use Rattle.plex_program.specs.TraceAnswer.{trace_of}
-use Rattle.plex_program.specs.ChangeAnswer.{AnswersChange, ChangeComes, ChangesOrNot, as_new, changed_answer, is_changed, misfit_answer, state_at}
+use Rattle.plex_program.specs.ChangeAnswer.{AnswersChange, ChangeComes, ChangesOrNot, changed_answer, is_changed, misfit_answer}
 use Rattle.plex_program.specs.ListAnswer.{list_of}
 use Rattle.plex_program.specs.LoadAnswer.{load_of}
 use Rattle.plex_program.specs.ExchangeAnswer.{AnswersAnalysis, AnswersCertificate, FromExchange}
@@ -39,14 +40,6 @@ goes_on : {A : Type 0} (s : Out A) (Go : A → Out Answer → Type 0) → ((a : 
 goes_on (Ok a) Go each = each a refl
 goes_on (Err r) Go each = (Err r, refl)
 
--- of an exchange that is to take the place of another one
-goes_on_new : (s : Out Exchange) (Go : Exchange → Out Answer → Type 0) → ((x : Exchange) → s ≡ Ok x → Comes (Go x)) → Comes (GoesOn (as_new s) Go)
-goes_on_new (Ok x) Go each = each x refl
-goes_on_new (Err r) Go each = (as_new (Err r), refl)
-
-exchange_kept : (name : Word) (files : Files) (x : Exchange) → exchange_at name files ≡ Ok x → IsExchange x
-exchange_kept name files x comes = (accepted name files x comes).kept
-
 -- a run with a certificate
 
 certified_run : (x : Exchange) → IsExchange x → (text : Option (List ℕ)) (a : Answer) → Comes (IsCertifiedRun x text a)
@@ -58,7 +51,7 @@ run w (Some name) files =
     goes_on (exchange_at w.exchange files) _ (λ x comes.
     goes_on (lines_at x w.signals files) _ (λ lines told.
     goes_on (text_at name files) _ (λ text held.
-    certified_run x (exchange_kept w.exchange files x comes) text (run_answer x lines w.bounds.jobs))))
+    certified_run x (accepted First w.exchange files x comes).kept text (run_answer x lines w.bounds.jobs))))
 
 -- an analysis, and a certificate
 
@@ -72,17 +65,13 @@ certified : (x : Exchange) → IsExchange x → (a : Answer) × AnswersCertifica
 certified x kept = (let c = certificate x kept in (record { status = status.Done; text = certificate_text c.0 }, record { status = refl; certificate = c.0; is = c.1; told = refl }))
 
 from_exchange : (name : Word) (Is : Exchange → Answer → Type 0) (files : Files) → ((x : Exchange) → IsExchange x → (a : Answer) × Is x a) → Comes (FromExchange name Is files)
-from_exchange name Is files each = by (exchange_at name files) refl
-  where
-    by : (s : Out Exchange) → exchange_at name files ≡ s → Comes (FromExchange name Is files)
-    by (Ok x) comes = (let a = each x (exchange_kept name files x comes) in (Ok a.0, record { exchange = x; comes = comes; answers = a.1 }))
-    by (Err r) comes = (Err r, comes)
+from_exchange name Is files each = goes_on (exchange_at name files) _ (λ x comes. (let a = each x (accepted First name files x comes).kept in (Ok a.0, a.1)))
 
 -- a change
 
 changes_or_not : (old new : Exchange) (lines : List Line) (jobs at : ℕ) (b : Bool) → IsExchange new → (a : Answer) × ChangesOrNot old new lines jobs at b a
 changes_or_not old new lines jobs at true kept =
-    let before = state_at old lines at in
+    let before = end_of old lines at in
     let c = carried old new before kept in
     (changed_answer old new before c.0 jobs at, record { carried = c.0; is = c.1; answers = refl })
 changes_or_not old new lines jobs at false kept = (run_answer old lines jobs, refl)
@@ -95,8 +84,8 @@ change : (w : ChangeWords) (files : Files) → Comes (ChangeComes w files)
 change w files =
     goes_on (exchange_at w.run.exchange files) _ (λ old comes.
     goes_on (lines_at old w.run.signals files) _ (λ lines told.
-    goes_on_new (exchange_at w.new files) _ (λ new also.
-    (let a = change_answer old new lines w.run.bounds.jobs w.at (misfit old new) (exchange_kept w.new files new also) in (Ok a.0, a.1)))))
+    goes_on (exchange_as New w.new files) _ (λ new also.
+    (let a = change_answer old new lines w.run.bounds.jobs w.at (misfit old new) (accepted New w.new files new also).kept in (Ok a.0, a.1)))))
 
 -- all commands
 

@@ -1,7 +1,5 @@
 -- Each stage comes to one outcome, and so the words and the files have one answer.
 use Rattle.std.proofs.Common.{◌≡◌, ℕ, Bool, true, false, List, Option, Some, None, Ok, Err, refl, sym, ap, ◌∙◌, subst}
-use Rattle.std.specs.Result.{result_ok}
-use Rattle.std.proofs.lemmas.Option.{none-some, same_Some}
 use Rattle.plex_io.specs.Files.{Files}
 use Rattle.exchange_model.specs.declared.exchange.Exchange.{Exchange}
 use Rattle.exchange_model.specs.Kept.{IsExchange}
@@ -20,9 +18,10 @@ use Rattle.analysis_laws.proofs.Certifying.{certificate_once}
 use Rattle.analysis_laws.proofs.Summing.{all_summaries_once}
 use Rattle.analysis_laws.proofs.Telling.{analysis_once}
 use Rattle.plex_program.specs.Outcome.{GoesOn, IsAnAnswer, Out}
-use Rattle.plex_program.specs.Given.{exchange_at, lines_at, text_at}
-use Rattle.plex_program.specs.RunAnswer.{IsCertifiedRun, RunComes, or_certificate_fault, run_answer}
-use Rattle.plex_program.specs.ChangeAnswer.{AnswersChange, ChangeAnswers, ChangeComes, ChangesOrNot, as_new, changed_answer, is_changed, new_exchange_at, state_at}
+use Rattle.plex_program.specs.declared.fault.Which.TheVariants.{New}
+use Rattle.plex_program.specs.Given.{exchange_as, exchange_at, lines_at, text_at}
+use Rattle.plex_program.specs.RunAnswer.{IsCertifiedRun, RunComes, end_of, or_certificate_fault, run_answer}
+use Rattle.plex_program.specs.ChangeAnswer.{AnswersChange, ChangeAnswers, ChangeComes, ChangesOrNot, changed_answer, is_changed}
 use Rattle.plex_program.specs.ExchangeAnswer.{AnswersAnalysis, AnswersCertificate, FromExchange}
 use Rattle.plex_program.specs.Answer.{IsAnswer, IsAnswerBy, answer_of, performed}
 use Rattle.plex_program.specs.declared.perform.Answer.{Answer}
@@ -62,48 +61,33 @@ certified_of_once x a b one other =
     let text : a.text ≡ b.text = one.told ∙ ap certificate_text (certificate_once x one.certificate other.certificate one.is other.is) ∙ sym other.told in
     λ i. record { status = status i; text = text i }
 
-same_exchange : (r : Out Exchange) (x y : Exchange) → r ≡ Ok x → r ≡ Ok y → x ≡ y
-same_exchange r x y one other = same_Some x y (ap result_ok (sym one ∙ other))
+an_answer_once : (Is : Answer → Type 0) (o p : Out Answer) → ((a b : Answer) → Is a → Is b → a ≡ b) → IsAnAnswer Is o → IsAnAnswer Is p → o ≡ p
+an_answer_once Is (Ok a) (Ok b) once one other = ap (λ c. Ok c) (once a b one other)
+an_answer_once Is (Ok a) (Err q) once one other = absurd other
+an_answer_once Is (Err r) p once one other = absurd one
 
 from_once : (name : Word) (Is : Exchange → Answer → Type 0) (files : Files) (o p : Out Answer) → ((x : Exchange) (a b : Answer) → Is x a → Is x b → a ≡ b) → FromExchange name Is files o → FromExchange name Is files p → o ≡ p
-from_once name Is files (Ok a) (Ok b) once one other =
-    let x = same_exchange (exchange_at name files) one.exchange other.exchange one.comes other.comes in
-    ap (λ c. Ok c) (once other.exchange a b (subst (λ y. Is y a) x one.answers) other.answers)
-from_once name Is files (Ok a) (Err r) once one other = absurd (none-some one.exchange (ap result_ok (sym other ∙ one.comes)))
-from_once name Is files (Err r) (Ok b) once one other = absurd (none-some other.exchange (ap result_ok (sym one ∙ other.comes)))
-from_once name Is files (Err r) (Err q) once one other = ap (λ e. Err e) (let same = sym one ∙ other in cc)
+from_once name Is files o p once one other = goes_once (exchange_at name files) _ o p (λ x comes. an_answer_once (Is x) o p (once x)) one other
 
 -- a change
 
-taken_as_new : (r : Out Exchange) (x : Exchange) → as_new r ≡ Ok x → r ≡ Ok x
-taken_as_new (Ok y) x is = is
-taken_as_new (Err q) x is = absurd (none-some x (ap result_ok is))
-
 changed_once : (old new : Exchange) (lines : List Line) (jobs at : ℕ) (b : Bool) (a c : Answer) → IsExchange new → ChangesOrNot old new lines jobs at b a → ChangesOrNot old new lines jobs at b c → a ≡ c
 changed_once old new lines jobs at true a c kept one other =
-    let carried = state_once old new (state_at old lines at) one.carried other.carried kept one.is other.is in
-    one.answers ∙ ap (λ s. changed_answer old new (state_at old lines at) s jobs at) carried ∙ sym other.answers
+    let carried = state_once old new (end_of old lines at) one.carried other.carried kept one.is other.is in
+    one.answers ∙ ap (λ s. changed_answer old new (end_of old lines at) s jobs at) carried ∙ sym other.answers
 changed_once old new lines jobs at false a c kept one other = one ∙ sym other
 
 change_once : (old new : Exchange) (lines : List Line) (jobs at : ℕ) (m : Option Misfit) (a b : Answer) → IsExchange new → AnswersChange old new lines jobs at m a → AnswersChange old new lines jobs at m b → a ≡ b
 change_once old new lines jobs at None a b kept one other = changed_once old new lines jobs at (is_changed old lines jobs at) a b kept one other
 change_once old new lines jobs at (Some m) a b kept one other = one ∙ sym other
 
-an_answer_once : (Is : Answer → Type 0) (o p : Out Answer) → ((a b : Answer) → Is a → Is b → a ≡ b) → IsAnAnswer Is o → IsAnAnswer Is p → o ≡ p
-an_answer_once Is (Ok a) (Ok b) once one other = ap (λ c. Ok c) (once a b one other)
-an_answer_once Is (Ok a) (Err q) once one other = absurd other
-an_answer_once Is (Err r) p once one other = absurd one
-
-new_kept : (name : Word) (files : Files) (new : Exchange) → new_exchange_at name files ≡ Ok new → IsExchange new
-new_kept name files new comes = (accepted name files new (taken_as_new (exchange_at name files) new comes)).kept
-
 changes_once : (w : ChangeWords) (files : Files) (o p : Out Answer) → ChangeComes w files o → ChangeComes w files p → o ≡ p
 changes_once w files o p one other =
     goes_once (exchange_at w.run.exchange files) _ o p (λ old comes.
     goes_once (lines_at old w.run.signals files) _ o p (λ lines told.
-    goes_once (new_exchange_at w.new files) _ o p (λ new also.
+    goes_once (exchange_as New w.new files) _ o p (λ new also.
     an_answer_once (ChangeAnswers old new lines w.run.bounds.jobs w.at) o p (λ a b.
-    change_once old new lines w.run.bounds.jobs w.at (misfit old new) a b (new_kept w.new files new also))))) one other
+    change_once old new lines w.run.bounds.jobs w.at (misfit old new) a b (accepted New w.new files new also).kept)))) one other
 
 -- all commands
 

@@ -1,10 +1,10 @@
 -- One judgement on the text of a certificate.
-use Rattle.std.proofs.Common.{◌≡◌, ℕ, List, Option, Some, None, Ok, Err, refl, ap, subst}
+use Rattle.std.proofs.Common.{◌≡◌, ℕ, List, Option, Some, None, Ok, refl, ap, subst}
 use Rattle.exchange_model.specs.declared.exchange.Exchange.{Exchange}
 use Rattle.certificate_text.specs.declared.certificate.Certificate.{Certificate}
 use Rattle.certificate_text.specs.declared.fault.TextFault.TheVariants as text_fault
 use Rattle.certificate_text.specs.Lines.{HasBadLine, IsTextOf}
-use Rattle.certificate_text.proofs.Once.{bad_line_told, one_certificate}
+use Rattle.certificate_text.proofs.Once.{bad_line_told, one_certificate, one_line}
 use Rattle.checked.specs.declared.fault.CertFault.TheVariants as fault
 use Rattle.checked.proofs.Checking.{never_closed}
 use Rattle.analysis_laws.proofs.Refusing.{refused_once}
@@ -12,13 +12,10 @@ use Rattle.plex_program.specs.Certificates.{IsJudged, Judges, large, bad, read}
 use Rattle.plex_program.specs.declared.fault.CertificateFault.{CertificateFault}
 use Rattle.plex_program.specs.declared.fault.CertificateFault.TheVariants.{TooLarge, BadText, WrongExchange, Strange, Missing}
 
--- a text with a bad line is that of no certificate, and has one first bad line
+-- a text with a bad line is that of no certificate
 
 bad_is_none : (text : List ℕ) (l : ℕ) (c : Certificate) → HasBadLine text l → IsTextOf text c → ⊥
 bad_is_none text l c bad_line is = let clash = bad_line_told text (Ok c) l is bad_line in cc
-
-bad_once : (text : List ℕ) (l m : ℕ) → HasBadLine text l → HasBadLine text m → l ≡ m
-bad_once text l m one other = let same = bad_line_told text (Err (text_fault.BadText l)) m one other in cc
 
 -- one verdict on a certificate
 
@@ -57,7 +54,7 @@ verdict_once x c (Some f) (Some g) a b = ap (λ h. Some h) (fault_once x c f g a
 -- and on its text
 pub judged_once : (x : Exchange) (text : Option (List ℕ)) (o p : Option CertificateFault) → IsJudged x text o → IsJudged x text p → o ≡ p
 judged_once x _ _ _ large large = refl
-judged_once x _ _ _ (bad text l one) (bad _ m other) = ap (λ n. Some (BadText n)) (bad_once text l m one other)
+judged_once x _ _ _ (bad text l one) (bad _ m other) = ap (λ n. Some (BadText n)) (one_line text l m one other)
 judged_once x _ _ _ (bad text l one) (read _ c p is b) = absurd (bad_is_none text l c one is)
 judged_once x _ _ _ (read text c o is a) (bad _ m other) = absurd (bad_is_none text m c other is)
 judged_once x _ _ _ (read text c o is a) (read _ d p also b) = verdict_once x d o p (subst (λ k. Judges x k o) (one_certificate text c d is also) a) b

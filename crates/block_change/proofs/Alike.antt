@@ -25,7 +25,7 @@ use Rattle.job_types.specs.declared.chain.Held.{Held}
 use Rattle.exchange_model.specs.Names.{level_of, signal_level}
 use Rattle.source_meaning.specs.Config.{files_of}
 use Rattle.source_meaning.specs.Valid.{IsRecord, entry_count}
-use Rattle.source_meaning.proofs.Booleans.{and_true, true_not_false}
+use Rattle.plex_num.proofs.Booleans.{and_true, true_not_false}
 use Rattle.block_change.specs.Carried.{carried_held, new_entries, new_entry, new_file, number_for}
 use Rattle.block_change.specs.Misfits.{agree, entry_signal, first_lacking, first_misfit, has_entry, lacking, lacks, misfit, rank, takes}
 use Rattle.block_change.specs.Names.{file_names, place_of}

@@ -3,9 +3,7 @@ use Rattle.std.proofs.Common.{◌≡◌, ◌≢◌, ℕ, zero, suc, ◌+◌, ◌
 use lib.Dec.{T}
 use Rattle.std.specs.Prelude.{is_some}
 use Rattle.std.specs.Cmp.{nat_cmp_total, unsigned_tied}
-use Rattle.std.specs.Ordering.{nat_cmp, eq_by_cmp, is_eq, is_lt}
-use Rattle.std.specs.declared.cmp.Ordering.{Ordering}
-use Rattle.std.specs.declared.cmp.Ordering.TheVariants.{Less, Equal, Greater}
+use Rattle.std.specs.Ordering.{nat_cmp, eq_by_cmp, is_lt}
 use Rattle.std.specs.FinMap as fin
 use Rattle.std.specs.FinMap.{nat_cmp-IsAntisymmetric}
 use Rattle.std.specs.FinMap.Entries.{below_all, is_sorted, find}
@@ -20,22 +18,18 @@ use Rattle.job_types.specs.declared.chain.Held.{Held}
 use Rattle.job_types.specs.Forlopps.{ChainMap, chain_at, is_dead, with_chain}
 use Rattle.job_types.proofs.ChainMaps.{get-with_chain}
 use Rattle.forlopp_chain.specs.Chains.{Forlopps, IsSound, NoneEmpty}
-use Rattle.source_meaning.proofs.Booleans.{or_false, true_not_false}
+use Rattle.plex_num.proofs.Booleans.{or_false, true_not_false}
+use Rattle.retire_order.proofs.Parted.{not_equal}
 use Rattle.block_change.specs.Carried.{carried_chain, carried_chains}
 
 -- ## Keys
-
-less : (r : Ordering) → T (is_lt r) → is_eq r ≡ false
-less Less p = refl
-less Equal p = absurd p
-less Greater p = absurd p
 
 -- a key below all others is none of them
 none_same : {X : Type 0} (q : ℕ) (es : List (ℕ × X)) → T (below_all nat_cmp q es) → AllByRecursion (λ k. nat_eq q k ≡ false) (map (λ e. e.0) es)
 none_same q [] below = tt
 none_same q (e ∷ es) below =
     let parts = split (is_lt (nat_cmp q e.0)) (below_all nat_cmp q es) below in
-    (sym (unsigned_tied q e.0) ∙ less (nat_cmp q e.0) parts.0, none_same q es parts.1)
+    (sym (unsigned_tied q e.0) ∙ not_equal (nat_cmp q e.0) parts.0, none_same q es parts.1)
 
 keys_of_sorted : {X : Type 0} (es : List (ℕ × X)) → T (is_sorted nat_cmp es) → IsDistinct nat_eq (map (λ e. e.0) es)
 unfolding IsDistinct

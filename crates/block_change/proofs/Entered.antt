@@ -16,7 +16,7 @@ use Rattle.exchange_model.specs.declared.stmt.Stmt.{Stmt}
 use Rattle.exchange_model.specs.declared.stmt.StmtKind.{out-StmtKind}
 use Rattle.exchange_model.specs.Index.{is_entry}
 use Rattle.exchange_model.specs.Kept.{IsExchange, entered, enters_from, entries_from, entries_in, entry_at, entry_of, row_at}
-use Rattle.source_meaning.proofs.Booleans.{and_true, true_not_false}
+use Rattle.plex_num.proofs.Booleans.{and_true, true_not_false}
 use Rattle.block_change.proofs.Alike.{position_none}
 
 -- two entries are of one block and one signal

@@ -14,7 +14,7 @@ use Rattle.exchange_model.specs.declared.signal.SignalKind.{SignalKind}
 use Rattle.exchange_model.specs.Index.{is_entry}
 use Rattle.exchange_model.specs.Kept.{IsExchange, signal_count, signal_name}
 use Rattle.exchange_model.specs.Names.{names_of_blocks, names_of_signals, signal_level}
-use Rattle.source_meaning.proofs.Booleans.{and_true, true_not_false}
+use Rattle.plex_num.proofs.Booleans.{and_true, true_not_false}
 use Rattle.block_change.specs.declared.misfit.Misfit.{Misfit}
 use Rattle.block_change.specs.declared.misfit.Misfit.TheVariants.{Entry as EntryMisfit, File as FileMisfit}
 use Rattle.block_change.specs.Counterparts.{Fits, HasEntry, HasFile, IsFirstEntry, IsFirstFile, IsFirstMisfit}

@@ -37,7 +37,7 @@ use Rattle.retire_order.proofs.Parted.{alike, silent}
 use Rattle.source_meaning.specs.Config.{files_of}
 use Rattle.source_meaning.specs.State.{Arrived, Coming, State}
 use Rattle.source_meaning.specs.Valid.{HoldsRecord, IsRecord, IsValid, LinesFit, WaitsAt}
-use Rattle.source_meaning.proofs.Booleans.{bool_cases, or_right, true_not_false}
+use Rattle.plex_num.proofs.Booleans.{bool_cases, or_right, true_not_false}
 use Rattle.source_meaning.proofs.Chains.{record_is, record_itself}
 use Rattle.source_meaning.proofs.Maps.{all_records_fit, held_among_all}
 use Rattle.block_change.specs.Carried.{AreCarriedWords, IsCarried, carried_arrived, carried_chain, carried_chains, carried_held, carried_line, carried_value, carried_waiting, carried_with, kept_value, mark_value, new_entries, new_entry, new_file, number_for, old_value}

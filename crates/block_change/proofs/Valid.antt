@@ -24,7 +24,7 @@ use Rattle.job_types.specs.Forlopps.{all_records, chain_at}
 use Rattle.source_meaning.specs.Config.{files_of}
 use Rattle.source_meaning.specs.State.{Arrived, Bare, Coming, Fresh, Origin, Same, State}
 use Rattle.source_meaning.specs.Valid.{ChainsFit, HasRecords, HoldsRecord, IsJob, IsLive, IsOnce, IsRecord, IsValid, LineFits, LinesFit, MarksFit, MayBe, NamesEarlier, NumbersFit, StoreFits, WaitingFits, WaitsAt}
-use Rattle.source_meaning.proofs.Booleans.{bool_cases, or_right, true_not_false}
+use Rattle.plex_num.proofs.Booleans.{bool_cases, or_right, true_not_false}
 use Rattle.source_meaning.proofs.Chains.{record_is, record_itself}
 use Rattle.source_meaning.proofs.Maps.{all_records_fit, held_among_all}
 use Rattle.block_change.specs.Carried.{AreCarriedWords, IsCarried, carried_arrived, carried_chain, carried_chains, carried_held, carried_line, carried_with, kept_value, mark_value, new_entries, new_file, old_value}

@@ -18,7 +18,7 @@ use Rattle.exchange_model.specs.Kept.{IsExchange, variable_names}
 use Rattle.exchange_model.proofs.Numbers.{cell_number-below, cell_number-once, field_is_cell, mark_is_cell, variable_is_cell}
 use Rattle.job_types.specs.declared.chain.Held.{Held}
 use Rattle.job_types.specs.Chain.{holds, is_record}
-use Rattle.source_meaning.proofs.Booleans.{true_not_false}
+use Rattle.plex_num.proofs.Booleans.{true_not_false}
 use Rattle.source_meaning.proofs.Chains.{holds_last, record_is, record_itself}
 use Rattle.source_meaning.specs.Config.{files_of}
 use Rattle.source_meaning.specs.Valid.{IsRecord}

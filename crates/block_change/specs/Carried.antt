@@ -18,6 +18,10 @@ use Rattle.job_types.specs.Chain.{holds}
 use Rattle.job_types.specs.Forlopps.{ChainMap, all_records}
 use Rattle.job_types.specs.Waiting.{Waiting}
 use Rattle.source_meaning.specs.State.{Arrived, Coming, State}
+use Rattle.source_meaning.specs.Valid.{IsValid}
+use Rattle.retire_order.specs.declared.parts.BookParts.{BookParts}
+use Rattle.retire_order.specs.Accounts.{with_words}
+use Rattle.retire_order.specs.Parts.{AreParts, account_of}
 use Rattle.block_change.specs.Renamed.{waiting_with}
 use Rattle.block_change.specs.Same.{cell_variable, same_cell, same_entry, same_file}
 
@@ -99,3 +103,12 @@ carried_with x y s words = record {
 pub record IsCarried (x y : Exchange) (s t : State) : Type 0 where
   pub books : t ≡ carried_with x y s t.store
   pub words : AreCarriedWords x y s.store (all_records t.chains) t.store
+
+-- the state of books in parts and stored words
+abbrev pub state_with : BookParts → List ℕ → State
+state_with parts words = with_words (account_of parts).state words
+
+-- the parts are those of books, which stand with these words for a valid state of the exchange
+pub record AreStanding (x : Exchange) (parts : BookParts) (words : List ℕ) : Type 0 where
+  pub are_parts : AreParts parts
+  pub valid : IsValid x (state_with parts words)

@@ -1,10 +1,7 @@
 // The whole is carried over.
 ghost use Rattle.std.specs.Prelude.{◌≡◌, IfOk, None};
-ghost use Rattle.retire_order.specs.Accounts.{with_words};
-ghost use Rattle.retire_order.specs.Parts.{AreParts, account_of};
-ghost use Rattle.source_meaning.specs.Valid.{IsValid};
 ghost use Rattle.store_layout.specs.Laid.{IsLayout};
-ghost use Rattle.block_change.specs.Carried.{IsCarried};
+ghost use Rattle.block_change.specs.Carried.{AreStanding, IsCarried, state_with};
 ghost use Rattle.block_change.specs.Misfits.{misfit};
 ghost use Rattle.block_change.specs.Moves.{AreMoved};
 ghost use Rattle.block_change.specs.Names.{IsDirectory};
@@ -34,15 +31,13 @@ pub fn carry(
     words: &Seq<u32>,
 ) -> Result<(BookParts, Seq<u32>), Memory>
     requires fits { misfit old.now new.now ≡ None }
-    requires parts { AreParts parts }
-    requires valid { IsValid old.now (with_words (account_of parts).state words.now) }
+    requires standing { AreStanding old.now parts words.now }
     requires old_layout { IsLayout old.now.blocks old_layout.now }
     requires new_layout { IsLayout new.now.blocks new_layout.now }
-    ensures parts { IfOk result (λ r. AreParts r.0) }
     ensures limit { IfOk result (λ r. r.0.limit ≡ parts.limit) }
-    ensures carried { IfOk result (λ r. IsCarried old.now new.now
-        (with_words (account_of parts).state words.now) (with_words (account_of r.0).state r.1)) }
-    ensures valid { IfOk result (λ r. IsValid new.now (with_words (account_of r.0).state r.1)) }
+    ensures carried { IfOk result (λ r.
+        IsCarried old.now new.now (state_with parts words.now) (state_with r.0 r.1)) }
+    ensures standing { IfOk result (λ r. AreStanding new.now r.0 r.1) }
 {
     old.kept();
     new.kept();

@@ -1,6 +1,5 @@
 -- A count of references, as far as a walk has come.
 use Rattle.std.proofs.Common.{◌≡◌, ℕ, ◌+◌, ◌<◌, ◌≤◌, Bool, cond, min, List, [], ◌∷◌, ◌++◌, length, drop, get_or, Option, Some, None, refl, sym, ap, ◌∙◌, subst, append-nil, append_assoc, arith}
-use Rattle.std.specs.List.{count_by}
 use Rattle.std.proofs.lemmas.List.Sums.{count_by-le-length, sum_by-append, sum_by-cons}
 use Rattle.std.proofs.Math.ListN.{drop_of_length-le}
 use Rattle.plex_limits.specs.declared.limits.TheConstants.{MOST_STATEMENTS}
@@ -11,15 +10,15 @@ use Rattle.exchange_model.specs.declared.expr.Cond.{Cond}
 use Rattle.exchange_model.specs.declared.expr.Expr.{Expr}
 use Rattle.exchange_model.specs.declared.stmt.Stmt.{Stmt}
 use Rattle.exchange_model.specs.declared.stmt.When.{When, out-When}
-use Rattle.exchange_model.specs.declared.stmt.StmtKind.{StmtKind, StmtKind-F, out-StmtKind}
+use Rattle.exchange_model.specs.declared.stmt.StmtKind.{StmtKind, out-StmtKind}
 use Rattle.exchange_model.specs.declared.stmt.StmtKind.TheOpen as layer
 use Rattle.exchange_model.specs.declared.stmt.StmtKind.TheVariants as kind
 use Rattle.exchange_model.specs.Kept.{IsExchange}
-use Rattle.exchange_model.proofs.Layers.{same_kind}
 use Rattle.source_meaning.specs.Rests.{first_point}
-use Rattle.flow_points.specs.Places.{Place, place_of}
-use Rattle.flow_table.specs.Texts.{ArePlaces, Chosen, HoldsNone, Inside, Texts, Walked, block, choice, no_block, no_choice, nothing_left, of_case, of_if, of_none, of_on, statement}
+use Rattle.flow_points.specs.Places.{Place}
+use Rattle.flow_table.specs.Texts.{ArePlaces, Chosen, Inside, Texts, Walked, block, choice, no_block, no_choice, nothing_left, of_case, of_if, of_none, of_on, statement}
 use Rattle.flow_table.proofs.Numbered.{are_places}
+use Rattle.flow_table.proofs.Walking.{holds_none}
 use Rattle.certificate.specs.Shapes.{Counts, HasReferences, WithThose, referring, refers}
 
 -- the greatest number that is counted to
@@ -148,13 +147,7 @@ pub none_told : (b p : ℕ) (next : Option ℕ) (k : StmtKind) →
     ((c : Cond) (ys ns : List Stmt) → k ≡ kind.If c ys ns → ⊥) →
     ((e : Expr) (ws : List When) (os : List Stmt) → k ≡ kind.Case e ws os → ⊥) →
     ((t : ℕ) (e f : Expr) (body : List Stmt) → k ≡ kind.On t e f body → ⊥) → Counts (Inside b p next (out-StmtKind k)) 0
-none_told b p next k no_if no_case no_on = record { places = []; are = of_none (out-StmtKind k) (alone (out-StmtKind k) refl); so = λ few. refl }
-  where
-    alone : (l : StmtKind-F StmtKind Stmt When) → out-StmtKind k ≡ l → HoldsNone l
-    alone (layer.If c ys ns) is = absurd (no_if c ys ns (same_kind k (kind.If c ys ns) _ is (kind.outs-If c ys ns)))
-    alone (layer.Case e ws os) is = absurd (no_case e ws os (same_kind k (kind.Case e ws os) _ is (kind.outs-Case e ws os)))
-    alone (layer.On t e f body) is = absurd (no_on t e f body (same_kind k (kind.On t e f body) _ is (kind.outs-On t e f body)))
-    alone _ is = tt
+none_told b p next k no_if no_case no_on = record { places = []; are = of_none (out-StmtKind k) (holds_none k no_if no_case no_on); so = λ few. refl }
 
 -- those of an exchange
 pub references_told : (x : Exchange) (given : List Block) (n : ℕ) → IsExchange x → given ≡ x.blocks → length x.points ≤ MOST_STATEMENTS → Counts (Texts 0 given) n → HasReferences x n

@@ -1,16 +1,14 @@
 -- Each least fact can be told in a certificate.
-use Rattle.std.proofs.Common.{◌≡◌, ◌↔◌, inl, inr, ℕ, ◌<◌, ◌≤◌, max, List, [], ◌∷◌, length, map, Option, None, Some, slice_get, get_or, Contains, All, refl, sym, subst, arith}
+use Rattle.std.proofs.Common.{◌≡◌, ◌↔◌, inl, inr, ℕ, ◌<◌, ◌≤◌, max, List, [], ◌∷◌, map, Option, None, Some, slice_get, get_or, Contains, All, refl, sym, subst, arith}
 use Rattle.std.specs.Option.{option_map_or}
 use Rattle.std.proofs.lemmas.List.Elements.{Contains-get_or}
 use Rattle.plex_limits.specs.declared.limits.TheConstants.{MOST_VALUES, MOST_TEMPORARIES}
-use Rattle.plex_num.proofs.Lists.{all_at}
 use Rattle.exchange_model.specs.declared.exchange.Exchange.{Exchange}
 use Rattle.exchange_model.specs.declared.block.Block.{Block}
 use Rattle.exchange_model.specs.declared.block.Enter.{Enter as Row}
-use Rattle.exchange_model.specs.declared.signal.SignalKind.{SignalKind}
 use Rattle.exchange_model.specs.Fits.{retrieved}
 use Rattle.exchange_model.specs.Inside.{most}
-use Rattle.exchange_model.specs.Kept.{IsExchange, signal_count}
+use Rattle.exchange_model.specs.Kept.{IsExchange}
 use Rattle.source_meaning.specs.Changes.{value_count}
 use Rattle.flow_points.specs.declared.fact.Fact.{Fact}
 use Rattle.flow_points.specs.declared.fact.Slot.{Slot}
@@ -21,7 +19,7 @@ use Rattle.flow_points.specs.declared.flow.Source.{Source}
 use Rattle.flow_points.specs.declared.flow.Source.TheVariants.{Of, Is, Deeper, Nothing}
 use Rattle.flow_points.specs.Facts.{Facts, IsClosed, IsLeast, SourceGives}
 use Rattle.flow_points.specs.Places.{Place}
-use Rattle.flow_points.specs.Slots.{HasSlot, IsSlotOf, answer_count, given_count, temp_count}
+use Rattle.flow_points.specs.Slots.{IsSlotOf, answer_count, given_count, temp_count}
 use Rattle.flow_points.specs.Sources.{source_of, start_source}
 use Rattle.flow_points.proofs.Least.{least_in}
 use Rattle.flow_table.proofs.Rowing.{place_fits}
@@ -30,6 +28,7 @@ use Rattle.least_facts.specs.Fit.{Awaited, Numbered, SourceFits}
 use Rattle.least_facts.proofs.Numbering.{leads_fit, start_fits}
 use Rattle.certificate_text.specs.Text.{FactFits, SlotFits, ValueFits}
 use Rattle.certificate.proofs.Reaching.{least_slot}
+use Rattle.flow_points.proofs.Few.{count_few, temps_few}
 
 -- values
 
@@ -73,23 +72,9 @@ none_few : (n : ℕ) → 0 ≤ n
 none_few n = omega arith
 
 module _ (x : Exchange) (kept : IsExchange x) where
-  count_few : (signal : ℕ) → value_count x signal ≤ MOST_VALUES
-  count_few signal = by (slice_get x.signals signal) refl
-    where
-      by : (o : Option SignalKind) → slice_get x.signals signal ≡ o → option_map_or signal_count o 0 ≤ MOST_VALUES
-      by None there = omega arith
-      by (Some s) there = all_at (λ k. signal_count k ≤ MOST_VALUES) x.signals signal s kept.signals.values there
-
   most_few : (rows : List Row) → most (map (λ (r : Row). value_count x r.signal) rows) ≤ MOST_VALUES
   most_few [] = none_few MOST_VALUES
-  most_few (r ∷ rows) = either_few (value_count x r.signal) (most (map (λ (r : Row). value_count x r.signal) rows)) MOST_VALUES (count_few r.signal) (most_few rows)
-
-  temps_few : (b : ℕ) → temp_count x b ≤ MOST_TEMPORARIES
-  temps_few b = by (slice_get x.blocks b) refl
-    where
-      by : (o : Option Block) → slice_get x.blocks b ≡ o → option_map_or (λ (k : Block). length k.temporaries) o 0 ≤ MOST_TEMPORARIES
-      by None there = omega arith
-      by (Some k) there = (kept.blocks.each b k there).temporaries
+  most_few (r ∷ rows) = either_few (value_count x r.signal) (most (map (λ (r : Row). value_count x r.signal) rows)) MOST_VALUES (count_few x kept r.signal) (most_few rows)
 
   given_few : (b : ℕ) → given_count x b ≤ MOST_VALUES
   given_few b = by (slice_get x.blocks b) refl
@@ -100,10 +85,10 @@ module _ (x : Exchange) (kept : IsExchange x) where
 
   answers_few : (o : Option ℕ) → answer_count x o ≤ MOST_VALUES
   answers_few None = omega arith
-  answers_few (Some answer) = count_few answer
+  answers_few (Some answer) = count_few x kept answer
 
   slot_few : (at : Place) (s : Slot) → IsSlotOf x at s → SlotFits s
-  slot_few at (Temp t) h = below t MOST_TEMPORARIES (temp_count x at.block) (temps_few at.block) h
+  slot_few at (Temp t) h = below t MOST_TEMPORARIES (temp_count x at.block) (temps_few x kept at.block) h
   slot_few at (Given k) h = below k MOST_VALUES (given_count x at.block) (given_few at.block) h
   slot_few at (Answered k) h = below k MOST_VALUES (answer_count x (retrieved at.layer)) (answers_few (retrieved at.layer)) h
   slot_few at Depth h = tt

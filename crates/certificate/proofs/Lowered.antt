@@ -12,9 +12,9 @@ use Rattle.flow_points.specs.contracts.fact.FactOrd.TheImpl.Laws.{total-law}
 use Rattle.flow_points.specs.declared.fact.Fact.{Fact}
 use Rattle.flow_points.specs.declared.fact.Slot.TheVariants.{Depth}
 use Rattle.flow_points.specs.Facts.{Facts, Gives, fact}
+use Rattle.flow_points.specs.Orders.{fact_order}
 use Rattle.flow_table.specs.Giving.{HasGiven}
 use Rattle.fact_flows.specs.Given.{GivenAt, GivenAtStart}
-use Rattle.certificate_text.specs.Text.{fact_order}
 use Rattle.certificate.specs.declared.missing.Look.{Look}
 use Rattle.certificate.specs.Strange.{AreListed, IsOfExchange}
 use Rattle.certificate.proofs.Firsts.{item_is}

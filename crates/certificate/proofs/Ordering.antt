@@ -1,5 +1,5 @@
 -- Facts in order, each once.
-use Rattle.std.proofs.Common.{◌≡◌, ◌↔◌, Bool, true, List, sym, ◌∙◌, subst, rules, IsPermutation, IsSorted}
+use Rattle.std.proofs.Common.{◌≡◌, ◌↔◌, Bool, List, sym, ◌∙◌, subst, IsPermutation, IsSorted}
 use Rattle.std.specs.List.{Contains, dedup}
 use Rattle.std.specs.List.Sorted.{IsStrictlySortedBy}
 use Rattle.std.proofs.lemmas.List.Kept.{IsStrictlySortedBy-dedup}
@@ -7,14 +7,12 @@ use Rattle.flow_points.specs.declared.fact.Fact.{Fact}
 use Rattle.flow_points.specs.contracts.fact.FactPartialEq.TheImpl as equal
 use Rattle.flow_points.specs.contracts.fact.FactEq.TheImpl.Laws as equal_laws
 use Rattle.flow_points.specs.contracts.fact.FactOrd.TheImpl.Laws as order_laws
-use Rattle.fact_rows.specs.Orders.{fact_order}
+use Rattle.flow_points.specs.Orders.{fact_order}
+use Rattle.flow_points.proofs.Orders.{same_fact}
 use Rattle.entry_summary.proofs.Sorting.{same_items}
 
 abbrev pub alike : Fact → Fact → Bool
 alike = equal.ghosts.eq
-
-same_fact : (f g : Fact) → alike f g ≡ true → f ≡ g
-same_fact f g is = search (rules, is)
 
 pub sorted_rising : (sorted new result : List Fact) → IsSorted fact_order sorted → new ≡ dedup alike sorted → result ≡ new → IsStrictlySortedBy fact_order result
 sorted_rising sorted new result h is same = subst (IsStrictlySortedBy fact_order) (sym (same ∙ is)) (IsStrictlySortedBy-dedup order_laws.total-law order_laws.matches_eq-law sorted h)

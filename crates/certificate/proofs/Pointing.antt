@@ -1,11 +1,9 @@
 -- The facts of an entry, listed point by point.
-use Rattle.std.proofs.Common.{◌≡◌, ◌↔◌, ◌⊎◌, inl, inr, ⊎_elim, ℕ, ◌+◌, ◌<◌, ◌≤◌, Bool, true, false, nat_lt, IsTrue, List, [], ◌∷◌, ◌++◌, length, map, take, get_or, Contains, Option, Some, None, refl, sym, ap, ◌∙◌, subst, arith, append-nil, append_assoc}
-use Rattle.std.specs.Prelude.{IfSome}
-use Rattle.std.specs.Option.{IsSome}
+use Rattle.std.proofs.Common.{◌≡◌, ◌↔◌, ◌⊎◌, inl, inr, ⊎_elim, ℕ, ◌+◌, ◌<◌, ◌≤◌, Bool, false, IsTrue, List, [], ◌∷◌, ◌++◌, length, map, take, get_or, Contains, refl, sym, ap, ◌∙◌, subst, arith, append-nil, append_assoc}
 use Rattle.std.specs.List.Sorted.{IsStrictlySortedBy}
 use Rattle.std.specs.Ordering.{nat_cmp, ordering_then}
 use Rattle.std.specs.declared.cmp.Ordering.TheVariants.{Equal, Less}
-use Rattle.std.proofs.lemmas.Bool.{ltb-true, ltb-false, true≢false}
+use Rattle.std.proofs.lemmas.Bool.{true≢false}
 use Rattle.std.proofs.lemmas.Cmp.{nat_cmp_total, tied_itself}
 use Rattle.std.proofs.lemmas.List.{take_all, take_more}
 use Rattle.std.proofs.lemmas.List.Elements.{Contains-append_left, Contains-append_right, Contains-append_cases}
@@ -20,6 +18,7 @@ use Rattle.flow_points.specs.contracts.fact.SlotOrd.TheImpl as slots
 use Rattle.flow_points.specs.contracts.fact.ValueOrd.TheImpl as values
 use Rattle.flow_points.specs.Facts.{Facts, IsLeast, Known, Reached, fact}
 use Rattle.flow_points.specs.Slots.{HasSlot}
+use Rattle.flow_points.specs.Orders.{fact_order}
 use Rattle.flow_table.specs.Giving.{AreValues}
 use Rattle.flow_table.specs.declared.row.FlowTable.{FlowTable}
 use Rattle.flow_table.specs.Rows.{IsFlowTable}
@@ -28,7 +27,8 @@ use Rattle.fact_flows.specs.Slots.{AreSlots}
 use Rattle.fact_rows.specs.Known.{Rows, Knows}
 use Rattle.fact_rows.proofs.Listing.{nat_less, sorted_append, sorted_none}
 use Rattle.least_facts.specs.Least.{KnowLeast}
-use Rattle.certificate_text.specs.Text.{fact_order, facts_text}
+use Rattle.access_summary.proofs.Summed.{below_or_last}
+use Rattle.certificate_text.specs.Text.{facts_text}
 use Rattle.certificate_text.proofs.Printed.{facts_append}
 use Rattle.certificate.specs.Entries.{AddsLines, IsKnownIn, LeastAt, LeastBefore, LeastOf}
 use Rattle.certificate.proofs.Reaching.{least_reached, least_slot}
@@ -133,11 +133,6 @@ point_added x e p k facts given text new know tells up same grown = record {
   is = grown ∙ ap (λ (l : List Fact). text ++ facts_text l) same;
 }
 
--- where nothing bounds a search, it comes to its end
-pub all_learned : {A : Type 0} (o : Option ℕ) → IsSome o → IfSome o (λ _. A) → A
-all_learned None some h = absurd (true≢false (sym some))
-all_learned (Some n) some h = h
-
 -- one point after the other
 
 pub points_begin : (x : Exchange) (e : ℕ) (text : List ℕ) → AddsLines (LeastBefore x e 0) text text
@@ -149,19 +144,12 @@ point_less f g same lt =
     ap (λ o. ordering_then o (ordering_then (nat_cmp f.point g.point) (ordering_then (slots.ghosts.cmp f.slot g.slot) (values.ghosts.cmp f.value g.value)))) tied
     ∙ ap (λ o. ordering_then o (ordering_then (slots.ghosts.cmp f.slot g.slot) (values.ghosts.cmp f.value g.value))) (nat_less f.point g.point lt)
 
-before_or_at : (m n : ℕ) → m < n + 1 → (m < n) ⊎ (m ≡ n)
-before_or_at m n lt = by (nat_lt m n) refl
-  where
-    by : (t : Bool) → nat_lt m n ≡ t → (m < n) ⊎ (m ≡ n)
-    by true is = inl (ltb-true m n is)
-    by false is = (let le = ltb-false m n is in inr (omega (arith, le, lt)))
-
 pub points_more : (x : Exchange) (e p : ℕ) (old mid new : List ℕ) → AddsLines (LeastAt x e p) mid new → AddsLines (LeastBefore x e p) old mid → AddsLines (LeastBefore x e (p + 1)) old new
 points_more x e p old mid new here before =
     both_added (LeastBefore x e p) (LeastAt x e p) (LeastBefore x e (p + 1)) old mid new
     (λ f l. let lt = l.0 in (omega (arith, lt), l.1))
     (λ f l. let is = l.0 in (omega (arith, is), l.1))
-    (λ f l. ⊎_elim (λ lt. inl (lt, l.1)) (λ is. inr (is, l.1)) (before_or_at f.point p l.0))
+    (λ f l. ⊎_elim (λ lt. inl (lt, l.1)) (λ is. inr (is, l.1)) (below_or_last f.point p l.0))
     (λ f g l m. let lt = l.0 in let is = m.0 in point_less f g (l.1.0 ∙ sym m.1.0) (omega (arith, lt, is)))
     before here
 

@@ -1,35 +1,16 @@
 -- Slots by the rows of a table.
-use Rattle.std.proofs.Common.{◌≡◌, ℕ, ◌<◌, ◌≤◌, ◌↔◌, Bool, true, false, IsTrue, List, [], ◌∷◌, length, Option, Some, None, slice_get, get_or, refl, sym, ap, subst, ◌∙◌, arith}
+use Rattle.std.proofs.Common.{◌≡◌, ℕ, ◌<◌, ◌≤◌, ◌↔◌, Bool, false, IsTrue, List, [], ◌∷◌, length, Some, slice_get, get_or, refl, sym, ap, arith}
 use Rattle.std.proofs.lemmas.Bool.{false≢true}
-use Rattle.std.proofs.lemmas.Option.{same_Some, slice_get_within, slice_get-get_or}
+use Rattle.std.proofs.lemmas.Option.{slice_get_within, slice_get-get_or}
 use Rattle.exchange_model.specs.declared.exchange.Exchange.{Exchange}
 use Rattle.flow_points.specs.declared.fact.Slot.{Slot}
-use Rattle.flow_points.specs.declared.fact.Slot.TheVariants.{Temp, Given, Answered, Depth, Awaits}
 use Rattle.flow_points.specs.Places.{Place, StandsAt}
-use Rattle.flow_points.specs.Slots.{HasSlot, IsSlotOf}
+use Rattle.flow_points.specs.Slots.{HasSlot}
 use Rattle.flow_table.specs.declared.row.FlowTable.{FlowTable}
 use Rattle.flow_table.specs.declared.row.Row.{Row}
-use Rattle.flow_table.specs.Rows.{AreRows, HasRow, IsRowOf, IsFlowTable}
-use Rattle.certificate.specs.Strange.{AreListed, RowHas}
-
-slot_of_row : (x : Exchange) (at : Place) (r : Row) (s : Slot) → IsRowOf x at r → RowHas r s → IsSlotOf x at s
-slot_of_row x at r (Temp t) is has = subst (λ n. t < n) is.temps has
-slot_of_row x at r (Given k) is has = subst (λ n. k < n) is.given has
-slot_of_row x at r (Answered k) is has = subst (λ n. k < n) is.answered has
-slot_of_row x at r Depth is has = tt
-slot_of_row x at r Awaits is has = tt
-
-row_of_slot : (x : Exchange) (at : Place) (r : Row) (s : Slot) → IsRowOf x at r → IsSlotOf x at s → RowHas r s
-row_of_slot x at r (Temp t) is has = subst (λ n. t < n) (sym is.temps) has
-row_of_slot x at r (Given k) is has = subst (λ n. k < n) (sym is.given) has
-row_of_slot x at r (Answered k) is has = subst (λ n. k < n) (sym is.answered) has
-row_of_slot x at r Depth is has = tt
-row_of_slot x at r Awaits is has = tt
-
-row_is : (x : Exchange) (rows : List Row) (p : ℕ) (at : Place) (r : Row) → AreRows x rows → slice_get rows p ≡ Some r → StandsAt x p at → IsRowOf x at r
-row_is x rows p at r are there stands =
-    let row = are.each p at stands in
-    subst (IsRowOf x at) (same_Some row.row r (sym row.there ∙ there)) row.is
+use Rattle.flow_table.specs.Rows.{IsFlowTable, RowHas}
+use Rattle.flow_table.proofs.Slotted.{row_of, row_of_slot, slot_of_row}
+use Rattle.certificate.specs.Strange.{AreListed}
 
 -- a statement stands at each point
 stands_there : (x : Exchange) (p : ℕ) → AreListed x → p < length x.points → (at : Place) × StandsAt x p at
@@ -45,8 +26,8 @@ pub row_told : (x : Exchange) (t : FlowTable) (p : ℕ) (s : Slot) (r : Row) (b 
 row_told x t p s r b table listed there tells =
     let inside : p < length x.points = omega (arith, slice_get_within t.rows p r there, table.rows.each_point) in
     let place = stands_there x p listed inside in (
-      (λ yes_it. record { place = place.0; stands = place.1; slot = slot_of_row x place.0 r s (row_is x t.rows p place.0 r table.rows there place.1) (tells.0 yes_it) }),
-      (λ has. tells.1 (row_of_slot x has.place r s (row_is x t.rows p has.place r table.rows there has.stands) has.slot)),
+      (λ yes_it. record { place = place.0; stands = place.1; slot = slot_of_row x place.0 r s (row_of x t p r place.0 table there place.1) (tells.0 yes_it) }),
+      (λ has. tells.1 (row_of_slot x has.place r s (row_of x t p r has.place table there has.stands) has.slot)),
     )
 
 pub no_row : (x : Exchange) (t : FlowTable) (p : ℕ) (s : Slot) → IsFlowTable x t → AreListed x → length t.rows ≤ p → IsTrue false ↔ HasSlot x p s

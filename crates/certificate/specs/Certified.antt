@@ -4,8 +4,9 @@ use Rattle.std.specs.List.Sorted.{IsStrictlySortedBy}
 use Rattle.exchange_model.specs.declared.exchange.Exchange.{Exchange}
 use Rattle.flow_points.specs.declared.fact.Fact.{Fact}
 use Rattle.flow_points.specs.Facts.{IsLeast}
+use Rattle.flow_points.specs.Orders.{fact_order}
 use Rattle.certificate_text.specs.declared.certificate.Certificate.{Certificate}
-use Rattle.certificate_text.specs.Text.{FactFits, certificate_text, fact_order}
+use Rattle.certificate_text.specs.Text.{FactFits, certificate_text}
 use Rattle.certificate.specs.Shapes.{IsShapeOf}
 
 -- it has the exchange's shape and exactly its least facts, in order, and a text can tell them

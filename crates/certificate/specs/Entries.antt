@@ -5,7 +5,8 @@ use Rattle.exchange_model.specs.declared.exchange.Exchange.{Exchange}
 use Rattle.flow_points.specs.declared.fact.Fact.{Fact}
 use Rattle.flow_points.specs.declared.fact.Slot.{Slot}
 use Rattle.flow_points.specs.Facts.{Facts, IsLeast}
-use Rattle.certificate_text.specs.Text.{fact_order, facts_text}
+use Rattle.flow_points.specs.Orders.{fact_order}
+use Rattle.certificate_text.specs.Text.{facts_text}
 
 -- a fact that is known, of the entry and the point, in one of some slots
 pub record IsKnownIn (P : Facts) (e p : ℕ) (S : Slot → Type 0) (f : Fact) : Type 0 where

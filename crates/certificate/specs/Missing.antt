@@ -6,8 +6,8 @@ use Rattle.exchange_model.specs.declared.exchange.Exchange.{Exchange}
 use Rattle.flow_points.specs.declared.fact.Fact.{Fact}
 use Rattle.flow_points.specs.declared.fact.Slot.TheVariants.{Depth}
 use Rattle.flow_points.specs.Facts.{Facts, StartGives}
+use Rattle.flow_points.specs.Orders.{fact_order}
 use Rattle.fact_flows.specs.Given.{GivenAt}
-use Rattle.certificate_text.specs.Text.{fact_order}
 use Rattle.certificate.specs.declared.missing.Look.{Look}
 
 -- of the facts of G that are not known the least

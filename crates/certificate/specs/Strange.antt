@@ -3,13 +3,10 @@ use Rattle.std.specs.Prelude.{◌≡◌, ℕ, ◌<◌, List, ◌∷◌, ◌++◌
 use Rattle.exchange_model.specs.declared.exchange.Exchange.{Exchange}
 use Rattle.source_meaning.specs.Valid.{entry_count}
 use Rattle.flow_points.specs.declared.fact.Fact.{Fact}
-use Rattle.flow_points.specs.declared.fact.Slot.{Slot}
-use Rattle.flow_points.specs.declared.fact.Slot.TheVariants.{Temp, Given, Answered, Depth, Awaits}
 use Rattle.flow_points.specs.declared.fact.Value.{Value}
 use Rattle.flow_points.specs.declared.fact.Value.TheVariants.{Arg, Const, Any}
 use Rattle.flow_points.specs.Places.{Place}
 use Rattle.flow_points.specs.Slots.{HasSlot}
-use Rattle.flow_table.specs.declared.row.Row.{Row}
 use Rattle.flow_table.specs.Texts.{ArePlaces}
 
 -- a value that a job of the entry may start with, or a number, or any number
@@ -37,11 +34,3 @@ pub record IsFirstStrange (x : Exchange) (facts : List Fact) (f : Fact) : Type 0
 pub record AreListed (x : Exchange) : Type 0 where
   pub places : List Place
   pub all : ArePlaces x places
-
--- a row has the slot
-abbrev pub RowHas : Row → Slot → Type 0
-RowHas r (Temp t) = t < r.temps
-RowHas r (Given k) = k < r.given
-RowHas r (Answered k) = k < r.answered
-RowHas r Depth = Unit {0}
-RowHas r Awaits = Unit {0}

@@ -2,7 +2,7 @@
 ghost use Rattle.std.specs.Prelude.{◌↔◌, Contains};
 ghost use Rattle.std.specs.List.Sorted.{IsStrictlySortedBy};
 ghost use Rattle.flow_points.specs.declared.fact.Fact.{Fact as FactType};
-ghost use Rattle.fact_rows.specs.Orders.{fact_order};
+ghost use Rattle.flow_points.specs.Orders.{fact_order};
 
 use flow_points::Fact;
 use plex_num::Seq;

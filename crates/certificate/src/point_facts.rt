@@ -1,18 +1,17 @@
 // The facts that are known of a point.
-ghost use Rattle.std.specs.Prelude.{◌≡◌, ◌↔◌, ◌++◌, map, Contains, IfOk, OnOk};
+ghost use Rattle.std.specs.Prelude.{◌↔◌, Contains, IfOk};
 ghost use Rattle.std.specs.List.Sorted.{IsStrictlySortedBy};
 ghost use Rattle.flow_points.specs.declared.fact.Fact.{Fact as FactType};
-ghost use Rattle.flow_points.specs.Facts.{fact};
 ghost use Rattle.flow_points.specs.Slots.{HasSlot};
+ghost use Rattle.flow_points.specs.Orders.{fact_order};
 ghost use Rattle.flow_table.specs.Rows.{IsFlowTable};
-ghost use Rattle.fact_rows.specs.Orders.{fact_order};
 ghost use Rattle.certificate.specs.Entries.{IsKnownIn};
 
 use crate::order::in_order;
 use exchange_model::Exchange;
 use fact_flows::slots_at;
-use flow_points::{Fact, Slot, Value};
-use flow_table::{FlowTable, KnownFacts};
+use flow_points::{Fact, Slot};
+use flow_table::{FlowTable, KnownFacts, push_facts};
 use plex_num::{Memory, Seq};
 use std::alloc::Global;
 
@@ -53,25 +52,4 @@ fn facts_in<K: KnownFacts>(
         push_facts(entry, point, slot, values.as_slice(), &mut facts)?;
     }
     Ok(facts)
-}
-
-/// Appends the facts of these values of a slot.
-fn push_facts(
-    entry: u32,
-    point: u32,
-    slot: Slot,
-    values: &[Value],
-    facts: &mut Seq<Fact>,
-) -> Result<(), Memory>
-    ensures { OnOk result (facts.new ≡ facts.old ++ map (fact entry point slot) values.now) }
-{
-    for value in values {
-        facts.push(Fact {
-            entry,
-            point,
-            slot,
-            value: *value,
-        })?;
-    }
-    Ok(())
 }

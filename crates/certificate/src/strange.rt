@@ -2,8 +2,8 @@
 ghost use Rattle.std.specs.Prelude.{◌≡◌, ◌<◌, ◌↔◌, All, IsTrue, MatchOption, length};
 ghost use Rattle.source_meaning.specs.Valid.{entry_count};
 ghost use Rattle.flow_points.specs.Slots.{HasSlot};
-ghost use Rattle.flow_table.specs.Rows.{IsFlowTable};
-ghost use Rattle.certificate.specs.Strange.{AreListed, IsFirstStrange, IsOfExchange, IsValueOf, RowHas};
+ghost use Rattle.flow_table.specs.Rows.{IsFlowTable, RowHas};
+ghost use Rattle.certificate.specs.Strange.{AreListed, IsFirstStrange, IsOfExchange, IsValueOf};
 
 use exchange_model::Exchange;
 use flow_points::{Fact, Slot, Value};

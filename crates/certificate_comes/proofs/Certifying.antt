@@ -1,5 +1,5 @@
 -- The certificate of an exchange comes, and each certificate is one of it or has a first fault.
-use Rattle.std.proofs.Common.{◌≡◌, ◌≢◌, ◌↔◌, ◌⊎◌, inl, inr, ℕ, true, List, [], ◌∷◌, length, All, Contains, refl, sym, ap, ◌∙◌, subst, rules}
+use Rattle.std.proofs.Common.{◌≡◌, ◌≢◌, ◌↔◌, ◌⊎◌, inl, inr, ℕ, List, [], ◌∷◌, length, All, Contains, refl, sym, ap, ◌∙◌, subst}
 use Rattle.std.specs.List.{AllByRecursion, count_by}
 use Rattle.std.specs.declared.cmp.Ordering.TheVariants.{Equal, Less}
 use Rattle.std.proofs.lemmas.List.Elements.{All-cons, All-nil}
@@ -13,15 +13,15 @@ use Rattle.source_meaning.specs.Valid.{entry_count}
 use Rattle.flow_points.specs.declared.fact.Fact.{Fact}
 use Rattle.flow_points.specs.declared.fact.Value.{Value}
 use Rattle.flow_points.specs.declared.fact.Value.TheVariants.{Any, Arg, Const}
-use Rattle.flow_points.specs.contracts.fact.FactPartialEq.TheImpl as equal
 use Rattle.flow_points.specs.contracts.fact.FactOrd.TheImpl.Laws as order_laws
 use Rattle.flow_points.specs.Facts.{Gives, IsClosed, IsLeast}
 use Rattle.flow_points.specs.Places.{Place}
 use Rattle.flow_points.specs.Slots.{HasSlot}
+use Rattle.flow_points.specs.Orders.{fact_order}
+use Rattle.flow_points.proofs.Orders.{order_same}
 use Rattle.flow_table.proofs.Numbered.{are_places}
 use Rattle.certificate_text.specs.declared.certificate.Certificate.{Certificate}
 use Rattle.certificate_text.specs.declared.certificate.Shape.{Shape}
-use Rattle.certificate_text.specs.Text.{fact_order}
 use Rattle.certificate.specs.Certified.{IsCertificate}
 use Rattle.certificate.specs.Missing.{IsLeastIn}
 use Rattle.certificate.specs.Shapes.{IsShapeOf, refers}
@@ -37,12 +37,6 @@ use Rattle.finite_facts.proofs.Giving.{given, same_fact, same_slot}
 use Rattle.finite_facts.proofs.Places.{places_of}
 use Rattle.finite_facts.proofs.Rising.{Rises, in_order}
 use Rattle.finite_facts.proofs.Slots.{slots_at}
-
-alike : (f g : Fact) → equal.ghosts.eq f g ≡ true → f ≡ g
-alike f g is = search (rules, is)
-
-tied : (f g : Fact) → fact_order f g ≡ Equal → f ≡ g
-tied f g even = alike f g (search (rules, order_laws.matches_eq-law, even))
 
 -- the shape
 
@@ -66,7 +60,7 @@ is_shape x kept = record {
 -- the certificate
 pub certificate : (x : Exchange) → IsExchange x → (c : Certificate) × IsCertificate x c
 certificate x kept =
-    let r = in_order fact_order order_laws.total-law tied (IsLeast x) (least_facts x) in
+    let r = in_order fact_order order_laws.total-law order_same (IsLeast x) (least_facts x) in
     let exact : (f : Fact) → Contains r.listed.items f ↔ IsLeast x f = λ f. (r.listed.each f, r.listed.all f) in
     (record { shape = shape_of x; facts = r.listed.items }, record { shape = is_shape x kept; exact = exact; rising = r.rising; fits = facts_fit x kept r.listed.items exact })
 
@@ -115,7 +109,7 @@ module _ (x : Exchange) where
   Missing facts f = Gives x (Contains facts) f × (Contains facts f → ⊥)
 
   missing : (facts : List Fact) → Rises fact_order (Missing facts)
-  missing facts = in_order fact_order order_laws.total-law tied (Missing facts) (listed_if (Gives x (Contains facts)) (λ f. Contains facts f → ⊥) (given x facts) (λ f g. refuted (is_in same_fact facts f)))
+  missing facts = in_order fact_order order_laws.total-law order_same (Missing facts) (listed_if (Gives x (Contains facts)) (λ f. Contains facts f → ⊥) (given x facts) (λ f g. refuted (is_in same_fact facts f)))
 
   not_below_both : (f g : Fact) → fact_order f g ≡ Less → fact_order g f ≡ Less → ⊥
   not_below_both f g up down = (let less = order_laws.total-law.trans f g f up down in let even = tied_itself order_laws.total-law f in let clash : Equal ≡ Less = sym even ∙ less in cc)

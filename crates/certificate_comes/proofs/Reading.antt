@@ -11,6 +11,7 @@ use Rattle.flow_points.specs.declared.fact.Slot.TheVariants.{Answered, Awaits, D
 use Rattle.flow_points.specs.declared.fact.Value.{Value}
 use Rattle.flow_points.specs.declared.fact.Value.TheVariants.{Any, Arg, Const}
 use Rattle.flow_points.specs.Facts.{fact}
+use Rattle.flow_points.specs.Orders.{fact_order}
 use Rattle.text_lines.specs.Lines.{ended}
 use Rattle.certificate_text.specs.declared.certificate.Certificate.{Certificate}
 use Rattle.certificate_text.specs.declared.certificate.Shape.{Shape}
@@ -18,7 +19,7 @@ use Rattle.certificate_text.specs.declared.version.Version.{Version}
 use Rattle.certificate_text.specs.declared.version.Version.TheVariants.{One, Two}
 use Rattle.certificate_text.specs.Lines.{HasBadLine, IsTextOf}
 use Rattle.certificate_text.specs.Parts.{IsFactAt, IsShapeAt, IsVersionAt}
-use Rattle.certificate_text.specs.Text.{CanTell, FactFits, FactNumbers, HasNumber, IsNumber, ShapeNumbers, SlotFits, ValueFits, fact_line, fact_order, last_line, shape_line, version_line}
+use Rattle.certificate_text.specs.Text.{CanTell, FactFits, FactNumbers, HasNumber, IsNumber, ShapeNumbers, SlotFits, ValueFits, fact_line, last_line, shape_line, version_line}
 use Rattle.certificate_text.proofs.Orders.{Rise}
 use Rattle.certificate_text.proofs.Stated.{Read, certificate, line_shorter, no_first_line, no_second_line, read_begin, read_fall, read_last, read_more, read_past, read_strange, two_lines}
 use Rattle.finite_facts.proofs.Finite.{Decided, Listed, Made, below, both, certain, decided_as, either, listed_as, listed_map, listed_one, listed_or, listed_pair, made, no, same_number, some_case, yes}

@@ -10,7 +10,7 @@ use Rattle.certificate_text.specs.declared.fault.TextFault.{TextFault}
 use Rattle.certificate_text.specs.declared.fault.TextFault.TheVariants.{BadText, Memory}
 use Rattle.certificate_text.specs.declared.version.Version.{Version}
 use Rattle.certificate_text.specs.declared.version.Version.TheVariants.{One, Two}
-use Rattle.certificate_text.specs.Lines.{BeginText, HasBadLine, IsTextOf, IsUnlessMemory, Tells, whole}
+use Rattle.certificate_text.specs.Lines.{BeginText, HasBadLine, IsTextOf, IsUnlessMemory, TellsCertificate, whole}
 use Rattle.certificate_text.specs.Text.{certificate_text, ShapeNumbers, CanTell, certificate_lines, fact_line, shape_line, text_in, version_line, last_line, CertificateFits}
 use Rattle.certificate_text.proofs.Facts.{Good, fact_line_once, fact_no_last}
 use Rattle.certificate_text.proofs.Heads.{shape_once, version_line_once}
@@ -69,19 +69,19 @@ text_begins text c l is = record { version = is.version; certificate = c; tells 
 not_before : (text : List ℕ) (l m : ℕ) → HasBadLine text l → HasBadLine text m → l < m → ⊥
 not_before text l m bad other less = bad.here (fewer_begin (lines_in text) l (m - 1) (omega arith) other.before)
 
-one_line : (text : List ℕ) (l m : ℕ) → HasBadLine text l → HasBadLine text m → l ≡ m
+pub one_line : (text : List ℕ) (l m : ℕ) → HasBadLine text l → HasBadLine text m → l ≡ m
 one_line text l m bad other = elim (cases_order l m) as (λ _. l ≡ m) [
   | inl same ↦ same
   | inr (inl less) ↦ absurd (not_before text l m bad other less)
   | inr (inr more) ↦ absurd (not_before text m l other bad more)
 ]
 
-pub certificate_told : (text : List ℕ) (told : Result Certificate TextFault) (c : Certificate) → Tells text told → IsTextOf text c → IsUnlessMemory told (Ok c)
+pub certificate_told : (text : List ℕ) (told : Result Certificate TextFault) (c : Certificate) → TellsCertificate text told → IsTextOf text c → IsUnlessMemory told (Ok c)
 certificate_told text (Err Memory) c tells is = tt
 certificate_told text (Ok d) c tells is = ap (λ (k : Certificate). Ok k) (one_certificate text d c tells is)
 certificate_told text (Err (BadText l)) c tells is = absurd (tells.here (text_begins text c l is))
 
-pub bad_line_told : (text : List ℕ) (told : Result Certificate TextFault) (l : ℕ) → Tells text told → HasBadLine text l → IsUnlessMemory told (Err (BadText l))
+pub bad_line_told : (text : List ℕ) (told : Result Certificate TextFault) (l : ℕ) → TellsCertificate text told → HasBadLine text l → IsUnlessMemory told (Err (BadText l))
 bad_line_told text (Err Memory) l tells bad = tt
 bad_line_told text (Ok d) l tells bad = absurd (bad.here (text_begins text d l tells))
 bad_line_told text (Err (BadText m)) l tells bad = ap (λ (k : ℕ). Err (BadText k)) (one_line text m l tells bad)

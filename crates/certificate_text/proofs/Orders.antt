@@ -10,7 +10,7 @@ use Rattle.std.proofs.lemmas.Option.{slice_get_within, slice_get-get_or}
 use Rattle.plex_num.proofs.Numbers.{is_less}
 use Rattle.flow_points.specs.contracts.fact.FactOrd.TheImpl.Laws.{total-law}
 use Rattle.flow_points.specs.declared.fact.Fact.{Fact}
-use Rattle.certificate_text.specs.Text.{fact_order}
+use Rattle.flow_points.specs.Orders.{fact_order}
 
 abbrev pub Rise : List Fact → Type 0
 Rise facts = IsStrictlySortedBy fact_order facts
@@ -67,10 +67,10 @@ none_left (x ∷ xs) i e n =
     let no : None ≡ Some (get_or (x ∷ xs) i x) = e ∙ some in
     cc
 
-abbrev pub Tells : List Fact → Fact → Bool → Type 0
-Tells facts f r = (IsTrue r → Rise (facts ++ f ∷ [])) × (Rise (facts ++ f ∷ []) → IsTrue r)
+abbrev pub TellsFact : List Fact → Fact → Bool → Type 0
+TellsFact facts f r = (IsTrue r → Rise (facts ++ f ∷ [])) × (Rise (facts ++ f ∷ []) → IsTrue r)
 
-pub rises_behind : (facts : List Fact) (last f : Fact) (r : Bool) → Rise facts → Some last ≡ slice_get facts (length facts - 1) → r ≡ is_lt (fact_order last f) → Tells facts f r
+pub rises_behind : (facts : List Fact) (last f : Fact) (r : Bool) → Rise facts → Some last ≡ slice_get facts (length facts - 1) → r ≡ is_lt (fact_order last f) → TellsFact facts f r
 rises_behind facts last f r rise there is =
     let within = slice_get_within facts (length facts - 1) last (sym there) in
     let split = split_last facts (length facts - 1) last (sym there) (omega (arith, within)) in
@@ -79,7 +79,7 @@ rises_behind facts last f r rise there is =
       (λ more. is ∙ ap is_lt (rise_last split.0 last f (subst (λ fs. Rise (fs ++ f ∷ [])) split.1 more))),
     )
 
-pub rises_first : (facts : List Fact) (f : Fact) → None ≡ slice_get facts (length facts - 1) → Tells facts f true
+pub rises_first : (facts : List Fact) (f : Fact) → None ≡ slice_get facts (length facts - 1) → TellsFact facts f true
 unfolding IsStrictlySortedBy
 rises_first facts f none =
     let empty = none_left facts (length facts - 1) none refl in

@@ -2,7 +2,7 @@
 use Rattle.std.proofs.Common.{◌≡◌, ◌≢◌, ℕ, ◌+◌, ◌-◌, ◌<◌, ◌≤◌, ◌↔◌, Bool, true, false, IsTrue, List, [], ◌∷◌, ◌++◌, length, map, take, refl, sym, ap, subst, ◌∙◌, arith, append_assoc, length-append, ◌⊎◌, inl, inr}
 use Rattle.std.specs.List.{AllByRecursion, flat_map}
 use Rattle.std.proofs.lemmas.Bool.{true≢false}
-use Rattle.std.proofs.lemmas.List.{map-append, take_at}
+use Rattle.std.proofs.lemmas.List.{map-append}
 use Rattle.std.proofs.lemmas.List.Elements.{All-nil, All-push, recursion_from_All}
 use Rattle.flow_points.specs.declared.fact.Fact.{Fact}
 use Rattle.certificate_text.specs.declared.certificate.Certificate.{Certificate}
@@ -19,6 +19,7 @@ use Rattle.certificate_text.proofs.Orders.{Rise, rise_nil, rise_up_to}
 use Rattle.certificate_text.proofs.Texts.{first_in_front, no_line, some_line}
 use Rattle.text_lines.proofs.Texts.{ended_once, lines_in-ended, text-lines}
 use Rattle.text_lines.specs.Lines.{lines_in, ended}
+use Rattle.text_lines.proofs.Taken.{before_here, up_to_here}
 
 abbrev pub certificate : Shape → List Fact → Certificate
 certificate s facts = record { shape = s; facts = facts }
@@ -71,14 +72,6 @@ next_line v s facts piece more good b =
     next facts b.certificate.facts piece (more ++ b.rest) good (good_facts b.certificate b.fits) (tails (tails so).1).1
 
 -- the first line at fault
-
-before_here : (text : List ℕ) (lines pieces : List (List ℕ)) (number : ℕ) → lines_in text ≡ lines ++ pieces → number ≡ length lines → take number (lines_in text) ≡ lines
-before_here text lines pieces number so counted = ap (take number) so ∙ take_at lines pieces number (sym counted)
-
-up_to_here : (text : List ℕ) (lines : List (List ℕ)) (piece : List ℕ) (pieces : List (List ℕ)) (number : ℕ) → lines_in text ≡ lines ++ piece ∷ pieces → number ≡ length lines → take (number + 1) (lines_in text) ≡ lines ++ piece ∷ []
-up_to_here text lines piece pieces number so counted =
-    let more : length (lines ++ piece ∷ []) ≡ number + 1 = omega (arith, length-append lines (piece ∷ []), counted) in
-    ap (take (number + 1)) (so ∙ sym (append_assoc lines (piece ∷ []) pieces)) ∙ take_at (lines ++ piece ∷ []) pieces (number + 1) more
 
 -- a line with which the lines before it begin no certificate
 bad_at : (text : List ℕ) (lines : List (List ℕ)) (piece : List ℕ) (pieces : List (List ℕ)) (number : ℕ) → lines_in text ≡ lines ++ piece ∷ pieces → number ≡ length lines → BeginText lines → (BeginText (lines ++ piece ∷ []) → ⊥) → HasBadLine text (number + 1)

@@ -37,10 +37,10 @@ pub record HasBadLine (text : List ℕ) (l : ℕ) : Type 0 where
   pub here : BeginText (take l (lines_in text)) → ⊥
 
 -- what an answer tells of a text
-abbrev pub Tells : List ℕ → Result Certificate TextFault → Type 0
-Tells text (Ok c) = IsTextOf text c
-Tells text (Err (BadText l)) = HasBadLine text l
-Tells text (Err Memory) = Unit {0}
+abbrev pub TellsCertificate : List ℕ → Result Certificate TextFault → Type 0
+TellsCertificate text (Ok c) = IsTextOf text c
+TellsCertificate text (Err (BadText l)) = HasBadLine text l
+TellsCertificate text (Err Memory) = Unit {0}
 
 -- the answer is this one, or memory was refused
 abbrev pub IsUnlessMemory : Result Certificate TextFault → Result Certificate TextFault → Type 0

@@ -2,9 +2,10 @@
 ghost use Rattle.std.specs.Prelude.{◌≡◌, ◌++◌, ◌∷◌, All, IfOk, OnOk, codes};
 ghost use Rattle.std.specs.Fmt.{decimal};
 ghost use Rattle.std.specs.List.Sorted.{IsStrictlySortedBy};
-ghost use Rattle.certificate_text.specs.Text.{FactFits, certificate_text, fact_line, fact_order, facts_text, head_text, last_text, shape_line, slot_word, value_word};
+ghost use Rattle.certificate_text.specs.Text.{FactFits, certificate_text, fact_line, facts_text, head_text, last_text, shape_line, slot_word, value_word};
 ghost use Rattle.certificate_text.specs.declared.version.Version.TheVariants.{Two};
 ghost use Rattle.text_lines.specs.Lines.{ended};
+ghost use Rattle.flow_points.specs.Orders.{fact_order};
 
 use crate::certificate::{Certificate, Shape};
 use flow_points::{Fact, Slot, Value};

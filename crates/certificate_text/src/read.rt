@@ -2,9 +2,9 @@
 ghost use Rattle.std.specs.Prelude.{◌≡◌, ◌≤◌, ◌↔◌, ◌++◌, ◌∷◌, [], Err, IsTrue, Ok, ℕ, length};
 ghost use Rattle.std.specs.List.Sorted.{IsStrictlySortedBy};
 ghost use Rattle.plex_limits.specs.declared.limits.TheConstants.{MOST_BYTES};
-ghost use Rattle.certificate_text.specs.Lines.{HasBadLine, IsTextOf, IsUnlessMemory, Tells};
+ghost use Rattle.flow_points.specs.Orders.{fact_order};
+ghost use Rattle.certificate_text.specs.Lines.{HasBadLine, IsTextOf, IsUnlessMemory, TellsCertificate};
 ghost use Rattle.certificate_text.specs.Parts.{Begun};
-ghost use Rattle.certificate_text.specs.Text.{fact_order};
 ghost use Rattle.certificate_text.specs.declared.certificate.Certificate.{Certificate};
 ghost use Rattle.certificate_text.specs.declared.fault.TextFault.TheVariants.{BadText};
 
@@ -22,7 +22,7 @@ use std::alloc::Global;
 /// at the line after its last, and so is one that goes on behind the last line of a certificate; a last line without its LF is bad.
 pub fn read_certificate(alloc: Global, text: &[u8]) -> Result<Certificate, TextFault>
     requires { length text.now ≤ MOST_BYTES }
-    ensures told { Tells text.now result }
+    ensures told { TellsCertificate text.now result }
     ensures certificate { (c : Certificate) → IsTextOf text.now c → IsUnlessMemory result (Ok c) }
     ensures bad_line { (l : ℕ) → HasBadLine text.now l →
         IsUnlessMemory result (Err (BadText l)) }
@@ -33,7 +33,7 @@ pub fn read_certificate(alloc: Global, text: &[u8]) -> Result<Certificate, TextF
 /// The same, told once.
 fn read_text(alloc: Global, text: &[u8]) -> Result<Certificate, TextFault>
     requires { length text.now ≤ MOST_BYTES }
-    ensures { Tells text.now result }
+    ensures { TellsCertificate text.now result }
 {
     let Some((version, rest)) = version(text) else {
         return Err(TextFault::BadText { line: 1 });
@@ -54,7 +54,7 @@ fn read_facts(
 ) -> Result<Certificate, TextFault>
     requires begun { Begun version shape text.now rest.now }
     requires small { length text.now ≤ MOST_BYTES }
-    ensures { Tells text.now result }
+    ensures { TellsCertificate text.now result }
 {
     let mut facts = Seq::new(alloc);
     // how many lines have been read

@@ -2,7 +2,6 @@
 use Rattle.std.proofs.Common.{◌≡◌, ◌↔◌, ℕ, suc, Bool, true, false, IsTrue, List, [], ◌∷◌, length, map, Contains, All, Option, Some, None, get_or, slice_get, refl, sym, ap, ◌∙◌, subst, arith}
 use Rattle.std.proofs.lemmas.Bool.{true≢false}
 use Rattle.std.proofs.lemmas.Option.{same_Some, none-some}
-use Rattle.std.specs.List.Sorted.{IsStrictlySortedBy}
 use Rattle.std.proofs.lemmas.List.Elements.{All-contains, Contains-append_right, Contains-get_or}
 use Rattle.exchange_model.specs.declared.exchange.Exchange.{Exchange}
 use Rattle.flow_points.specs.declared.fact.Fact.{Fact}
@@ -14,14 +13,14 @@ use Rattle.flow_table.specs.Texts.{ArePlaces, seen}
 use Rattle.entry_summary.specs.declared.summary.Summary.{Summary}
 use Rattle.certificate_text.specs.declared.certificate.Certificate.{Certificate}
 use Rattle.certificate_text.specs.declared.certificate.Shape.{Shape}
-use Rattle.fact_rows.specs.Orders.{fact_order}
 use Rattle.certificate.specs.Missing.{IsLeastIn, LeastIn}
 use Rattle.certificate.specs.Shapes.{HasReferences, IsShapeOf, referring}
 use Rattle.certificate.specs.Strange.{AreListed, IsOfExchange}
 use Rattle.checked.specs.declared.fault.CertFault.{CertFault}
 use Rattle.checked.specs.declared.fault.CertFault.TheVariants.{WrongExchange, StrangeFact, MissingFact, Memory}
-use Rattle.checked.specs.Kept.{AreSummariesBy, KeptSummaries}
+use Rattle.checked.specs.Kept.{AreSummariesBy, IsChecked, KeptSummaries}
 use Rattle.checked.specs.Verdicts.{Accepts, AreShapes, IsClosedCertificate, IsMissing, Refuses}
+use Rattle.checked.proofs.Summing.{summaries_alike}
 
 pub listed_by : (x : Exchange) (places : List PlaceAt) → ArePlaces x (map seen places) → AreListed x
 listed_by x places all = record { places = map seen places; all = all }
@@ -98,19 +97,17 @@ module _ (x : Exchange) (c : Certificate) (own : Shape) (b : Bool) (first known 
     least = stays_least x c.facts known same_known f (subst (LeastIn (Contains known) (Gives x (Contains known))) some least);
   }
 
-  pub accepted : (k : KeptSummaries) (summaries : List Summary) → found ≡ None → IsStrictlySortedBy fact_order sorted → AreSummariesBy x (Contains known) summaries → k.facts ≡ known → k.summaries ≡ summaries → Accepts x c k
-  accepted k summaries none rising by_facts facts_are summaries_are =
+  pub accepted : (k : KeptSummaries) (summaries : List Summary) → found ≡ None → AreSummariesBy x (Contains known) summaries → k.summaries ≡ summaries → Accepts x c k
+  accepted k summaries none by_facts summaries_are =
       let closed : IsClosed x (Contains known) = subst (LeastIn (Contains known) (Gives x (Contains known))) none least in
       record {
         is = record { shape = is_shape; own = own_all; closed = stays_closed x c.facts known same_known closed };
-        facts = subst (λ (l : List Fact). (f : Fact) → Contains l f ↔ Contains c.facts f) (sym facts_are) same_known;
-        rising = subst (IsStrictlySortedBy fact_order) (sym (facts_are ∙ known_is)) rising;
-        checked = record {
-          own = subst (All (IsOfExchange x)) (sym facts_are) (all_own x c.facts known same_known own_all);
-          closed = subst (λ l. IsClosed x (Contains l)) (sym facts_are) closed;
-          by_facts = subst (λ l. AreSummariesBy x (Contains l) k.summaries) (sym facts_are) (subst (AreSummariesBy x (Contains known)) (sym summaries_are) by_facts);
-        };
+        by_facts = subst (AreSummariesBy x (Contains c.facts)) (sym summaries_are) (summaries_alike x (Contains known) (Contains c.facts) same_known summaries by_facts);
       }
+
+-- what is taken is of the exchange
+pub accepted_is_checked : (x : Exchange) (c : Certificate) (k : KeptSummaries) → Accepts x c k → IsChecked x k
+accepted_is_checked x c k taken = record { facts = c.facts; own = taken.is.own; closed = taken.is.closed; by_facts = taken.by_facts }
 
 -- a refusal is right
 

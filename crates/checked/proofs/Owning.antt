@@ -1,4 +1,4 @@
--- Each least fact is one that the exchange has, so that the least facts can be kept.
+-- Each least fact is one that the exchange has, so that summaries by the least facts are of the exchange.
 --
 -- A value that a job starts with comes only from the start: flows carry it on, and give numbers besides.
 use Rattle.std.proofs.Common.{◌≡◌, ◌↔◌, inl, inr, ℕ, zero, suc, ◌+◌, ◌<◌, Bool, true, false, nat_lt, nat_eq, if◌then◌else◌, List, [], ◌∷◌, map, get_or, Contains, All, refl, sym, ◌∙◌, subst}
@@ -38,10 +38,14 @@ use Rattle.flow_table.proofs.Shaping.{led_by}
 use Rattle.flow_table.proofs.Sourcing.{expr_source-out, term_source-out, joined_source-out, factor_as}
 use Rattle.entry_summary.specs.declared.summary.Summary.{Summary}
 use Rattle.access_summary.specs.Least.{AreSummaries}
-use Rattle.access_summary.proofs.Alike.{summary_alike}
 use Rattle.certificate.specs.Strange.{IsOfExchange, IsValueOf}
 use Rattle.certificate.proofs.Firsts.{count_some}
+use Rattle.finite_facts.proofs.Facts.{least_facts}
+use Rattle.checked.specs.declared.own.Own.{Own}
+use Rattle.checked.specs.declared.own.Own.TheVariants.{Kept}
 use Rattle.checked.specs.Kept.{AreSummariesBy, IsChecked, KeptSummaries}
+use Rattle.checked.specs.Own.{AreOwn, IsOwn}
+use Rattle.checked.proofs.Summing.{summaries_alike}
 
 -- sources that give no value of the start but those that a slot has
 
@@ -224,29 +228,25 @@ module _ (x : Exchange) where
         value = carried (IsOfExchange x) (λ h of_it. of_it.value) f.entry g.at.point (source_of g.how f.slot) f.value (leads_carry x g.at f.point g.how w.leads f.slot) w.gives;
       }
 
-  -- facts that are exactly the least ones
+  -- the least facts are a list
 
-  module _ (facts : List Fact) (exact : (f : Fact) → Contains facts f ↔ IsLeast x f) where
-    own_facts : All (IsOfExchange x) facts
-    own_facts = λ i d lt. least_in x (IsOfExchange x) all_of_exchange (get_or facts i d) ((exact (get_or facts i d)).0 (Contains-get_or facts i d lt))
+  own_facts : All (IsOfExchange x) (least_facts x).items
+  own_facts = λ i d lt. least_in x (IsOfExchange x) all_of_exchange (get_or (least_facts x).items i d) ((least_facts x).each (get_or (least_facts x).items i d) (Contains-get_or (least_facts x).items i d lt))
 
-    least_are_closed : IsClosed x (Contains facts)
-    least_are_closed f given = (exact f).1 (least_closed x f (gives_more x (Contains facts) (IsLeast x) (λ g c. (exact g).0 c) f given))
+  least_are_closed : IsClosed x (Contains (least_facts x).items)
+  least_are_closed f given = (least_facts x).all f (least_closed x f (gives_more x (Contains (least_facts x).items) (IsLeast x) (λ g c. (least_facts x).each g c) f given))
 
-    pub own_summaries : (summaries : List Summary) → AreSummaries x summaries → AreSummariesBy x (Contains facts) summaries
-    own_summaries summaries by_least = record {
-      each_entry = by_least.each_entry;
-      is = λ e s there. summary_alike x (IsLeast x) (Contains facts) e s (record { each = λ f own least. (exact f).1 least }) (record { each = λ f own listed. (exact f).0 listed }) (by_least.is e s there);
-    }
+  pub by_least : (summaries : List Summary) → AreSummaries x summaries → AreSummariesBy x (IsLeast x) summaries
+  by_least summaries are = record { each_entry = are.each_entry; is = are.is }
 
-    pub own_checked : (k : KeptSummaries) (known : List Fact) (summaries : List Summary) → known ≡ facts → AreSummaries x summaries → k.facts ≡ known → k.summaries ≡ summaries → IsChecked x k
-    own_checked k known summaries same by_least facts_are summaries_are =
-        let all : k.facts ≡ facts = facts_are ∙ same in
-        record {
-          own = subst (All (IsOfExchange x)) (sym all) own_facts;
-          closed = subst (λ (l : List Fact). IsClosed x (Contains l)) (sym all) least_are_closed;
-          by_facts = subst (λ (l : List Fact). AreSummariesBy x (Contains l) k.summaries) (sym all) (subst (AreSummariesBy x (Contains facts)) (sym summaries_are) (own_summaries summaries by_least));
-        }
+  pub own_checked : (k : KeptSummaries) → AreSummaries x k.summaries → IsChecked x k
+  own_checked k are = record {
+    facts = (least_facts x).items;
+    own = own_facts;
+    closed = least_are_closed;
+    by_facts = summaries_alike x (IsLeast x) (Contains (least_facts x).items) (λ f. ((least_facts x).all f, (least_facts x).each f)) k.summaries (by_least k.summaries are);
+  }
 
-    pub own_least : (k : KeptSummaries) (known : List Fact) → known ≡ facts → k.facts ≡ known → (f : Fact) → Contains k.facts f ↔ IsLeast x f
-    own_least k known same facts_are f = subst (λ (l : List Fact). Contains l f ↔ IsLeast x f) (sym (facts_are ∙ same)) (exact f)
+-- what is kept of the exchange's own certificate is of the exchange
+pub kept_is_checked : (x : Exchange) (looks : ℕ) (o : Own) (k : KeptSummaries) → o ≡ Kept k → IsOwn x looks o → IsChecked x k
+kept_is_checked x looks o k is own = (let kept : AreOwn x k = subst (IsOwn x looks) is own in kept.checked)

@@ -1,14 +1,16 @@
 -- The summaries of so many entries.
-use Rattle.std.proofs.Common.{◌≡◌, ◌⊎◌, inl, inr, ℕ, ◌+◌, ◌<◌, ◌≤◌, List, [], ◌∷◌, ◌++◌, length, Some, slice_get, sym, ap, ◌∙◌, subst, arith, length-append}
+use Rattle.std.proofs.Common.{◌≡◌, ◌↔◌, ◌⊎◌, inl, inr, ℕ, ◌+◌, ◌<◌, ◌≤◌, List, [], ◌∷◌, ◌++◌, length, Some, slice_get, sym, ap, ◌∙◌, subst, arith, length-append}
 use Rattle.std.proofs.lemmas.Bool.{cases_lt}
 use Rattle.std.proofs.lemmas.Option.{none-some, same_Some, slice_get_within}
 use Rattle.plex_num.proofs.Lists.{slice_get-append_left, slice_get-append_seam}
 use Rattle.plex_limits.specs.declared.limits.TheConstants.{MOST_ENTRIES}
 use Rattle.exchange_model.specs.declared.exchange.Exchange.{Exchange}
+use Rattle.flow_points.specs.declared.fact.Fact.{Fact}
 use Rattle.flow_points.specs.Facts.{Facts}
 use Rattle.entry_summary.specs.declared.summary.Summary.{Summary}
 use Rattle.entry_summary.specs.Summaries.{IsSummary}
-use Rattle.checked.specs.Kept.{AreKept, AreSummariesBy}
+use Rattle.access_summary.proofs.Alike.{summary_alike}
+use Rattle.checked.specs.Kept.{AreSummariesBy}
 
 -- those of the first n entries
 pub record Summed (x : Exchange) (P : Facts) (n : ℕ) (all : List Summary) : Type 0 where
@@ -43,6 +45,13 @@ module _ (x : Exchange) (P : Facts) (n : ℕ) (one : Summary) (all : List Summar
 pub summaries_end : (x : Exchange) (P : Facts) (n count : ℕ) (all : List Summary) → count ≡ length x.entries → n ≤ count → count ≤ n → Summed x P n all → AreSummariesBy x P all
 summaries_end x P n count all is low high g = (let h = g.long in record { each_entry = omega (arith, is, low, high, h); is = g.is })
 
--- those by facts can be kept
-pub can_be_kept : (x : Exchange) (P : Facts) (all : List Summary) → length x.entries ≤ MOST_ENTRIES → AreSummariesBy x P all → AreKept all
-can_be_kept x P all few are = (let each = are.each_entry in record { few = omega (arith, few, each); rising = λ e s there. (are.is e s there).rising })
+-- those by facts are no more than an exchange may have entries
+pub few_summaries : (x : Exchange) (P : Facts) (all : List Summary) → length x.entries ≤ MOST_ENTRIES → AreSummariesBy x P all → length all ≤ MOST_ENTRIES
+few_summaries x P all few are = (let each = are.each_entry in omega (arith, few, each))
+
+-- facts of which the same holds have the same summaries
+pub summaries_alike : (x : Exchange) (P Q : Facts) → ((f : Fact) → P f ↔ Q f) → (all : List Summary) → AreSummariesBy x P all → AreSummariesBy x Q all
+summaries_alike x P Q same all by = record {
+  each_entry = by.each_entry;
+  is = λ e s there. summary_alike x P Q e s (record { each = λ f own h. (same f).0 h }) (record { each = λ f own h. (same f).1 h }) (by.is e s there);
+}

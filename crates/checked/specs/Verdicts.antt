@@ -1,10 +1,8 @@
 -- Which certificates are taken, and why others are not.
-use Rattle.std.specs.Prelude.{◌≡◌, ◌↔◌, All, Contains}
-use Rattle.std.specs.List.Sorted.{IsStrictlySortedBy}
+use Rattle.std.specs.Prelude.{◌≡◌, All, Contains}
 use Rattle.exchange_model.specs.declared.exchange.Exchange.{Exchange}
 use Rattle.flow_points.specs.declared.fact.Fact.{Fact}
 use Rattle.flow_points.specs.Facts.{Gives, IsClosed}
-use Rattle.fact_rows.specs.Orders.{fact_order}
 use Rattle.certificate_text.specs.declared.certificate.Certificate.{Certificate}
 use Rattle.certificate_text.specs.declared.certificate.Shape.{Shape}
 use Rattle.certificate.specs.Missing.{IsLeastIn}
@@ -12,7 +10,7 @@ use Rattle.certificate.specs.Shapes.{IsShapeOf}
 use Rattle.certificate.specs.Strange.{IsFirstStrange, IsOfExchange}
 use Rattle.checked.specs.declared.fault.CertFault.{CertFault}
 use Rattle.checked.specs.declared.fault.CertFault.TheVariants.{WrongExchange, StrangeFact, MissingFact, Memory}
-use Rattle.checked.specs.Kept.{IsChecked, KeptSummaries}
+use Rattle.checked.specs.Kept.{AreSummariesBy, KeptSummaries}
 
 -- it is one of the exchange: it has its shape, none of its facts is strange, and all that one rule gives from them is among them
 pub record IsClosedCertificate (x : Exchange) (c : Certificate) : Type 0 where
@@ -20,12 +18,10 @@ pub record IsClosedCertificate (x : Exchange) (c : Certificate) : Type 0 where
   pub own : All (IsOfExchange x) c.facts
   pub closed : IsClosed x (Contains c.facts)
 
--- it is such, and its facts are kept in their order, each once, with the summaries by them
+-- it is such, and the summaries by its facts are kept
 pub record Accepts (x : Exchange) (c : Certificate) (k : KeptSummaries) : Type 0 where
   pub is : IsClosedCertificate x c
-  pub facts : (f : Fact) → Contains k.facts f ↔ Contains c.facts f
-  pub rising : IsStrictlySortedBy fact_order k.facts
-  pub checked : IsChecked x k
+  pub by_facts : AreSummariesBy x (Contains c.facts) k.summaries
 
 -- the shapes of the exchange and of the certificate, which differ
 pub record AreShapes (x : Exchange) (c : Certificate) (exchange certificate : Shape) : Type 0 where

@@ -53,7 +53,7 @@ pub fn check(
         return Err(CertFault::MissingFact { fact });
     }
     let summaries = summaries_by(alloc, exchange, &table, places.as_slice(), &known)?;
-    Ok(Checked::new(known, summaries))
+    Ok(Checked::new(summaries))
 }
 
 fn is_same(one: Shape, other: Shape) -> bool

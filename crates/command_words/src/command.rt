@@ -5,7 +5,12 @@ ghost use Rattle.std.specs.Str.{bytes_eq};
 ghost use Rattle.plex_limits.specs.declared.limits.TheConstants.{MOST_JOBS};
 ghost use Rattle.command_words.specs.Bounded.{AreWithin, AreWorkers, HasBounds, IsBounded};
 ghost use Rattle.command_words.specs.Shapes.{AreReadAs};
-ghost use Rattle.command_words.specs.Words.{allowed_calls, allowed_jobs, allowed_workers, both_bounds, bounded_run, bounds_beside, calls_in, change_at, change_words, jobs_beside, jobs_told, only_word, run_words, shape, single_run, single_words, timed_words, trace_words, value_of, words_of, workers_told};
+ghost use Rattle.command_words.specs.Words.{allowed_calls, allowed_jobs, allowed_workers};
+ghost use Rattle.command_words.specs.Words.{both_bounds, bounded_run, bounds_beside, calls_in};
+ghost use Rattle.command_words.specs.Words.{change_at, change_words, jobs_beside, jobs_told};
+ghost use Rattle.command_words.specs.Words.{only_word, run_words, shape, single_run, single_words};
+ghost use Rattle.command_words.specs.Words.{timed_words, trace_words, value_of, words_of};
+ghost use Rattle.command_words.specs.Words.{workers_told};
 
 use plex_io::Word;
 use plex_limits::{MOST_JOBS, MOST_WORKERS};
@@ -24,8 +29,8 @@ pub const MOST_CALLS: u32 = 10_000;
 /// What the words ask for.
 #[derive(Drop)]
 pub enum Command {
-    /// `run E S [--workers N] [--jobs N] [--cert F]`: the report of the run of an exchange file and a signal file, where the certificate is one
-    /// of the exchange.
+    /// `run E S [--workers N] [--jobs N] [--cert F]`: the report of the run of an exchange file and
+    /// a signal file, where the certificate is one of the exchange.
     Run(RunWords),
     /// `single E S [--jobs N]`: the same report, each job by the source itself.
     Single(RunWords),
@@ -37,10 +42,11 @@ pub enum Command {
     List(Word),
     /// `load N`: the summary of the run of a load of so many calls, from 1 to 10,000.
     Load(u32),
-    /// `timed E S T [--workers N] [--jobs N]`: the report of the run of an exchange file and a signal file that is merged with the signals of a
-    /// table.
+    /// `timed E S T [--workers N] [--jobs N]`: the report of the run of an exchange file and a
+    /// signal file that is merged with the signals of a table.
     Timed(TimedWords),
-    /// `change E S E2 K [--workers N] [--jobs N]`: the report of a run that goes on with another exchange after so many jobs.
+    /// `change E S E2 K [--workers N] [--jobs N]`: the report of a run that goes on with another
+    /// exchange after so many jobs.
     Change(ChangeWords),
     /// `trace E S Q [--jobs N]`: the jobs of the run that a filter shows, and its report.
     Trace(TraceWords),
@@ -334,7 +340,8 @@ fn read_change(alloc: Global, rest: &[Word]) -> Result<Option<ChangeWords>, Memo
     change_at(alloc, new, at, run)
 }
 
-/// The words of a change to this exchange after so many jobs, where both the number and the run are told.
+/// The words of a change to this exchange after so many jobs, where both the number and the run are
+/// told.
 fn change_at(
     alloc: Global,
     new: &Word,
@@ -376,8 +383,8 @@ fn read_trace(alloc: Global, rest: &[Word]) -> Result<Option<TraceWords>, Memory
     Ok(Some(TraceWords { run, filter }))
 }
 
-/// A run of these files with this certificate or without one, by options that are its workers, its limit of jobs and the certificate;
-/// `None` where other words stand among them.
+/// A run of these files with this certificate or without one, by options that are its workers, its
+/// limit of jobs and the certificate; `None` where other words stand among them.
 fn bounded_run(
     alloc: Global,
     exchange: &Word,
@@ -439,8 +446,8 @@ fn value_of(alloc: Global, options: &[Word], name: &[u8]) -> Result<Option<Word>
     Ok(None)
 }
 
-/// The bounds of a run, by options among which those of the workers, of the jobs and of the certificate have these values; `None`
-/// where other words stand among them.
+/// The bounds of a run, by options among which those of the workers, of the jobs and of the
+/// certificate have these values; `None` where other words stand among them.
 fn bounds_beside(
     options: &[Word],
     workers: &Option<Word>,
@@ -469,8 +476,8 @@ fn both_bounds(workers: Option<u32>, jobs: Option<u32>) -> Option<Bounds>
     Some(Bounds { workers, jobs })
 }
 
-/// After how many jobs a run by the source ends, by options among which that of the jobs has this value; `None` where other words
-/// stand among them.
+/// After how many jobs a run by the source ends, by options among which that of the jobs has this
+/// value; `None` where other words stand among them.
 fn jobs_beside(options: &[Word], limit: &Option<Word>) -> Option<u32>
     ensures is { result ≡ jobs_beside options.now limit.now }
     ensures few { IfSome result (λ n. n ≤ MOST_JOBS) }
@@ -493,7 +500,8 @@ fn words_of(value: &Option<Word>) -> usize
     }
 }
 
-/// After how many jobs the run ends, where its option has this value; `None` where it may not be told so.
+/// After how many jobs the run ends, where its option has this value; `None` where it may not be
+/// told so.
 fn jobs_told(limit: &Option<Word>) -> Option<u32>
     ensures is { result ≡ jobs_told limit.now }
     ensures few { IfSome result (λ n. n ≤ MOST_JOBS) }
@@ -517,7 +525,8 @@ fn allowed_jobs(number: Option<u32>) -> Option<u32>
     }
 }
 
-/// How many workers the run has, where its option has this value; `None` where it may not be told so.
+/// How many workers the run has, where its option has this value; `None` where it may not be told
+/// so.
 fn workers_told(workers: &Option<Word>) -> Option<u32>
     ensures is { result ≡ workers_told workers.now }
     ensures few { IfSome result AreWorkers }

@@ -1,7 +1,8 @@
 // What the words of the command ask for.
 //
-// What goes in: the words behind the name of the program. What comes out: the command that they are, with the names of its files
-// and its bounds, or none. It knows no file, and nothing of what a command does.
+// What goes in: the words behind the name of the program. What comes out: the command that they
+// are, with the names of its files and its bounds, or none. It knows no file, and nothing of what a
+// command does.
 #![tactic(auto)]
 
 mod command;

@@ -18,7 +18,7 @@ use Rattle.machine_code.proofs.Spanned.{spans_in}
 use Rattle.source_meaning.specs.SingleRun.{next_start}
 use Rattle.source_meaning.specs.Traces.{touched_word, trace_of}
 use Rattle.source_meaning.specs.Valid.{IsValid}
-use Rattle.source_meaning.proofs.Booleans.{or_right}
+use Rattle.plex_num.proofs.Booleans.{or_right}
 use Rattle.source_meaning.proofs.Retiring.{start_fits}
 use Rattle.source_meaning.proofs.Touching.{touches_inside}
 use Rattle.retire_order.specs.Accounts.{Account, upcoming, with_words}

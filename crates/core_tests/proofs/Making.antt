@@ -1,7 +1,9 @@
 -- What is made of texts.
-use Rattle.std.proofs.Common.{◌≡◌, ℕ, ◌≤◌, ◌<◌, ◌^◌, Bool, true, false, List, [], length, map, Result, Ok, Err, IfOk, refl, sym, ap, ◌∙◌, subst, arith}
+use Rattle.std.proofs.Common.{◌≡◌, ℕ, ◌≤◌, ◌<◌, ◌^◌, true, List, [], length, map, Result, Ok, Err, IfOk, refl, sym, subst, arith}
 use Rattle.std.specs.List.Sorted.{IsStrictlySortedBy}
+use Rattle.std.proofs.Math.Nat.{le_trans}
 use Rattle.plex_limits.specs.declared.limits.TheConstants.{MOST_BYTES, MOST_WHENS}
+use Rattle.plex_num.proofs.Numbers.{few_enough}
 use Rattle.plex_lexer.specs.Lexed.{tokens_of}
 use Rattle.plex_lexer.specs.declared.token.Token.{Token}
 use Rattle.plex_ast.specs.Grammar.{Sentence}
@@ -17,29 +19,24 @@ use Rattle.signal_file.specs.declared.line.Line.{Line}
 use Rattle.signal_file.specs.Lines.{signal_lines}
 use Rattle.source_meaning.specs.Arrivals.{arrivals}
 use Rattle.source_meaning.specs.SingleRun.{after}
-use Rattle.source_meaning.specs.State.{Coming, State, has_stopped}
+use Rattle.source_meaning.specs.State.{Coming}
 use Rattle.source_meaning.specs.Valid.{IsValid, LinesFit}
-use Rattle.order_laws.proofs.Arriving.{arrivals_idle, arrivals_settle, arrivals_stopped}
+use Rattle.flow_points.specs.Orders.{fact_order}
 use Rattle.retire_order.specs.Accounts.{Account, opened, with_words}
 use Rattle.retire_order.specs.Lines.{coming_of}
 use Rattle.retire_order.proofs.Fitting.{signal_lines_few, signal_lines_fit}
 use Rattle.exchange_run.specs.Runs.{RunStands}
 use Rattle.exchange_run.proofs.Opened.{begins_valid as opens_valid, nobody_runs}
 use Rattle.exchange_run.proofs.Turning.{stands_begin, stands_valid}
+use Rattle.exchange_run.proofs.Resting.{quiet_again}
 use Rattle.certificate_text.specs.declared.certificate.Certificate.{Certificate}
 use Rattle.certificate_text.specs.Lines.{IsTextOf}
-use Rattle.certificate_text.specs.Text.{fact_order}
-use Rattle.checked.specs.Kept.{IsChecked, KeptSummaries}
-use Rattle.checked.specs.Verdicts.{Accepts}
 
 -- ## Trees
 
 pub trees_are_kept : {E : Type 0} (text : List ℕ) (tokens : List Token) (read : Result Tree E) → tokens_of text ≡ Ok tokens → IfOk read (λ t. Sentence t tokens) → IfOk read IsKept
 trees_are_kept text tokens (Ok t) lexed spelled = read_keeps true text tokens t lexed spelled
 trees_are_kept text tokens (Err e) lexed spelled = tt
-
-few_enough : (most limit choices tokens text : ℕ) → limit ≤ most → choices ≤ tokens → tokens ≤ text → text ≤ limit → choices ≤ most
-few_enough most limit choices tokens text a b c d = omega arith
 
 pub tree_has_few : (text : List ℕ) (tokens : List Token) (t : Tree) → length tokens ≤ length text → length text ≤ MOST_BYTES → Sentence t tokens → choices_in (exchange_of_tree t) ≤ MOST_WHENS
 tree_has_few text tokens t fewer small spelled = few_enough MOST_WHENS MOST_BYTES (choices_in (exchange_of_tree t)) (length tokens) (length text) (omega arith) ((tree_least t).long tokens spelled) fewer small
@@ -49,28 +46,15 @@ tree_has_few text tokens t fewer small spelled = few_enough MOST_WHENS MOST_BYTE
 pub lines_fit : (x : Exchange) (text : List ℕ) (lines : List Line) → Ok lines ≡ signal_lines x text → LinesFit x [] (map coming_of lines)
 lines_fit x text lines is = signal_lines_fit x text lines (sym is)
 
-short : (most : ℕ) → most ≤ 2 ^ 24 → (n : ℕ) → n ≤ most → n ≤ 2 ^ 24
-short most le n few = omega (arith, le, few)
-
 pub lines_few : (x : Exchange) (text : List ℕ) (lines : List Line) → length text ≤ MOST_BYTES → Ok lines ≡ signal_lines x text → length lines < 2 ^ 32
-lines_few x text lines small is = signal_lines_few x text lines (short MOST_BYTES (omega arith) (length text) small) (sym is)
+lines_few x text lines small is = signal_lines_few x text lines (le_trans small (omega arith)) (sym is)
 
 -- ## Certificates
 
 pub told_rises : (text : List ℕ) (c : Certificate) → IsTextOf text c → IsStrictlySortedBy fact_order c.facts
 told_rises text c is = is.fits.rises
 
-pub accepted_is_checked : (x : Exchange) (c : Certificate) (k : KeptSummaries) → Accepts x c k → IsChecked x k
-accepted_is_checked x c k taken = taken.checked
-
 -- ## Books before the first job
-
-quiet_again : (x : Exchange) (s : State) → arrivals x (arrivals x s) ≡ arrivals x s
-quiet_again x s = by (has_stopped s) refl
-  where
-    by : (b : Bool) → has_stopped s ≡ b → arrivals x (arrivals x s) ≡ arrivals x s
-    by true is = ap (arrivals x) (arrivals_stopped x s is)
-    by false is = arrivals_idle x (arrivals x s) (arrivals_settle x s is)
 
 module _ (x : Exchange) (kept : IsExchange x) (lines : List Coming) (limit : ℕ) (fit : LinesFit x [] lines) (first b : Account) (opens : first ≡ opened lines limit) (arrived : b ≡ record first { state = arrivals x first.state }) where
   begins : RunStands x (with_words first.state (opening_store x.blocks)) first.limit 0 b (opening_store x.blocks)

@@ -123,7 +123,10 @@ fn facts_may_stand_in_any_order(rt: HostRuntime) -> Result<(), Fail> {
     let own = least_of(rt.alloc(), &exchange)?;
     let certificate = turned(rt.alloc(), &exchange)?;
     let again = accepted(rt.alloc(), &exchange, certificate)?;
-    assert!(rt; again.facts().as_slice() == own.facts().as_slice());
+    let (told, asked) = judged(rt.alloc(), &own, 0, 0)?;
+    let (told_again, asked_again) = judged(rt.alloc(), &again, 0, 0)?;
+    assert!(rt; told == told_again);
+    assert!(rt; asked.as_slice() == asked_again.as_slice());
     Ok(())
 }
 

@@ -117,7 +117,7 @@ pub fn told_by(alloc: Global, exchange: &Exchange, text: &str) -> Result<Checked
 }
 
 /// A certificate that is one of the exchange, checked.
-#[tactic(auto, using(crate::proofs::Making::accepted_is_checked))]
+#[tactic(auto, using(checked::proofs::Checking::accepted_is_checked))]
 pub fn accepted(
     alloc: Global,
     exchange: &Exchange,

@@ -6,9 +6,8 @@ use Rattle.std.proofs.lemmas.Bool.{eqb-true, eq-eqb}
 use Rattle.std.proofs.lemmas.List.Kept.{IsStrictlySortedBy-filter}
 use Rattle.plex_num.specs.declared.level.Level.{Level}
 use Rattle.plex_num.specs.declared.level.Level.TheVariants.{A, B, C, D}
-use Rattle.plex_num.proofs.Members.{first_or_later, none_in, in_filter}
+use Rattle.plex_num.proofs.Members.{first_or_later, none_in, in_filter, first_is, later_is}
 use Rattle.exchange_model.specs.declared.exchange.Exchange.{Exchange}
-use Rattle.source_meaning.proofs.Lists.{first_is, later_is}
 use Rattle.flow_points.specs.Facts.{Facts}
 use Rattle.entry_summary.specs.Orders.{level_number, level_order}
 use Rattle.entry_summary.specs.Summaries.{MaySendTo}

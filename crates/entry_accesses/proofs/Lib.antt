@@ -3,6 +3,7 @@ pub mod Numbering
 pub mod Naming
 pub mod Using
 pub mod Telling
+pub mod Opened
 pub mod Selecting
 pub mod Placing
 pub mod Leveling

@@ -2,7 +2,6 @@
 use Rattle.std.proofs.Common.{◌≡◌, ℕ, ◌+◌, ◌<◌, ◌≤◌, List, [], ◌∷◌, ◌++◌, length, map, drop, get_or, Bool, Option, refl, sym, ap, ◌∙◌, subst, append_assoc, append-nil}
 use Rattle.std.proofs.Math.ListN.{drop_of_length-le}
 use Rattle.std.proofs.lemmas.List.{map-append}
-use mathlib.Core.Path.{fun_ext}
 use Rattle.plex_num.proofs.Lists.{opens}
 use Rattle.exchange_model.specs.declared.expr.Expr.{Expr, out-Expr}
 use Rattle.exchange_model.specs.declared.expr.Factor.{Factor}
@@ -21,10 +20,10 @@ use Rattle.exchange_model.specs.declared.stmt.StmtKind.TheVariants as kind
 use Rattle.exchange_model.specs.Inside.{joined, relation_exprs}
 use Rattle.exchange_model.proofs.Layers.{same_kind}
 use Rattle.exchange_model.proofs.Lists.{joined_append}
-use Rattle.source_meaning.specs.Named.{Layer, Named, NamedVariable, NamedField, named_in}
-use Rattle.source_meaning.proofs.Naming.{named_in_term, named_in_factor, named_in_joined, named_in-out, named_in_term-out, named-Variable, named-Field, named-Bracket, named-Number, named-Temporary, named-Reference}
+use Rattle.source_meaning.specs.Named.{Layer, Named, NamedVariable, NamedField, named_in, named_in_term, named_in_factor, named_in_joined}
+use Rattle.source_meaning.proofs.Naming.{named_in-out, named_in_term-out, named-Variable, named-Field, named-Bracket, named-Number, named-Temporary, named-Reference}
 use Rattle.entry_accesses.specs.declared.operands.Operand.{Operand}
-use Rattle.entry_accesses.specs.Operands.{HasNames, named, names_in, term_names, factor_names, joined_names, relation_names, layer_names}
+use Rattle.entry_accesses.specs.Operands.{HasNames, named, names_in, relation_names, layer_names}
 
 -- one after the other
 
@@ -101,45 +100,34 @@ choices_more rss i rs given old now new lt is same h g = names_more relation_nam
 
 -- layers of expressions
 
-term_same : (t : Term) → term_names t ≡ named_in_term t
-unfolding term_names named_in_term
-term_same t = refl
-
-factor_same : (f : Factor) → factor_names f ≡ named_in_factor f
-unfolding factor_names named_in_factor
-factor_same f = refl
-
-joined_same : (j : Joined) → joined_names j ≡ named_in_joined j
-joined_same j = factor_same j.factor
-
-pub expr_named : (e : Expr) (terms : List Term) (old new : List Operand) → terms ≡ (out-Expr e).terms → HasNames old new (joined (map term_names terms)) → HasNames old new (named_in e)
+pub expr_named : (e : Expr) (terms : List Term) (old new : List Operand) → terms ≡ (out-Expr e).terms → HasNames old new (joined (map named_in_term terms)) → HasNames old new (named_in e)
 expr_named e terms old new same h =
-    names_as old new (joined (map term_names terms)) (named_in e) (ap (λ l. joined (map term_names l)) same ∙ ap (λ f. joined (map f (out-Expr e).terms)) (fun_ext term_same) ∙ sym (named_in-out e)) h
+    names_as old new (joined (map named_in_term terms)) (named_in e) (ap (λ l. joined (map named_in_term l)) same ∙ sym (named_in-out e)) h
 
-pub term_named : (t : Term) (factors : List Joined) (old new : List Operand) → factors ≡ (out-Term t).factors → HasNames old new (joined (map joined_names factors)) → HasNames old new (term_names t)
+pub term_named : (t : Term) (factors : List Joined) (old new : List Operand) → factors ≡ (out-Term t).factors → HasNames old new (joined (map named_in_joined factors)) → HasNames old new (named_in_term t)
 term_named t factors old new same h =
-    names_as old new (joined (map joined_names factors)) (term_names t) (ap (λ l. joined (map joined_names l)) same ∙ ap (λ f. joined (map f (out-Term t).factors)) (fun_ext joined_same) ∙ sym (term_same t ∙ named_in_term-out t)) h
+    names_as old new (joined (map named_in_joined factors)) (named_in_term t) (ap (λ l. joined (map named_in_joined l)) same ∙ sym (named_in_term-out t)) h
 
-pub variable_named : (f : Factor) (v : ℕ) → f ≡ factor.Variable v → NamedVariable v ∷ [] ≡ factor_names f
-variable_named f v is = sym (ap factor_names is ∙ factor_same (factor.Variable v) ∙ named-Variable v)
+pub variable_named : (f : Factor) (v : ℕ) → f ≡ factor.Variable v → NamedVariable v ∷ [] ≡ named_in_factor f
+variable_named f v is = sym (ap named_in_factor is ∙ named-Variable v)
 
-pub field_named : (f : Factor) (file field pointer : ℕ) → f ≡ factor.Field file field pointer → NamedField file field pointer ∷ [] ≡ factor_names f
-field_named f file field pointer is = sym (ap factor_names is ∙ factor_same (factor.Field file field pointer) ∙ named-Field file field pointer)
+pub field_named : (f : Factor) (file field pointer : ℕ) → f ≡ factor.Field file field pointer → NamedField file field pointer ∷ [] ≡ named_in_factor f
+field_named f file field pointer is = sym (ap named_in_factor is ∙ named-Field file field pointer)
 
-pub bracket_named : (f : Factor) (e : Expr) → f ≡ factor.Bracket e → named_in e ≡ factor_names f
-bracket_named f e is = sym (ap factor_names is ∙ factor_same (factor.Bracket e) ∙ named-Bracket e)
+pub bracket_named : (f : Factor) (e : Expr) → f ≡ factor.Bracket e → named_in e ≡ named_in_factor f
+bracket_named f e is = sym (ap named_in_factor is ∙ named-Bracket e)
 
-pub number_named : (f : Factor) (n : ℕ) → f ≡ factor.Number n → [] ≡ factor_names f
-number_named f n is = sym (ap factor_names is ∙ factor_same (factor.Number n) ∙ named-Number n)
+pub number_named : (f : Factor) (n : ℕ) → f ≡ factor.Number n → [] ≡ named_in_factor f
+number_named f n is = sym (ap named_in_factor is ∙ named-Number n)
 
-pub temporary_named : (f : Factor) (t : ℕ) → f ≡ factor.Temporary t → [] ≡ factor_names f
-temporary_named f t is = sym (ap factor_names is ∙ factor_same (factor.Temporary t) ∙ named-Temporary t)
+pub temporary_named : (f : Factor) (t : ℕ) → f ≡ factor.Temporary t → [] ≡ named_in_factor f
+temporary_named f t is = sym (ap named_in_factor is ∙ named-Temporary t)
 
-pub reference_named : (f : Factor) (b : ℕ) → f ≡ factor.Reference b → [] ≡ factor_names f
-reference_named f b is = sym (ap factor_names is ∙ factor_same (factor.Reference b) ∙ named-Reference b)
+pub reference_named : (f : Factor) (b : ℕ) → f ≡ factor.Reference b → [] ≡ named_in_factor f
+reference_named f b is = sym (ap named_in_factor is ∙ named-Reference b)
 
-pub factor_as : (f : Factor) (names : List Named) (old new : List Operand) → names ≡ factor_names f → HasNames old new names → HasNames old new (factor_names f)
-factor_as f names old new same h = names_as old new names (factor_names f) same h
+pub factor_as : (f : Factor) (names : List Named) (old new : List Operand) → names ≡ named_in_factor f → HasNames old new names → HasNames old new (named_in_factor f)
+factor_as f names old new same h = names_as old new names (named_in_factor f) same h
 
 -- a statement, by its layer
 pub layer_as : (k : StmtKind) (l : Layer) (old new : List Operand) → out-StmtKind k ≡ l → HasNames old new (layer_names l) → HasNames old new (layer_names (out-StmtKind k))

@@ -1,5 +1,5 @@
 -- All statements of an exchange are looked at, each where it stands.
-use Rattle.std.proofs.Common.{◌≡◌, ◌↔◌, ⊎_elim, ℕ, zero, suc, List, [], ◌∷◌, ◌++◌, map, Option, Some, None, slice_get, refl, sym, ap, ◌∙◌, subst, arith}
+use Rattle.std.proofs.Common.{◌≡◌, ◌↔◌, ◌⊎◌, inl, inr, ⊎_elim, ℕ, zero, suc, List, [], ◌∷◌, ◌++◌, map, Option, Some, None, slice_get, refl, sym, ap, ◌∙◌, subst, arith}
 use Rattle.std.specs.List.{Contains}
 use Rattle.std.proofs.lemmas.Option.{none-some, same_Some}
 use Rattle.plex_num.specs.declared.level.Level.{Level}
@@ -15,14 +15,16 @@ use Rattle.flow_table.specs.declared.place.PlaceAt.{PlaceAt}
 use Rattle.flow_table.specs.Texts.{AreReachedAmong, seen}
 use Rattle.flow_table.proofs.Reaching.{of_map}
 use Rattle.entry_summary.specs.declared.summary.Access.{Access}
+use Rattle.entry_summary.specs.declared.summary.Access.TheVariants as access
 use Rattle.entry_summary.specs.Accesses.{Accesses, IsAccess}
 use Rattle.entry_summary.specs.Summaries.{MaySendTo, SendsTo, sends}
 use Rattle.entry_accesses.specs.declared.uses.Use.{Use}
 use Rattle.entry_accesses.specs.Adding.{Adds, OneGives, HasAccess}
 use Rattle.entry_accesses.specs.Levels.{HasLevel, buffer_level, sent_level}
+use Rattle.entry_accesses.specs.Opening.{OpenedBy, Opens}
 use Rattle.entry_accesses.specs.Uses.{UseGives, layer_uses}
 use Rattle.entry_accesses.proofs.Adding.{gives_alike, adds_as}
-use Rattle.entry_accesses.proofs.Telling.{all_given, given_all}
+use Rattle.entry_accesses.proofs.Telling.{all_given, given_all, opened_by}
 
 -- a place of a list is one of its items
 
@@ -37,30 +39,63 @@ stood f (y ∷ ys) x (suc k, lt, is) = (let r = stood f ys x (k, (let h = lt in 
 
 -- accesses
 
-access_there : (x : Exchange) (P : Facts) (e : ℕ) (places : List PlaceAt) (a : Access) → AreReachedAmong x P e (map seen places) → OneGives (λ (at : PlaceAt). HasAccess x P e (seen at)) places a → IsAccess x P e a
-access_there x P e places a are o =
-    let s = stood seen places o.item o.one in
-    record {
-      at = seen o.item;
-      point = (seen o.item).point;
-      stands = record { place = are.each s.index (seen o.item) s.there; here = refl };
-      reached = o.gives.reached;
-      access = o.gives.access;
-    }
+module _ (x : Exchange) (P : Facts) (e : ℕ) (places : List PlaceAt) (are : AreReachedAmong x P e (map seen places)) where
+  -- what the statement at one of the places gives
+  abbrev GivenAt : Access → Type 0
+  GivenAt a = OneGives (λ (at : PlaceAt). HasAccess x P e (seen at)) places a
 
-access_back : (x : Exchange) (P : Facts) (e : ℕ) (places : List PlaceAt) (a : Access) → AreReachedAmong x P e (map seen places) → IsAccess x P e a → OneGives (λ (at : PlaceAt). HasAccess x P e (seen at)) places a
-access_back x P e places a are h =
-    let i = of_map seen places h.at (are.all h.point h.at h.stands h.reached) in
-    let here : h.point ≡ h.at.point = sym h.stands.here in
-    let has : HasAccess x P e h.at a = record {
-      reached = subst (Reached P e) here h.reached;
-      access = subst (λ q. Accesses x P e h.at.block q h.at.layer a) here h.access;
-    } in
-    record { item = i.0; one = i.1; gives = subst (λ q. HasAccess x P e q a) (sym i.2) has }
+  access_there : (a : Access) → GivenAt a → IsAccess x P e a
+  access_there a o =
+      let s = stood seen places o.item o.one in
+      let at = seen o.item in
+      record {
+        at = at;
+        point = at.point;
+        stands = record { place = are.each s.index at s.there; here = refl };
+        reached = o.gives.reached;
+        access = given_all x P e at.block at.point at.layer a o.gives.access;
+      }
 
-pub found_exact : (x : Exchange) (P : Facts) (e : ℕ) (places : List PlaceAt) (none found : List Access) → AreReachedAmong x P e (map seen places) → none ≡ [] → Adds none found (OneGives (λ (at : PlaceAt). HasAccess x P e (seen at)) places) → (a : Access) → Contains found a ↔ IsAccess x P e a
-found_exact x P e places none found are empty h a =
-    (λ c. ⊎_elim (λ was. absurd (none_in a (subst (λ l. Contains l a) empty was))) (λ o. access_there x P e places a are o) (h.each a c), λ i. h.added a (access_back x P e places a are i))
+  -- it opens the access
+  record OpenedAt (a : Access) : Type 0 where
+    file : ℕ
+    freed : GivenAt (access.Frees file)
+    opens : Opens x file a
+
+  access_back : (a : Access) → IsAccess x P e a → GivenAt a ⊎ OpenedAt a
+  access_back a h =
+      ⊎_elim
+      (λ g. inl (back a g))
+      (λ f. inr (record { file = f.file; freed = back (access.Frees f.file) f.frees; opens = f.opens }))
+      (all_given x P e h.at.block h.at.point h.at.layer a (subst (λ q. Accesses x P e h.at.block q h.at.layer a) here h.access))
+    where
+      here : h.point ≡ h.at.point
+      here = sym h.stands.here
+
+      back : (b : Access) → OneGives (UseGives P e h.at.point) (layer_uses x h.at.block h.at.layer) b → GivenAt b
+      back b g =
+          let i = of_map seen places h.at (are.all h.point h.at h.stands h.reached) in
+          let has : HasAccess x P e h.at b = record { reached = subst (Reached P e) here h.reached; access = g } in
+          record { item = i.0; one = i.1; gives = subst (λ q. HasAccess x P e q b) (sym i.2) has }
+
+  -- what all these statements give, and the fields that it opens
+  pub found_exact : (none found all : List Access) → none ≡ [] → Adds none found (OneGives (λ (at : PlaceAt). HasAccess x P e (seen at)) places) → ((a : Access) → Contains all a ↔ (Contains found a ⊎ OneGives (OpenedBy x) found a)) → (a : Access) → Contains all a ↔ IsAccess x P e a
+  found_exact none found all empty h whole a = (
+    λ c. ⊎_elim (is_access a) (λ o. opened a o.item (is_access o.item o.one) o.gives) ((whole a).0 c),
+    λ i. (whole a).1 (⊎_elim (λ g. inl (h.added a g)) (λ o. inr (record { item = access.Frees o.file; one = h.added (access.Frees o.file) o.freed; gives = o.opens })) (access_back a i)),
+  )
+    where
+      is_access : (b : Access) → Contains found b → IsAccess x P e b
+      is_access b c = ⊎_elim (λ was. absurd (none_in b (subst (λ l. Contains l b) empty was))) (access_there b) (h.each b c)
+
+      opened : (b freeing : Access) → IsAccess x P e freeing → OpenedBy x freeing b → IsAccess x P e b
+      opened b freeing is o = record {
+        at = is.at;
+        point = is.point;
+        stands = is.stands;
+        reached = is.reached;
+        access = opened_by x P e is.at.block is.point is.at.layer freeing b is.access o;
+      }
 
 -- a statement that is reached, or not
 
@@ -70,8 +105,8 @@ reached_adds x P e at uses each given none old new reached empty made once same 
     let is : uses ≡ all = made ∙ ap (λ l. l ++ all) empty in
     let alike = gives_alike (UseGives P e at.point) all given (λ u. subst (λ l. Contains l u ↔ Contains all u) (sym same) (subst (λ l. Contains each u ↔ Contains l u) is (once u))) in
     adds_as old new (OneGives (UseGives P e at.point) given) (HasAccess x P e at)
-    (λ a g. record { reached = reached; access = given_all x P e at.block at.point at.layer a ((alike a).0 g) })
-    (λ a has. (alike a).1 (all_given x P e at.block at.point at.layer a has.access))
+    (λ a g. record { reached = reached; access = (alike a).0 g })
+    (λ a has. (alike a).1 has.access)
     h
 
 -- levels
@@ -121,6 +156,3 @@ level_back x P e places level are h =
 pub sent_exact : (x : Exchange) (P : Facts) (e : ℕ) (places : List PlaceAt) (none sent : List Level) → AreReachedAmong x P e (map seen places) → none ≡ [] → Adds none sent (OneGives (λ (at : PlaceAt). HasLevel x P e (seen at)) places) → (l : Level) → Contains sent l ↔ MaySendTo x P e l
 sent_exact x P e places none sent are empty h l =
     (λ c. ⊎_elim (λ was. absurd (none_in l (subst (λ k. Contains k l) empty was))) (λ o. level_there x P e places l are o) (h.each l c), λ i. h.added l (level_back x P e places l are i))
-
-pub same_then : (x : Exchange) (P : Facts) (e : ℕ) (found result : List Access) → ((a : Access) → Contains found a ↔ IsAccess x P e a) → ((a : Access) → Contains result a ↔ Contains found a) → (a : Access) → Contains result a ↔ IsAccess x P e a
-same_then x P e found result exact same a = (λ c. (exact a).0 ((same a).0 c), λ h. (same a).1 ((exact a).1 h))

@@ -1,9 +1,8 @@
 -- What a statement does to stored data, with what is known of pointers, is exactly its accesses.
 use Rattle.std.proofs.Common.{◌≡◌, ◌⊎◌, inl, inr, ⊎_elim, ℕ, ◌+◌, ◌<◌, Bool, true, false, List, [], ◌∷◌, ◌++◌, length, map, Option, Some, None, slice_get, refl, sym, ap, ◌∙◌, subst, arith}
-use Rattle.std.specs.List.{Contains, range_with_len}
+use Rattle.std.specs.List.{Contains}
 use Rattle.std.proofs.lemmas.List.Elements.{Contains-append_left, Contains-append_right, Contains-append_cases}
-use Rattle.std.proofs.lemmas.List.FromFn.{length-map-range_with_len, get_or-map-range_with_len}
-use Rattle.plex_num.proofs.Members.{first_or_later, none_in}
+use Rattle.plex_num.proofs.Members.{first_or_later, none_in, first_is, later_is}
 use Rattle.exchange_model.specs.declared.exchange.Exchange.{Exchange}
 use Rattle.exchange_model.specs.declared.stmt.Holder.TheVariants as holder
 use Rattle.exchange_model.specs.declared.stmt.Receiver.{Receiver}
@@ -14,7 +13,6 @@ use Rattle.exchange_model.specs.Inside.{joined, own_exprs}
 use Rattle.source_meaning.specs.Config.{files_of}
 use Rattle.source_meaning.specs.Deeds.{receiver_in}
 use Rattle.source_meaning.specs.Named.{Layer, Named, NamedVariable, NamedField, named_in}
-use Rattle.source_meaning.proofs.Lists.{first_is, later_is}
 use Rattle.flow_points.specs.declared.fact.Slot.TheVariants.{Temp}
 use Rattle.flow_points.specs.declared.fact.Value.{Value}
 use Rattle.flow_points.specs.declared.fact.Value.TheVariants.{Any}
@@ -28,9 +26,9 @@ use Rattle.entry_summary.specs.Numbers.{variable_number, field_number}
 use Rattle.entry_accesses.specs.declared.uses.Use.{Use}
 use Rattle.entry_accesses.specs.declared.uses.Use.TheVariants as use_of
 use Rattle.entry_accesses.specs.Adding.{OneGives}
-use Rattle.entry_accesses.specs.Numbered.{placed_count}
+use Rattle.entry_accesses.specs.Opening.{OpenedBy, Opens}
 use Rattle.entry_accesses.specs.Operands.{layer_names}
-use Rattle.entry_accesses.specs.Uses.{field_use, field_uses, named_uses, read_uses, holder_uses, opened, done_uses, layer_uses, UseGives}
+use Rattle.entry_accesses.specs.Uses.{field_use, field_uses, named_uses, read_uses, holder_uses, done_uses, layer_uses, UseGives}
 
 -- lists of lists
 
@@ -49,20 +47,6 @@ of_joined f (z ∷ xs) y c =
     (λ here. (z, first_is z xs, here))
     (λ later. let r = of_joined f xs y later in (r.0, later_is z r.0 xs r.1, r.2))
     (Contains-append_cases (f z) (joined (map f xs)) y c)
-
--- rows of numbers
-
-in_range : {A : Type 0} (f : ℕ → A) (from many k n : ℕ) → k < many → from + k ≡ n → Contains (map f (range_with_len from many)) (f n)
-in_range f from many k n lt at =
-    let long = length-map-range_with_len f from many in
-    (k, omega (arith, lt, long), get_or-map-range_with_len f from many k n (f n) lt at)
-
-of_range : {A : Type 0} (f : ℕ → A) (from many : ℕ) (y : A) → Contains (map f (range_with_len from many)) y → (k : ℕ) × (k < many) × (f (from + k) ≡ y)
-of_range f from many y c =
-    let long = length-map-range_with_len f from many in
-    let lt = c.1 in
-    let below : c.0 < many = omega (arith, lt, long) in
-    (c.0, below, sym (get_or-map-range_with_len f from many c.0 (from + c.0) y below refl) ∙ c.2)
 
 module _ (x : Exchange) (P : Facts) (e b p : ℕ) where
   abbrev Given : List Use → Access → Type 0
@@ -132,37 +116,6 @@ module _ (x : Exchange) (P : Facts) (e b p : ℕ) where
       by None there h = absurd (of_nothing a h)
       by (Some placed) there h = kind placed placed.file.forlopp there refl (of_alone (field_use placed.file.forlopp write number pointer) a h)
 
-  -- the fields that FREE writes
-
-  opened_given : (file field : ℕ) (placed : Placed) → slice_get (files_of x) file ≡ Some placed → field < placed_count placed → Given (opened (field_number x file 0) (slice_get (files_of x) file)) (access.Own true (field_number x file field))
-  opened_given file field placed there lt =
-      let at : field_number x file 0 + field ≡ field_number x file field = omega arith in
-      subst (λ o. Given (opened (field_number x file 0) o) (access.Own true (field_number x file field))) (sym there)
-      (record {
-        item = use_of.Own true (field_number x file field);
-        one = in_range (λ n. use_of.Own true n) (field_number x file 0) (placed_count placed) field (field_number x file field) lt at;
-        gives = refl;
-      })
-
-  -- some field of the file
-  record Opens (file : ℕ) (a : Access) : Type 0 where
-    field : ℕ
-    placed : Placed
-    there : slice_get (files_of x) file ≡ Some placed
-    inside : field < length placed.file.fields
-    is : a ≡ access.Own true (field_number x file field)
-
-  given_opened : (file : ℕ) (a : Access) → Given (opened (field_number x file 0) (slice_get (files_of x) file)) a → Opens file a
-  given_opened file a g = by (slice_get (files_of x) file) refl g
-    where
-      by : (o : Option Placed) → slice_get (files_of x) file ≡ o → Given (opened (field_number x file 0) o) a → Opens file a
-      by None there h = absurd (of_nothing a h)
-      by (Some placed) there h =
-          let r = of_range (λ n. use_of.Own true n) (field_number x file 0) (placed_count placed) h.item h.one in
-          let at : field_number x file 0 + r.0 ≡ field_number x file r.0 = omega arith in
-          let gives : a ≡ access.Own true (field_number x file 0 + r.0) = subst (λ u. UseGives P e p u a) (sym r.2) h.gives in
-          record { field = r.0; placed = placed; there = there; inside = r.1; is = gives ∙ ap (λ n. access.Own true n) at }
-
   -- every access is given
 
   abbrev All : Layer → Access → Type 0
@@ -187,29 +140,32 @@ module _ (x : Exchange) (P : Facts) (e b p : ℕ) where
   field_named : (l : Layer) (file field pointer : ℕ) → NamesField l file field pointer → Contains (layer_names l) (NamedField file field pointer)
   field_named l file field pointer h = in_joined named_in (own_exprs l) h.expr (NamedField file field pointer) h.own h.named
 
-  pub all_given : (l : Layer) (a : Access) → Accesses x P e b p l a → All l a
+  -- the statement frees records of a file, of which the access writes a field
+  pub record Freed (l : Layer) (a : Access) : Type 0 where
+    pub file : ℕ
+    pub frees : All l (access.Frees file)
+    pub opens : Opens x file a
+
+  pub all_given : (l : Layer) (a : Access) → Accesses x P e b p l a → All l a ⊎ Freed l a
   all_given l a (told.reads _ v names) =
-      by_read l a (read_given (layer_names l) (NamedVariable v) a (variable_named l v names) (alone (use_of.Variable false (variable_number x b v)) a refl))
+      inl (by_read l a (read_given (layer_names l) (NamedVariable v) a (variable_named l v names) (alone (use_of.Variable false (variable_number x b v)) a refl)))
   all_given l a (told.reads_holder _ v is) =
-      by_held l a (subst (λ r. Given (holder_uses x b r) a) (sym is) (alone (use_of.Variable false (variable_number x b v)) a refl))
-  all_given l a (told.writes v value) = by_done l a (alone (use_of.Variable true (variable_number x b v)) a refl)
+      inl (by_held l a (subst (λ r. Given (holder_uses x b r) a) (sym is) (alone (use_of.Variable false (variable_number x b v)) a refl)))
+  all_given l a (told.writes v value) = inl (by_done l a (alone (use_of.Variable true (variable_number x b v)) a refl))
   all_given l a (told.reads_field _ file field pointer v names plain known) =
-      by_read l a
-      (read_given (layer_names l) (NamedField file field pointer) a (field_named l file field pointer names) (plain_given file pointer (field_number x file field) false v plain known))
-  all_given l a (told.writes_field file field pointer value v plain known) = by_done l a (plain_given file pointer (field_number x file field) true v plain known)
+      inl (by_read l a
+      (read_given (layer_names l) (NamedField file field pointer) a (field_named l file field pointer names) (plain_given file pointer (field_number x file field) false v plain known)))
+  all_given l a (told.writes_field file field pointer value v plain known) = inl (by_done l a (plain_given file pointer (field_number x file field) true v plain known))
   all_given l a (told.searches temp file field rel value label) =
-      by_done l a (alone (use_of.Field false (field_number x file field) (source.Is Any)) a (Any, refl, refl))
+      inl (by_done l a (alone (use_of.Field false (field_number x file field) (source.Is Any)) a (Any, refl, refl)))
   all_given l a (told.reads_own _ file field pointer names forlopp) =
-      by_read l a
-      (read_given (layer_names l) (NamedField file field pointer) a (field_named l file field pointer names) (own_given file pointer (field_number x file field) false forlopp))
-  all_given l a (told.writes_own file field pointer value forlopp) = by_done l a (own_given file pointer (field_number x file field) true forlopp)
+      inl (by_read l a
+      (read_given (layer_names l) (NamedField file field pointer) a (field_named l file field pointer names) (own_given file pointer (field_number x file field) false forlopp)))
+  all_given l a (told.writes_own file field pointer value forlopp) = inl (by_done l a (own_given file pointer (field_number x file field) true forlopp))
   all_given l a (told.opens_own temp file field placed there lt) =
-      by_done l a
-      (given_left (opened (field_number x file 0) (slice_get (files_of x) file)) (use_of.Frees file ∷ []) a (opened_given file field placed there lt))
-  all_given l a (told.seizes temp file label) = by_done l a (alone (use_of.Seizes file) a refl)
-  all_given l a (told.frees temp file) =
-      by_done l a
-      (given_right (opened (field_number x file 0) (slice_get (files_of x) file)) (use_of.Frees file ∷ []) a (alone (use_of.Frees file) a refl))
+      inr (record { file = file; frees = by_done l (access.Frees file) (alone (use_of.Frees file) (access.Frees file) refl); opens = record { field = field; placed = placed; there = there; inside = lt; is = refl } })
+  all_given l a (told.seizes temp file label) = inl (by_done l a (alone (use_of.Seizes file) a refl))
+  all_given l a (told.frees temp file) = inl (by_done l a (alone (use_of.Frees file) a refl))
 
   -- and nothing else is
 
@@ -250,10 +206,7 @@ module _ (x : Exchange) (P : Facts) (e b p : ℕ) where
   of_done (stmt.Seize temp file label) a g =
       subst (Is (stmt.Seize temp file label)) (sym (of_alone (use_of.Seizes file) a g)) (told.seizes temp file label)
   of_done (stmt.Free temp file) a g =
-      ⊎_elim
-      (λ fields. let o = given_opened file a fields in subst (Is (stmt.Free temp file)) (sym o.is) (told.opens_own temp file o.field o.placed o.there o.inside))
-      (λ last. subst (Is (stmt.Free temp file)) (sym (of_alone (use_of.Frees file) a last)) (told.frees temp file))
-      (given_cases (opened (field_number x file 0) (slice_get (files_of x) file)) (use_of.Frees file ∷ []) a g)
+      subst (Is (stmt.Free temp file)) (sym (of_alone (use_of.Frees file) a g)) (told.frees temp file)
   of_done _ a g = absurd (of_nothing a g)
 
   pub given_all : (l : Layer) (a : Access) → All l a → Is l a
@@ -262,3 +215,19 @@ module _ (x : Exchange) (P : Facts) (e b p : ℕ) where
       (λ named. let r = given_read (layer_names l) a named in of_name l a r.0 r.1 r.2)
       (λ other. ⊎_elim (λ held. of_held l a (receiver_in l) refl held) (λ done. of_done l a done) (given_cases (holder_uses x b (receiver_in l)) (done_uses x b l) a other))
       (given_cases (read_uses x b (layer_names l)) (holder_uses x b (receiver_in l) ++ done_uses x b l) a g)
+
+-- a statement that frees records of a file opens its fields
+
+same_file : (f g : ℕ) → access.Frees f ≡ access.Frees g → f ≡ g
+same_file f g is = cc
+
+frees_in : (x : Exchange) (P : Facts) (e b p : ℕ) (l : Layer) (a : Access) (file : ℕ) → Accesses x P e b p l a → a ≡ access.Frees file → (temp : ℕ) × (l ≡ stmt.Free temp file)
+frees_in x P e b p l a file (told.frees temp f) is = (temp, ap (λ g. stmt.Free temp g) (same_file f file is))
+frees_in x P e b p l a file _ is = cc
+
+pub opened_by : (x : Exchange) (P : Facts) (e b p : ℕ) (l : Layer) (freeing a : Access) → Accesses x P e b p l freeing → OpenedBy x freeing a → Accesses x P e b p l a
+opened_by x P e b p l (access.Frees file) a h o =
+    let f = frees_in x P e b p l (access.Frees file) file h refl in
+    subst (λ (m : Layer). Accesses x P e b p m a) (sym f.1)
+    (subst (Accesses x P e b p (stmt.Free f.0 file)) (sym o.is) (told.opens_own f.0 file o.field o.placed o.there o.inside))
+opened_by x P e b p l _ a h o = absurd o

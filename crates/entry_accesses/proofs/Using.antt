@@ -1,11 +1,11 @@
 -- What statements do to stored data, step by step.
 use Rattle.std.proofs.Common.{◌≡◌, ℕ, zero, suc, ◌+◌, ◌-◌, ◌<◌, ◌≤◌, ◌^◌, Bool, true, false, List, [], ◌∷◌, ◌++◌, length, map, take, drop, get_or, sum_by, Option, Some, None, slice_get, refl, sym, ap, ◌∙◌, subst, arith, append_assoc, append-nil}
-use Rattle.std.specs.List.{AllByRecursion, range_with_len}
+use Rattle.std.specs.List.{AllByRecursion}
 use Rattle.std.proofs.Math.ListN.{drop_of_length-le}
 use Rattle.std.proofs.lemmas.List.Sums.{sum_by_more_le}
 use Rattle.std.proofs.lemmas.Option.{none-some, slice_get_within, get_or_from_slice_get}
 use Rattle.std.proofs.lemmas.List.{get_or_default}
-use Rattle.plex_num.proofs.Lists.{all_append, opens}
+use Rattle.plex_num.proofs.Lists.{all_append, opens, all_weaker}
 use Rattle.plex_limits.specs.declared.limits.TheConstants.{MOST_CELLS}
 use Rattle.exchange_model.specs.declared.exchange.Exchange.{Exchange}
 use Rattle.exchange_model.specs.declared.block.Block.{Block}
@@ -32,19 +32,18 @@ use Rattle.source_meaning.specs.Deeds.{receiver_in}
 use Rattle.source_meaning.specs.Named.{Layer, Named, NamedVariable, NamedField, named_in}
 use Rattle.source_meaning.specs.Rests.{IsOfBlock}
 use Rattle.source_meaning.proofs.Fitting.{NamedFits, names_fit}
-use Rattle.source_meaning.proofs.Lists.{all_weaker}
 use Rattle.entry_summary.specs.Numbers.{field_number}
 use Rattle.entry_accesses.specs.declared.operands.Operand.{Operand}
 use Rattle.entry_accesses.specs.declared.uses.Use.{Use}
 use Rattle.entry_accesses.specs.declared.uses.Use.TheVariants as use_of
 use Rattle.entry_accesses.specs.Numbered.{variable_count, placed_count, IsNumbered}
 use Rattle.entry_accesses.specs.Operands.{HasNames, named, names_in, layer_names}
-use Rattle.entry_accesses.specs.Uses.{field_use, field_uses, named_uses, read_uses, holder_uses, opened, OpensFew, done_uses, layer_uses}
+use Rattle.entry_accesses.specs.Uses.{field_use, field_uses, named_uses, read_uses, holder_uses, done_uses, layer_uses}
 use Rattle.entry_accesses.proofs.Numbering.{variables_few, fields_few}
 
 -- what a block names has a number
 
-within : {A : Type 0} (f : A → ℕ) (xs : List A) (i j : ℕ) (x : A) → slice_get xs i ≡ Some x → j ≤ f x → sum_by f xs ≤ MOST_CELLS → sum_by f (take i xs) + j < 2 ^ 32
+pub within : {A : Type 0} (f : A → ℕ) (xs : List A) (i j : ℕ) (x : A) → slice_get xs i ≡ Some x → j ≤ f x → sum_by f xs ≤ MOST_CELLS → sum_by f (take i xs) + j < 2 ^ 32
 within f xs i j x there small few =
     let lt = slice_get_within xs i x there in
     let more = sum_by_more_le f xs i x lt in
@@ -123,20 +122,6 @@ search_numbered x b temp file field rel value label l kept h is =
     let names = subst (λ (m : Layer). KindNames (scope_of x b h.block) m) is h.fits.names in
     file_within x b file field h.block kept names.2 field (omega arith)
 
-pub free_numbered : (x : Exchange) (b temp file : ℕ) (l : Layer) → IsExchange x → IsOfBlock x b l → l ≡ layer.Free temp file → IsNumbered x b (NamedField file 0 temp)
-unfolding files_of
-free_numbered x b temp file l kept h is =
-    let names = subst (λ (m : Layer). KindNames (scope_of x b h.block) m) is h.fits.names in
-    let f = names.1 in
-    (slice_get_within (placed_files x.blocks) file f.placed f.there, within placed_count (files_of x) file 0 f.placed f.there (omega arith) (fields_few x kept))
-
-pub free_few : (x : Exchange) (file first : ℕ) → IsExchange x → first ≡ field_number x file 0 → OpensFew first (slice_get (files_of x) file)
-free_few x file first kept is = by (slice_get (files_of x) file) refl
-  where
-    by : (o : Option Placed) → slice_get (files_of x) file ≡ o → OpensFew first o
-    by None there = tt
-    by (Some p) there = (let small = within placed_count (files_of x) file (placed_count p) p there (omega arith) (fields_few x kept) in omega (arith, small, is))
-
 -- one after the other
 
 pub record ReadsGo (x : Exchange) (b : ℕ) (names : List Operand) (i : ℕ) (old now : List Use) : Type 0 where
@@ -181,57 +166,10 @@ unfolding files_of
 field_there x file b first f write number pointer u old new there is made =
     made ∙ ap (λ v. old ++ v ∷ []) is ∙ ap (λ o. old ++ field_uses o write number pointer) (sym there)
 
-pub opened_nowhere : (x : Exchange) (file first : ℕ) (old : List Use) → slice_get (placed_files x.blocks) file ≡ None → old ≡ old ++ opened first (slice_get (files_of x) file)
-unfolding files_of
-opened_nowhere x file first old none = sym (append-nil old) ∙ ap (λ o. old ++ opened first o) (sym none)
-
-pub opened_small : (x : Exchange) (file b at first n : ℕ) (f : File) → slice_get (placed_files x.blocks) file ≡ Some (record { block = b; file = f; first = at }) → n ≡ length f.fields → OpensFew first (slice_get (files_of x) file) → first + n < 2 ^ 32
-unfolding files_of
-opened_small x file b at first n f there count few = (let small = subst (OpensFew first) there few in omega (arith, small, count))
-
-pub opened_there : (x : Exchange) (file b at first n end : ℕ) (f : File) (old new : List Use) → slice_get (placed_files x.blocks) file ≡ Some (record { block = b; file = f; first = at }) → n ≡ length f.fields → end ≡ first + n → new ≡ old ++ map (λ k. use_of.Own true k) (range_with_len first (end - first)) → new ≡ old ++ opened first (slice_get (files_of x) file)
-unfolding files_of
-opened_there x file b at first n end f old new there count ends made =
-    let many : end - first ≡ length f.fields = omega (arith, count, ends) in
-    made ∙ ap (λ m. old ++ map (λ k. use_of.Own true k) (range_with_len first m)) many ∙ ap (λ o. old ++ opened first o) (sym there)
-
--- fields in a row
-
-abbrev written : ℕ → ℕ → List Use
-written from many = map (λ k. use_of.Own true k) (range_with_len from many)
-
-pub record WrittenGo (first end number : ℕ) (old now : List Use) : Type 0 where
-  pub same : now ++ map (λ k. use_of.Own true k) (range_with_len number (end - number)) ≡ old ++ map (λ k. use_of.Own true k) (range_with_len first (end - first))
-
-pub written_begin : (first end : ℕ) (old : List Use) → WrittenGo first end first old old
-written_begin first end old = record { same = refl }
-
-pub written_more : (first end number : ℕ) (old now new : List Use) → number < end → new ≡ now ++ use_of.Own true number ∷ [] → WrittenGo first end number old now → WrittenGo first end (number + 1) old new
-written_more first end number old now new lt made g =
-    let one : suc (end - (number + 1)) ≡ end - number = omega (arith, lt) in
-    record {
-      same =
-          ap (λ l. l ++ written (number + 1) (end - (number + 1))) made
-          ∙ append_assoc now (use_of.Own true number ∷ []) (written (number + 1) (end - (number + 1)))
-          ∙ ap (λ m. now ++ written number m) one
-          ∙ g.same;
-    }
-
-pub written_end : (first end number : ℕ) (old now : List Use) → end ≤ number → WrittenGo first end number old now → now ≡ old ++ map (λ k. use_of.Own true k) (range_with_len first (end - first))
-written_end first end number old now past g =
-    let none : 0 ≡ end - number = omega (arith, past) in
-    sym (append-nil now) ∙ ap (λ m. now ++ written number m) none ∙ g.same
-
 -- a statement, by its layer
 
 pub done_as : (x : Exchange) (b : ℕ) (k : StmtKind) (l : Layer) (old new : List Use) → out-StmtKind k ≡ l → new ≡ old ++ done_uses x b l → new ≡ old ++ done_uses x b (out-StmtKind k)
 done_as x b k l old new is made = made ∙ ap (λ (m : Layer). old ++ done_uses x b m) (sym is)
-
-pub freed : (x : Exchange) (b temp file first : ℕ) (k : StmtKind) (old mid new : List Use) → out-StmtKind k ≡ layer.Free temp file → first ≡ field_number x file 0 → mid ≡ old ++ opened first (slice_get (files_of x) file) → new ≡ mid ++ use_of.Frees file ∷ [] → new ≡ old ++ done_uses x b (out-StmtKind k)
-freed x b temp file first k old mid new is at one two =
-    let fields : List Use = opened (field_number x file 0) (slice_get (files_of x) file) in
-    done_as x b k (layer.Free temp file) old new is
-    (two ∙ ap (λ l. l ++ use_of.Frees file ∷ []) (one ∙ ap (λ n. old ++ opened n (slice_get (files_of x) file)) at) ∙ append_assoc old fields (use_of.Frees file ∷ []))
 
 pub done_none : (x : Exchange) (b : ℕ) (k : StmtKind) (old : List Use) →
     ((v : ℕ) (e : Expr) → k ≡ kind.SetVariable v e → ⊥) →

@@ -1,5 +1,6 @@
 pub mod Numbered
 pub mod Operands
 pub mod Uses
+pub mod Opening
 pub mod Adding
 pub mod Levels

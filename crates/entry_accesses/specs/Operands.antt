@@ -2,28 +2,15 @@
 use Rattle.std.specs.Prelude.{◌≡◌, List, ◌++◌, map}
 use Rattle.exchange_model.specs.declared.expr.Cond.{Cond}
 use Rattle.exchange_model.specs.declared.expr.Expr.{Expr}
-use Rattle.exchange_model.specs.declared.expr.Factor.{Factor, fold-Factor}
-use Rattle.exchange_model.specs.declared.expr.Joined.{Joined}
 use Rattle.exchange_model.specs.declared.expr.Relation.{Relation}
-use Rattle.exchange_model.specs.declared.expr.Term.{Term, fold-Term}
 use Rattle.exchange_model.specs.Inside.{joined, own_exprs, cond_exprs, relation_exprs}
-use Rattle.source_meaning.specs.Named.{Layer, Named, NamedVariable, NamedField, factor_named, named_in}
+use Rattle.source_meaning.specs.Named.{Layer, Named, NamedVariable, NamedField, named_in}
 use Rattle.entry_accesses.specs.declared.operands.Operand.{Operand}
 use Rattle.entry_accesses.specs.declared.operands.Operand.TheVariants.{Variable, Field}
 
 abbrev pub named : Operand → Named
 named (Variable v) = NamedVariable v
 named (Field file field pointer) = NamedField file field pointer
-
--- what a term and a factor name
-unfoldable pub term_names : Term → List Named
-term_names = fold-Term (List Named) (List Named) (List Named) (List Named) factor_named (λ e. joined e.terms) (λ j. j.factor) (λ t. joined t.factors)
-
-unfoldable pub factor_names : Factor → List Named
-factor_names = fold-Factor (List Named) (List Named) (List Named) (List Named) factor_named (λ e. joined e.terms) (λ j. j.factor) (λ t. joined t.factors)
-
-abbrev pub joined_names : Joined → List Named
-joined_names j = factor_names j.factor
 
 -- what these expressions name, one after the other
 abbrev pub names_in : List Expr → List Named

@@ -1,6 +1,5 @@
 -- What statements do to stored data, before facts tell which records pointers mean.
 use Rattle.std.specs.Prelude.{◌≡◌, ℕ, ◌+◌, ◌<◌, ◌^◌, Bool, true, false, List, [], ◌∷◌, ◌++◌, map, Option, Some, None, slice_get, if◌then◌else◌}
-use Rattle.std.specs.List.{range_with_len}
 use Rattle.exchange_model.specs.declared.exchange.Exchange.{Exchange}
 use Rattle.exchange_model.specs.declared.stmt.Holder.TheVariants as holder
 use Rattle.exchange_model.specs.declared.stmt.Receiver.{Receiver}
@@ -19,7 +18,6 @@ use Rattle.flow_points.specs.Facts.{Facts, SourceGives}
 use Rattle.entry_summary.specs.declared.summary.Access.{Access}
 use Rattle.entry_summary.specs.declared.summary.Access.TheVariants as access
 use Rattle.entry_summary.specs.Numbers.{variable_number, field_number}
-use Rattle.entry_accesses.specs.Numbered.{placed_count}
 use Rattle.entry_accesses.specs.Operands.{layer_names}
 use Rattle.entry_accesses.specs.declared.uses.Use.{Use}
 use Rattle.entry_accesses.specs.declared.uses.Use.TheVariants as use_of
@@ -46,26 +44,16 @@ abbrev pub holder_uses : Exchange → ℕ → Option Receiver → List Use
 holder_uses x b (Some (receiver.Held (holder.Variable v))) = named_uses x b false (NamedVariable v)
 holder_uses x b _ = []
 
--- all fields of a file, the first of which has this number
-abbrev pub opened : ℕ → Option Placed → List Use
-opened first None = []
-opened first (Some p) = map (λ n. use_of.Own true n) (range_with_len first (placed_count p))
-
--- the numbers of its fields are of 32 bits
-abbrev pub OpensFew : ℕ → Option Placed → Type 0
-OpensFew first None = Unit {0}
-OpensFew first (Some p) = first + placed_count p < 2 ^ 32
-
--- what a statement does besides reading what it names and where its receiver is held
+-- what a statement does besides reading what it names and where its receiver is held, but for the fields that FREE opens
 abbrev pub done_uses : Exchange → ℕ → Layer → List Use
 done_uses x b (stmt.SetVariable variable value) = named_uses x b true (NamedVariable variable)
 done_uses x b (stmt.SetField file field pointer value) = named_uses x b true (NamedField file field pointer)
 done_uses x b (stmt.ForFirst temp file field rel value label) = use_of.Field false (field_number x file field) (Is Any) ∷ []
 done_uses x b (stmt.Seize temp file label) = use_of.Seizes file ∷ []
-done_uses x b (stmt.Free temp file) = opened (field_number x file 0) (slice_get (files_of x) file) ++ use_of.Frees file ∷ []
+done_uses x b (stmt.Free temp file) = use_of.Frees file ∷ []
 done_uses x b _ = []
 
--- all that a statement of a block does
+-- all that a statement of a block does, but for those fields
 abbrev pub layer_uses : Exchange → ℕ → Layer → List Use
 layer_uses x b l = read_uses x b (layer_names l) ++ (holder_uses x b (receiver_in l) ++ done_uses x b l)
 

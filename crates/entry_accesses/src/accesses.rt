@@ -14,6 +14,8 @@ ghost use Rattle.entry_accesses.specs.declared.uses.Use.{Use as UseType};
 ghost use Rattle.entry_accesses.specs.Uses.{UseGives};
 
 use crate::numbers::CellNumbers;
+use crate::opening::with_opened;
+use crate::order::{copied, in_order};
 use crate::uses::{NumberedBlock, Use, push_uses};
 use entry_summary::Access;
 use exchange_model::Exchange;
@@ -47,8 +49,8 @@ pub fn accesses_of<K: KnownFacts>(
         found = gather(alloc, exchange, numbers, known, entry, at, found)?;
     }
     let Gathered { accesses, .. } = found;
-    let each = in_order(accesses);
-    let copy = copied(alloc, each.as_slice())?;
+    let all = with_opened(alloc, exchange, numbers, accesses)?;
+    let copy = copied(alloc, all.as_slice())?;
     Ok(copy)
 }
 
@@ -94,15 +96,6 @@ fn thinned(gathered: Gathered) -> Gathered
     let accesses = in_order(accesses);
     let most = accesses.len().saturating_mul(2).max(FEW);
     Gathered { accesses, most }
-}
-
-/// These accesses, in a list that has no room for more.
-fn copied(alloc: Global, accesses: &[Access]) -> Result<Seq<Access>, Memory>
-    ensures { IfOk result (λ copy. copy ≡ accesses.now) }
-{
-    let mut copy = Seq::with_capacity(alloc, accesses.len())?;
-    copy.push_all(accesses)?;
-    Ok(copy)
 }
 
 /// Appends the accesses of a statement, if it is reached.
@@ -212,15 +205,4 @@ fn push_selected(
         })?;
     }
     Ok(())
-}
-
-/// These accesses in order, each once.
-fn in_order(found: Seq<Access>) -> Seq<Access>
-    ensures same { (a : AccessType) → Contains result a ↔ Contains found a }
-    ensures rising { IsStrictlySortedBy access_order result }
-{
-    let mut accesses = found.into_vec();
-    accesses.sort_unstable();
-    accesses.dedup();
-    Seq::from_vec(accesses)
 }

@@ -9,7 +9,9 @@
 mod accesses;
 mod levels;
 mod numbers;
+mod opening;
 mod operands;
+mod order;
 mod uses;
 
 pub use accesses::accesses_of;

@@ -2,8 +2,8 @@
 ghost use Rattle.std.specs.Prelude.{◌∷◌, [], map, OnOk};
 ghost use Rattle.exchange_model.specs.declared.stmt.StmtKind.{out-StmtKind};
 ghost use Rattle.exchange_model.specs.Inside.{joined, relation_exprs};
-ghost use Rattle.source_meaning.specs.Named.{named_in};
-ghost use Rattle.entry_accesses.specs.Operands.{HasNames, cond_names, factor_names, joined_names, layer_names, names_in, relation_names, term_names};
+ghost use Rattle.source_meaning.specs.Named.{named_in, named_in_factor, named_in_joined, named_in_term};
+ghost use Rattle.entry_accesses.specs.Operands.{HasNames, cond_names, layer_names, names_in, relation_names};
 
 use exchange_model::{Cond, Expr, Factor, Joined, Relation, StmtKind, Term};
 use plex_num::{Memory, Seq};
@@ -101,7 +101,7 @@ fn push_expr(e: &Expr, names: &mut Seq<Operand>) -> Result<(), Memory>
 #[cycle(names)]
 #[tactic(auto, using(crate::proofs::Naming::names_begin))]
 fn push_terms(terms: &[Term], names: &mut Seq<Operand>) -> Result<(), Memory>
-    ensures { OnOk result (HasNames names.old names.new (joined (map term_names terms.now))) }
+    ensures { OnOk result (HasNames names.old names.new (joined (map named_in_term terms.now))) }
 {
     for term in terms {
         push_term(term, names)?;
@@ -112,7 +112,7 @@ fn push_terms(terms: &[Term], names: &mut Seq<Operand>) -> Result<(), Memory>
 #[cycle(names)]
 #[tactic(auto, using(crate::proofs::Naming::term_named))]
 fn push_term(term: &Term, names: &mut Seq<Operand>) -> Result<(), Memory>
-    ensures { OnOk result (HasNames names.old names.new (term_names term.now)) }
+    ensures { OnOk result (HasNames names.old names.new (named_in_term term.now)) }
 {
     push_factors(term.factors.as_slice(), names)?;
     Ok(())
@@ -122,7 +122,7 @@ fn push_term(term: &Term, names: &mut Seq<Operand>) -> Result<(), Memory>
 #[tactic(auto, using(crate::proofs::Naming::names_begin))]
 fn push_factors(factors: &[Joined], names: &mut Seq<Operand>) -> Result<(), Memory>
     ensures { OnOk result
-        (HasNames names.old names.new (joined (map joined_names factors.now))) }
+        (HasNames names.old names.new (joined (map named_in_joined factors.now))) }
 {
     for joined in factors {
         push_factor(&joined.factor, names)?;
@@ -132,7 +132,7 @@ fn push_factors(factors: &[Joined], names: &mut Seq<Operand>) -> Result<(), Memo
 
 #[cycle(names)]
 fn push_factor(factor: &Factor, names: &mut Seq<Operand>) -> Result<(), Memory>
-    ensures { OnOk result (HasNames names.old names.new (factor_names factor.now)) }
+    ensures { OnOk result (HasNames names.old names.new (named_in_factor factor.now)) }
 {
     match factor {
         Factor::Variable(variable) => names.push(Operand::Variable(*variable))?,

@@ -1,6 +1,6 @@
 // What statements do to stored data, before facts tell which records pointers mean.
-ghost use Rattle.std.specs.Prelude.{◌≡◌, ◌-◌, ◌≤◌, ◌++◌, ◌∷◌, [], false, map, true, OnOk, slice_get};
-ghost use Rattle.std.specs.List.{AllByRecursion, range_with_len};
+ghost use Rattle.std.specs.Prelude.{◌≡◌, ◌++◌, ◌∷◌, [], false, map, true, OnOk, slice_get};
+ghost use Rattle.std.specs.List.{AllByRecursion};
 ghost use Rattle.exchange_model.specs.declared.stmt.StmtKind.{out-StmtKind};
 ghost use Rattle.source_meaning.specs.Config.{files_of};
 ghost use Rattle.source_meaning.specs.Deeds.{receiver_in};
@@ -10,7 +10,7 @@ ghost use Rattle.flow_points.specs.declared.flow.Source.TheVariants as source;
 ghost use Rattle.entry_accesses.specs.declared.uses.Use.TheVariants as use_of;
 ghost use Rattle.entry_accesses.specs.Numbered.{AreNumbers, IsNumbered};
 ghost use Rattle.entry_accesses.specs.Operands.{named};
-ghost use Rattle.entry_accesses.specs.Uses.{OpensFew, done_uses, field_use as field_use_of, field_uses, holder_uses, layer_uses, named_uses, opened, read_uses};
+ghost use Rattle.entry_accesses.specs.Uses.{done_uses, field_use as field_use_of, field_uses, holder_uses, layer_uses, named_uses, read_uses};
 
 use crate::numbers::CellNumbers;
 use crate::operands::{Operand, push_layer};
@@ -20,7 +20,7 @@ use plex_num::{Memory, Seq};
 use std::alloc::Global;
 
 /// What a statement does to stored data, where facts have not yet told the values of pointers. Variables, fields and files
-/// are numbered through the exchange.
+/// are numbered through the exchange. The fields that FREE opens are told by the file of which it frees a record.
 #[derive(Clone, Copy, PartialEq, Eq, PartialOrd, Ord)]
 pub enum Use {
     Variable {
@@ -54,7 +54,7 @@ pub struct NumberedBlock<'a> {
     pub block: u32,
 }
 
-/// Appends all that a statement of a block does.
+/// Appends all that a statement of a block does, but for the fields that FREE opens.
 pub fn push_uses(
     alloc: Global,
     here: &NumberedBlock<'_>,
@@ -213,11 +213,7 @@ fn push_done(here: &NumberedBlock<'_>, kind: &StmtKind, uses: &mut Seq<Use>) -> 
             push_search(number, uses)?;
         }
         StmtKind::Seize { file, .. } => uses.push(Use::Seizes { file: *file })?,
-        StmtKind::Free { file, .. } => {
-            let first = here.numbers.field(*file, 0);
-            push_opened(here.exchange, *file, first, uses)?;
-            uses.push(Use::Frees { file: *file })?;
-        }
+        StmtKind::Free { file, .. } => uses.push(Use::Frees { file: *file })?,
         _ => {}
     }
     Ok(())
@@ -233,40 +229,4 @@ fn push_search(number: u32, uses: &mut Seq<Use>) -> Result<(), Memory>
         number,
         selector: Source::Is(Value::Any),
     })
-}
-
-/// Appends that all fields of a file are written, of which the first has this number.
-#[tactic(auto, using(crate::proofs::Using::opened_nowhere))]
-fn push_opened(
-    exchange: &Exchange,
-    file: u32,
-    first: u32,
-    uses: &mut Seq<Use>,
-) -> Result<(), Memory>
-    requires { OpensFew first (slice_get (files_of exchange.now) file) }
-    ensures { OnOk result (uses.new ≡ uses.old
-        ++ opened first (slice_get (files_of exchange.now) file)) }
-{
-    let Some(found) = exchange.file(file) else {
-        return Ok(());
-    };
-    let end = first + found.file.fields.len() as u32;
-    push_written(first, end, uses)?;
-    Ok(())
-}
-
-/// Appends that the fields of these numbers are written, each in a record that the job holds.
-#[tactic(auto, using(crate::proofs::Using::written_begin))]
-fn push_written(first: u32, end: u32, uses: &mut Seq<Use>) -> Result<(), Memory>
-    requires { first ≤ end }
-    ensures { OnOk result (uses.new ≡ uses.old
-        ++ map (λ n. use_of.Own true n) (range_with_len first (end - first))) }
-{
-    for number in first..end {
-        uses.push(Use::Own {
-            write: true,
-            number,
-        })?;
-    }
-    Ok(())
 }

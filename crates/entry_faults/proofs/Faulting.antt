@@ -6,7 +6,7 @@ use Rattle.std.proofs.Math.ListN.{drop_of_length-le}
 use Rattle.std.proofs.lemmas.List.Elements.{Contains-append_left, Contains-append_right, Contains-append_cases}
 use Rattle.std.proofs.lemmas.Bool.{or_right}
 use Rattle.plex_limits.specs.declared.limits.TheConstants.{MOST_CALLERS}
-use Rattle.plex_num.proofs.Members.{first_or_later, none_in}
+use Rattle.plex_num.proofs.Members.{first_or_later, none_in, first_is, later_is}
 use Rattle.plex_num.proofs.Lists.{opens}
 use Rattle.exchange_model.specs.declared.block.FilePlace.{FilePlace}
 use Rattle.exchange_model.specs.declared.exchange.Exchange.{Exchange}
@@ -20,7 +20,6 @@ use Rattle.exchange_model.specs.declared.stmt.StmtKind.TheOpen as stmt
 use Rattle.exchange_model.specs.Cells.{Placed}
 use Rattle.exchange_model.specs.Index.{IsFileAt as IsFoundAt}
 use Rattle.exchange_model.specs.Inside.{own_exprs}
-use Rattle.source_meaning.proofs.Lists.{first_is, later_is}
 use Rattle.source_meaning.specs.Changes.{variable_width, field_width}
 use Rattle.source_meaning.specs.Config.{files_of}
 use Rattle.source_meaning.specs.Deeds.{IsEnd, receiver_in, signal_in}

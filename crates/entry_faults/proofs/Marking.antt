@@ -7,6 +7,7 @@ use Rattle.std.proofs.lemmas.Option.{slice_get_within, none-some, same_Some, sli
 use Rattle.entry_faults.specs.declared.mark.Mark.{Mark}
 use Rattle.entry_faults.specs.declared.mark.Mark.TheVariants.{New, Open, Closed}
 use Rattle.entry_faults.specs.Marks.{is_in, kept_mark, mark_at, is_closed, weight_of, weight}
+use Rattle.plex_num.proofs.Lists.{get_set_same, get_set_other}
 
 pub marked_kept : (r : List Bool) (m : List Mark) (p : ℕ) (b : Bool) (k : Mark) → b ≡ is_in r p → b ≡ true → k ≡ kept_mark m p → k ≡ mark_at r m p
 unfolding mark_at
@@ -51,18 +52,6 @@ pub open_within : (r : List Bool) (m : List Mark) (p : ℕ) → mark_at r m p �
 open_within r m p is = slice_get_within m p Open (marked r m p Open is refl).kept
 
 -- a mark is set
-
-get_set_same : {A : Type 0} (xs : List A) (i : ℕ) (a : A) → i < length xs → slice_get (slice_set xs i a) i ≡ Some a
-get_set_same [] i a lt = absurd (omega arith)
-get_set_same (x ∷ xs) zero a lt = refl
-get_set_same (x ∷ xs) (suc i) a lt = get_set_same xs i a (omega arith)
-
-get_set_other : {A : Type 0} (xs : List A) (i j : ℕ) (a : A) → (j ≡ i → ⊥) → slice_get (slice_set xs i a) j ≡ slice_get xs j
-get_set_other [] i j a other = refl
-get_set_other (x ∷ xs) zero zero a other = absurd (other refl)
-get_set_other (x ∷ xs) zero (suc j) a other = refl
-get_set_other (x ∷ xs) (suc i) zero a other = refl
-get_set_other (x ∷ xs) (suc i) (suc j) a other = get_set_other xs i j a (λ e. other (ap suc e))
 
 mark_set_same : (r : List Bool) (m : List Mark) (p : ℕ) (j k : Mark) → IsMarked r m p j → mark_at r (slice_set m p k) p ≡ k
 unfolding mark_at

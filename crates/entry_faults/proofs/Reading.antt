@@ -1,41 +1,20 @@
 -- The fields that an expression names, part by part.
 use Rattle.std.proofs.Common.{◌≡◌, ℕ, ◌+◌, ◌<◌, ◌≤◌, List, [], ◌∷◌, ◌++◌, length, map, drop, get_or, refl, sym, ap, ◌∙◌, append-nil, append_assoc}
-use mathlib.Core.Path.{fun_ext}
 use Rattle.std.proofs.Math.ListN.{drop_of_length-le}
 use Rattle.plex_num.proofs.Lists.{opens}
-use Rattle.exchange_model.specs.declared.expr.Expr.{Expr, out-Expr}
-use Rattle.exchange_model.specs.declared.expr.Term.{Term, out-Term}
-use Rattle.exchange_model.specs.declared.expr.Joined.{Joined}
 use Rattle.exchange_model.specs.declared.expr.Factor.{Factor}
 use Rattle.exchange_model.specs.declared.expr.Factor.TheVariants as factor
 use Rattle.exchange_model.specs.Inside.{joined}
-use Rattle.source_meaning.specs.Named.{Named, NamedVariable, NamedField, named_in}
-use Rattle.source_meaning.proofs.Naming.{named_in_term, named_in_factor, named_in-out, named_in_term-out, named-Variable, named-Field, named-Bracket, named-Number, named-Temporary, named-Reference}
+use Rattle.source_meaning.specs.Named.{Named, NamedVariable, NamedField, named_in, named_in_factor}
+use Rattle.source_meaning.proofs.Naming.{named-Variable, named-Field, named-Bracket, named-Number, named-Temporary, named-Reference}
 use Rattle.entry_faults.specs.declared.fields.Pointer.{Pointer}
-use Rattle.entry_faults.specs.Fields.{pointer_to, pointers_named, term_names, factor_names}
+use Rattle.entry_faults.specs.Fields.{pointer_to, pointers_named}
 
-term_same : (t : Term) → named_in_term t ≡ term_names t
-unfolding named_in_term term_names
-term_same t = refl
+pub field_names : (f : Factor) (file field temp : ℕ) → f ≡ factor.Field file field temp → named_in_factor f ≡ NamedField file field temp ∷ []
+field_names f file field temp is = ap named_in_factor is ∙ named-Field file field temp
 
-factor_same : (f : Factor) → factor_names f ≡ named_in_factor f
-unfolding named_in_factor factor_names
-factor_same f = refl
-
-abbrev pub joined_names : Joined → List Named
-joined_names j = factor_names j.factor
-
-pub expr_names : (e : Expr) → named_in e ≡ joined (map term_names (out-Expr e).terms)
-expr_names e = named_in-out e ∙ ap (λ g. joined (map g (out-Expr e).terms)) (fun_ext term_same)
-
-pub names_of_term : (t : Term) → term_names t ≡ joined (map joined_names (out-Term t).factors)
-names_of_term t = sym (term_same t) ∙ named_in_term-out t ∙ ap (λ g. joined (map g (out-Term t).factors)) (fun_ext (λ j. sym (factor_same j.factor)))
-
-pub field_names : (f : Factor) (file field temp : ℕ) → f ≡ factor.Field file field temp → factor_names f ≡ NamedField file field temp ∷ []
-field_names f file field temp is = ap factor_names is ∙ factor_same (factor.Field file field temp) ∙ named-Field file field temp
-
-pub bracket_names : (f : Factor) (e : _) → f ≡ factor.Bracket e → factor_names f ≡ named_in e
-bracket_names f e is = ap factor_names is ∙ factor_same (factor.Bracket e) ∙ named-Bracket e
+pub bracket_names : (f : Factor) (e : _) → f ≡ factor.Bracket e → named_in_factor f ≡ named_in e
+bracket_names f e is = ap named_in_factor is ∙ named-Bracket e
 
 pointers_append : (a b : List Named) → pointers_named (a ++ b) ≡ pointers_named a ++ pointers_named b
 pointers_append [] b = refl
@@ -54,23 +33,23 @@ fields_more f xs i x now new all lt is made h =
 pub fields_end : {A : Type 0} (f : A → List Named) (xs : List A) (i : ℕ) (now all : List Pointer) → length xs ≤ i → now ++ pointers_named (joined (map f (drop i xs))) ≡ all → now ≡ all
 fields_end f xs i now all past h = sym (append-nil now) ∙ ap (λ l. now ++ pointers_named (joined (map f l))) (sym (drop_of_length-le xs past)) ∙ h
 
-pub field_pushed : (f : Factor) (file field temp : ℕ) (old new : List Pointer) → f ≡ factor.Field file field temp → new ≡ old ++ pointer_to file temp ∷ [] → new ≡ old ++ pointers_named (factor_names f)
+pub field_pushed : (f : Factor) (file field temp : ℕ) (old new : List Pointer) → f ≡ factor.Field file field temp → new ≡ old ++ pointer_to file temp ∷ [] → new ≡ old ++ pointers_named (named_in_factor f)
 field_pushed f file field temp old new is made = made ∙ ap (λ l. old ++ pointers_named l) (sym (field_names f file field temp is))
 
-pub bracket_pushed : (f : Factor) (e : _) (old new : List Pointer) → f ≡ factor.Bracket e → new ≡ old ++ pointers_named (named_in e) → new ≡ old ++ pointers_named (factor_names f)
+pub bracket_pushed : (f : Factor) (e : _) (old new : List Pointer) → f ≡ factor.Bracket e → new ≡ old ++ pointers_named (named_in e) → new ≡ old ++ pointers_named (named_in_factor f)
 bracket_pushed f e old new is made = made ∙ ap (λ l. old ++ pointers_named l) (sym (bracket_names f e is))
 
-none_pushed : (f : Factor) (n : List Named) (old : List Pointer) → factor_names f ≡ n → pointers_named n ≡ [] → old ≡ old ++ pointers_named (factor_names f)
+none_pushed : (f : Factor) (n : List Named) (old : List Pointer) → named_in_factor f ≡ n → pointers_named n ≡ [] → old ≡ old ++ pointers_named (named_in_factor f)
 none_pushed f n old is none = sym (append-nil old) ∙ ap (λ l. old ++ l) (sym none) ∙ ap (λ l. old ++ pointers_named l) (sym is)
 
-pub number_pushed : (f : Factor) (n : ℕ) (old : List Pointer) → f ≡ factor.Number n → old ≡ old ++ pointers_named (factor_names f)
-number_pushed f n old is = none_pushed f [] old (ap factor_names is ∙ factor_same (factor.Number n) ∙ named-Number n) refl
+pub number_pushed : (f : Factor) (n : ℕ) (old : List Pointer) → f ≡ factor.Number n → old ≡ old ++ pointers_named (named_in_factor f)
+number_pushed f n old is = none_pushed f [] old (ap named_in_factor is ∙ named-Number n) refl
 
-pub variable_pushed : (f : Factor) (v : ℕ) (old : List Pointer) → f ≡ factor.Variable v → old ≡ old ++ pointers_named (factor_names f)
-variable_pushed f v old is = none_pushed f (NamedVariable v ∷ []) old (ap factor_names is ∙ factor_same (factor.Variable v) ∙ named-Variable v) refl
+pub variable_pushed : (f : Factor) (v : ℕ) (old : List Pointer) → f ≡ factor.Variable v → old ≡ old ++ pointers_named (named_in_factor f)
+variable_pushed f v old is = none_pushed f (NamedVariable v ∷ []) old (ap named_in_factor is ∙ named-Variable v) refl
 
-pub temporary_pushed : (f : Factor) (t : ℕ) (old : List Pointer) → f ≡ factor.Temporary t → old ≡ old ++ pointers_named (factor_names f)
-temporary_pushed f t old is = none_pushed f [] old (ap factor_names is ∙ factor_same (factor.Temporary t) ∙ named-Temporary t) refl
+pub temporary_pushed : (f : Factor) (t : ℕ) (old : List Pointer) → f ≡ factor.Temporary t → old ≡ old ++ pointers_named (named_in_factor f)
+temporary_pushed f t old is = none_pushed f [] old (ap named_in_factor is ∙ named-Temporary t) refl
 
-pub reference_pushed : (f : Factor) (b : ℕ) (old : List Pointer) → f ≡ factor.Reference b → old ≡ old ++ pointers_named (factor_names f)
-reference_pushed f b old is = none_pushed f [] old (ap factor_names is ∙ factor_same (factor.Reference b) ∙ named-Reference b) refl
+pub reference_pushed : (f : Factor) (b : ℕ) (old : List Pointer) → f ≡ factor.Reference b → old ≡ old ++ pointers_named (named_in_factor f)
+reference_pushed f b old is = none_pushed f [] old (ap named_in_factor is ∙ named-Reference b) refl

@@ -9,10 +9,10 @@ use Rattle.std.proofs.lemmas.Map.Keys.{IsDistinct-push}
 use Rattle.plex_limits.specs.declared.limits.TheConstants.{MOST_SENT}
 use Rattle.std.proofs.lemmas.List.{length-map}
 use Rattle.std.proofs.Math.ListN.{drop_of_length-le}
-use Rattle.plex_num.proofs.Members.{first_or_later, none_in}
+use Rattle.plex_num.proofs.Members.{first_or_later, none_in, first_is, later_is}
 use Rattle.plex_num.proofs.Lists.{opens}
 use Rattle.exchange_model.specs.Kept.{IsExchange}
-use Rattle.source_meaning.proofs.Lists.{first_is, later_is, all_contained}
+use Rattle.source_meaning.proofs.Lists.{all_contained}
 use Rattle.exchange_model.specs.declared.exchange.Exchange.{Exchange}
 use Rattle.exchange_model.specs.declared.signal.SignalKind.{SignalKind}
 use Rattle.exchange_model.specs.declared.signal.SignalKind.TheVariants.{Buffered, Direct, Combined, Answer, Outside}

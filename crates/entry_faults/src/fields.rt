@@ -1,7 +1,7 @@
 // The records at which an expression looks.
 ghost use Rattle.std.specs.Prelude.{◌≡◌, ◌++◌, OnOk};
-ghost use Rattle.source_meaning.specs.Named.{named_in};
-ghost use Rattle.entry_faults.specs.Fields.{factor_names, pointers_named, term_names};
+ghost use Rattle.source_meaning.specs.Named.{named_in, named_in_factor, named_in_term};
+ghost use Rattle.entry_faults.specs.Fields.{pointers_named};
 
 use exchange_model::{Expr, Factor, Term};
 use plex_num::{Memory, Seq};
@@ -26,7 +26,7 @@ pub fn push_fields(e: &Expr, pointers: &mut Seq<Pointer>) -> Result<(), Memory>
 
 #[cycle(fields)]
 fn push_fields_of_term(term: &Term, pointers: &mut Seq<Pointer>) -> Result<(), Memory>
-    ensures { OnOk result (pointers.new ≡ pointers.old ++ pointers_named (term_names term.now)) }
+    ensures { OnOk result (pointers.new ≡ pointers.old ++ pointers_named (named_in_term term.now)) }
 {
     for joined in term.factors.as_slice() {
         push_fields_of_factor(&joined.factor, pointers)?;
@@ -38,7 +38,7 @@ fn push_fields_of_term(term: &Term, pointers: &mut Seq<Pointer>) -> Result<(), M
 #[tactic(auto, using(crate::proofs::Reading::field_pushed, crate::proofs::Reading::bracket_pushed, crate::proofs::Reading::number_pushed, crate::proofs::Reading::variable_pushed, crate::proofs::Reading::temporary_pushed, crate::proofs::Reading::reference_pushed))]
 fn push_fields_of_factor(factor: &Factor, pointers: &mut Seq<Pointer>) -> Result<(), Memory>
     ensures { OnOk result
-        (pointers.new ≡ pointers.old ++ pointers_named (factor_names factor.now)) }
+        (pointers.new ≡ pointers.old ++ pointers_named (named_in_factor factor.now)) }
 {
     match factor {
         Factor::Field { file, pointer, .. } => {

@@ -1,2 +1,3 @@
 pub mod Dividing
+pub mod Equal
 pub mod Sorting

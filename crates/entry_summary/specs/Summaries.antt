@@ -1,7 +1,6 @@
 -- The summary of an entry.
 use Rattle.std.specs.Prelude.{◌≡◌, ◌↔◌, ℕ, Bool, true, List, Option, Some, slice_get}
 use Rattle.std.specs.List.{Contains}
-use Rattle.std.specs.List.Sorted.{IsStrictlySortedBy}
 use Rattle.plex_num.specs.declared.level.Level.{Level}
 use Rattle.exchange_model.specs.declared.exchange.Exchange.{Exchange}
 use Rattle.exchange_model.specs.declared.expr.Expr.{Expr}
@@ -12,7 +11,6 @@ use Rattle.exchange_model.specs.Names.{level_of}
 use Rattle.source_meaning.specs.Named.{Layer}
 use Rattle.entry_summary.specs.declared.summary.Access.{Access}
 use Rattle.entry_summary.specs.declared.summary.Summary.{Summary}
-use Rattle.entry_summary.specs.Orders.{access_order, level_order}
 use Rattle.flow_points.specs.Places.{Place, StandsAt}
 use Rattle.flow_points.specs.Facts.{Facts, Reached}
 use Rattle.entry_summary.specs.Accesses.{IsAccess}
@@ -31,11 +29,9 @@ pub record MaySendTo (x : Exchange) (P : Facts) (e : ℕ) (level : Level) : Type
   pub reached : Reached P e point
   pub sends : SendsTo x at.layer level
 
--- what these facts say of the jobs of an entry
+-- what these facts say of the jobs of an entry; a summary keeps its accesses and its levels in order
 pub record IsSummary (x : Exchange) (P : Facts) (e : ℕ) (s : Summary) : Type 0 where
   pub level : s.level ≡ level_of x e
   pub accesses : (a : Access) → Contains s.accesses a ↔ IsAccess x P e a
-  pub rising : IsStrictlySortedBy access_order s.accesses
   pub levels : (l : Level) → Contains s.levels l ↔ MaySendTo x P e l
-  pub levels_rising : IsStrictlySortedBy level_order s.levels
   pub fault : (s.fault ≡ true) ↔ MayFault x P e

@@ -1,3 +1,6 @@
+ghost use Rattle.std.specs.List.Sorted.{IsStrictlySortedBy, IsStrictlySortedBy-prop};
+ghost use Rattle.entry_summary.specs.Orders.{access_order, level_order};
+
 use flow_points::Value;
 use plex_num::{Level, Seq};
 
@@ -30,12 +33,14 @@ pub enum Access {
 }
 
 /// What the jobs of an entry may do: the level of the entry, their accesses in order, the levels to which they send in order,
-/// and whether one may fault. No access and no level stands twice.
+/// and whether one may fault. No access and no level stands twice, and none is made otherwise.
 pub struct Summary {
     pub level: Level,
     pub accesses: Seq<Access>,
     pub levels: Seq<Level>,
     pub fault: bool,
+    pub ghost rising: { IsStrictlySortedBy access_order accesses } by { IsStrictlySortedBy-prop access_order accesses },
+    pub ghost levels_rising: { IsStrictlySortedBy level_order levels } by { IsStrictlySortedBy-prop level_order levels },
 }
 
 impl Drop for Summary {

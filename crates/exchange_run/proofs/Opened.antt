@@ -3,12 +3,12 @@ use Rattle.std.proofs.Common.{◌≡◌, ℕ, List, [], sym, ap, ◌∙◌, subs
 use Rattle.exchange_model.specs.declared.exchange.Exchange.{Exchange}
 use Rattle.exchange_model.specs.Kept.{IsExchange}
 use Rattle.exchange_model.specs.Opening.{opening_store}
-use Rattle.source_meaning.specs.SingleRun.{Ending, opening}
-use Rattle.source_meaning.specs.State.{Coming, State}
+use Rattle.source_meaning.specs.SingleRun.{opening}
+use Rattle.source_meaning.specs.State.{Coming}
 use Rattle.source_meaning.specs.Valid.{IsValid, LinesFit}
 use Rattle.source_meaning.proofs.Opening.{opening_valid}
 use Rattle.retire_order.specs.Accounts.{Account, opened, with_words}
-use Rattle.exchange_run.specs.Runs.{RunsTo}
+use Rattle.exchange_run.specs.Runs.{MayGoOn}
 
 pub nobody_runs : (lines : List Coming) (limit : ℕ) (b : Account) → b ≡ opened lines limit → b.running ≡ 0
 nobody_runs lines limit b books = ap (λ (a : Account). a.running) books
@@ -24,8 +24,8 @@ begins x lines limit b words books is = ap (λ (a : Account). with_words a.state
 pub begins_valid : (x : Exchange) (lines : List Coming) (limit : ℕ) (b : Account) (words : List ℕ) → IsExchange x → LinesFit x [] lines → b ≡ opened lines limit → words ≡ opening_store x.blocks → IsValid x (with_words b.state words)
 begins_valid x lines limit b words kept fit books is = subst (IsValid x) (sym (begins x lines limit b words books is)) (opening_valid x kept lines fit)
 
-pub ruleset opened_rules = (nobody_runs, limit_is, begins)
+-- a run may go on with them
+pub may_begin : (x : Exchange) (lines : List Coming) (limit : ℕ) (b : Account) (words : List ℕ) → IsExchange x → LinesFit x [] lines → b ≡ opened lines limit → words ≡ opening_store x.blocks → MayGoOn x (record { books = b; words = words })
+may_begin x lines limit b words kept fit books is = record { nobody = nobody_runs lines limit b books; valid = begins_valid x lines limit b words kept fit books is }
 
--- what the single run from there comes to is what these lines come to
-pub comes_to : (x : Exchange) (first other : State) (limit at : ℕ) (s : State) (words : List ℕ) (e : Ending) → first ≡ other → limit ≡ at → RunsTo x first limit s words e → RunsTo x other at s words e
-comes_to x first other limit at s words e same is runs = subst (λ f. RunsTo x f at s words e) same (subst (λ n. RunsTo x first n s words e) is runs)
+pub ruleset opened_rules = (limit_is, begins)

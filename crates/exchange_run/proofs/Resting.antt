@@ -12,12 +12,15 @@ use Rattle.source_meaning.specs.SingleRun.{Ending, after, begun, end_state, ende
 use Rattle.source_meaning.specs.State.{State, has_stopped}
 use Rattle.source_meaning.specs.Valid.{IsValid}
 use Rattle.order_laws.proofs.Arriving.{arrivals_idle, arrivals_settle, arrivals_stopped}
-use Rattle.retire_order.specs.Accounts.{with_words}
+use Rattle.job_types.specs.declared.outcome.JobDone.{JobDone}
+use Rattle.retire_order.specs.Accounts.{Account}
+use Rattle.retire_order.specs.Events.{ending_of}
+use Rattle.exchange_run.specs.declared.turns.Ended.{Ended}
 use Rattle.exchange_run.specs.declared.turns.Standing.{Standing}
 use Rattle.exchange_run.specs.Comes.{IsOnTheWay}
-use Rattle.exchange_run.specs.Runs.{RunStands, RunsTo}
+use Rattle.exchange_run.specs.Runs.{IsEndOf, MayGoOn, RunsTo, state_of}
 use Rattle.exchange_run.proofs.Ending.{before_end, ends_at}
-use Rattle.exchange_run.proofs.Turning.{goes_on, stands_valid, turn_ended}
+use Rattle.exchange_run.proofs.Turning.{Goes, at_most, stands_valid}
 
 -- ## Nothing is due between two turns
 
@@ -48,24 +51,6 @@ after_both x first n (suc m) =
     let one : after x (after x first n) (suc m) ≡ after x first (suc (m + n)) = ap (turn x) (after_both x first n m) in
     let same : suc (m + n) ≡ suc m + n = omega arith in
     one ∙ ap (after x first) same
-
--- ## The count of jobs
-
--- at least so many jobs have ended
-at_least : (x : Exchange) (first : State) (limit n : ℕ) → ((m : ℕ) → m < n → ending_at limit (after x first m) ≡ None) → n ≤ (after x first n).ended
-unfolding after
-at_least x first limit zero goes = omega arith
-at_least x first limit (suc n) goes =
-    let more = turn_ended x (after x first n) limit (goes n (omega arith)) in
-    let so_far = at_least x first limit n (λ m lt. goes m (omega (arith, lt))) in
-    omega (arith, more, so_far)
-
-at_most : (x : Exchange) (first : State) (limit n : ℕ) → ((m : ℕ) → m < n → ending_at limit (after x first m) ≡ None) → n ≤ limit
-at_most x first limit zero goes = omega arith
-at_most x first limit (suc n) goes =
-    let few = (goes_on limit (after x first n) (goes n (omega arith))).few in
-    let ended = at_least x first limit n (λ m lt. goes m (omega (arith, lt))) in
-    omega (arith, few, ended)
 
 -- ## The run from there
 
@@ -100,35 +85,26 @@ module _ (x : Exchange) (first : State) (limit n : ℕ) (goes : (m : ℕ) → m 
         ends = ap (ending_at limit) (sym far) ∙ r.ends;
       }
 
--- books and words that stand for the single run after so many jobs are on its way
-pub stands_on_the_way : (x : Exchange) (kept : IsExchange x) (first : State) (limit : ℕ) (fit : IsValid x first) (n : ℕ) (run : Standing) (g : RunStands x first limit n run.books run.words) → IsOnTheWay x first limit run
-stands_on_the_way x kept first limit fit n run g = record {
-  nobody = g.nobody;
-  limited = g.limited;
-  valid = stands_valid x kept first limit fit n run.books run.words g;
-  leads = λ s words e r. rests x first limit n g.goes_on s words e (subst (λ (z : State × ℕ). RunsTo x z.0 z.1 s words e) (λ i. (g.state i, g.limited i)) r);
-}
+-- where a run rests it is on its way
+pub goes_rests : {W : Type 0} {tell : W → Exchange → ℕ → JobStart → JobDone → W} {x : Exchange} {first : State} {limit : ℕ} {old : W} {b : Account} {words : List ℕ} {w : W} → IsExchange x → IsValid x first → Goes tell x first limit old b words w → IsOnTheWay x first limit (record { books = b; words = words })
+goes_rests {x = x} {first = first} {limit = limit} {b = b} {words = words} kept fit g =
+    let s = g.stands in
+    record {
+      limited = s.limited;
+      may = record { nobody = s.nobody; valid = stands_valid x kept first limit fit g.count b words s };
+      leads = λ t ws e r. rests x first limit g.count s.goes_on t ws e (subst (λ (z : State × ℕ). RunsTo x z.0 z.1 t ws e) (λ i. (s.state i, s.limited i)) r);
+    }
 
 -- a run goes on from where it stands on its way: the run before it may end there, or rest again
 
-pub way_over : (x : Exchange) (first : State) (limit : ℕ) (run : Standing) (s : State) (words : List ℕ) (e : Ending) → IsOnTheWay x first limit run → RunsTo x (with_words run.books.state run.words) run.books.limit s words e → RunsTo x first limit s words e
-way_over x first limit run s words e way runs = way.leads s words e runs
+pub way_over : {x : Exchange} {first : State} {limit : ℕ} {run : Standing} {end : Ended} → IsOnTheWay x first limit run → IsEndOf x (state_of run) run.books.limit end → IsEndOf x first limit end
+way_over {end = end} way over = record { runs = way.leads end.books.state end.words (ending_of end.ending) over.runs; nobody = over.nobody }
 
-pub way_more : (x : Exchange) (first : State) (limit : ℕ) (run next : Standing) → IsOnTheWay x first limit run → IsOnTheWay x (with_words run.books.state run.words) run.books.limit next → IsOnTheWay x first limit next
-way_more x first limit run next way more = record {
-  nobody = more.nobody;
-  limited = more.limited ∙ way.limited;
-  valid = more.valid;
-  leads = λ s words e runs. way.leads s words e (more.leads s words e runs);
-}
+pub way_more : {x : Exchange} {first : State} {limit : ℕ} {run next : Standing} → IsOnTheWay x first limit run → IsOnTheWay x (state_of run) run.books.limit next → IsOnTheWay x first limit next
+way_more way more = record { limited = more.limited ∙ way.limited; may = more.may; leads = λ s words e runs. way.leads s words e (more.leads s words e runs) }
 
 -- a run stands on its own way
-pub way_begin : (x : Exchange) (run : Standing) → run.books.running ≡ 0 → IsValid x (with_words run.books.state run.words) → IsOnTheWay x (with_words run.books.state run.words) run.books.limit run
-way_begin x run nobody valid = record {
-  nobody = nobody;
-  limited = refl;
-  valid = valid;
-  leads = λ s words e runs. runs;
-}
+pub way_begin : (x : Exchange) (run : Standing) → MayGoOn x run → IsOnTheWay x (state_of run) run.books.limit run
+way_begin x run may = record { limited = refl; may = may; leads = λ s words e runs. runs }
 
 pub ruleset way_rules = (way_begin, way_over, way_more)

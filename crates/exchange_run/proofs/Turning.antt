@@ -21,9 +21,12 @@ use Rattle.source_meaning.specs.Valid.{IsValid, MayBe}
 use Rattle.source_meaning.proofs.Agreeing.{job_length}
 use Rattle.source_meaning.proofs.Retiring.{after_valid, start_fits}
 use Rattle.retire_order.specs.Accounts.{Account, after_start, upcoming, with_words}
-use Rattle.retire_order.specs.Retired.{retired_world}
+use Rattle.job_types.specs.declared.touch.Touch.{Touch}
+use Rattle.retire_order.specs.Retired.{HasRetired, retired_world}
 use Rattle.retire_order.specs.Stores.{MayStore}
-use Rattle.exchange_run.specs.Runs.{MayRun, RunsTo, RunStands, left_by, told_next, told_of, words_after}
+use Rattle.retire_order.specs.Events.{ending_of}
+use Rattle.retire_order.specs.declared.event.Ending.{Ending as EndOf}
+use Rattle.exchange_run.specs.Runs.{HasTurn, IsEndOf, IsTurn, MayRun, RunStands, left_by, told_next, told_of, words_after}
 use Rattle.retire_order.proofs.Arriving.{arrivals_with}
 use Rattle.retire_order.proofs.Cells.{may_store, retired_inside}
 use Rattle.exchange_run.proofs.Counting.{arrivals_ended, retired_ended}
@@ -128,82 +131,110 @@ turn_ended x s limit goes =
     ∙ arrivals_ended x (retires x start done u)
     ∙ retired_ended x start done u
 
+-- a job that has run and retired, and what is due has arrived
+pub turned : {x : Exchange} {b begun_books next last : Account} {start : JobStart} {done : JobDone} {words now after_words : List ℕ} {told now_told : Option (List Touch)} → HasTurn x b words → Some start ≡ upcoming b → begun_books ≡ after_start (Some start) b → done ≡ left_by x start words → now ≡ words_after x start words → HasRetired x start done begun_books next now after_words told now_told → last ≡ record next { state = arrivals x next.state } → IsTurn x b last words after_words
+turned {x = x} {b = b} {begun_books = begun_books} {next = next} {last = last} {start = start} {done = done} {words = words} {now = now} {after_words = after_words} has is begins done_is now_is retired arrived =
+    let none = has.nobody in
+    let left = retired.running in
+    record {
+      state = turn_more x b begun_books next last start done words now after_words is has.nobody has.goes_on begins done_is now_is retired.state arrived;
+      nobody = omega (arith, none, left, ap (λ (a : Account). a.running) arrived, ap (λ (a : Account). a.running) begins);
+      limit = ap (λ (a : Account). a.limit) arrived ∙ retired.limit ∙ ap (λ (a : Account). a.limit) begins;
+    }
+
 -- a watcher that is told of the job of a turn is told of the next one
-pub told_turn : {W : Type 0} (tell : W → Exchange → ℕ → JobStart → JobDone → W) (x : Exchange) (b next : Account) (words now : List ℕ) (start : JobStart) (done : JobDone) (number : ℕ) (w v : W) → Some start ≡ upcoming b → b.running ≡ 0 → ending_at b.limit b.state ≡ None → with_words next.state now ≡ turn x (with_words b.state words) → number ≡ next.state.ended → done ≡ left_by x start words → v ≡ tell w x number start done → v ≡ told_next tell x (with_words b.state words) w
-told_turn tell x b next words now start done number w v is nobody goes turned number_is left told =
-    let count : number ≡ b.state.ended + 1 = number_is ∙ ap (λ (s : State). s.ended) turned ∙ turn_ended x (with_words b.state words) b.limit goes in
+pub told_turn : {W : Type 0} (tell : W → Exchange → ℕ → JobStart → JobDone → W) {x : Exchange} {b next : Account} {words now : List ℕ} {start : JobStart} {done : JobDone} {number : ℕ} {w v : W} → HasTurn x b words → Some start ≡ upcoming b → IsTurn x b next words now → number ≡ next.state.ended → done ≡ left_by x start words → v ≡ tell w x number start done → v ≡ told_next tell x (with_words b.state words) w
+told_turn tell {x = x} {b = b} {words = words} {start = start} {number = number} {w = w} has is turn number_is left told =
+    let count : number ≡ b.state.ended + 1 = number_is ∙ ap (λ (s : State). s.ended) turn.state ∙ turn_ended x (with_words b.state words) b.limit has.goes_on in
     told ∙ (λ i. tell w x (count i) start (left i))
-    ∙ sym (ap (λ o. option_map_or (λ begins. tell w x (b.state.ended + 1) begins (left_by x begins words)) o w) (turn_starts b start is nobody goes))
-
--- one more turn
-pub told_more : {W : Type 0} (tell : W → Exchange → ℕ → JobStart → JobDone → W) (x : Exchange) (first s : State) (n : ℕ) (w v u : W) → s ≡ after x first n → v ≡ told_of tell x first n w → u ≡ told_next tell x s v → u ≡ told_of tell x first (suc n) w
-unfolding told_of
-told_more tell x first s n w v u same so_far told = told ∙ (λ i. told_next tell x (same i) (so_far i))
-
-pub none_told : {W : Type 0} (tell : W → Exchange → ℕ → JobStart → JobDone → W) (x : Exchange) (first : State) (w : W) → w ≡ told_of tell x first 0 w
-unfolding told_of
-none_told tell x first w = refl
+    ∙ sym (ap (λ o. option_map_or (λ begins. tell w x (b.state.ended + 1) begins (left_by x begins words)) o w) (turn_starts b start is has.nobody has.goes_on))
 
 -- ## The run
+
+-- before a run is over, at least and at most so many jobs have ended
+at_least : (x : Exchange) (first : State) (limit n : ℕ) → ((m : ℕ) → m < n → ending_at limit (after x first m) ≡ None) → n ≤ (after x first n).ended
+unfolding after
+at_least x first limit zero goes = omega arith
+at_least x first limit (suc n) goes =
+    let more = turn_ended x (after x first n) limit (goes n (omega arith)) in
+    let so_far = at_least x first limit n (λ m lt. goes m (omega (arith, lt))) in
+    omega (arith, more, so_far)
+
+pub at_most : (x : Exchange) (first : State) (limit n : ℕ) → ((m : ℕ) → m < n → ending_at limit (after x first m) ≡ None) → n ≤ limit
+at_most x first limit zero goes = omega arith
+at_most x first limit (suc n) goes =
+    let few = (goes_on limit (after x first n) (goes n (omega arith))).few in
+    let ended = at_least x first limit n (λ m lt. goes m (omega (arith, lt))) in
+    omega (arith, few, ended)
 
 -- what is due has arrived
 pub stands_begin : (x : Exchange) (before b : Account) (words : List ℕ) → before.running ≡ 0 → b ≡ record before { state = arrivals x before.state } → RunStands x (with_words before.state words) before.limit 0 b words
 unfolding after
 stands_begin x before b words none is = record {
   state = ap (λ (a : Account). with_words a.state words) is ∙ sym (arrivals_with x before.state words);
-  counted = omega arith;
   nobody = ap (λ (a : Account). a.running) is ∙ none;
   limited = ap (λ (a : Account). a.limit) is;
-  few = omega arith;
   goes_on = λ m lt. absurd (omega arith);
 }
 
-module _ (x : Exchange) (kept : IsExchange x) (first : State) (limit : ℕ) (fit : IsValid x first) where
-  module _ (n : ℕ) (b : Account) (words : List ℕ) (g : RunStands x first limit n b words) where
-    pub stands_valid : IsValid x (with_words b.state words)
-    stands_valid = subst (IsValid x) (sym g.state) (after_valid x kept first n fit)
+pub stands_valid : (x : Exchange) → IsExchange x → (first : State) (limit : ℕ) → IsValid x first → (n : ℕ) (b : Account) (words : List ℕ) → RunStands x first limit n b words → IsValid x (with_words b.state words)
+stands_valid x kept first limit fit n b words g = subst (IsValid x) (sym g.state) (after_valid x kept first n fit)
 
-    here_goes : ending_at limit b.state ≡ None → ending_at limit (after x first n) ≡ None
-    here_goes goes = ap (ending_at limit) (sym g.state) ∙ goes
+-- the run stands after some number of jobs, and the watcher has been told of these
+pub record Goes {W : Type 0} (tell : W → Exchange → ℕ → JobStart → JobDone → W) (x : Exchange) (first : State) (limit : ℕ) (old : W) (b : Account) (words : List ℕ) (w : W) : Type 0 where
+  pub count : ℕ
+  pub stands : RunStands x first limit count b words
+  pub told : w ≡ told_of tell x first count old
 
-    pub stands_more : (next : Account) (now : List ℕ) → ending_at b.limit b.state ≡ None → with_words next.state now ≡ turn x (with_words b.state words) → next.running ≡ 0 → next.limit ≡ b.limit → RunStands x first limit (suc n) next now
-    unfolding after
-    stands_more next now goes turned none same =
-        let goes_at : ending_at limit b.state ≡ None = ap (λ l. ending_at l b.state) (sym g.limited) ∙ goes in
-        let s = with_words b.state words in
-        let one = turn_ended x s limit goes_at in
-        let count : next.state.ended ≡ b.state.ended + 1 = ap (λ (t : State). t.ended) turned ∙ one in
-        let few = (goes_on limit b.state goes_at).few in
-        let were = g.counted in
-        record {
-          state = turned ∙ ap (turn x) g.state;
-          counted = omega (arith, count, were);
-          nobody = none;
-          limited = same ∙ g.limited;
-          few = omega (arith, few, were);
-          goes_on = λ m lt. ⊎_elim
-              (λ same. ap (λ k. ending_at limit (after x first k)) same ∙ here_goes goes_at)
-              (λ other. g.goes_on m (let ne = other in grind (arith, lt, ne))) (cases_eq m n);
-        }
+pub goes_begin : {W : Type 0} (tell : W → Exchange → ℕ → JobStart → JobDone → W) (x : Exchange) (before b : Account) (words : List ℕ) (w : W) → before.running ≡ 0 → b ≡ record before { state = arrivals x before.state } → Goes tell x (with_words before.state words) before.limit w b words w
+unfolding told_of
+goes_begin tell x before b words w none is = record { count = 0; stands = stands_begin x before b words none is; told = refl }
 
-    pub stands_fewer : (next : Account) (now : List ℕ) → ending_at b.limit b.state ≡ None → with_words next.state now ≡ turn x (with_words b.state words) → limit - next.state.ended < limit - b.state.ended
-    stands_fewer next now goes turned =
-        let goes_at : ending_at limit b.state ≡ None = ap (λ l. ending_at l b.state) (sym g.limited) ∙ goes in
-        let few = (goes_on limit b.state goes_at).few in
-        let count : next.state.ended ≡ b.state.ended + 1 = ap (λ (t : State). t.ended) turned ∙ turn_ended x (with_words b.state words) limit goes_at in
-        omega (arith, few, count)
+module _ {W : Type 0} {tell : W → Exchange → ℕ → JobStart → JobDone → W} {x : Exchange} {first : State} {limit : ℕ} {old : W} {b : Account} {words : List ℕ} {w : W} (kept : IsExchange x) (fit : IsValid x first) (g : Goes tell x first limit old b words w) where
+  here : RunStands x first limit g.count b words
+  here = g.stands
 
-    -- the run is over after so many jobs
-    pub stands_last : (e : Ending) → Some e ≡ ending_at b.limit b.state → jobs_at_end x limit first ≡ n
-    stands_last e is = ends_at x first limit n e g.few g.goes_on (ap (ending_at limit) (sym g.state) ∙ ap (λ l. ending_at l b.state) (sym g.limited) ∙ sym is)
+  at_limit : {o : Option Ending} → ending_at b.limit b.state ≡ o → ending_at limit (after x first g.count) ≡ o
+  at_limit is = ap (ending_at limit) (sym here.state) ∙ ap (λ l. ending_at l b.state) (sym here.limited) ∙ is
 
-    pub stands_end : (e : Ending) → Some e ≡ ending_at b.limit b.state → RunsTo x first limit b.state words e
-    stands_end e is =
-        let last = stands_last e is in
-        record {
-          state = g.state ∙ ap (after x first) (sym last);
-          ends = ap (λ k. ending_at limit (after x first k)) last ∙ ap (ending_at limit) (sym g.state) ∙ ap (λ l. ending_at l b.state) (sym g.limited) ∙ sym is;
-        }
+  -- there is a turn, where the run is not over
+  pub goes_turn : ending_at b.limit b.state ≡ None → HasTurn x b words
+  goes_turn goes = record { nobody = here.nobody; goes_on = goes; valid = stands_valid x kept first limit fit g.count b words here }
+
+  pub goes_more : {next : Account} {now : List ℕ} {v : W} → ending_at b.limit b.state ≡ None → IsTurn x b next words now → v ≡ told_next tell x (with_words b.state words) w → Goes tell x first limit old next now v
+  unfolding after told_of
+  goes_more goes turned told = record {
+    count = suc g.count;
+    stands = record {
+      state = turned.state ∙ ap (turn x) here.state;
+      nobody = turned.nobody;
+      limited = turned.limit ∙ here.limited;
+      goes_on = λ m lt. ⊎_elim
+          (λ same. ap (λ k. ending_at limit (after x first k)) same ∙ at_limit goes)
+          (λ other. here.goes_on m (let ne = other in grind (arith, lt, ne))) (cases_eq m g.count);
+    };
+    told = told ∙ (λ i. told_next tell x (here.state i) (g.told i));
+  }
+
+  pub goes_fewer : {next : Account} {now : List ℕ} → ending_at b.limit b.state ≡ None → IsTurn x b next words now → limit - next.state.ended < limit - b.state.ended
+  goes_fewer {next = next} goes turned =
+      let few = (goes_on b.limit b.state goes).few in
+      let same = here.limited in
+      let count : next.state.ended ≡ b.state.ended + 1 = ap (λ (t : State). t.ended) turned.state ∙ turn_ended x (with_words b.state words) b.limit goes in
+      omega (arith, few, same, count)
+
+  -- the run is over after so many jobs
+  last_turn : {e : Ending} → Some e ≡ ending_at b.limit b.state → jobs_at_end x limit first ≡ g.count
+  last_turn {e = e} is = ends_at x first limit g.count e (at_most x first limit g.count here.goes_on) here.goes_on (at_limit (sym is))
+
+  pub goes_over : (e : EndOf) → Some (ending_of e) ≡ ending_at b.limit b.state → IsEndOf x first limit (record { books = b; words = words; ending = e })
+  goes_over e is = record {
+    runs = record { state = here.state ∙ ap (after x first) (sym (last_turn is)); ends = ap (λ k. ending_at limit (after x first k)) (last_turn is) ∙ at_limit (sym is) };
+    nobody = here.nobody;
+  }
+
+  pub goes_told : {e : Ending} → Some e ≡ ending_at b.limit b.state → w ≡ told_of tell x first (jobs_at_end x limit first) old
+  goes_told is = g.told ∙ ap (λ n. told_of tell x first n old) (sym (last_turn is))
 
 -- the count of ended jobs is the number of turns
 pub counted : (x : Exchange) (first : State) → first.ended ≡ 0 → (limit n : ℕ) → n ≤ jobs_at_end x limit first → (after x first n).ended ≡ n

@@ -1,7 +1,7 @@
 // Jobs run by compiled code.
 ghost use Rattle.std.specs.Prelude.{◌≡◌};
 
-use crate::lengths::Lengths;
+use crate::lengths::{Lengths, Rest};
 use crate::runner::Runner;
 use exchange_model::Exchange;
 use job_types::{JobDone, JobStart};
@@ -10,8 +10,8 @@ use plex_io::{Gate, Place};
 use plex_num::{Memory, Seq};
 use register_machine::{JobRun, run_to_end};
 
-/// Runs each job by the register machine on faithful code, and calls the gate before and after it. One run serves all jobs, each begun
-/// in the place of the one before.
+/// Runs each job by the register machine on faithful code, and calls the gate before and after it.
+/// One run serves all jobs, each begun in the place of the one before.
 #[derive(Drop)]
 pub struct ByCode<'a, G> {
     code: &'a Code,
@@ -23,13 +23,6 @@ pub struct ByCode<'a, G> {
 }
 
 impl<'a, G: Gate> ByCode<'a, G> {
-    /// Before the first job.
-    pub fn new(code: &'a Code, gate: &'a G) -> ByCode<'a, G>
-        ensures { result.code.now ≡ code.now }
-    {
-        ByCode::behind(code, gate, 0)
-    }
-
     /// Before the next job, where so many have ended: the gate knows it by the number behind those.
     pub fn behind(code: &'a Code, gate: &'a G, ended: u64) -> ByCode<'a, G>
         ensures { result.code.now ≡ code.now }
@@ -41,12 +34,6 @@ impl<'a, G: Gate> ByCode<'a, G> {
             begun: ended,
             lengths: Lengths::new(),
         }
-    }
-
-    /// Whether the jobs of late made more than so many instructions in the mean, and all of its jobs
-    /// at least so many.
-    pub(crate) fn has_long_jobs(&self, mean: u64, least: u64) -> bool {
-        self.lengths.are_above(mean) && self.lengths.made() >= least
     }
 }
 
@@ -78,5 +65,9 @@ impl<'a, G: Gate> Runner for ByCode<'a, G> {
 
     fn done(&self) -> &JobDone {
         self.run.done()
+    }
+
+    fn has_long_jobs(&self, rest: Rest) -> bool {
+        self.lengths.allow(rest)
     }
 }

@@ -1,18 +1,22 @@
 // Jobs run by what their statements mean.
-ghost use Rattle.std.specs.Prelude.{◌≡◌};
+ghost use Rattle.std.specs.Prelude.{IfOk};
+ghost use Rattle.source_interpreter.specs.Cases.{AreTablesOf};
 
+use crate::lengths::Rest;
 use crate::runner::Runner;
 use exchange_model::Exchange;
 use job_types::{Chain, JobDone, JobStart, Outbox, Outcome};
 use plex_io::{Gate, Place};
 use plex_num::{Memory, Seq};
-use source_interpreter::plain_job;
+use source_interpreter::{Cases, plain_job};
 use std::alloc::Global;
 
-/// Runs each job by the source interpreter, and calls the gate before and after it. It counts no steps, and tells the gate of none.
+/// Runs each job by the source interpreter, and calls the gate before and after it. It counts no
+/// steps, and tells the gate of none.
 #[derive(Drop)]
 pub struct BySource<'a, G> {
     alloc: Global,
+    cases: Cases,
     gate: &'a G,
     done: JobDone,
     /// How many jobs have begun.
@@ -20,10 +24,14 @@ pub struct BySource<'a, G> {
 }
 
 impl<'a, G: Gate> BySource<'a, G> {
-    /// Before the first job.
-    pub fn new(alloc: Global, gate: &'a G) -> BySource<'a, G> {
-        BySource {
+    /// Before the first job of an exchange, whose tables are made; `Memory` comes where memory is refused.
+    pub fn new(alloc: Global, exchange: &Exchange, gate: &'a G) -> Result<BySource<'a, G>, Memory>
+        ensures { IfOk result (λ runner. AreTablesOf runner.cases exchange.now.blocks) }
+    {
+        let cases = Cases::new(alloc, exchange)?;
+        Ok(BySource {
             alloc,
+            cases,
             gate,
             done: JobDone {
                 sends: Outbox::new(),
@@ -31,14 +39,15 @@ impl<'a, G: Gate> BySource<'a, G> {
                 outcome: Outcome::Ended,
             },
             begun: 0,
-        }
+        })
     }
 }
 
 impl<'a, G: Gate> Runner for BySource<'a, G> {
     ghost use Rattle.std.specs.Prelude.{◌≡◌};
+    ghost use Rattle.source_interpreter.specs.Cases.{AreTablesOf};
 
-    ghost runs = { λ _ _. Unit {0} };
+    ghost runs = { λ r x. AreTablesOf r.cases x.blocks };
 
     ghost has_left = { λ r d. r.done ≡ d };
 
@@ -50,12 +59,16 @@ impl<'a, G: Gate> Runner for BySource<'a, G> {
     ) -> Result<(), Memory> {
         self.begun = self.begun.wrapping_add(1);
         self.gate.at(self.begun, Place::Before);
-        self.done = plain_job(self.alloc, exchange, words, start)?;
+        self.done = plain_job(self.alloc, exchange, &self.cases, words, start)?;
         self.gate.at(self.begun, Place::After { steps: 0 });
         Ok(())
     }
 
     fn done(&self) -> &JobDone {
         &self.done
+    }
+
+    fn has_long_jobs(&self, _rest: Rest) -> bool {
+        false
     }
 }

@@ -22,6 +22,24 @@ pub fn long_job(workers: u32) -> u64 {
     LEAST.saturating_add(ALONE / u64::from(workers).max(1))
 }
 
+/// Where a run may rest: behind a job, where the jobs of late made more than `mean` instructions in the
+/// mean, and all jobs of its runner made at least so many.
+#[derive(Clone, Copy)]
+pub struct Rest {
+    mean: u64,
+    least: u64,
+}
+
+impl Rest {
+    /// Where jobs are long for so many workers, and all made at least so many instructions.
+    pub fn when(workers: u32, least: u64) -> Rest {
+        Rest {
+            mean: long_job(workers),
+            least,
+        }
+    }
+}
+
 /// How many jobs count, how many instructions they made, of each at most so many as count, and how
 /// many instructions all jobs made.
 #[derive(Drop)]
@@ -52,13 +70,8 @@ impl Lengths {
         self.made = self.made.saturating_add(steps);
     }
 
-    /// Whether the jobs of late made more than so many instructions in the mean.
-    pub fn are_above(&self, mean: u64) -> bool {
-        self.counted > self.jobs.saturating_mul(mean)
-    }
-
-    /// How many instructions all jobs made.
-    pub fn made(&self) -> u64 {
-        self.made
+    /// Whether the jobs are as long as they must be for a rest.
+    pub fn allow(&self, rest: Rest) -> bool {
+        self.counted > self.jobs.saturating_mul(rest.mean) && self.made >= rest.least
     }
 }

@@ -4,6 +4,7 @@ ghost use Rattle.exchange_model.specs.declared.exchange.Exchange.{Exchange};
 ghost use Rattle.job_types.specs.declared.outcome.JobDone.{JobDone};
 ghost use Rattle.exchange_run.specs.Runs.{MayRun, left_by, words_after};
 
+use crate::lengths::Rest;
 use exchange_model::Exchange;
 use job_types::{JobDone, JobStart};
 use plex_num::{Memory, Seq};
@@ -33,4 +34,7 @@ pub trait Runner {
     fn done(&self) -> &JobDone
         requires { (d : JobDone) × has_left self.now d }
         ensures { (d : JobDone) → has_left self.now d → result.now ≡ d };
+
+    /// Whether its jobs are as long as they must be for a rest.
+    fn has_long_jobs(&self, rest: Rest) -> bool;
 }

@@ -1,16 +1,17 @@
-// One turn after the other, to the end of the run.
-ghost use Rattle.std.specs.Prelude.{◌≡◌, ◌<◌, ◌≤◌, ◌^◌, [], length, map, None, IfOk, OnOk};
+// One turn after the other, to the end of the run or to where it may rest.
+ghost use Rattle.std.specs.Prelude.{◌≡◌, ◌<◌, ◌≤◌, ◌^◌, [], length, map, false, None, IfOk, OnOk};
 ghost use Rattle.plex_limits.specs.declared.limits.TheConstants.{MOST_JOBS};
 ghost use Rattle.store_layout.specs.Laid.{IsLayout};
-ghost use Rattle.source_meaning.specs.SingleRun.{ending_at, jobs_at_end, opening, turn};
-ghost use Rattle.source_meaning.specs.Valid.{IsValid, LinesFit};
+ghost use Rattle.source_meaning.specs.SingleRun.{jobs_at_end, opening};
+ghost use Rattle.source_meaning.specs.Valid.{LinesFit};
 ghost use Rattle.retire_order.specs.Accounts.{with_words};
-ghost use Rattle.retire_order.specs.Events.{ending_of};
 ghost use Rattle.retire_order.specs.Lines.{coming_of};
-ghost use Rattle.exchange_run.specs.Runs.{ComesTo, RunsTo, told_next, told_of};
+ghost use Rattle.exchange_run.specs.Comes.{HasCome, IsOver, IsTold};
+ghost use Rattle.exchange_run.specs.Runs.{HasTurn, IsEndOf, IsTurn, MayGoOn, state_of, told_next, told_of};
 
+use crate::lengths::Rest;
 use crate::runner::Runner;
-use crate::watcher::{Unwatched, Watcher};
+use crate::watcher::Watcher;
 use exchange_model::Exchange;
 use plex_num::{Memory, Seq};
 use retire_order::{Books, Ending, let_arrive};
@@ -33,7 +34,17 @@ pub struct Ended {
     pub ending: Ending,
 }
 
-/// Before the first of these lines has arrived. `limit` is after how many jobs the run ends at the latest.
+/// How far a run has come.
+#[derive(Drop)]
+pub enum Come {
+    /// To its end.
+    Over(Ended),
+    /// To a job after which it may rest.
+    Among(Standing),
+}
+
+/// Before the first of these lines has arrived. `limit` is after how many jobs the run ends at the
+/// latest.
 #[tactic(auto, using(crate::proofs::Opened::opened_rules))]
 pub fn before_lines(
     alloc: Global,
@@ -46,12 +57,10 @@ pub fn before_lines(
     requires few { length lines < 2 ^ 32 }
     requires lines { LinesFit exchange.now [] (map coming_of lines) }
     requires layout { IsLayout exchange.now.blocks layout.now }
-    ensures state { IfOk result (λ run. with_words run.books.state run.words
-        ≡ opening exchange.now (map coming_of lines)) }
-    ensures nobody { IfOk result (λ run. run.books.running ≡ 0) }
+    ensures state { IfOk result
+        (λ run. state_of run ≡ opening exchange.now (map coming_of lines)) }
     ensures limit { IfOk result (λ run. run.books.limit ≡ limit) }
-    ensures valid { IfOk result (λ run. IsValid exchange.now
-        (with_words run.books.state run.words)) }
+    ensures may { IfOk result (λ run. MayGoOn exchange.now run) }
 {
     exchange.kept();
     let words = opening(alloc, exchange, layout)?;
@@ -59,33 +68,8 @@ pub fn before_lines(
     Ok(Standing { books, words })
 }
 
-/// Runs these lines to the end of the single run, each job by the runner. `limit` is after how many jobs it ends at the
-/// latest.
-#[tactic(auto, using(crate::proofs::Opened::comes_to))]
-pub fn run_lines<R: Runner>(
-    alloc: Global,
-    exchange: &Exchange,
-    layout: &Layout,
-    lines: Seq<Line>,
-    limit: u64,
-    runner: &mut R,
-) -> Result<Ended, Memory>
-    requires limit { limit ≤ MOST_JOBS }
-    requires few { length lines < 2 ^ 32 }
-    requires lines { LinesFit exchange.now [] (map coming_of lines) }
-    requires layout { IsLayout exchange.now.blocks layout.now }
-    requires runner { R.runs runner.old exchange.now }
-    ensures { IfOk result (λ end.
-        ComesTo exchange.now (map coming_of lines) limit end.books.state end.words
-        (ending_of end.ending)) }
-{
-    let run = before_lines(alloc, exchange, layout, lines, limit)?;
-    let end = run_books(exchange, layout, run, runner, &mut Unwatched)?;
-    Ok(end)
-}
-
-/// Goes on with these books and words to the end of the single run, each job by the runner, and tells the watcher of each. Nobody may
-/// run, and they must stand for a valid state.
+/// Goes on with these books and words to the end of the single run, each job by the runner, and
+/// tells the watcher of each. Nobody may run, and they must stand for a valid state.
 pub fn run_books<R: Runner, W: Watcher>(
     exchange: &Exchange,
     layout: &Layout,
@@ -93,18 +77,38 @@ pub fn run_books<R: Runner, W: Watcher>(
     runner: &mut R,
     watcher: &mut W,
 ) -> Result<Ended, Memory>
-    requires nobody { run.books.running ≡ 0 }
-    requires valid { IsValid exchange.now (with_words run.books.state run.words) }
+    requires run { MayGoOn exchange.now run }
     requires layout { IsLayout exchange.now.blocks layout.now }
     requires runner { R.runs runner.old exchange.now }
-    ensures end { IfOk result (λ end. RunsTo exchange.now
-        (with_words run.books.state run.words) run.books.limit
-        end.books.state end.words (ending_of end.ending)) }
-    ensures nobody { IfOk result (λ end. end.books.running ≡ 0) }
-    ensures watcher { OnOk result (watcher.new ≡ told_of W.told exchange.now
-        (with_words run.books.state run.words)
-        (jobs_at_end exchange.now run.books.limit (with_words run.books.state run.words))
-        watcher.old) }
+    ensures end { IfOk result (λ end. IsEndOf exchange.now (state_of run) run.books.limit end) }
+    ensures watcher { OnOk result (watcher.new ≡ told_of W.told exchange.now (state_of run)
+        (jobs_at_end exchange.now run.books.limit (state_of run)) watcher.old) }
+{
+    let come = run_until(exchange, layout, run, runner, watcher, None)?;
+    match come {
+        Come::Over(end) => Ok(end),
+        Come::Among(_) => unreachable!(),
+    }
+}
+
+/// The same, but where the jobs have become so long, the run rests among them.
+pub fn run_until<R: Runner, W: Watcher>(
+    exchange: &Exchange,
+    layout: &Layout,
+    run: Standing,
+    runner: &mut R,
+    watcher: &mut W,
+    rest: Option<Rest>,
+) -> Result<Come, Memory>
+    requires run { MayGoOn exchange.now run }
+    requires layout { IsLayout exchange.now.blocks layout.now }
+    requires runner { R.runs runner.old exchange.now }
+    ensures come { IfOk result
+        (λ come. HasCome exchange.now (state_of run) run.books.limit come) }
+    ensures over { rest ≡ None → IfOk result (λ come. IsOver come) }
+    ensures runner { R.runs runner.new exchange.now }
+    ensures told { IfOk result (λ come. IsTold W.told exchange.now
+        (state_of run) run.books.limit watcher.old watcher.new come) }
 {
     exchange.kept();
     let Standing {
@@ -114,19 +118,32 @@ pub fn run_books<R: Runner, W: Watcher>(
     let_arrive(exchange, &mut books)?;
     'jobs: loop {
         if let Some(ending) = books.finished() {
-            return Ok(Ended {
+            return Ok(Come::Over(Ended {
                 books,
                 words,
                 ending,
-            });
+            }));
+        }
+        if may_rest(runner, rest) {
+            return Ok(Come::Among(Standing { books, words }));
         }
         make_turn(exchange, layout, &mut books, &mut words, runner, watcher)?;
     }
 }
 
-/// The next job runs and retires, what is due arrives, and the watcher is told of the job. No job may run before, and the run may not be
-/// over.
-pub(crate) fn make_turn<R: Runner, W: Watcher>(
+/// Whether the jobs of a runner are as long as they must be for a rest.
+fn may_rest<R: Runner>(runner: &R, rest: Option<Rest>) -> bool
+    ensures { rest ≡ None → result ≡ false }
+{
+    match rest {
+        Some(rest) => runner.has_long_jobs(rest),
+        None => false,
+    }
+}
+
+/// The next job runs and retires, what is due arrives, and the watcher is told of the job. No job
+/// may run before, and the run may not be over.
+fn make_turn<R: Runner, W: Watcher>(
     exchange: &Exchange,
     layout: &Layout,
     books: &mut Books,
@@ -134,15 +151,10 @@ pub(crate) fn make_turn<R: Runner, W: Watcher>(
     runner: &mut R,
     watcher: &mut W,
 ) -> Result<(), Memory>
-    requires nobody { books.old.running ≡ 0 }
-    requires goes_on { ending_at books.old.limit books.old.state ≡ None }
-    requires valid { IsValid exchange.now (with_words books.old.state words.old) }
+    requires turn { HasTurn exchange.now books.old words.old }
     requires layout { IsLayout exchange.now.blocks layout.now }
     requires runner { R.runs runner.old exchange.now }
-    ensures state { OnOk result (with_words books.new.state words.new
-        ≡ turn exchange.now (with_words books.old.state words.old)) }
-    ensures nobody { OnOk result (books.new.running ≡ 0) }
-    ensures limit { OnOk result (books.new.limit ≡ books.old.limit) }
+    ensures turn { OnOk result (IsTurn exchange.now books.old books.new words.old words.new) }
     ensures runner { R.runs runner.new exchange.now }
     ensures watcher { OnOk result (watcher.new ≡ told_next W.told exchange.now
         (with_words books.old.state words.old) watcher.old) }

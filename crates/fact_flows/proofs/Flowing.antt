@@ -27,12 +27,12 @@ use Rattle.flow_table.specs.Rows.{IsRowOf, IsFlowTable}
 use Rattle.flow_table.specs.Small.{IsSmall}
 use Rattle.flow_table.specs.Ways.{IsEnd}
 use Rattle.flow_table.proofs.Rowing.{place_fits}
+use Rattle.flow_table.proofs.Slotted.{row_of}
 use Rattle.fact_flows.specs.Flows.{OneGives, FlowsTo, WayGives, StartsIn}
 use Rattle.fact_flows.specs.Given.{GivenAt, GivenAtStart}
 use Rattle.fact_flows.specs.Slots.{AreSlots}
 use Rattle.fact_flows.proofs.Gathering.{Gathers, gather_more, given_as, given_none}
 use Rattle.fact_flows.proofs.Peopled.{point_stands}
-use Rattle.fact_flows.proofs.Slotting.{row_of}
 
 -- one flow
 

@@ -4,10 +4,9 @@ use Rattle.std.proofs.Math.Nat.{le-max_left, le-max_right}
 use Rattle.std.proofs.lemmas.List.Elements.{Contains-append_cases}
 use Rattle.std.proofs.lemmas.List.FromFn.{length-range_with_len, get_or-range_with_len}
 use Rattle.std.specs.List.{Contains, range_with_len}
-use Rattle.plex_num.proofs.Members.{first_or_later, none_in}
+use Rattle.plex_num.proofs.Members.{first_or_later, none_in, first_is, later_is}
 use Rattle.exchange_model.specs.declared.block.Block.{Block}
 use Rattle.exchange_model.specs.declared.exchange.Exchange.{Exchange}
-use Rattle.exchange_model.specs.declared.expr.Expr.{Expr}
 use Rattle.exchange_model.specs.declared.stmt.Stmt.{Stmt}
 use Rattle.exchange_model.specs.declared.stmt.When.{When, out-When}
 use Rattle.exchange_model.specs.declared.stmt.StmtKind.{out-StmtKind}
@@ -16,12 +15,11 @@ use Rattle.exchange_model.specs.Inside.{PointLine, joined, most, spots, inner_sp
 use Rattle.exchange_model.specs.Kept.{IsExchange, all_spots}
 use Rattle.exchange_model.specs.PartCounts.{parts_depth, when_depth, stmt_spots, when_spots, parts_spots}
 use Rattle.exchange_model.proofs.Counted.{inner_spots-out, kind_depth-out}
-use Rattle.source_meaning.specs.Deeds.{IsBranch}
 use Rattle.source_meaning.specs.Named.{Layer}
-use Rattle.source_meaning.specs.Rests.{IsRow, whole, later, branch, turn, first_point}
-use Rattle.source_meaning.proofs.Lists.{first_is, later_is}
+use Rattle.source_meaning.specs.Rests.{IsRow, whole, later, first_point}
 use Rattle.source_meaning.proofs.Points.{points_many}
 use Rattle.flow_points.specs.Places.{Place, place_of, StandsAt}
+use Rattle.flow_table.proofs.Standing.{HasRows, get_later, has_rows}
 
 -- a statement at the point
 pub record Standing (x : Exchange) (p : ℕ) : Type 0 where
@@ -42,17 +40,6 @@ module _ (x : Exchange) (b : ℕ) where
   abbrev Stood : ℕ → Type 0
   Stood n = (list : List Stmt) (end : Option ℕ) → IsRow x b list end → text_depth list < n → (spot : PointLine) → Contains (spots list) spot → Standing x spot.point
 
-  -- what is in a statement is of rows of the text
-  record HasRows (p : ℕ) (next : Option ℕ) (l : Layer) : Type 0 where
-    branches : (body : List Stmt) → IsBranch l body → IsRow x b body next
-    turns : (temp : ℕ) (from upto : Expr) (body : List Stmt) → l ≡ stmt.On temp from upto body → IsRow x b body (Some p)
-
-  has_rows : (s : Stmt) (rest : List Stmt) (end : Option ℕ) → IsRow x b (s ∷ rest) end → HasRows s.point (first_point rest end) (out-StmtKind s.kind)
-  has_rows s rest end row = record {
-    branches = λ body is. branch s rest end body row is;
-    turns = λ temp from upto body is. turn s rest end temp from upto body row is;
-  }
-
   in_whens : (n : ℕ) (next : Option ℕ) → Stood n → (whens : List When) → ((w : When) → Contains whens w → IsRow x b (out-When w).body next) → most (map when_depth whens) < n → (spot : PointLine) → Contains (joined (map when_spots whens)) spot → Standing x spot.point
   in_whens n next deep [] rows lt spot c = absurd (none_in spot c)
   in_whens n next deep (w ∷ ws) rows lt spot c =
@@ -61,7 +48,7 @@ module _ (x : Exchange) (b : ℕ) where
       (λ more. in_whens n next deep ws (λ v at. rows v (later_is w v ws at)) (right_lt (when_depth w) (most (map when_depth ws)) n lt) spot more)
       (Contains-append_cases (when_spots w) (joined (map when_spots ws)) spot c)
 
-  inside : (n p : ℕ) (next : Option ℕ) → Stood n → (l : Layer) → HasRows p next l → parts_depth l < suc n → (spot : PointLine) → Contains (parts_spots l) spot → Standing x spot.point
+  inside : (n p : ℕ) (next : Option ℕ) → Stood n → (l : Layer) → HasRows x b p next l → parts_depth l < suc n → (spot : PointLine) → Contains (parts_spots l) spot → Standing x spot.point
   inside n p next deep (stmt.If cond yes_part no_part) rows lt spot c =
       let low = one_less (max (text_depth yes_part) (text_depth no_part)) n lt in
       ⊎_elim
@@ -93,7 +80,7 @@ module _ (x : Exchange) (b : ℕ) where
 
       within : Contains (inner_spots s.kind) spot → Standing x spot.point
       within h =
-          inside n s.point (first_point rest end) deep (out-StmtKind s.kind) (has_rows s rest end row)
+          inside n s.point (first_point rest end) deep (out-StmtKind s.kind) (has_rows x b s rest end row)
           (subst (λ d. d < suc n) (kind_depth-out s.kind) (left_lt (kind_depth s.kind) (text_depth rest) (suc n) lt))
           spot
           (subst (λ l. Contains l spot) (inner_spots-out s.kind) h)
@@ -103,9 +90,6 @@ module _ (x : Exchange) (b : ℕ) where
   all_stood (suc n) list end row lt = deeper n (all_stood n) list end row lt
 
 module _ (x : Exchange) where
-  get_later : {A : Type 0} (xs all : List A) (y : A) (n : ℕ) → ((i : ℕ) (z : A) → slice_get (y ∷ xs) i ≡ Some z → slice_get all (n + i) ≡ Some z) → (i : ℕ) (z : A) → slice_get xs i ≡ Some z → slice_get all (n + 1 + i) ≡ Some z
-  get_later xs all y n h i z is = (let e : n + suc i ≡ n + 1 + i = omega arith in subst (λ m. slice_get all m ≡ Some z) e (h (suc i) z is))
-
   texts_from : (b : ℕ) (blocks : List Block) → ((i : ℕ) (k : Block) → slice_get blocks i ≡ Some k → slice_get x.blocks (b + i) ≡ Some k) → (spot : PointLine) → Contains (all_spots blocks) spot → Standing x spot.point
   texts_from b [] are spot c = absurd (none_in spot c)
   texts_from b (k ∷ rest) are spot c =

@@ -2,19 +2,18 @@
 use Rattle.std.proofs.Common.{◌≡◌, ⊎_elim, ℕ, ◌+◌, ◌<◌, ◌≤◌, List, [], ◌∷◌, ◌++◌, length, map, Some, slice_get, sym, ap, ◌∙◌, subst, arith, append-nil, append_assoc}
 use Rattle.std.proofs.lemmas.List.Elements.{Contains-append_left, Contains-append_right, Contains-append_cases}
 use Rattle.std.proofs.lemmas.List.FromFn.{length-map-range_with_len, get_or-map-range_with_len, map-range_with_len_more}
-use Rattle.std.proofs.lemmas.Option.{none-some, same_Some, slice_get_past, slice_get_within}
+use Rattle.std.proofs.lemmas.Option.{none-some, slice_get_past, slice_get_within}
 use Rattle.std.specs.List.{Contains, range_with_len}
-use Rattle.plex_num.proofs.Members.{first_or_later, none_in}
+use Rattle.plex_num.proofs.Members.{first_or_later, none_in, first_is, later_is}
 use Rattle.exchange_model.specs.declared.exchange.Exchange.{Exchange}
 use Rattle.exchange_model.specs.Kept.{IsExchange}
-use Rattle.source_meaning.proofs.Lists.{first_is, later_is}
 use Rattle.flow_points.specs.declared.fact.Slot.{Slot}
 use Rattle.flow_points.specs.declared.fact.Slot.TheVariants as slot
-use Rattle.flow_points.specs.Places.{Place, StandsAt}
-use Rattle.flow_points.specs.Slots.{IsSlotOf, HasSlot}
+use Rattle.flow_points.specs.Slots.{HasSlot}
 use Rattle.flow_table.specs.declared.row.Row.{Row}
 use Rattle.flow_table.specs.declared.row.FlowTable.{FlowTable}
-use Rattle.flow_table.specs.Rows.{IsRowOf, IsFlowTable}
+use Rattle.flow_table.specs.Rows.{IsFlowTable, RowHas}
+use Rattle.flow_table.proofs.Slotted.{row_of, row_of_slot, slot_of_row}
 use Rattle.fact_flows.specs.declared.slots.Numbered.{Numbered}
 use Rattle.fact_flows.specs.declared.slots.Numbered.TheVariants.{Temp, Given, Answered}
 use Rattle.fact_flows.specs.Slots.{AreSlots, numbered_slot, row_slots}
@@ -64,14 +63,6 @@ numbered_in m n k lt =
     let e : 0 + k ≡ k = omega arith in
     (k, omega (arith, long, lt), get_or-map-range_with_len (numbered_slot m) 0 n k k (numbered_slot m k) lt e)
 
--- a slot that a row tells
-abbrev RowHas : Row → Slot → Type 0
-RowHas r (slot.Temp t) = t < r.temps
-RowHas r (slot.Given k) = k < r.given
-RowHas r (slot.Answered k) = k < r.answered
-RowHas r slot.Depth = Unit {0}
-RowHas r slot.Awaits = Unit {0}
-
 listed_has : (r : Row) (s : Slot) → Contains (row_slots r) s → RowHas r s
 listed_has r s c =
     let ts = map (numbered_slot Temp) (range_with_len 0 r.temps) in
@@ -116,25 +107,6 @@ has_listed r s h = by s h
     by slot.Depth u = past_answered slot.Depth (first_is slot.Depth (slot.Awaits ∷ []))
     by slot.Awaits u = past_answered slot.Awaits (later_is slot.Depth slot.Awaits (slot.Awaits ∷ []) (first_is slot.Awaits []))
 
-row_to_place : (x : Exchange) (at : Place) (r : Row) (s : Slot) → IsRowOf x at r → RowHas r s → IsSlotOf x at s
-row_to_place x at r (slot.Temp t) is h = subst (λ n. t < n) is.temps h
-row_to_place x at r (slot.Given t) is h = subst (λ n. t < n) is.given h
-row_to_place x at r (slot.Answered t) is h = subst (λ n. t < n) is.answered h
-row_to_place x at r slot.Depth is h = tt
-row_to_place x at r slot.Awaits is h = tt
-
-place_to_row : (x : Exchange) (at : Place) (r : Row) (s : Slot) → IsRowOf x at r → IsSlotOf x at s → RowHas r s
-place_to_row x at r (slot.Temp t) is h = subst (λ n. t < n) (sym is.temps) h
-place_to_row x at r (slot.Given t) is h = subst (λ n. t < n) (sym is.given) h
-place_to_row x at r (slot.Answered t) is h = subst (λ n. t < n) (sym is.answered) h
-place_to_row x at r slot.Depth is h = tt
-place_to_row x at r slot.Awaits is h = tt
-
--- the row of a point is of what stands there
-
-pub row_of : (x : Exchange) (t : FlowTable) (p : ℕ) (r : Row) (at : Place) → IsFlowTable x t → slice_get t.rows p ≡ Some r → StandsAt x p at → IsRowOf x at r
-row_of x t p r at table there stands = (let h = table.rows.each p at stands in subst (IsRowOf x at) (same_Some h.row r (sym h.there ∙ there)) h.is)
-
 pub some_slots : (x : Exchange) (t : FlowTable) (p : ℕ) (r : Row) (slots : List Slot) → IsExchange x → IsFlowTable x t → slice_get t.rows p ≡ Some r → slots ≡ row_slots r → AreSlots x p slots
 some_slots x t p r slots kept table there is = record { exact = λ s. (from s, to s) }
   where
@@ -142,10 +114,10 @@ some_slots x t p r slots kept table there is = record { exact = λ s. (from s, t
     from s c =
         let below : p < length x.points = (let lt = slice_get_within t.rows p r there in let e = table.rows.each_point in omega (arith, lt, e)) in
         let at = point_stands x kept p below in
-        record { place = at.at; stands = at.stands; slot = row_to_place x at.at r s (row_of x t p r at.at table there at.stands) (listed_has r s (subst (λ l. Contains l s) is c)) }
+        record { place = at.at; stands = at.stands; slot = slot_of_row x at.at r s (row_of x t p r at.at table there at.stands) (listed_has r s (subst (λ l. Contains l s) is c)) }
 
     to : (s : Slot) → HasSlot x p s → Contains slots s
-    to s h = subst (λ l. Contains l s) (sym is) (has_listed r s (place_to_row x h.place r s (row_of x t p r h.place table there h.stands) h.slot))
+    to s h = subst (λ l. Contains l s) (sym is) (has_listed r s (row_of_slot x h.place r s (row_of x t p r h.place table there h.stands) h.slot))
 
 pub no_slots : (x : Exchange) (t : FlowTable) (p : ℕ) (slots : List Slot) → IsFlowTable x t → length t.rows ≤ p → slots ≡ [] → AreSlots x p slots
 no_slots x t p slots table past none = record { exact = λ s. (λ c. absurd (none_in s (subst (λ l. Contains l s) none c)), λ h. absurd (nothing s h)) }

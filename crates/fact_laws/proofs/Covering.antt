@@ -1,15 +1,12 @@
 -- Closed facts cover a job before each of its steps.
-use Rattle.std.proofs.Common.{◌≡◌, ◌⊎◌, inl, inr, ⊎_elim, ℕ, zero, suc, ◌≤◌, Bool, List, [], ◌∷◌, length, Option, Some, None, refl, sym, ap, ◌∙◌, subst, slice_get, arith}
+use Rattle.std.proofs.Common.{◌≡◌, ◌⊎◌, inl, inr, ⊎_elim, ℕ, zero, suc, Bool, List, [], ◌∷◌, Option, Some, None, refl, sym, ap, ◌∙◌, subst, arith}
 use Rattle.std.proofs.lemmas.Bool.{eqb-true}
 use Rattle.std.proofs.lemmas.Option.{none-some}
 use Rattle.std.specs.Prelude.{if◌then◌else◌}
 use Rattle.std.specs.List.{AllByRecursion}
-use Rattle.std.specs.Option.{option_map_or}
-use Rattle.plex_limits.specs.declared.limits.TheConstants.{MOST_TEMPORARIES}
 use Rattle.job_types.specs.declared.job.JobStart.{JobStart}
 use Rattle.job_types.specs.declared.outcome.Outcome.{Outcome}
 use Rattle.exchange_model.specs.declared.exchange.Exchange.{Exchange}
-use Rattle.exchange_model.specs.declared.block.Block.{Block}
 use Rattle.exchange_model.specs.declared.signal.SignalKind.{SignalKind}
 use Rattle.exchange_model.specs.declared.stmt.StmtKind.{out-StmtKind}
 use Rattle.exchange_model.specs.Kept.{IsExchange}
@@ -28,7 +25,6 @@ use Rattle.source_meaning.proofs.Receiving.{beginning_received, asking_received}
 use Rattle.source_meaning.proofs.Rests.{DeedRest, counted_stands, rests_kept, steps_rest}
 use Rattle.source_meaning.proofs.Stepping.{every_step}
 use Rattle.source_meaning.proofs.Temporaries.{steps_have}
-use Rattle.flow_points.specs.Slots.{temp_count}
 use Rattle.flow_points.specs.Facts.{Facts, IsClosed}
 use Rattle.fact_laws.specs.Covers.{KnownNext, CallersCovered, Covered}
 use Rattle.fact_laws.proofs.Beginning.{start_covered}
@@ -36,6 +32,7 @@ use Rattle.fact_laws.proofs.Going.{Here, AnswersAt, goes_known, retrieved_by}
 use Rattle.fact_laws.proofs.Leaving.{begins_known, asks_known, returns_known, retrieve_no_enter}
 use Rattle.fact_laws.proofs.Pairing.{PairedItems, AfterPaired, Pairs, begun_paired, counted_pairs, goes_paired, retrieve_first, steps_pair}
 use Rattle.fact_laws.proofs.Standing.{next_known}
+use Rattle.flow_points.proofs.Few.{temps_few}
 
 -- a RETRIEVE stands first
 item_retrieves : (i : Item) (rest : List Item) (m : ℕ) → retrieved_by (deed_of i) ≡ Some m → IsRetrieveOf m (i ∷ rest)
@@ -79,13 +76,6 @@ record Sound (x : Exchange) (c : Config) : Type 0 where
   waits : AllWaitAtRetrieve c
 
 module _ (x : Exchange) (kept : IsExchange x) (P : Facts) (closed : IsClosed x P) (entry : ℕ) (args : List ℕ) where
-  temps_few : (b : ℕ) → temp_count x b ≤ MOST_TEMPORARIES
-  temps_few b = by (slice_get x.blocks b) refl
-    where
-      by : (found : Option Block) → slice_get x.blocks b ≡ found → option_map_or (λ (k : Block). length k.temporaries) found 0 ≤ MOST_TEMPORARIES
-      by None there = omega arith
-      by (Some k) there = (kept.blocks.each b k there).temporaries
-
   pub known_next : (c : Config) → AreRests x c → Covered x P entry args c → (i : Item) (rest : List Item) → next_counted c.todo ≡ i ∷ rest → KnownNext x P entry args c i
   known_next c rests covered i rest is = next_known x P closed entry args c.block c.temps c.own.given c.callers c.todo i rest rests.here is covered.here
 
@@ -136,7 +126,7 @@ module _ (x : Exchange) (kept : IsExchange x) (P : Facts) (closed : IsClosed x P
 
   begun_at : (c : Config) → Sound x c → Covered x P entry args c → (i : Item) (rest : List Item) → next_counted c.todo ≡ i ∷ rest → Begun (deed_of i) rest c.temps (with_counted i c)
   begun_at c sound covered i rest is =
-      let few = temps_few c.block in
+      let few = temps_few x kept c.block in
       let many = sound.temporaries.temps in
       record {
         stands = counted_stands x c.block c.todo i rest sound.rests.here is;

@@ -18,7 +18,7 @@ use Rattle.exchange_model.specs.Kept.{IsExchange, entered, scope_of, signal_coun
 use Rattle.source_meaning.specs.Named.{Layer}
 use Rattle.source_meaning.specs.Value.{Gives, expr_value}
 use Rattle.source_meaning.specs.Valid.{IsWord}
-use Rattle.source_meaning.specs.Config.{Item, Do, Turns, Config, sight, body_of, label_of, from_place}
+use Rattle.source_meaning.specs.Config.{Item, Do, Turns, Config, sight, body_of, label_of, from_place, Caller}
 use Rattle.exchange_model.specs.Kept.{is_enter}
 use Rattle.source_meaning.specs.Changes.{value_count, takes}
 use Rattle.source_meaning.specs.Deeds.{Deed, Doing, deed_point, label_in, GoesOnAfter, MayGoOn, IsBranch, IsNoEnter, GoesOn, to_next, with_value, to_label, to_branch, to_loop, to_turn, with_found, with_seized, with_answers, with_given, from_no_enter}
@@ -110,6 +110,10 @@ abbrev pub retrieved_by : Deed → Option ℕ
 retrieved_by (Doing p l) = retrieved l
 retrieved_by _ = None
 
+-- a temporary of the block has what is known of it
+pub temps_known : {x : Exchange} {P : Facts} {e b p : ℕ} {args temps given : List ℕ} {callers : List Caller} → Activation x P e args b p temps given callers → (k : Block) → slice_get x.blocks b ≡ Some k → (t : ℕ) → t < length k.temporaries → Gets P e args p (Of (Temp t)) (slice_index temps t)
+temps_known known k there t lt = known.temp t (subst (λ o. t < option_map_or (λ (k : Block). length k.temporaries) o 0) (sym there) lt)
+
 module _ (x : Exchange) (kept : IsExchange x) (P : Facts) (closed : IsClosed x P) (e : ℕ) (args : List ℕ) where
   -- what is known of the job at its statement
   pub record Here (c : Config) (p : ℕ) : Type 0 where
@@ -122,12 +126,9 @@ module _ (x : Exchange) (kept : IsExchange x) (P : Facts) (closed : IsClosed x P
   AnswersAt c deed = (m k : ℕ) → retrieved_by deed ≡ Some m → k < value_count x m → SlotHolds P e args (deed_point deed) (Answered k) (slice_index c.own.answers k)
 
   module _ (c : Config) (p : ℕ) (h : Here c p) where
-    temps_known : (k : Block) → slice_get x.blocks c.block ≡ Some k → (t : ℕ) → t < length k.temporaries → Gets P e args p (Of (Temp t)) (slice_index c.temps t)
-    temps_known k there t lt = h.known.temp t (subst (λ o. t < option_map_or (λ (k : Block). length k.temporaries) o 0) (sym there) lt)
-
     -- the value of an expression of the statement
     pub value_gets : (k : Block) → slice_get x.blocks c.block ≡ Some k → (ex : Expr) → ExprFits (scope_of x c.block k) ex → (loads : List Touch) (v : ℕ) → expr_value ex (sight x c) ≡ Gives loads v → Gets P e args p (expr_source ex) v
-    value_gets k there ex fits loads v is = expr_gets P e args p x kept c.block k (sight x c) h.small (temps_known k there) ex fits loads v is
+    value_gets k there ex fits loads v is = expr_gets P e args p x kept c.block k (sight x c) h.small (temps_known h.known k there) ex fits loads v is
 
     module _ (l : Layer) (rest : List Item) (stands : StandsAs x c.block p l rest) where
       -- along a flow to a point of the block

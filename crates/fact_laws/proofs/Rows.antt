@@ -21,8 +21,9 @@ use Rattle.source_meaning.specs.Config.{is_receiver}
 use Rattle.source_meaning.specs.Deeds.{IsBranch}
 use Rattle.source_meaning.specs.Rests.{IsRow, whole, later, branch, turn}
 use Rattle.source_meaning.proofs.Fitting.{row_fits}
-use Rattle.source_meaning.proofs.Lists.{all_weaker, all_contained}
+use Rattle.source_meaning.proofs.Lists.{all_contained}
 use Rattle.flow_points.specs.Slots.{given_count}
+use Rattle.plex_num.proofs.Lists.{all_weaker}
 
 -- the rows tell of each ENTER of a statement
 abbrev TellsOf : List Row → Stmt → Type 0

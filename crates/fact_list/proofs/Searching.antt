@@ -21,8 +21,9 @@ use Rattle.flow_points.specs.contracts.fact.FactOrd.TheImpl.Laws.{total-law}
 use Rattle.flow_points.specs.contracts.fact.SlotOrd.TheImpl as slots
 use Rattle.flow_points.specs.contracts.fact.SlotOrd.TheImpl.Laws as slot_laws
 use Rattle.flow_points.specs.contracts.fact.ValueOrd.TheImpl as values
+use Rattle.flow_points.specs.Orders.{fact_order}
+use Rattle.flow_points.proofs.Orders.{order_same}
 use Rattle.flow_table.specs.Giving.{AreValues}
-use Rattle.fact_rows.specs.Orders.{fact_order}
 use Rattle.fact_rows.proofs.Listing.{slot_same}
 use Rattle.fact_list.specs.declared.search.Span.{Span}
 use Rattle.fact_list.specs.Spans.{IsSpan, value_of}
@@ -60,34 +61,6 @@ module _ (facts : List Fact) (f : Fact) (up : IsStrictlySortedBy fact_order fact
       }
 
 -- ---- whether a fact is there
-
-value_same : (v w : Value) → values.ghosts.cmp v w ≡ Equal → v ≡ w
-value_same (Arg a) (Arg b) e = ap Arg (nat_same a b e)
-value_same (Arg a) (Const b) e = absurd (cc)
-value_same (Arg a) Any e = absurd (cc)
-value_same (Const a) (Arg b) e = absurd (cc)
-value_same (Const a) (Const b) e = ap Const (nat_same a b e)
-value_same (Const a) Any e = absurd (cc)
-value_same Any (Arg b) e = absurd (cc)
-value_same Any (Const b) e = absurd (cc)
-value_same Any Any e = refl
-
-order_same : (f g : Fact) → fact_order f g ≡ Equal → f ≡ g
-order_same f g e = by (nat_cmp f.entry g.entry) (nat_cmp f.point g.point) (slots.ghosts.cmp f.slot g.slot) (values.ghosts.cmp f.value g.value) refl refl refl refl e
-  where
-    by : (a b c v : Ordering) → nat_cmp f.entry g.entry ≡ a → nat_cmp f.point g.point ≡ b → slots.ghosts.cmp f.slot g.slot ≡ c → values.ghosts.cmp f.value g.value ≡ v → ordering_then a (ordering_then b (ordering_then c v)) ≡ Equal → f ≡ g
-    by Equal Equal Equal v i j k l h =
-        let entry = nat_same f.entry g.entry i in
-        let point = nat_same f.point g.point j in
-        let slot = slot_same f.slot g.slot k in
-        let value = value_same f.value g.value (l ∙ h) in
-        λ t. record { entry = entry t; point = point t; slot = slot t; value = value t }
-    by Equal Equal Less v i j k l h = absurd (cc)
-    by Equal Equal Greater v i j k l h = absurd (cc)
-    by Equal Less c v i j k l h = absurd (cc)
-    by Equal Greater c v i j k l h = absurd (cc)
-    by Less b c v i j k l h = absurd (cc)
-    by Greater b c v i j k l h = absurd (cc)
 
 pub has_exact : (facts : List Fact) (f : Fact) (s : Span) (r : Bool) → IsSpan facts f s → r ≡ nat_lt s.from s.to → IsTrue r ↔ Contains facts f
 has_exact facts f s r span is = (

@@ -3,7 +3,7 @@ use Rattle.std.specs.Prelude.{◌≡◌, ℕ, ◌<◌, ◌≤◌, List, length, 
 use Rattle.std.specs.declared.cmp.Ordering.TheVariants.{Less, Equal, Greater}
 use Rattle.flow_points.specs.declared.fact.Fact.{Fact}
 use Rattle.flow_points.specs.declared.fact.Value.{Value}
-use Rattle.fact_rows.specs.Orders.{fact_order}
+use Rattle.flow_points.specs.Orders.{fact_order}
 use Rattle.fact_list.specs.declared.search.Span.{Span}
 
 -- all facts before the span are less, those in it equal, and those behind it greater

@@ -4,8 +4,8 @@ ghost use Rattle.std.specs.List.{Contains};
 ghost use Rattle.std.specs.List.Sorted.{IsStrictlySortedBy};
 ghost use Rattle.flow_points.specs.declared.fact.Fact.{Fact};
 ghost use Rattle.flow_points.specs.Facts.{Reached, fact};
+ghost use Rattle.flow_points.specs.Orders.{fact_order};
 ghost use Rattle.flow_table.specs.Giving.{AreValues};
-ghost use Rattle.fact_rows.specs.Orders.{fact_order};
 
 use crate::search::{between, span_of, values_of};
 use flow_points::{Fact, Slot, Value};
@@ -29,7 +29,7 @@ impl Model for FactList {
     ghost use Rattle.std.specs.Prelude.{List};
     ghost use Rattle.std.specs.List.Sorted.{IsStrictlySortedBy};
     ghost use Rattle.flow_points.specs.declared.fact.Fact.{Fact};
-    ghost use Rattle.fact_rows.specs.Orders.{fact_order};
+    ghost use Rattle.flow_points.specs.Orders.{fact_order};
 
     ghost Value = { List Fact };
 

@@ -1,7 +1,7 @@
 // Facts that rise, searched.
 ghost use Rattle.std.specs.Prelude.{◌≡◌, ◌≤◌, length, map, IfOk, slice_range};
 ghost use Rattle.std.specs.List.Sorted.{IsStrictlySortedBy};
-ghost use Rattle.fact_rows.specs.Orders.{fact_order};
+ghost use Rattle.flow_points.specs.Orders.{fact_order};
 ghost use Rattle.fact_list.specs.Spans.{IsSpan, value_of};
 
 use flow_points::{Fact, Value};

@@ -29,11 +29,11 @@ use Rattle.flow_points.specs.Facts.{fact}
 use Rattle.flow_points.specs.contracts.fact.SlotOrd.TheImpl as slots
 use Rattle.flow_points.specs.contracts.fact.SlotOrd.TheImpl.Laws as slot_laws
 use Rattle.flow_points.specs.contracts.fact.ValueOrd.TheImpl as values
+use Rattle.flow_points.specs.Orders.{fact_order}
 use Rattle.fact_rows.specs.declared.keys.Key.{Key}
 use Rattle.fact_rows.specs.declared.value.TheConstants.{ANY_NUMBER}
 use Rattle.fact_rows.specs.Places.{Marks, numbers_at}
 use Rattle.fact_rows.specs.Values.{numbered_value, value_in, numbers_of}
-use Rattle.fact_rows.specs.Orders.{fact_order}
 use Rattle.fact_rows.specs.Known.{Rows, Knows, AreFacts}
 use Rattle.fact_rows.specs.Numbers.{AreNumbers}
 use Rattle.fact_rows.specs.Touched.{key_order, key, IsKept, facts_at, facts_of}

@@ -5,13 +5,13 @@ use Rattle.std.specs.List.Sorted.{IsStrictlySortedBy}
 use Rattle.flow_points.specs.declared.fact.Fact.{Fact}
 use Rattle.flow_points.specs.declared.fact.Slot.{Slot}
 use Rattle.flow_points.specs.Facts.{fact}
+use Rattle.flow_points.specs.Orders.{fact_order}
 use Rattle.flow_table.specs.declared.row.FlowTable.{FlowTable}
 use Rattle.fact_rows.specs.declared.keys.Key.{Key}
 use Rattle.fact_rows.specs.declared.place.Counts.{Counts}
 use Rattle.fact_rows.specs.declared.value.TheConstants.{ANY_NUMBER, AWAITED_NUMBERS}
 use Rattle.fact_rows.specs.Places.{Marks, HasPlace, counts_of, numbers_at}
 use Rattle.fact_rows.specs.Values.{HasNumber, value_in}
-use Rattle.fact_rows.specs.Orders.{fact_order}
 
 -- rows of bits: whose facts they are, and the numbers in their planes
 pub record Rows : Type 0 where

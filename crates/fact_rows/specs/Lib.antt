@@ -2,7 +2,6 @@ pub mod Narrow
 pub mod Numbers
 pub mod Places
 pub mod Values
-pub mod Orders
 pub mod Known
 pub mod Grids
 pub mod Spread

@@ -7,14 +7,14 @@ use Rattle.std.proofs.lemmas.Map.Steps.{length-le_from_distinct_below}
 use Rattle.std.specs.Prelude.{nat_lt, nat_eq, ◌||◌}
 use Rattle.std.specs.List.{AllByRecursion, Contains, IsDistinct, list_any}
 use Rattle.plex_limits.specs.declared.limits.TheConstants.{MOST_SENT, MOST_STATEMENTS}
-use Rattle.plex_num.proofs.Members.{first_or_later, found_in}
+use Rattle.plex_num.proofs.Members.{first_or_later, found_in, first_is, later_is}
 use Rattle.job_types.specs.Own.{budget}
 use Rattle.exchange_model.specs.declared.exchange.Exchange.{Exchange}
 use Rattle.exchange_model.specs.declared.stmt.Stmt.{Stmt}
 use Rattle.exchange_model.specs.Kept.{IsExchange}
 use Rattle.source_meaning.specs.Config.{Config}
 use Rattle.source_meaning.specs.Deeds.{Deed, Doing, Starting, Turning, deed_point}
-use Rattle.source_meaning.proofs.Lists.{all_contained, first_is, later_is}
+use Rattle.source_meaning.proofs.Lists.{all_contained}
 use Rattle.flow_points.specs.Facts.{Facts}
 use Rattle.entry_summary.specs.Faults.{PostsAt, TooManySends, Walk, GoesRound}
 use Rattle.fault_laws.proofs.Following.{Follows, IsTurnAt, walk_join}

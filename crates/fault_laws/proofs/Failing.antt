@@ -17,16 +17,17 @@ use Rattle.exchange_model.specs.declared.expr.FactorOp.{FactorOp}
 use Rattle.exchange_model.specs.declared.expr.FactorOp.TheVariants.{Times, Divide, Modulo}
 use Rattle.exchange_model.specs.Cells.{Placed, field_cell}
 use Rattle.exchange_model.specs.Inside.{joined as all_of}
-use Rattle.source_meaning.specs.Named.{Named, NamedField, named_in}
+use Rattle.source_meaning.specs.Named.{Named, NamedField, named_in, named_in_term, named_in_factor, named_in_joined}
 use Rattle.source_meaning.specs.Value.{Got, Gives, Fails, Eval, Sight, with_value, after_loads, joined, summed, sum_value, product_value, summand_of, multiplier_of, field_value, load_or_fault, pointer_fault, expr_value, term_value, factor_value}
 use Rattle.source_meaning.proofs.Layers.{expr_value-out, term_value-out, factor_value-Number, factor_value-Variable, factor_value-Temporary, factor_value-Field, factor_value-Bracket, factor_value-Reference}
-use Rattle.source_meaning.proofs.Lists.{Within, first_is}
+use Rattle.source_meaning.proofs.Lists.{Within}
 use Rattle.source_meaning.proofs.Loads.{FaultIs}
-use Rattle.source_meaning.proofs.Naming.{named_in_term, named_in_factor, named_in_joined, named_in-out, named_in_term-out, named-Field, named-Bracket}
+use Rattle.source_meaning.proofs.Naming.{named_in-out, named_in_term-out, named-Field, named-Bracket}
 use Rattle.source_meaning.proofs.Parts.{Parts, every_expr}
 use Rattle.entry_summary.specs.Divides.{term_divides, divisor_in, above_zero, joins_badly}
 use Rattle.entry_summary.specs.Faults.{divides, may_divide_by_zero}
 use Rattle.entry_summary.proofs.Dividing.{expr_out, term_out, inside_is}
+use Rattle.plex_num.proofs.Members.{first_is}
 
 abbrev above : Factor-F Factor Expr Joined Term → Bool
 above l = above_zero l

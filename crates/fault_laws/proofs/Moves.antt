@@ -40,10 +40,11 @@ use Rattle.source_meaning.specs.Effects.{with_counted, with_caller, Leave, Begin
 use Rattle.source_meaning.specs.Step.{does, starts, count, does_first, step}
 use Rattle.source_meaning.proofs.Doing.{traced}
 use Rattle.source_meaning.proofs.DoingText.{chosen_is, goes_still}
-use Rattle.source_meaning.proofs.Lists.{all_members, first_is, later_is}
-use Rattle.source_meaning.proofs.Loads.{FaultIs, Tells, cond_tells}
+use Rattle.source_meaning.proofs.Lists.{all_members}
+use Rattle.source_meaning.proofs.Loads.{FaultIs, TellsLoads, cond_tells}
 use Rattle.source_meaning.proofs.Searched.{found_within}
 use Rattle.entry_summary.specs.Faults.{JoinsOutbox, Posts}
+use Rattle.plex_num.proofs.Members.{first_is, later_is}
 
 -- what is counted sends to a buffer or out of the exchange
 abbrev pub PostsBy : Exchange → Deed → Type 0
@@ -103,7 +104,7 @@ module _ (x : Exchange) (deed : Deed) (rest : List Item) (c : Config) where
   cond_reason : (cond : Cond) → ((e : Expr) → Contains (cond_exprs cond) e → IsExprOf deed e) → FaultIs Reason (cond_value cond (sight x c))
   cond_reason cond of =
       (cond_tells (λ (t : Touch). Unit {0}) Reason (sight x c) cond
-      (all_members (λ e. Tells (λ (t : Touch). Unit {0}) Reason (expr_value e (sight x c))) (cond_exprs cond) (λ e at. record { loads = units _; fault = expr_reason e (of e at) }))).fault
+      (all_members (λ e. TellsLoads (λ (t : Touch). Unit {0}) Reason (expr_value e (sight x c))) (cond_exprs cond) (λ e at. record { loads = units _; fault = expr_reason e (of e at) }))).fault
 
   value_moves : (t : List Touch) (got : Got) (go : ℕ → Config → Config) → FaultIs Reason got → ((u loads : List Touch) (v : ℕ) → got ≡ Gives loads v → M (go v (traced u c))) → M (on_value got (traced t c) go)
   value_moves t (Gives loads v) go why more = more (t ++ loads) loads v refl

@@ -6,7 +6,6 @@ use Rattle.std.proofs.Common.{◌≡◌, ◌⊎◌, inl, inr, ℕ, ◌+◌, ◌<
 use Rattle.std.proofs.lemmas.Bool.{ltb-false, eqb-false}
 use Rattle.std.specs.Prelude.{nat_lt, not, ◌||◌, slice_index, if◌then◌else◌}
 use Rattle.std.specs.List.{AllByRecursion, Contains}
-use Rattle.std.specs.Option.{option_map_or}
 use Rattle.plex_limits.specs.declared.limits.TheConstants.{MOST_CALLERS, MOST_SENT}
 use Rattle.job_types.specs.declared.fault.Fault.{Fault}
 use Rattle.job_types.specs.declared.fault.Fault.TheVariants as fault
@@ -32,7 +31,7 @@ use Rattle.source_meaning.specs.Rests.{StandsAs, DeedStands}
 use Rattle.source_meaning.specs.Valid.{IsWord, StoreFits}
 use Rattle.source_meaning.proofs.Doing.{traced}
 use Rattle.source_meaning.proofs.Fitting.{NamedFits, deed_fits_in, names_fit}
-use Rattle.source_meaning.proofs.Lists.{all_contained, first_is}
+use Rattle.source_meaning.proofs.Lists.{all_contained}
 use Rattle.source_meaning.proofs.Touching.{deed_expr, holder_fits}
 use Rattle.source_meaning.proofs.WordValues.{GotWord, expr_word, variable_word, word_at}
 use Rattle.flow_points.specs.declared.fact.Slot.TheVariants.{Temp, Depth, Awaits}
@@ -41,14 +40,16 @@ use Rattle.flow_points.specs.declared.flow.Source.{Source}
 use Rattle.flow_points.specs.declared.flow.Source.TheVariants.{Of}
 use Rattle.flow_points.specs.Facts.{Facts}
 use Rattle.flow_points.specs.Sources.{expr_source}
-use Rattle.entry_summary.specs.Faults.{JoinsOutbox, SourceMayBe, may_divide_by_zero, PointsAt, reads, writes, frees, holder_source, PutsIn, in_variable, in_field, FaultsAt, SomeFaults}
+use Rattle.entry_summary.specs.Faults.{JoinsOutbox, SourceMayBe, may_divide_by_zero, PointsAt, reads, writes, frees, holder_source, in_variable, in_field, FaultsAt, SomeFaults}
 use Rattle.entry_summary.specs.Faults as faults
 use Rattle.fact_laws.specs.Covers.{Activation, awaits_of}
 use Rattle.fact_laws.proofs.Carrying.{Gets}
 use Rattle.fact_laws.proofs.Standing.{at_place, deed_place}
 use Rattle.fact_laws.proofs.Values.{expr_gets}
+use Rattle.fact_laws.proofs.Going.{temps_known}
 use Rattle.fault_laws.proofs.Failing.{IsCause, by_zero, at_pointer, expr_cause}
 use Rattle.fault_laws.proofs.Moves.{PostsBy}
+use Rattle.plex_num.proofs.Members.{first_is}
 
 -- a signal that joins the outbox
 posting_posts : (x : Exchange) (c : Config) (deed : Deed) (to : SendTo) (vs : List ℕ) → IsPosting x c deed to vs → PostsBy x deed
@@ -79,11 +80,8 @@ module _ (x : Exchange) (kept : IsExchange x) (P : Facts) (e : ℕ) (args : List
     awaits_may : SourceMayBe P e p (Of Awaits) (awaits_of c.callers)
     awaits_may = record { value = Const (awaits_of c.callers); comes = known.awaits; is = refl }
 
-    temp_gets : (k : Block) → slice_get x.blocks c.block ≡ Some k → (t : ℕ) → t < length k.temporaries → Gets P e args p (Of (Temp t)) (slice_index c.temps t)
-    temp_gets k there t lt = known.temp t (subst (λ o. t < option_map_or (λ (k : Block). length k.temporaries) o 0) (sym there) lt)
-
     temp_may : (k : Block) → slice_get x.blocks c.block ≡ Some k → (t : ℕ) → t < length k.temporaries → SourceMayBe P e p (Of (Temp t)) (slice_index c.temps t)
-    temp_may k there t lt = gets_may p (Of (Temp t)) (slice_index c.temps t) (word_at c.temps t small) (temp_gets k there t lt)
+    temp_may k there t lt = gets_may p (Of (Temp t)) (slice_index c.temps t) (word_at c.temps t small) (temps_known known k there t lt)
 
     module _ (l : Layer) (rest : List Item) (stands : StandsAs x c.block p l rest) where
       abbrev Faulty : Type 0
@@ -124,7 +122,7 @@ module _ (x : Exchange) (kept : IsExchange x) (P : Facts) (e : ℕ) (args : List
       expr_may k there ex own fits loads v is =
           let fit = all_contained (ExprFits (scope_of x c.block k)) (own_exprs l) ex fits own in
           let word : IsWord v = subst GotWord is (expr_word x kept c.block k there (sight x c) small store refl refl ex fit) in
-          gets_may p (expr_source ex) v word (expr_gets P e args p x kept c.block k (sight x c) small (temp_gets k there) ex fit loads v is)
+          gets_may p (expr_source ex) v word (expr_gets P e args p x kept c.block k (sight x c) small (temps_known known k there) ex fit loads v is)
 
       -- references
 

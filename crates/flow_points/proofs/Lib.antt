@@ -1,1 +1,3 @@
+pub mod Few
 pub mod Least
+pub mod Orders

@@ -3,3 +3,4 @@ pub mod Slots
 pub mod Sources
 pub mod Flows
 pub mod Facts
+pub mod Orders

@@ -12,9 +12,10 @@ use Rattle.exchange_model.specs.declared.stmt.StmtKind.TheOpen as stmt
 use Rattle.source_meaning.specs.Named.{Layer}
 use Rattle.source_meaning.specs.Deeds.{IsBranch}
 use Rattle.source_meaning.specs.Rests.{IsRow, whole, later, branch, turn, first_point}
-use Rattle.source_meaning.proofs.Lists.{Within, first_is, later_is}
+use Rattle.source_meaning.proofs.Lists.{Within}
 use Rattle.flow_points.specs.Places.{Place, place_of, IsPlace}
 use Rattle.flow_table.specs.Texts.{HoldsNone, Walked, nothing_left, statement, Chosen, no_choice, choice, Inside, of_none, of_if, of_case, of_on, Texts, no_block, block}
+use Rattle.plex_num.proofs.Members.{first_is, later_is}
 
 -- the places of these statements are among those
 pub record Found (b : ℕ) (list : List Stmt) (end : Option ℕ) (all : List Place) : Type 0 where

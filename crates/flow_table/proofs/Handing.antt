@@ -7,9 +7,8 @@ use Rattle.std.specs.List.{Contains}
 use Rattle.std.specs.Prelude.{◌↔◌}
 use Rattle.std.proofs.lemmas.List.{get_or_default}
 use Rattle.plex_num.specs.declared.seq.Memory.{Memory}
-use Rattle.plex_num.proofs.Members.{none_in, first_or_later}
+use Rattle.plex_num.proofs.Members.{none_in, first_or_later, first_is, later_is}
 use Rattle.plex_num.proofs.Lists.{opens}
-use Rattle.source_meaning.proofs.Lists.{first_is, later_is}
 use Rattle.flow_points.specs.declared.fact.Fact.{Fact}
 use Rattle.flow_points.specs.declared.fact.Slot.{Slot}
 use Rattle.flow_points.specs.declared.fact.Value.{Value}
@@ -21,18 +20,6 @@ use Rattle.flow_points.specs.declared.fact.Value.TheVariants.{Const}
 use Rattle.flow_points.specs.Facts.{Facts, fact, SourceGives, Guarded, HasRoom, Reached}
 use Rattle.flow_points.specs.Sources.{source_of}
 use Rattle.flow_table.specs.Giving.{AreValues, HasGiven, SlotGives, SlotsGive}
-
--- a fact for each value
-
-pub facts_begin : (e q : ℕ) (s : Slot) (values : List Value) (old now : List Fact) → now ≡ old → now ++ map (fact e q s) values ≡ old ++ map (fact e q s) values
-facts_begin e q s values old now same = ap (λ l. l ++ map (fact e q s) values) same
-
-pub facts_more : (e q : ℕ) (s : Slot) (values : List Value) (i : ℕ) (v : Value) (now new all : List Fact) → i < length values → v ≡ get_or values i v → new ≡ now ++ fact e q s v ∷ [] → now ++ map (fact e q s) (drop i values) ≡ all → new ++ map (fact e q s) (drop (i + 1) values) ≡ all
-facts_more e q s values i v now new all lt is made h =
-    ap (λ l. l ++ map (fact e q s) (drop (i + 1) values)) made ∙ append_assoc now (fact e q s v ∷ []) (map (fact e q s) (drop (i + 1) values)) ∙ ap (λ l. now ++ map (fact e q s) l) (sym (opens values i v lt is)) ∙ h
-
-pub facts_end : (e q : ℕ) (s : Slot) (values : List Value) (i : ℕ) (now all : List Fact) → length values ≤ i → now ++ map (fact e q s) (drop i values) ≡ all → now ≡ all
-facts_end e q s values i now all past h = sym (append-nil now) ∙ sym (ap (λ l. now ++ map (fact e q s) l) (drop_of_length-le values past)) ∙ h
 
 record Made (e q : ℕ) (s : Slot) (values : List Value) (f : Fact) : Type 0 where
   value : Value

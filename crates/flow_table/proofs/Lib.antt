@@ -10,6 +10,7 @@ pub mod Wayfaring
 pub mod Shaping
 pub mod Smallness
 pub mod Rowing
+pub mod Slotted
 pub mod Naming
 pub mod Raising
 pub mod Pointing

@@ -6,9 +6,8 @@ use Rattle.std.proofs.lemmas.List.Elements.{Contains-append_left, Contains-appen
 use Rattle.std.specs.List.{Contains}
 use Rattle.plex_limits.specs.declared.limits.TheConstants.{MOST_CALLERS}
 use Rattle.plex_num.specs.declared.seq.Memory.{Memory}
-use Rattle.plex_num.proofs.Members.{none_in, first_or_later}
+use Rattle.plex_num.proofs.Members.{none_in, first_or_later, first_is, later_is}
 use Rattle.plex_num.proofs.Lists.{opens}
-use Rattle.source_meaning.proofs.Lists.{first_is, later_is}
 use Rattle.flow_points.specs.declared.fact.Slot.TheVariants.{Depth}
 use Rattle.flow_points.specs.declared.fact.Value.{Value}
 use Rattle.flow_points.specs.declared.fact.Value.TheVariants.{Arg, Const, Any}

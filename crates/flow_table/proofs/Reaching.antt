@@ -6,8 +6,7 @@ use Rattle.std.proofs.lemmas.List.{length-map, map-append}
 use Rattle.std.proofs.lemmas.List.Elements.{Contains-append_left, Contains-push}
 use Rattle.std.proofs.lemmas.Option.{none-some, same_Some, slice_get_within}
 use Rattle.plex_num.proofs.Lists.{get_push}
-use Rattle.plex_num.proofs.Members.{first_or_later, none_in}
-use Rattle.source_meaning.proofs.Lists.{first_is, later_is}
+use Rattle.plex_num.proofs.Members.{first_or_later, none_in, first_is, later_is}
 use Rattle.exchange_model.specs.declared.exchange.Exchange.{Exchange}
 use Rattle.flow_points.specs.Facts.{Facts, Reached}
 use Rattle.flow_points.specs.Places.{IsPlace, Place, StandsAt}

@@ -4,7 +4,6 @@ use Rattle.std.specs.Option.{option_map_or}
 use Rattle.std.specs.List.{AllByRecursion, Contains}
 use Rattle.std.proofs.Math.ListN.{drop_of_length-le}
 use Rattle.std.proofs.lemmas.List.{length-map}
-use Rattle.source_meaning.proofs.Lists.{first_is, later_is}
 use Rattle.std.proofs.lemmas.Option.{slice_get_past, none-some, same_Some}
 use Rattle.plex_num.proofs.Lists.{opens}
 use Rattle.exchange_model.specs.declared.block.Block.{Block}
@@ -12,7 +11,7 @@ use Rattle.exchange_model.specs.declared.exchange.Exchange.{Exchange}
 use Rattle.exchange_model.specs.Fits.{retrieved}
 use Rattle.exchange_model.specs.Kept.{IsExchange}
 use Rattle.source_meaning.specs.Config.{Item, Do, Turns}
-use Rattle.source_meaning.specs.Rests.{IsOfBlock, Stands, head_point}
+use Rattle.source_meaning.specs.Rests.{IsOfBlock, StandsInText, head_point}
 use Rattle.source_meaning.proofs.Fitting.{stmt_fits_in}
 use Rattle.flow_points.specs.Places.{Place, IsPlace}
 use Rattle.flow_points.specs.Slots.{temp_count, given_count, answer_count}
@@ -25,6 +24,7 @@ use Rattle.flow_table.specs.Ways.{AreWays, ways_of}
 use Rattle.flow_table.specs.Small.{IsSmall}
 use Rattle.flow_table.proofs.Smallness.{ways_small}
 use Rattle.flow_table.proofs.Telling.{ways_exact}
+use Rattle.plex_num.proofs.Members.{first_is, later_is}
 
 -- a place is of its block
 
@@ -40,7 +40,7 @@ ending_at (Some p) = refl
 
 pub place_fits : (x : Exchange) (p : Place) → IsExchange x → IsPlace x p → IsOfBlock x p.block p.layer
 place_fits x p kept h =
-    let stands : Stands x p.block h.stmt (map Do h.list ++ ending h.end) = record { list = h.list; end = h.end; more = ending h.end; row = h.row; is = refl; ends = ending_at h.end } in
+    let stands : StandsInText x p.block h.stmt (map Do h.list ++ ending h.end) = record { list = h.list; end = h.end; more = ending h.end; row = h.row; is = refl; ends = ending_at h.end } in
     subst (λ (q : Place). IsOfBlock x p.block q.layer) (sym h.is) (stmt_fits_in x kept p.block h.stmt (map Do h.list ++ ending h.end) stands)
 
 pub row_is : (x : Exchange) (at : Place) (r : Row) (ways : List Way) → IsExchange x → IsPlace x at → ways ≡ ways_of x at → r.temps ≡ temp_count x at.block → r.given ≡ given_count x at.block → r.answered ≡ answer_count x (retrieved at.layer) → r.ways ≡ ways → IsRowOf x at r

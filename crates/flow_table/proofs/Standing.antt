@@ -11,22 +11,22 @@ use Rattle.exchange_model.specs.declared.stmt.StmtKind.TheOpen as stmt
 use Rattle.source_meaning.specs.Named.{Layer}
 use Rattle.source_meaning.specs.Deeds.{IsBranch}
 use Rattle.source_meaning.specs.Rests.{IsRow, whole, later, branch, turn, first_point}
-use Rattle.source_meaning.proofs.Lists.{first_is, later_is}
 use Rattle.std.specs.List.{AllByRecursion}
 use Rattle.plex_num.proofs.Lists.{all_append}
 use Rattle.flow_points.specs.Places.{Place, place_of, IsPlace}
 use Rattle.flow_table.specs.Texts.{Walked, nothing_left, statement, Chosen, no_choice, choice, Inside, of_none, of_if, of_case, of_on, Texts, no_block, block}
+use Rattle.plex_num.proofs.Members.{first_is, later_is}
 
 module _ (x : Exchange) (b : ℕ) where
   row_place : (s : Stmt) (list : List Stmt) (end : Option ℕ) → IsRow x b (s ∷ list) end → IsPlace x (place_of b s (first_point list end))
   row_place s list end row = record { stmt = s; list = list; end = end; row = row; is = refl }
 
   -- what is in a statement is of rows of the text
-  record HasRows (p : ℕ) (next : Option ℕ) (l : Layer) : Type 0 where
-    branches : (body : List Stmt) → IsBranch l body → IsRow x b body next
-    turns : (temp : ℕ) (from upto : Expr) (body : List Stmt) → l ≡ stmt.On temp from upto body → IsRow x b body (Some p)
+  pub record HasRows (p : ℕ) (next : Option ℕ) (l : Layer) : Type 0 where
+    pub branches : (body : List Stmt) → IsBranch l body → IsRow x b body next
+    pub turns : (temp : ℕ) (from upto : Expr) (body : List Stmt) → l ≡ stmt.On temp from upto body → IsRow x b body (Some p)
 
-  has_rows : (s : Stmt) (rest : List Stmt) (end : Option ℕ) → IsRow x b (s ∷ rest) end → HasRows s.point (first_point rest end) (out-StmtKind s.kind)
+  pub has_rows : (s : Stmt) (rest : List Stmt) (end : Option ℕ) → IsRow x b (s ∷ rest) end → HasRows s.point (first_point rest end) (out-StmtKind s.kind)
   has_rows s rest end row = record {
     branches = λ body is. branch s rest end body row is;
     turns = λ temp from upto body is. turn s rest end temp from upto body row is;
@@ -55,10 +55,11 @@ module _ (x : Exchange) (b : ℕ) where
     chosen_stand next whens ps rows (choice w more qs rs v u) =
         all_append (IsPlace x) qs rs (walked_stand (out-When w).body next qs (rows w (first_is w more)) v) (chosen_stand next more rs (λ c at. rows c (later_is w c more at)) u)
 
-module _ (x : Exchange) where
-  get_later : {A : Type 0} (xs all : List A) (y : A) (n : ℕ) → ((i : ℕ) (z : A) → slice_get (y ∷ xs) i ≡ Some z → slice_get all (n + i) ≡ Some z) → (i : ℕ) (z : A) → slice_get xs i ≡ Some z → slice_get all (n + 1 + i) ≡ Some z
-  get_later xs all y n h i z is = (let e : n + suc i ≡ n + 1 + i = omega arith in subst (λ m. slice_get all m ≡ Some z) e (h (suc i) z is))
+-- a list from a place on, and from the next one
+pub get_later : {A : Type 0} (xs all : List A) (y : A) (n : ℕ) → ((i : ℕ) (z : A) → slice_get (y ∷ xs) i ≡ Some z → slice_get all (n + i) ≡ Some z) → (i : ℕ) (z : A) → slice_get xs i ≡ Some z → slice_get all (n + 1 + i) ≡ Some z
+get_later xs all y n h i z is = (let e : n + suc i ≡ n + 1 + i = omega arith in subst (λ m. slice_get all m ≡ Some z) e (h (suc i) z is))
 
+module _ (x : Exchange) where
   texts_from : (b : ℕ) (blocks : List Block) (ps : List Place) → ((i : ℕ) (k : Block) → slice_get blocks i ≡ Some k → slice_get x.blocks (b + i) ≡ Some k) → Texts b blocks ps → AllByRecursion (IsPlace x) ps
   texts_from b blocks ps are (no_block c) = tt
   texts_from b blocks ps are (block c k rest qs rs w t) =

@@ -17,11 +17,10 @@ use Rattle.exchange_model.specs.declared.stmt.When.{When, out-When}
 use Rattle.exchange_model.specs.Kept.{is_enter}
 use Rattle.exchange_model.specs.declared.stmt.StmtKind.TheOpen as stmt
 use Rattle.std.specs.Option.{option_map_or}
-use Rattle.plex_num.proofs.Members.{none_in, first_or_later}
+use Rattle.plex_num.proofs.Members.{none_in, first_or_later, first_is, later_is}
 use Rattle.source_meaning.specs.Config.{is_receiver}
 use Rattle.source_meaning.specs.Named.{Layer}
 use Rattle.source_meaning.specs.Rests.{first_point}
-use Rattle.source_meaning.proofs.Lists.{first_is, later_is}
 use Rattle.flow_points.specs.declared.fact.Value.TheVariants.{Any}
 use Rattle.flow_points.specs.declared.flow.Source.TheVariants.{Is}
 use Rattle.flow_points.specs.declared.flow.Passing.{Passing}

@@ -156,17 +156,24 @@ on_added b p next k temp from upto body given old new is be h =
     subst (λ l. HasMore old new (Inside b p next l)) (sym is)
     (record { added = h.added; is = h.is; are = of_on temp from upto body (map seen h.added) (subst (λ l. Walked b l (Some p) (map seen h.added)) be h.are) })
 
-pub none_inside : (b p : ℕ) (next : Option ℕ) (k : StmtKind) (old : List PlaceAt) →
+-- a statement that is none of these three holds no statements
+pub holds_none : (k : StmtKind) →
     ((c : Cond) (ys ns : List Stmt) → k ≡ kind.If c ys ns → ⊥) →
     ((e : Expr) (ws : List When) (os : List Stmt) → k ≡ kind.Case e ws os → ⊥) →
-    ((t : ℕ) (e f : Expr) (body : List Stmt) → k ≡ kind.On t e f body → ⊥) → HasMore old old (Inside b p next (out-StmtKind k))
-none_inside b p next k old no_if no_case no_on = none_added old old (Inside b p next (out-StmtKind k)) (of_none (out-StmtKind k) (alone (out-StmtKind k) refl)) refl
+    ((t : ℕ) (e f : Expr) (body : List Stmt) → k ≡ kind.On t e f body → ⊥) → HoldsNone (out-StmtKind k)
+holds_none k no_if no_case no_on = alone (out-StmtKind k) refl
   where
     alone : (l : StmtKind-F StmtKind Stmt When) → out-StmtKind k ≡ l → HoldsNone l
     alone (layer.If c ys ns) is = absurd (no_if c ys ns (same_kind k (kind.If c ys ns) _ is (kind.outs-If c ys ns)))
     alone (layer.Case e ws os) is = absurd (no_case e ws os (same_kind k (kind.Case e ws os) _ is (kind.outs-Case e ws os)))
     alone (layer.On t e f body) is = absurd (no_on t e f body (same_kind k (kind.On t e f body) _ is (kind.outs-On t e f body)))
     alone _ is = tt
+
+pub none_inside : (b p : ℕ) (next : Option ℕ) (k : StmtKind) (old : List PlaceAt) →
+    ((c : Cond) (ys ns : List Stmt) → k ≡ kind.If c ys ns → ⊥) →
+    ((e : Expr) (ws : List When) (os : List Stmt) → k ≡ kind.Case e ws os → ⊥) →
+    ((t : ℕ) (e f : Expr) (body : List Stmt) → k ≡ kind.On t e f body → ⊥) → HasMore old old (Inside b p next (out-StmtKind k))
+none_inside b p next k old no_if no_case no_on = none_added old old (Inside b p next (out-StmtKind k)) (of_none (out-StmtKind k) (holds_none k no_if no_case no_on)) refl
 
 -- the places of an exchange
 pub places_are : (x : Exchange) (given : List Block) (old new : List PlaceAt) → IsExchange x → given ≡ x.blocks → old ≡ [] → HasMore old new (Texts 0 given) → ArePlaces x (map seen new)

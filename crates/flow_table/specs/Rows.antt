@@ -1,8 +1,10 @@
 -- The rows of the table, one for each point.
-use Rattle.std.specs.Prelude.{◌≡◌, ◌↔◌, ℕ, List, length, Some, slice_get}
+use Rattle.std.specs.Prelude.{◌≡◌, ◌↔◌, ℕ, ◌<◌, List, length, Some, slice_get}
 use Rattle.std.specs.List.{AllByRecursion, Contains}
 use Rattle.exchange_model.specs.declared.exchange.Exchange.{Exchange}
 use Rattle.exchange_model.specs.Fits.{retrieved}
+use Rattle.flow_points.specs.declared.fact.Slot.{Slot}
+use Rattle.flow_points.specs.declared.fact.Slot.TheVariants.{Temp, Given, Answered, Depth, Awaits}
 use Rattle.flow_points.specs.Places.{Place, StandsAt, IsRetrieveAt}
 use Rattle.flow_points.specs.Slots.{temp_count, given_count, answer_count}
 use Rattle.flow_table.specs.declared.row.Row.{Row}
@@ -24,6 +26,14 @@ pub record IsRowOf (x : Exchange) (at : Place) (r : Row) : Type 0 where
   pub answered : r.answered ≡ answer_count x (retrieved at.layer)
   pub ways : AreWays x at r.ways
   pub small : AllByRecursion (λ (w : Way). IsSmall w.how) r.ways
+
+-- a row has the slot
+abbrev pub RowHas : Row → Slot → Type 0
+RowHas r (Temp t) = t < r.temps
+RowHas r (Given k) = k < r.given
+RowHas r (Answered k) = k < r.answered
+RowHas r Depth = Unit {0}
+RowHas r Awaits = Unit {0}
 
 -- the row of a statement stands at its point
 pub record HasRow (x : Exchange) (rows : List Row) (p : ℕ) (at : Place) : Type 0 where

@@ -74,9 +74,8 @@ fn push_deeper(number: u32, values: &mut Seq<Value>) -> Result<(), Memory>
     Ok(())
 }
 
-/// Appends a fact for each of these values of a slot.
-#[tactic(auto, using(crate::proofs::Handing::facts_begin, crate::proofs::Handing::facts_end))]
-fn push_facts(
+/// Appends a fact of the entry and the point for each of these values of a slot.
+pub fn push_facts(
     entry: u32,
     point: u32,
     slot: Slot,
@@ -86,12 +85,11 @@ fn push_facts(
     ensures { OnOk result (facts.new ≡ facts.old ++ map (fact entry point slot) values.now) }
 {
     for value in values {
-        let value = *value;
         facts.push(Fact {
             entry,
             point,
             slot,
-            value,
+            value: *value,
         })?;
     }
     Ok(())

@@ -21,7 +21,7 @@ mod walk;
 mod way;
 mod ways;
 
-pub use giving::{is_guarded, push_flow, push_given, values_from};
+pub use giving::{is_guarded, push_facts, push_flow, push_given, values_from};
 pub use known::KnownFacts;
 pub use lookup::{enter_point, label_point};
 pub use passing::{Origin, source_over, start_source};

@@ -3,7 +3,7 @@ use Rattle.std.proofs.Common.{⊎_elim, ◌≡◌, ℕ, ◌<◌, Bool, List, [],
 use Rattle.std.proofs.lemmas.Option.{same_Some}
 use Rattle.std.proofs.lemmas.Bool.{cases_lt}
 use Rattle.first_fault.specs.First.{IsFirstFault as IsFirst}
-use Rattle.first_fault.specs.Told.{AreFine, IsFirstOfParts, IsSo, HasAll, Among, Above, Rising, breaks_in}
+use Rattle.first_fault.specs.Told.{AreFine, IsFirstOfParts, IsSo, HasAll, Among, Rising, breaks_in}
 use Rattle.first_fault.proofs.Once.{fine_no_fault, same_line, same_number}
 use Rattle.first_fault.proofs.Tells.{tells_parts}
 use Rattle.plex_ast.specs.declared.tree.Tree.{Tree}
@@ -24,18 +24,15 @@ use Rattle.text_rules.proofs.BlockSteps as block_steps
 use Rattle.text_rules.proofs.LinkSteps as link_steps
 use Rattle.front_end.specs.Firsts.{IsFine, IsFirstFault, KeepsSignals, KeepsBlocks, KeepsLinks, FirstOfSignals, FirstOfBlocks, FirstOfLinks}
 use Rattle.front_end.proofs.Told.{in_order}
+use Rattle.first_fault.proofs.First.{above_among}
 
 -- rules of one number are one
-
-above_all : {R : Type 0} (number : R → ℕ) (n : ℕ) (rs : List R) (q : R) → Above number n rs → Among q rs → n < number q
-above_all number n [] q above among = absurd among
-above_all number n (r ∷ rs) q above among = ⊎_elim (λ is. subst (λ x. n < number x) (sym is) above.0) (λ later. above_all number n rs q above.1 later) among
 
 one_number : {R : Type 0} (number : R → ℕ) (rs : List R) (q r : R) → Rising number rs → Among q rs → Among r rs → number q ≡ number r → q ≡ r
 one_number number [] q r rising in_q in_r same = absurd in_q
 one_number number (x ∷ rs) q r rising in_q in_r same =
-    ⊎_elim (λ q_is. ⊎_elim (λ r_is. q_is ∙ sym r_is) (λ r_later. absurd (let low = above_all number (number x) rs r rising.0 r_later in let first = ap number q_is in omega (arith, low, first, same))) in_r)
-    (λ q_later. ⊎_elim (λ r_is. absurd (let low = above_all number (number x) rs q rising.0 q_later in let first = ap number r_is in omega (arith, low, first, same))) (λ r_later. one_number number rs q r rising.1 q_later r_later same) in_r) in_q
+    ⊎_elim (λ q_is. ⊎_elim (λ r_is. q_is ∙ sym r_is) (λ r_later. absurd (let low = above_among number (number x) rs r rising.0 r_later in let first = ap number q_is in omega (arith, low, first, same))) in_r)
+    (λ q_later. ⊎_elim (λ r_is. absurd (let low = above_among number (number x) rs q rising.0 q_later in let first = ap number r_is in omega (arith, low, first, same))) (λ r_later. one_number number rs q r rising.1 q_later r_later same) in_r) in_q
 
 same_rule : {R : Type 0} (number : R → ℕ) (rs : List R) (all : HasAll number rs) (q r : R) → number q ≡ number r → q ≡ r
 same_rule number rs all q r same = one_number number rs q r all.rising (all.all q) (all.all r) same

@@ -9,7 +9,7 @@ use Rattle.exchange_model.specs.declared.expr.Cond.{Cond}
 use Rattle.exchange_model.specs.declared.expr.Expr.{Expr}
 use Rattle.exchange_model.specs.declared.stmt.Stmt.{Stmt}
 use Rattle.exchange_model.specs.declared.stmt.When.{When, out-When}
-use Rattle.exchange_model.specs.declared.stmt.StmtKind.{StmtKind, StmtKind-F, out-StmtKind, roll-StmtKind, roll-out-StmtKind}
+use Rattle.exchange_model.specs.declared.stmt.StmtKind.{StmtKind, StmtKind-F, out-StmtKind}
 use Rattle.exchange_model.specs.declared.stmt.StmtKind.TheOpen as layer
 use Rattle.exchange_model.specs.declared.stmt.StmtKind.TheVariants as kind
 use Rattle.exchange_model.specs.Inside.{joined, spots}
@@ -18,6 +18,7 @@ use Rattle.exchange_model.specs.PartCounts.{stmt_spots, when_spots, parts_spots}
 use Rattle.exchange_model.proofs.Counted.{inner_spots-out}
 use Rattle.front_end.specs.Points.{point_of, stmt_points, kind_points, when_points, body_points}
 use Rattle.first_fault.proofs.Told.{cut_at}
+use Rattle.exchange_model.proofs.Layers.{same_kind}
 
 -- lists that are joined first, or of which each is mapped first
 joined_is : {X A C : Type 0} (g : A → C) (f : X → List A) (xs : List X) → map g (joined (map f xs)) ≡ flat_map (λ x. map g (f x)) xs
@@ -54,10 +55,6 @@ stmt_added b s old mid new a e = two_added old mid new (record { block = b; line
 
 pub when_added : (b : ℕ) (w : When) (old new : List PointInfo) → new ≡ old ++ body_points b (out-When w).body → new ≡ old ++ when_points b w
 when_added b w old new h = h ∙ ap (λ l. old ++ l) (sym (body_is b (out-When w).body))
-
--- two kinds of one layer are the same
-same_kind : (k m : StmtKind) (l : StmtKind-F StmtKind Stmt When) → out-StmtKind k ≡ l → out-StmtKind m ≡ l → k ≡ m
-same_kind k m l p q = sym (roll-out-StmtKind k) ∙ ap roll-StmtKind (p ∙ sym q) ∙ roll-out-StmtKind m
 
 -- a statement with no statements in it
 pub none_added : (b : ℕ) (k : StmtKind) (old : List PointInfo) →

@@ -16,10 +16,10 @@ use Rattle.checked.specs.Kept.{IsChecked, KeptSummaries}
 use Rattle.interference_check.specs.Pairs.{OfPair}
 
 module _ (k : KeptSummaries) (one other : Summary) (a b : JobStart) (of_first : slice_get k.summaries a.job.entry ≡ Some one) (of_later : slice_get k.summaries b.job.entry ≡ Some other) (passes : Passes one other a b) (x : Exchange) (kept : IsExchange x) (checked : IsChecked x k) where
-  first_told : IsSummary x (Contains k.facts) a.job.entry one
+  first_told : IsSummary x (Contains checked.facts) a.job.entry one
   first_told = checked.by_facts.is a.job.entry one of_first
 
-  later_told : IsSummary x (Contains k.facts) b.job.entry other
+  later_told : IsSummary x (Contains checked.facts) b.job.entry other
   later_told = checked.by_facts.is b.job.entry other of_later
 
   pub runs : (s : State) → IsValid x s → IsFitting x s a → IsFitting x s b → OfPair k a.job.entry b.job.entry (λ s1 s2. RunTogether x s s1 s2 a b)
@@ -28,7 +28,7 @@ module _ (k : KeptSummaries) (one other : Summary) (a b : JobStart) (of_first : 
     other = other;
     of_first = of_first;
     of_later = of_later;
-    holds = run_together x k.facts s one other a b checked.closed (record {
+    holds = run_together x checked.facts s one other a b checked.closed (record {
       exchange = kept;
       state = valid;
       first_fits = first_fits;
@@ -40,7 +40,7 @@ module _ (k : KeptSummaries) (one other : Summary) (a b : JobStart) (of_first : 
   }
 
   pub makes : IsJob x b.job → MakesWay x a b
-  makes is_job = make_way x k.facts one other a b kept checked.closed first_told later_told is_job passes
+  makes is_job = make_way x checked.facts one other a b kept checked.closed first_told later_told is_job passes
 
 -- the same, where a test tells whether they pass
 

@@ -5,7 +5,7 @@ use Rattle.machine_code.specs.declared.permit.Permit.{Permit}
 use Rattle.machine_code.specs.Permits.{Apart, may_read, may_write}
 use Rattle.exchange_model.specs.declared.exchange.Exchange.{Exchange}
 use Rattle.source_meaning.specs.State.{State}
-use Rattle.source_meaning.proofs.Booleans.{bool_cases}
+use Rattle.plex_num.proofs.Booleans.{bool_cases}
 use Rattle.entry_summary.specs.declared.summary.Summary.{Summary}
 use Rattle.pair_laws.specs.Together.{HaveOwnWords}
 use Rattle.interference_check.specs.Permits.{IsPermitOf}

@@ -31,8 +31,8 @@ module _ (x : Exchange) (m : Summary) (start : JobStart) (chains : ChainMap) (pe
 
   pub stays_within : (k : KeptSummaries) → slice_get k.summaries start.job.entry ≡ Some m → IsExchange x → IsChecked x k → (s : State) → IsValid x s → IsFitting x s start → s.chains ≡ chains → OfEntry k start.job.entry (λ n. StaysWithin x n permit start s.store)
   stays_within k there kept checked s valid fits same =
-      let told : IsSummary x (Contains k.facts) start.job.entry m = checked.by_facts.is start.job.entry m there in
-      let stays = job_stays x kept (Contains k.facts) checked.closed m s valid start fits told in
+      let told : IsSummary x (Contains checked.facts) start.job.entry m = checked.by_facts.is start.job.entry m there in
+      let stays = job_stays x kept (Contains checked.facts) checked.closed m s valid start fits told in
       let permitted : ArePermitted x m start chains (trace_of x start s.store) = subst (λ (c : ChainMap). ArePermitted x m start c (trace_of x start s.store)) same stays.0 in
       record {
         summary = m;
@@ -40,7 +40,7 @@ module _ (x : Exchange) (m : Summary) (start : JobStart) (chains : ChainMap) (pe
         holds = record {
           touches = all_made (trace_of x start s.store) permitted;
           levels = stays.2;
-          fault = may_fault x k.facts kept checked.closed s valid m start fits told;
+          fault = may_fault x checked.facts kept checked.closed s valid m start fits told;
         };
       }
 
@@ -51,3 +51,11 @@ pub all_stay : (x : Exchange) → IsExchange x → (k : KeptSummaries) (m : Summ
     → IfOk r (λ permit. (s : State) → IsChecked x k → IsValid x s → IsFitting x s start → s.chains ≡ chains → OfEntry k start.job.entry (λ n. StaysWithin x n permit start s.store))
 all_stay x kept k m start chains there (Ok permit) reads writes = λ s checked valid fits same. stays_within x m start chains permit (record { reads = reads; writes = writes }) k there kept checked s valid fits same
 all_stay x kept k m start chains there (Err e) reads writes = tt
+
+-- it has just these words, if it comes
+pub all_exact : (x : Exchange) (k : KeptSummaries) (m : Summary) (start : JobStart) (chains : ChainMap) → slice_get k.summaries start.job.entry ≡ Some m → (r : Result Permit Memory)
+    → IfOk r (λ permit. (word : ℕ) → (may_read permit word ≡ true) ↔ MayRead x m start chains word)
+    → IfOk r (λ permit. (word : ℕ) → (may_write permit word ≡ true) ↔ MayWrite x m start chains word)
+    → IfOk r (λ permit. OfEntry k start.job.entry (λ n. IsPermitOf x n start chains permit))
+all_exact x k m start chains there (Ok permit) reads writes = record { summary = m; there = there; holds = record { reads = reads; writes = writes } }
+all_exact x k m start chains there (Err e) reads writes = tt

@@ -15,7 +15,7 @@ use Rattle.checked.specs.Kept.{KeptSummaries}
 use Rattle.interference_check.specs.declared.table.Pair.{Pair}
 use Rattle.interference_check.specs.declared.table.Pair.TheVariants.{Never, Asks}
 use Rattle.interference_check.specs.Pairs.{OfPair}
-use Rattle.interference_check.specs.Tables.{ArePairsOf, HasTests, IsFound, IsPairTable, IsTold, StandWithin, Tells}
+use Rattle.interference_check.specs.Tables.{ArePairsOf, HasTests, IsFound, IsPairTable, IsTold, StandWithin, TellsTests}
 
 -- a range of a list stays as the list grows
 range_grown : {A : Type 0} (xs more : List A) (from to : ℕ) → from ≤ to → to ≤ length xs → slice_range (xs ++ more) from to ≡ slice_range xs from to
@@ -23,7 +23,7 @@ range_grown xs more from to ordered within =
     ap (take (to - from)) (drop-append-le from xs more (omega (arith, ordered, within)))
     ∙ take-append-le (to - from) (drop from xs) more (let l = length-drop from xs in omega (arith, l, ordered, within))
 
-tells_grown : (tests more : List Test) (pair : Pair) (s t : Summary) → Tells tests pair s t → Tells (tests ++ more) pair s t
+tells_grown : (tests more : List Test) (pair : Pair) (s t : Summary) → TellsTests tests pair s t → TellsTests (tests ++ more) pair s t
 tells_grown tests more Never s t h = h
 tells_grown tests more (Asks from to) s t h = record {
   ordered = h.ordered;
@@ -53,22 +53,22 @@ row_end k many first later pairs tests past within h = subst (λ n. ArePairsOf k
     next f n l is = grind arith
 
 module _ (k : KeptSummaries) (many first later : ℕ) (s t : Summary) (tests all : List Test) (pair : Pair) (below : later < many) (of_first : slice_get k.summaries first ≡ Some s) (of_later : slice_get k.summaries later ≡ Some t) (adds : IsTold s t tests all pair) (pairs : List Pair) (so_far : ArePairsOf k many (first * many + later) pairs tests) where
-  told : OfPair k first later (Tells all pair)
+  told : OfPair k first later (TellsTests all pair)
   told = record { one = s; other = t; of_first = of_first; of_later = of_later; holds = adds.tells }
 
-  kept_told : (i j : ℕ) (old : Pair) → OfPair k i j (Tells tests old) → OfPair k i j (Tells all old)
+  kept_told : (i j : ℕ) (old : Pair) → OfPair k i j (TellsTests tests old) → OfPair k i j (TellsTests all old)
   kept_told i j old h = record {
     one = h.one;
     other = h.other;
     of_first = h.of_first;
     of_later = h.of_later;
-    holds = subst (λ (l : List Test). Tells l old h.one h.other) (sym adds.grown) (tells_grown tests adds.more old h.one h.other h.holds);
+    holds = subst (λ (l : List Test). TellsTests l old h.one h.other) (sym adds.grown) (tells_grown tests adds.more old h.one h.other h.holds);
   }
 
-  one_more : (i j : ℕ) (p : Pair) → j < many → slice_get (pairs ++ pair ∷ []) (i * many + j) ≡ Some p → OfPair k i j (Tells all p)
+  one_more : (i j : ℕ) (p : Pair) → j < many → slice_get (pairs ++ pair ∷ []) (i * many + j) ≡ Some p → OfPair k i j (TellsTests all p)
   one_more i j p lt there = at (cases_lt (i * many + j) (length pairs))
     where
-      at : (i * many + j < length pairs) ⊎ (length pairs ≤ i * many + j) → OfPair k i j (Tells all p)
+      at : (i * many + j < length pairs) ⊎ (length pairs ≤ i * many + j) → OfPair k i j (TellsTests all p)
       at (inl old) = kept_told i j p (so_far.tells i j p lt (sym (slice_get-append_left pairs (pair ∷ []) (i * many + j) old) ∙ there))
       at (inr past) =
           let within = slice_get_within (pairs ++ pair ∷ []) (i * many + j) p there in
@@ -78,7 +78,7 @@ module _ (k : KeptSummaries) (many first later : ℕ) (s t : Summary) (tests all
           let row : first ≡ i = sym (div-mul-add first many later below) ∙ ap (λ n. n / many) (sym place) ∙ div-mul-add i many j lt in
           let column : later ≡ j = sym (mod-mul-add first many later below) ∙ ap (λ n. n % many) (sym place) ∙ mod-mul-add i many j lt in
           let same : pair ≡ p = same_Some pair p (sym (slice_get-append_seam pairs pair []) ∙ subst (λ n. slice_get (pairs ++ pair ∷ []) n ≡ Some p) last there) in
-          subst (λ m. OfPair k m j (Tells all p)) row (subst (λ m. OfPair k first m (Tells all p)) column (subst (λ q. OfPair k first later (Tells all q)) same told))
+          subst (λ m. OfPair k m j (TellsTests all p)) row (subst (λ m. OfPair k first m (TellsTests all p)) column (subst (λ q. OfPair k first later (TellsTests all q)) same told))
 
   pub pair_more : (new : List Pair) → new ≡ pairs ++ pair ∷ [] → ArePairsOf k many (first * many + (later + 1)) new all
   pair_more new grown = subst (λ l. ArePairsOf k many (first * many + (later + 1)) l all) (sym grown) (record {
@@ -113,35 +113,35 @@ pub pair_found : (pairs : List Pair) (many first later : ℕ) (pair : Pair) → 
 pair_found pairs many first later pair below there = record { below = below; there = there }
 
 pub found_tells : (k own : KeptSummaries) (many first later : ℕ) (pairs listed : List Pair) (tests shown : List Test) (pair : Pair) → own ≡ k → listed ≡ pairs → shown ≡ tests → IsPairTable own many pairs tests → IsFound listed many first later pair
-    → OfPair k first later (Tells shown pair)
+    → OfPair k first later (TellsTests shown pair)
 found_tells k own many first later pairs listed tests shown pair same list all table found =
     let at : slice_get pairs (first * many + later) ≡ Some pair = ap (λ (l : List Pair). slice_get l (first * many + later)) (sym list) ∙ found.there in
-    subst (λ (l : List Test). OfPair k first later (Tells l pair)) (sym all) (subst (λ (t : KeptSummaries). OfPair t first later (Tells tests pair)) same (table.all.tells first later pair found.below at))
+    subst (λ (l : List Test). OfPair k first later (TellsTests l pair)) (sym all) (subst (λ (t : KeptSummaries). OfPair t first later (TellsTests tests pair)) same (table.all.tells first later pair found.below at))
 
-tests_there : (tests : List Test) (pair : Pair) (s t : Summary) → Tells tests pair s t → HasTests tests pair
+tests_there : (tests : List Test) (pair : Pair) (s t : Summary) → TellsTests tests pair s t → HasTests tests pair
 tests_there tests Never s t h = tt
 tests_there tests (Asks from to) s t h = (h.ordered, h.within)
 
-pub has_tests : (k : KeptSummaries) (first later : ℕ) (tests : List Test) (pair : Pair) → OfPair k first later (Tells tests pair) → HasTests tests pair
+pub has_tests : (k : KeptSummaries) (first later : ℕ) (tests : List Test) (pair : Pair) → OfPair k first later (TellsTests tests pair) → HasTests tests pair
 has_tests k first later tests pair h = tests_there tests pair h.one h.other h.holds
 
-pub by_told : (k : KeptSummaries) (a b : JobStart) (tests : List Test) (pair : Pair) (r : Bool) → OfPair k a.job.entry b.job.entry (Tells tests pair)
-    → ((s t : Summary) → Tells tests pair s t → IsTrue r ↔ Passes s t a b) → OfPair k a.job.entry b.job.entry (λ s t. IsTrue r ↔ Passes s t a b)
+pub by_told : (k : KeptSummaries) (a b : JobStart) (tests : List Test) (pair : Pair) (r : Bool) → OfPair k a.job.entry b.job.entry (TellsTests tests pair)
+    → ((s t : Summary) → TellsTests tests pair s t → IsTrue r ↔ Passes s t a b) → OfPair k a.job.entry b.job.entry (λ s t. IsTrue r ↔ Passes s t a b)
 by_told k a b tests pair r h tells = record { one = h.one; other = h.other; of_first = h.of_first; of_later = h.of_later; holds = tells h.one h.other h.holds }
 
 -- what a pair tells of two jobs
 
-pub never_passes : (tests : List Test) (pair : Pair) (a b : JobStart) → pair ≡ Never → (s t : Summary) → Tells tests pair s t → IsTrue false ↔ Passes s t a b
+pub never_passes : (tests : List Test) (pair : Pair) (a b : JobStart) → pair ≡ Never → (s t : Summary) → TellsTests tests pair s t → IsTrue false ↔ Passes s t a b
 never_passes tests pair a b is s t h = (
   (λ yes. cc),
-  (λ passes. absurd ((subst (λ (p : Pair). Tells tests p s t) is h) passes.apart)),
+  (λ passes. absurd ((subst (λ (p : Pair). TellsTests tests p s t) is h) passes.apart)),
 )
 
 pub asks_passes : (tests some : List Test) (pair : Pair) (from to : ℕ) (a b : JobStart) (apart hold : Bool) → pair ≡ Asks from to → some ≡ slice_range tests from to
     → (IsTrue apart ↔ (a.job.forlopp ≡ b.job.forlopp → a.job.forlopp ≡ 0)) → (IsTrue hold ↔ All (TestHolds a b) some)
-    → (s t : Summary) → Tells tests pair s t → IsTrue (apart && hold) ↔ Passes s t a b
+    → (s t : Summary) → TellsTests tests pair s t → IsTrue (apart && hold) ↔ Passes s t a b
 asks_passes tests some pair from to a b apart hold is range tells_apart tells s t told =
-    let h : StandWithin tests from to s t = subst (λ (p : Pair). Tells tests p s t) is told in (
+    let h : StandWithin tests from to s t = subst (λ (p : Pair). TellsTests tests p s t) is told in (
       (λ yes. let both = and_parts apart hold yes in record {
         apart = h.apart;
         tests = λ test asked. All-contains (TestHolds a b) some test (tells.0 both.1) (subst (λ (l : List Test). Contains l test) (sym range) ((h.exact test).1 asked));

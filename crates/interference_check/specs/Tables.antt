@@ -17,20 +17,20 @@ pub record StandWithin (tests : List Test) (from to : ℕ) (first later : Summar
   pub exact : (test : Test) → Contains (slice_range tests from to) test ↔ IsTest first later test
 
 -- what is told of two summaries is so
-abbrev pub Tells : List Test → Pair → Summary → Summary → Type 0
-Tells tests Never first later = HasNoConflict first later → ⊥
-Tells tests (Asks from to) first later = StandWithin tests from to first later
+abbrev pub TellsTests : List Test → Pair → Summary → Summary → Type 0
+TellsTests tests Never first later = HasNoConflict first later → ⊥
+TellsTests tests (Asks from to) first later = StandWithin tests from to first later
 
 -- a list of tests to which those of two summaries came, and what is told of the two
 pub record IsTold (first later : Summary) (tests all : List Test) (pair : Pair) : Type 0 where
   pub more : List Test
   pub grown : all ≡ tests ++ more
-  pub tells : Tells all pair first later
+  pub tells : TellsTests all pair first later
 
 -- so many pairs, each at its place: those of one first entry together, by the later one, where those of the first so many are told
 pub record ArePairsOf (k : KeptSummaries) (told count : ℕ) (pairs : List Pair) (tests : List Test) : Type 0 where
   pub long : length pairs ≡ count
-  pub tells : (first later : ℕ) (pair : Pair) → later < told → slice_get pairs (first * told + later) ≡ Some pair → OfPair k first later (Tells tests pair)
+  pub tells : (first later : ℕ) (pair : Pair) → later < told → slice_get pairs (first * told + later) ≡ Some pair → OfPair k first later (TellsTests tests pair)
 
 -- all pairs of the first so many entries
 pub record IsPairTable (k : KeptSummaries) (told : ℕ) (pairs : List Pair) (tests : List Test) : Type 0 where

@@ -1,8 +1,6 @@
 // What is told of all pairs of entries, for whoever asks again and again.
 ghost use Rattle.std.specs.Prelude.{◌≡◌, ◌↔◌, ◌+◌, ◌*◌, ◌<◌, ◌≤◌, ◌++◌, IfOk, IfSome, IsTrue, OnOk, Some, length, slice_get, slice_range};
-ghost use Rattle.std.specs.List.Sorted.{IsStrictlySortedBy};
 ghost use Rattle.entry_summary.specs.declared.summary.Summary.{Summary};
-ghost use Rattle.entry_summary.specs.Orders.{access_order};
 ghost use Rattle.pair_tests.specs.Pairs.{Passes};
 ghost use Rattle.exchange_model.specs.declared.exchange.Exchange.{Exchange};
 ghost use Rattle.exchange_model.specs.Kept.{IsExchange};
@@ -12,7 +10,7 @@ ghost use Rattle.order_laws.specs.Windows.{MakesWay};
 ghost use Rattle.pair_laws.specs.Together.{RunTogether};
 ghost use Rattle.checked.specs.Kept.{IsChecked};
 ghost use Rattle.interference_check.specs.Pairs.{OfPair};
-ghost use Rattle.interference_check.specs.Tables.{ArePairsOf, HasTests, IsFound, IsTold, Tells};
+ghost use Rattle.interference_check.specs.Tables.{ArePairsOf, HasTests, IsFound, IsTold, TellsTests};
 
 use crate::pairs::may_follow;
 use checked::Checked;
@@ -59,9 +57,13 @@ impl Drop for PairTable<'_> {
 }
 
 impl<'c> Model for PairTable<'c> {
+    ghost use Rattle.std.specs.Coded.{codes};
+    ghost use Rattle.std.specs.List.Sorted.{IsStrictlySortedBy-prop};
     ghost use Rattle.checked.specs.Kept.{KeptSummaries};
 
     ghost Value = { KeptSummaries };
+
+    ghost coded = { Prim.hlevel (codes, IsStrictlySortedBy-prop) };
 
     ghost use Rattle.interference_check.specs.Tables.{IsPairTable};
 
@@ -242,7 +244,6 @@ fn pair_of(
     later: &Summary,
     tests: &mut Seq<Test>,
 ) -> Result<Pair, Memory>
-    requires { IsStrictlySortedBy access_order later.now.accesses }
     ensures { IfOk result (IsTold first.now later.now tests.old tests.new) }
 {
     match verdict_of(first, later) {
@@ -272,7 +273,7 @@ fn told_pair(pairs: &[Pair], told: u32, first: u32, later: u32) -> Option<Pair>
 /// Whether two jobs pass, by what is told of their pair.
 fn pass_by(pair: Pair, tests: &[Test], first: &JobStart, later: &JobStart) -> bool
     requires { HasTests tests.now pair }
-    ensures { (s t : Summary) → Tells tests.now pair s t
+    ensures { (s t : Summary) → TellsTests tests.now pair s t
         → IsTrue result ↔ Passes s t first.now later.now }
 {
     match pair {

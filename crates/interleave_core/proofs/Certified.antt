@@ -17,12 +17,12 @@ use Rattle.interleave_core.proofs.Joining.{PairGives, PairsGive}
 module _ (x : Exchange) (kept : IsExchange x) (facts : KeptSummaries) (checked : IsChecked x facts) (a b : JobStart) (p : MayFollow facts a b) where
   makes_way : IsJob x b.job → MakesWay x a b
   makes_way is_job =
-      make_way x facts.facts p.one p.other a b kept checked.closed (checked.by_facts.is a.job.entry p.one p.of_first) (checked.by_facts.is b.job.entry p.other p.of_later) is_job p.holds
+      make_way x checked.facts p.one p.other a b kept checked.closed (checked.by_facts.is a.job.entry p.one p.of_first) (checked.by_facts.is b.job.entry p.other p.of_later) is_job p.holds
 
   pair_gives : (s : State) → IsValid x s → IsFitting x s a → IsFitting x s b → PairGives x s a b
   pair_gives s v first_fits later_fits =
       let told = checked.by_facts.is b.job.entry p.other p.of_later in
-      let both : MayRunAtOnce x facts.facts s p.one p.other a b = record {
+      let both : MayRunAtOnce x checked.facts s p.one p.other a b = record {
         exchange = kept;
         state = v;
         first_fits = first_fits;
@@ -31,8 +31,8 @@ module _ (x : Exchange) (kept : IsExchange x) (facts : KeptSummaries) (checked :
         later_told = told;
         passes = p.holds;
       } in
-      let together = run_together x facts.facts s p.one p.other a b checked.closed both in
-      let keeps = keeps_to x facts.facts kept checked.closed s v p.other b later_fits told in
+      let together = run_together x checked.facts s p.one p.other a b checked.closed both in
+      let keeps = keeps_to x checked.facts kept checked.closed s v p.other b later_fits told in
       record {
         apart = record { first_alone = together.independent.by_first; later_alone = together.independent.by_later };
         released = λ w at. together.retires.aside w (touched_read x p.other b s.chains (trace_of x b s.store) w keeps.touches at);

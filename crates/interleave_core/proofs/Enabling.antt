@@ -7,7 +7,9 @@ use Rattle.std.specs.List.{AllByRecursion}
 use Rattle.job_types.specs.declared.job.JobStart.{JobStart}
 use Rattle.plex_num.proofs.Lists.{all_append, all_at}
 use Rattle.retire_order.specs.Accounts.{Account, next_count, upcoming}
+use Rattle.pair_tests.specs.Pairs.{Passes}
 use Rattle.checked.specs.Kept.{KeptSummaries}
+use Rattle.interference_check.specs.Pairs.{OfPair}
 use Rattle.interleave_core.specs.declared.window.WindowJob.{WindowJob}
 use Rattle.interleave_core.specs.Cores.{Core, core_of}
 use Rattle.interleave_core.specs.Allowed.{CanIssue, CanStep, IsBefore, MayFollow}
@@ -19,6 +21,15 @@ not_allowed : (P : Type 0) → (P → ⊥) → IsTrue false ↔ P
 not_allowed P never = (λ t. cc, λ p. absurd (never p))
 
 -- ## The tests of pairs
+
+-- the job passes all tests with the first one, where the tests of what is kept of their entries tell it
+pub follows_by : (kept : KeptSummaries) (first later : JobStart) (r : Bool) → OfPair kept first.job.entry later.job.entry (λ one other. IsTrue r ↔ Passes one other first later) → IsTrue r ↔ MayFollow kept first later
+follows_by kept first later r told = (
+  λ t. record { one = told.one; other = told.other; of_first = told.of_first; of_later = told.of_later; holds = told.holds.0 t },
+  λ may. told.holds.1
+      (subst (λ m. Passes m told.other first later) (same_Some may.one told.one (sym may.of_first ∙ told.of_first))
+      (subst (λ n. Passes may.one n first later) (same_Some may.other told.other (sym may.of_later ∙ told.of_later)) may.holds)),
+)
 
 -- the job passes all tests with these
 abbrev pub FollowsAll : KeptSummaries → JobStart → List WindowJob → Type 0

@@ -4,7 +4,7 @@ use Rattle.std.proofs.lemmas.List.{length-map, map-append, map-set}
 use Rattle.std.proofs.lemmas.Option.{none-some, same_Some}
 use Rattle.std.specs.Prelude.{IsSome, slice_index, slice_set}
 use Rattle.std.specs.List.{AllByRecursion}
-use Rattle.plex_num.proofs.Lists.{all_both}
+use Rattle.plex_num.proofs.Lists.{all_both, all_weaker}
 use Rattle.job_types.specs.declared.job.JobStart.{JobStart}
 use Rattle.job_types.specs.declared.outcome.JobDone.{JobDone}
 use Rattle.job_types.specs.Own.{done_of}
@@ -21,7 +21,6 @@ use Rattle.source_meaning.specs.State.{State, Coming}
 use Rattle.source_meaning.specs.Traces.{IsTouched}
 use Rattle.source_meaning.specs.Valid.{IsValid}
 use Rattle.source_meaning.proofs.Agreeing.{stored_alike}
-use Rattle.source_meaning.proofs.Lists.{all_weaker}
 use Rattle.source_meaning.proofs.Retiring.{turn_valid}
 use Rattle.retire_order.specs.Accounts.{next_count}
 use Rattle.register_machine.specs.Faithful.{Faithful, started}

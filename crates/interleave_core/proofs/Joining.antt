@@ -4,7 +4,7 @@ use Rattle.std.proofs.lemmas.List.{append-nil, map-append, map-set}
 use Rattle.std.proofs.lemmas.Option.{none-some, same_Some}
 use Rattle.std.specs.Prelude.{IsSome, slice_index, slice_set}
 use Rattle.std.specs.List.{AllByRecursion}
-use Rattle.plex_num.proofs.Lists.{all_append, all_left, all_right}
+use Rattle.plex_num.proofs.Lists.{all_append, all_left, all_right, all_weaker}
 use Rattle.job_types.specs.declared.chain.Held.{Held}
 use Rattle.job_types.specs.declared.job.Job.{Job}
 use Rattle.job_types.specs.declared.job.JobStart.{JobStart}
@@ -29,7 +29,6 @@ use Rattle.source_meaning.specs.Traces.{AgreeOn, IsTouched, LeavesAlone, touched
 use Rattle.source_meaning.specs.Valid.{IsFitting, IsJob, IsValid}
 use Rattle.source_meaning.proofs.Agreeing.{agree_answers, left_alone}
 use Rattle.source_meaning.proofs.Growing.{job_store}
-use Rattle.source_meaning.proofs.Lists.{all_weaker}
 use Rattle.source_meaning.proofs.Retiring.{begun_valid, start_fits, turn_valid}
 use Rattle.source_meaning.proofs.Touching.{touches_inside}
 use Rattle.register_machine.specs.Faithful.{Faithful, Means, RunsAsMeant, started}

@@ -12,7 +12,6 @@ use Rattle.exchange_model.specs.Kept.{IsExchange}
 use Rattle.source_meaning.specs.Job.{job}
 use Rattle.source_meaning.specs.State.{State}
 use Rattle.source_meaning.specs.Valid.{IsFitting}
-use Rattle.source_meaning.proofs.Lists.{all_weaker}
 use Rattle.source_meaning.proofs.States.{IsLater, may_later}
 use Rattle.retire_order.specs.Accounts.{with_words}
 use Rattle.retire_order.specs.Retired.{retired_world}
@@ -32,6 +31,7 @@ use Rattle.interleave_core.specs.Runs as runs
 use Rattle.interleave_core.specs.Safe.{HasEntry, HasSummary, IsSafe, MayRetire, StaysSafe}
 use Rattle.interleave_core.proofs.Following.{Beside, first_at, follows_runs, job_at, stands_at, window_in}
 use Rattle.interleave_core.proofs.Joining.{PairsGive, Progress, Shares, all_fit, may_step, next_is_job, retire, run_of, starts_of, touches_of}
+use Rattle.plex_num.proofs.Lists.{all_weaker}
 
 module _ (x : Exchange) (kept : IsExchange x) (code : Code) (faithful : Faithful x code) (facts : KeptSummaries) (pairs : PairsGive x (MayFollow facts)) (each : length facts.summaries ≡ length x.entries) (first : State) where
   abbrev Follows : Core → Type 0

@@ -3,13 +3,12 @@ use Rattle.std.proofs.Common.{◌≡◌, inl, inr, ◌⊎◌, ⊎_elim, ℕ, zer
 use Rattle.std.proofs.lemmas.Option.{none-some, same_Some}
 use Rattle.std.specs.Prelude.{slice_index, slice_set}
 use Rattle.std.specs.List.{AllByRecursion}
-use Rattle.plex_num.proofs.Lists.{all_both}
+use Rattle.plex_num.proofs.Lists.{all_both, all_weaker}
 use Rattle.job_types.specs.declared.touch.Touch.{Touch}
 use Rattle.job_types.specs.declared.touch.Touch.TheVariants.{Load, Store}
 use Rattle.job_types.specs.Touches.{NoStore, stored}
 use Rattle.job_types.proofs.Touched.{stored-append, stored-kept}
 use Rattle.source_meaning.specs.Traces.{IsTouched, LeavesAlone}
-use Rattle.source_meaning.proofs.Lists.{all_weaker}
 use Rattle.pair_laws.proofs.Touching.{lists_past, no_store_append}
 use Rattle.interleave_core.specs.Follows.{AllApart, AreApart, one_after_other}
 

@@ -7,6 +7,7 @@ use Rattle.plex_num.specs.contracts.level.LevelPartialEq.TheImpl as levels
 use Rattle.entry_summary.specs.declared.summary.Access.{Access}
 use Rattle.entry_summary.specs.declared.summary.Summary.{Summary}
 use Rattle.entry_summary.specs.contracts.summary.AccessPartialEq.TheImpl as accesses
+use Rattle.entry_summary.proofs.Equal.{same_summary}
 
 same_items : {A : Type 0} (alike : A → A → Bool) → ((a b : A) → alike a b ≡ true → a ≡ b) → (some others : List A) → pointwise alike some others ≡ true → some ≡ others
 same_items alike one [] [] is = refl
@@ -28,13 +29,10 @@ same_levels some others shown other_shown r here there is told = sym here ∙ sa
 pub same_accesses : (some others shown other_shown : List Access) (r : Bool) → shown ≡ some → other_shown ≡ others → r ≡ pointwise accesses.ghosts.eq shown other_shown → IsTrue r → some ≡ others
 same_accesses some others shown other_shown r here there is told = sym here ∙ same_items accesses.ghosts.eq same_access shown other_shown (sym is ∙ told) ∙ there
 
-joined : (s t : Summary) → s.level ≡ t.level → s.accesses ≡ t.accesses → s.levels ≡ t.levels → s.fault ≡ t.fault → s ≡ t
-joined s t level accesses levels fault = λ i. record { level = level i; accesses = accesses i; levels = levels i; fault = fault i }
-
 pub same_summaries : (s t : Summary) (a b c d : Bool) → (IsTrue a → s.level ≡ t.level) → (IsTrue b → s.fault ≡ t.fault) → (IsTrue c → s.levels ≡ t.levels) → (IsTrue d → s.accesses ≡ t.accesses)
     → IsTrue (((a && b) && c) && d) → s ≡ t
 same_summaries s t a b c d level fault levels accesses told =
     let last = and_parts ((a && b) && c) d told in
     let third = and_parts (a && b) c last.0 in
     let first = and_parts a b third.0 in
-    joined s t (level first.0) (accesses last.1) (levels third.1) (fault first.1)
+    same_summary s t (level first.0) (accesses last.1) (levels third.1) (fault first.1)

@@ -39,9 +39,13 @@ impl Drop for Summaries {
 
 impl Model for Summaries {
     ghost use Rattle.std.specs.Prelude.{List};
+    ghost use Rattle.std.specs.Coded.{codes};
+    ghost use Rattle.std.specs.List.Sorted.{IsStrictlySortedBy-prop};
     ghost use Rattle.entry_summary.specs.declared.summary.Summary.{Summary};
 
     ghost Value = { List Summary };
+
+    ghost coded = { Prim.hlevel (codes, IsStrictlySortedBy-prop) };
 
     ghost use Rattle.kept_summaries.specs.Standing.{ArePlaced, in_order};
 

@@ -52,11 +52,11 @@ pub record Kept (K : Type 0) (L : Lang) : Type 0 where
 
 -- how languages are put together
 
-words-first : (a b : List Token) → AreWords (a ++ b) → AreWords a
+pub words-first : (a b : List Token) → AreWords (a ++ b) → AreWords a
 words-first [] b k = tt
 words-first (t ∷ a) b k = (k.0, words-first a b k.1)
 
-words-second : (a b : List Token) → AreWords (a ++ b) → AreWords b
+pub words-second : (a b : List Token) → AreWords (a ++ b) → AreWords b
 words-second [] b k = k
 words-second (t ∷ a) b k = words-second a b k.1
 
@@ -97,7 +97,7 @@ kept-maybe : {X : Type 0} {K : X → Type 0} {L : X → Lang} → ((x : X) → K
 kept-maybe F None = record { keeps = λ u w h. tt }
 kept-maybe F (Some x) = F x
 
-word_at : (u : List Token) (t : Token) (k : TokenKind) → u ≡ t ∷ [] → t.kind ≡ k → AreWords u → IsWord k
+pub word_at : (u : List Token) (t : Token) (k : TokenKind) → u ≡ t ∷ [] → t.kind ≡ k → AreWords u → IsWord k
 word_at u t k e h w = subst IsWord h ((subst AreWords e w).0)
 
 kept-name : (s : Bool) (x : Named) → Kept (IsNamed x) (named s x)

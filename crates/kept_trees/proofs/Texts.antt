@@ -1,6 +1,5 @@
 -- The tokens of a text are words that a text may have, and so what they spell is kept.
-use Rattle.std.proofs.Common.{◌≡◌, ℕ, ◌+◌, ◌-◌, ◌<◌, ◌^◌, get_or, Bool, true, false, cond, nat_eq, nat_lt, nat_le, ◌&&◌, List, [], ◌∷◌, length, Result, Ok, Err, Option, Some, None, refl, sym, ◌∙◌, ap, arith, subst, if◌then◌else◌}
-use Rattle.std.proofs.lemmas.Bool.{ltb-true}
+use Rattle.std.proofs.Common.{◌≡◌, ℕ, ◌+◌, ◌-◌, ◌<◌, ◌^◌, get_or, Bool, true, false, cond, nat_eq, nat_lt, List, [], ◌∷◌, length, Result, Ok, Err, Option, Some, None, refl, sym, ◌∙◌, ap, arith, subst, if◌then◌else◌}
 use Rattle.std.proofs.lemmas.Bool.Decides.{nat_tests}
 use Rattle.std.proofs.lemmas.List.Sums.{take_while-cons}
 use Rattle.std.specs.Char.{is_ascii_digit, is_ascii_uppercase}
@@ -13,13 +12,14 @@ use Rattle.plex_lexer.specs.Bytes.{is_blank, in_word}
 use Rattle.plex_lexer.specs.Lexed.{Mode, Between, Comment, InWord, InDigits, InMark, goes_on, lexed, tokens_of, begins, put, with_kind, with_mark}
 use Rattle.plex_lexer.specs.Marks.{mark_of}
 use Rattle.plex_lexer.specs.Words.{keyword_of, keyword_or_name, word_kind, number_kind, number_or_fault}
-use Rattle.plex_num.specs.Number.{digits_from, number_of, below_2_32}
+use Rattle.plex_num.specs.Number.{number_of}
 use Rattle.plex_ast.specs.declared.tree.Tree.{Tree}
 use Rattle.plex_ast.specs.Grammar.{tree}
 use Rattle.plex_limits.specs.declared.limits.TheConstants.{MOST_BRACKETS, MOST_NESTED}
 use Rattle.kept_trees.specs.Keeps.{Keeps}
 use Rattle.kept_trees.specs.Words.{IsWord, AreWords}
 use Rattle.kept_trees.proofs.Kept.{kept-tree}
+use Rattle.plex_num.proofs.Digits.{number_small}
 
 abbrev Lexed : Type 0
 Lexed = Result (List Token) LexFault
@@ -88,14 +88,6 @@ word_good b rest offset line up kind = pick (nat_lt 31 (length (b ∷ take_while
     (λ few e. subst IsWord (same_kind _ kind e) (named (b ∷ take_while in_word rest) b (take_while in_word rest) (keyword_of (b ∷ take_while in_word rest)) refl up (run_all in_word rest) few refl))
 
 -- a run of digits is a number
-
-below_small : (o : Option ℕ) (n : ℕ) → below_2_32 o ≡ Some n → n < 2 ^ 32
-below_small None n e = absurd (no_some n e)
-below_small (Some m) n h = pick (nat_lt m (2 ^ 32)) (λ small e. let s : m ≡ n = same_some m n e in let l : m < 2 ^ 32 = ltb-true m (2 ^ 32) small in omega arith) (λ _ e. absurd (no_some n e)) h
-
-number_small : (text : List ℕ) (n : ℕ) → number_of text ≡ Some n → n < 2 ^ 32
-unfolding number_of
-number_small text n = pick (nat_lt 0 (length text) && nat_le (length text) 10) (λ _ e. below_small (digits_from 0 text) n e) (λ _ e. absurd (no_some n e))
 
 fault_good : (o : Option ℕ) (offset line : ℕ) (kind : TokenKind) → ((n : ℕ) → o ≡ Some n → n < 2 ^ 32) → number_or_fault o offset line ≡ Ok kind → IsWord kind
 fault_good (Some n) offset line kind small e = subst IsWord (same_kind _ kind e) (small n refl)

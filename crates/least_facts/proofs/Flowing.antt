@@ -34,17 +34,17 @@ use Rattle.flow_table.specs.Rows.{IsRowOf, IsFlowTable}
 use Rattle.flow_table.specs.Small.{IsSmall}
 use Rattle.flow_table.specs.Ways.{IsEnd}
 use Rattle.flow_table.proofs.Rowing.{place_fits}
+use Rattle.flow_table.proofs.Slotted.{row_of}
 use Rattle.fact_flows.specs.Flows.{FlowsTo, OneGives, WayGives}
 use Rattle.fact_flows.specs.Slots.{AreSlots}
 use Rattle.fact_flows.proofs.Flowing.{ways_give, ways_small}
 use Rattle.fact_flows.proofs.Peopled.{point_stands}
-use Rattle.fact_flows.proofs.Slotting.{row_of}
 use Rattle.fact_rows.specs.Known.{Adds, Fits, Knows, Rows, missing}
 use Rattle.least_facts.specs.declared.answers.AnswerTable.{AnswerTable}
 use Rattle.least_facts.specs.Answers.{AreAnswers, awaited_at, known_answer}
 use Rattle.least_facts.specs.Fit.{Numbered}
 use Rattle.least_facts.specs.Giving.{CanFlow, FillsSlots, IsFact, IsGood, IsOwnLeast}
-use Rattle.least_facts.specs.Growing.{Goes, HandedFrom, IsHandedBy, Search, SentFrom, Stands, WaySends, Went, answer_way, handing_of, is_answer}
+use Rattle.least_facts.specs.Growing.{Goes, HandedFrom, IsHandedBy, Search, SentFrom, IsLeastSoFar, WaySends, Went, answer_way, handing_of, is_answer}
 use Rattle.least_facts.specs.Marks.{Settles}
 use Rattle.least_facts.proofs.Fitting.{least_fits}
 use Rattle.least_facts.proofs.Filling.{fact_given, fills_given, flows_more}
@@ -54,7 +54,7 @@ use Rattle.least_facts.proofs.Numbering.{answers_fit, leads_fit}
 
 -- ---- one flow
 
-module _ (x : Exchange) (t : FlowTable) (a : AnswerTable) (e p : ℕ) (how : Passing) (q : ℕ) (s : Search) (stands : Stands x t e s) where
+module _ (x : Exchange) (t : FlowTable) (a : AnswerTable) (e p : ℕ) (how : Passing) (q : ℕ) (s : Search) (stands : IsLeastSoFar x t e s) where
   pub can_flow : (b : Bool) → IsGood x e p how q → (IsTrue b ↔ Guarded (Knows s.rows) e p q how) → b ≡ true → CanFlow x t e p how q s.rows
   can_flow b good test on = record { of_entry = stands.of_entry; of_slots = stands.of_slots; least = stands.least; good = good; guarded = test.0 on }
 
@@ -72,7 +72,7 @@ pub slots_there : (x : Exchange) (q : ℕ) (all slots : List Slot) → AreSlots 
 slots_there x q all slots exact same s c = (exact.exact s).0 (subst (λ l. Contains l s) same c)
 
 -- a fact is added
-pub added : (x : Exchange) (t : FlowTable) (a : AnswerTable) (e : ℕ) (kept : IsExchange x) (are : AreAnswers x a) (s : Search) (stands : Stands x t e s) (f : Fact) (least : IsOwnLeast x e f) (grown reached : Bool) (k : Rows) (m : List ℕ) (firsts : List (Option ℕ)) → (IsTrue reached ↔ Reached (Knows s.rows) e f.point)
+pub added : (x : Exchange) (t : FlowTable) (a : AnswerTable) (e : ℕ) (kept : IsExchange x) (are : AreAnswers x a) (s : Search) (stands : IsLeastSoFar x t e s) (f : Fact) (least : IsOwnLeast x e f) (grown reached : Bool) (k : Rows) (m : List ℕ) (firsts : List (Option ℕ)) → (IsTrue reached ↔ Reached (Knows s.rows) e f.point)
     → Adds f s.rows k → MatchBool grown (missing k + 1 ≡ missing s.rows) (k ≡ s.rows) → Settles a k e grown reached f.point s.marks s.firsts m firsts → Went x t a e (IsFact f) s (record { rows = k; marks = m; firsts = firsts })
 added x t a e kept are s stands f least grown reached k m firsts test adds counted settles = record {
   goes = settled_goes x t a e kept are s k f.point stands m firsts grown reached
@@ -80,10 +80,10 @@ added x t a e kept are s stands f least grown reached k m firsts test adds count
   all = λ h is. (adds.knows h).1 (inl is);
 }
 
-pub own_entry : (x : Exchange) (t : FlowTable) (e : ℕ) (s : Search) (f : Fact) → Stands x t e s → IsOwnLeast x e f → f.entry ≡ s.rows.entry
+pub own_entry : (x : Exchange) (t : FlowTable) (e : ℕ) (s : Search) (f : Fact) → IsLeastSoFar x t e s → IsOwnLeast x e f → f.entry ≡ s.rows.entry
 own_entry x t e s f stands least = least.entry ∙ sym stands.of_entry
 
-pub own_fits : (x : Exchange) (t : FlowTable) (e : ℕ) (s : Search) (f : Fact) → IsExchange x → IsFlowTable x t → Stands x t e s → IsOwnLeast x e f → Fits s.rows.marks.slots f
+pub own_fits : (x : Exchange) (t : FlowTable) (e : ℕ) (s : Search) (f : Fact) → IsExchange x → IsFlowTable x t → IsLeastSoFar x t e s → IsOwnLeast x e f → Fits s.rows.marks.slots f
 own_fits x t e s f kept table stands least = subst (λ l. Fits l f) (sym stands.of_slots) (least_fits t x kept table f least.least)
 
 -- ---- what is good to send
@@ -135,7 +135,7 @@ module _ (x : Exchange) (t : FlowTable) (e p : ℕ) (kept : IsExchange x) (table
 
 -- ---- an answer goes to the first RETRIEVE
 
-module _ (x : Exchange) (t : FlowTable) (a : AnswerTable) (e p : ℕ) (how : Passing) (n : ℕ) (are : AreAnswers x a) (s : Search) (stands : Stands x t e s) where
+module _ (x : Exchange) (t : FlowTable) (a : AnswerTable) (e p : ℕ) (how : Passing) (n : ℕ) (are : AreAnswers x a) (s : Search) (stands : IsLeastSoFar x t e s) where
   -- the first RETRIEVE is the one that is found
   first_is : (u : Option ℕ) → u ≡ known_answer (slice_get s.firsts n) → (f : Fact) → is_answer how ≡ true → (h : WaySends x s.firsts (Knows s.rows) e p (answer_way how n) f) → u ≡ Some h.end
   first_is u known f is h =
@@ -165,7 +165,7 @@ module _ (x : Exchange) (t : FlowTable) (a : AnswerTable) (e p : ℕ) (how : Pas
       went_as x t a e (OneGives (FlowsTo x P e p how) points) (WayGives x P e p (answer_way how n)) s new
       (λ f h. record { one = h.end; among = subst (λ l. Contains l h.end) (sym same) (((table.retrieves.exact n listed there).exact h.end).1 h.ends); gives = h.flows }) went
 
-  pub no_retrieves : IsExchange x → AreAnswers x a → (P : Facts) (s : Search) → Stands x t e s → length t.retrieves ≤ n → Went x t a e (WayGives x P e p (answer_way how n)) s s
+  pub no_retrieves : IsExchange x → AreAnswers x a → (P : Facts) (s : Search) → IsLeastSoFar x t e s → length t.retrieves ≤ n → Went x t a e (WayGives x P e p (answer_way how n)) s s
   no_retrieves kept are P s stands past =
       went_none x t a e (WayGives x P e p (answer_way how n)) s stands
       (λ f h. let low = answer_low x a are h.end n kept h.ends in let many = table.retrieves.each_signal in omega (arith, low, many, past))
@@ -211,7 +211,7 @@ module _ (x : Exchange) (t : FlowTable) (a : AnswerTable) (e p : ℕ) (are : Are
       by Depth is gives = absurd (subst (λ u. SourceGives (IsLeast x) e p (answers (handing_of count) u) f.value) is gives)
       by Awaits is gives = absurd (subst (λ u. SourceGives (IsLeast x) e p (answers (handing_of count) u) f.value) is gives)
 
-  module _ (s : Search) (stands : Stands x t e s) where
+  module _ (s : Search) (stands : IsLeastSoFar x t e s) where
     pub none_handed : (u : Option ℕ) → IsHandedBy a s.firsts p u → u ≡ None → Went x t a e (HandedFrom x s.firsts (Knows s.rows) e p) s s
     none_handed u is none = went_none x t a e (HandedFrom x s.firsts (Knows s.rows) e p) s stands (λ f h. subst (IsHandedBy a s.firsts p) none is h.answer (awaited_of x a are p h.answer (stands.retrieve h.answer p h.first)) h.first)
 

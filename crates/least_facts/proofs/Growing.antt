@@ -1,21 +1,19 @@
 -- How a search goes on, and that all that is least is known where nothing is marked.
 use Rattle.std.proofs.Common.{◌≡◌, ◌⊎◌, inl, inr, ⊎_elim, ℕ, zero, suc, ◌+◌, ◌*◌, ◌<◌, ◌≤◌, Bool, true, false, nat_eq, nat_lt, if◌then◌else◌, List, [], ◌∷◌, ◌++◌, length, take, get_or, replicate, Option, Some, None, slice_get, refl, sym, ap, ◌∙◌, subst, arith}
-use Rattle.std.specs.Prelude.{◌↔◌, IfSome, IsTrue}
-use Rattle.std.specs.Option.{IsSome}
+use Rattle.std.specs.Prelude.{◌↔◌, IsTrue}
 use Rattle.std.specs.List.{Contains}
 use Rattle.std.specs.List.Sorted.{IsStrictlySortedBy}
 use Rattle.std.proofs.Math.Nat.{mul-le-mul_right, suc-mul}
 use Rattle.std.proofs.lemmas.Bool.{eqb-true, eqb-false, cases_lt, true≢false}
 use Rattle.std.proofs.lemmas.List.{length-replicate, take_all}
 use Rattle.std.proofs.lemmas.Option.{none-some, same_Some, slice_get_past}
-use Rattle.plex_num.proofs.Members.{first_or_later, none_in}
+use Rattle.plex_num.proofs.Members.{first_or_later, none_in, first_is, later_is}
 use Rattle.plex_num.proofs.Lists.{some_at}
 use Rattle.exchange_model.specs.declared.exchange.Exchange.{Exchange}
 use Rattle.exchange_model.specs.Fits.{retrieved}
 use Rattle.exchange_model.specs.Kept.{IsExchange}
 use Rattle.source_meaning.specs.Changes.{value_count}
 use Rattle.source_meaning.specs.Named.{Layer}
-use Rattle.source_meaning.proofs.Lists.{first_is, later_is}
 use Rattle.source_meaning.proofs.Fitting.{answer_below}
 use Rattle.flow_points.specs.declared.fact.Fact.{Fact}
 use Rattle.flow_points.specs.declared.fact.Slot.{Slot}
@@ -32,6 +30,7 @@ use Rattle.flow_points.specs.Places.{IsRetrieveAt, Place, StandsAt}
 use Rattle.flow_points.specs.Slots.{HasSlot, answer_count}
 use Rattle.flow_points.specs.Sources.{source_of, start_source}
 use Rattle.flow_points.proofs.Least.{derived_in, gives_more, least_closed, least_in, point_alike, source_alike}
+use Rattle.flow_points.specs.Orders.{fact_order}
 use Rattle.flow_table.specs.declared.row.FlowTable.{FlowTable}
 use Rattle.flow_table.specs.declared.way.Ends.{Ends}
 use Rattle.flow_table.specs.declared.way.Way.{Way}
@@ -44,15 +43,17 @@ use Rattle.flow_table.proofs.Shaping.{led_by}
 use Rattle.fact_flows.specs.Flows.{OneGives}
 use Rattle.fact_flows.specs.Given.{GivenAtStart}
 use Rattle.fact_rows.specs.declared.place.Counts.{Counts}
-use Rattle.fact_rows.specs.Orders.{fact_order}
 use Rattle.fact_rows.specs.Known.{AreFacts, KnowNothing, Knows, Rows, missing, slots_of}
 use Rattle.least_facts.specs.declared.analyser.Analyser.{Analyser}
 use Rattle.least_facts.specs.declared.answers.AnswerTable.{AnswerTable}
+use Rattle.least_facts.specs.declared.looks.Looked.{Looked}
+use Rattle.least_facts.specs.declared.looks.Looked.TheVariants.{Whole, Over}
 use Rattle.least_facts.specs.Answers.{AreAnswers, IsReturnAt, ReturnsOf, awaited_at, known_answer, returned}
 use Rattle.least_facts.specs.Giving.{Fills, IsFact, IsOwnLeast}
-use Rattle.least_facts.specs.Growing.{AreFound, Goes, GoesOn, HandedFrom, IsFirst, IsNew, IsVisited, Search, Searches, SentFrom, Stands, Went, is_answer, without}
+use Rattle.least_facts.specs.Growing.{AreFound, Goes, GoesOn, HandedFrom, IsFirst, IsNew, IsVisited, Search, Searches, SentFrom, IsLeastSoFar, Went, is_answer, without}
 use Rattle.least_facts.specs.Marks.{HasFirst, Settles, most_marks}
 use Rattle.least_facts.specs.Least.{HasLearned}
+use Rattle.least_facts.specs.Looks.{FindsWithin}
 use Rattle.least_facts.proofs.Filling.{before_or_here, guard_by, none_yet}
 
 -- to which RETRIEVEs an answer flows
@@ -193,7 +194,7 @@ least_slot x f h = by h.derived.0
 -- ---- one step
 
 module _ (x : Exchange) (t : FlowTable) (a : AnswerTable) (e : ℕ) where
-  pub goes_same : (s : Search) → Stands x t e s → Goes x t a e s s
+  pub goes_same : (s : Search) → IsLeastSoFar x t e s → Goes x t a e s s
   goes_same s stands = record {
     stands = stands;
     more = λ f c. c;
@@ -239,7 +240,7 @@ module _ (x : Exchange) (t : FlowTable) (a : AnswerTable) (e : ℕ) where
       sum : (b c d : ℕ) → d ≡ b + most → d ≤ c → new + b ≤ old + c
       sum b c d is le = omega (arith, few, is, le)
 
-  module _ (kept : IsExchange x) (are : AreAnswers x a) (s : Search) (k : Rows) (q : ℕ) (stands : Stands x t e s) (m : List ℕ) (firsts : List (Option ℕ)) where
+  module _ (kept : IsExchange x) (are : AreAnswers x a) (s : Search) (k : Rows) (q : ℕ) (stands : IsLeastSoFar x t e s) (m : List ℕ) (firsts : List (Option ℕ)) where
     abbrev made : Search
     made = record { rows = k; marks = m; firsts = firsts }
 
@@ -322,7 +323,7 @@ pub record WentAll {A : Type 0} (x : Exchange) (t : FlowTable) (a : AnswerTable)
   pub goes : Goes x t a e s new
   pub all : (b : A) → Contains (take i xs) b → (f : Fact) → G b f → Knows new.rows f
 
-pub went_begin : {A : Type 0} (x : Exchange) (t : FlowTable) (a : AnswerTable) (e : ℕ) (G : A → Fact → Type 0) (xs : List A) (s : Search) → Stands x t e s → WentAll x t a e G xs 0 s s
+pub went_begin : {A : Type 0} (x : Exchange) (t : FlowTable) (a : AnswerTable) (e : ℕ) (G : A → Fact → Type 0) (xs : List A) (s : Search) → IsLeastSoFar x t e s → WentAll x t a e G xs 0 s s
 went_begin x t a e G xs s stands = record { goes = goes_same x t a e s stands; all = λ b c f g. absurd (none_yet xs b c) }
 
 pub went_more : {A : Type 0} (x : Exchange) (t : FlowTable) (a : AnswerTable) (e : ℕ) (G : A → Fact → Type 0) (H : Fact → Type 0) (xs : List A) (i : ℕ) (d : A) (s m n : Search) → i < length xs → ((f : Fact) → G (get_or xs i d) f → H f)
@@ -347,12 +348,12 @@ facts_all x t a e facts i s new past g = record { goes = g.goes; all = λ f c. g
 pub went_as : (x : Exchange) (t : FlowTable) (a : AnswerTable) (e : ℕ) (G H : Fact → Type 0) (s new : Search) → ((f : Fact) → H f → G f) → Went x t a e G s new → Went x t a e H s new
 went_as x t a e G H s new over g = record { goes = g.goes; all = λ f h. g.all f (over f h) }
 
-pub went_none : (x : Exchange) (t : FlowTable) (a : AnswerTable) (e : ℕ) (G : Fact → Type 0) (s : Search) → Stands x t e s → ((f : Fact) → G f → ⊥) → Went x t a e G s s
+pub went_none : (x : Exchange) (t : FlowTable) (a : AnswerTable) (e : ℕ) (G : Fact → Type 0) (s : Search) → IsLeastSoFar x t e s → ((f : Fact) → G f → ⊥) → Went x t a e G s s
 went_none x t a e G s stands none = record { goes = goes_same x t a e s stands; all = λ f g. absurd (none f g) }
 
 -- ---- what goes on from a point that is not marked
 
-module _ (x : Exchange) (t : FlowTable) (a : AnswerTable) (e : ℕ) (are : AreAnswers x a) (s new : Search) (old : Stands x t e s) (g : Goes x t a e s new) (p : ℕ) (unmarked : Contains new.marks p → ⊥) where
+module _ (x : Exchange) (t : FlowTable) (a : AnswerTable) (e : ℕ) (are : AreAnswers x a) (s new : Search) (old : IsLeastSoFar x t e s) (g : Goes x t a e s new) (p : ℕ) (unmarked : Contains new.marks p → ⊥) where
   -- all that is known there was known before
   was_known : (u : Slot) (v : Value) → Knows new.rows (fact e p u v) → Knows s.rows (fact e p u v)
   was_known u v c = ⊎_elim (λ was. was) (λ marked. absurd (unmarked marked)) (g.fresh (fact e p u v) c)
@@ -435,7 +436,7 @@ module _ (x : Exchange) (t : FlowTable) (a : AnswerTable) (e : ℕ) (are : AreAn
 -- ---- a point is looked at
 
 module _ (x : Exchange) (t : FlowTable) (a : AnswerTable) (e : ℕ) where
-  pub restand : (s : Search) (marks : List ℕ) → Stands x t e s → Stands x t e (without s marks)
+  pub restand : (s : Search) (marks : List ℕ) → IsLeastSoFar x t e s → IsLeastSoFar x t e (without s marks)
   restand s marks h = record { of_entry = h.of_entry; of_slots = h.of_slots; least = h.least; long = h.long; retrieve = h.retrieve; reached = h.reached; found = h.found }
 
   start_was : (k new : Rows) (f : Fact) → GivenAtStart x (Knows new) e f → GivenAtStart x (Knows k) e f
@@ -452,7 +453,7 @@ module _ (x : Exchange) (t : FlowTable) (a : AnswerTable) (e : ℕ) where
     counted = whole.counted;
   }
     where
-      stands : Stands x t e s
+      stands : IsLeastSoFar x t e s
       stands = restand (without s (p ∷ s.marks)) s.marks searches.stands
 
       whole : Goes x t a e s new
@@ -482,14 +483,14 @@ module _ (x : Exchange) (t : FlowTable) (a : AnswerTable) (e : ℕ) where
     counted = omega arith;
   }
 
-  reached_by : (s : Search) (p : ℕ) → Stands x t e s → (f : Fact) → GoesOn x s.firsts (Knows s.rows) e p f → Reached (Knows s.rows) e p
+  reached_by : (s : Search) (p : ℕ) → IsLeastSoFar x t e s → (f : Fact) → GoesOn x s.firsts (Knows s.rows) e p f → Reached (Knows s.rows) e p
   reached_by s p stands f (inl h) = subst (λ n. Reached (Knows s.rows) n p) h.given.entry (subst (Reached (Knows s.rows) f.entry) h.given.gives.stands.here h.given.gives.flow.reached)
   reached_by s p stands f (inr h) = stands.reached h.answer p h.first
 
   pub unreached_visit : (s : Search) (p : ℕ) (b : Bool) → Searches x t e (without s (p ∷ s.marks)) → (IsTrue b ↔ Reached (Knows s.rows) e p) → b ≡ false → IsVisited x t a e s s
   unreached_visit s p b searches test off = visited_none s p searches (λ f h. true≢false (sym (test.1 (reached_by s p (restand (without s (p ∷ s.marks)) s.marks searches.stands) f h)) ∙ off))
 
-  stands_by : (s : Search) (p : ℕ) → Stands x t e s → (f : Fact) → GoesOn x s.firsts (Knows s.rows) e p f → (at : Place) × StandsAt x p at
+  stands_by : (s : Search) (p : ℕ) → IsLeastSoFar x t e s → (f : Fact) → GoesOn x s.firsts (Knows s.rows) e p f → (at : Place) × StandsAt x p at
   stands_by s p stands f (inl h) = (h.given.gives.at, h.given.gives.stands)
   stands_by s p stands f (inr h) = (let w = stands.retrieve h.answer p h.first in (w.place, w.stands))
 
@@ -516,7 +517,7 @@ module _ (x : Exchange) (t : FlowTable) (a : AnswerTable) (e : ℕ) where
   none_first (suc n) (suc i) q there = none_first n i q there
 
   module _ (k : Rows) (slots : List Counts) (knows : KnowNothing e slots k) where
-    pub begun_stands : (m : List ℕ) (firsts : List (Option ℕ)) (n : ℕ) → slots ≡ slots_of t → firsts ≡ replicate n None → n ≡ length x.signals → Stands x t e (record { rows = k; marks = m; firsts = firsts })
+    pub begun_stands : (m : List ℕ) (firsts : List (Option ℕ)) (n : ℕ) → slots ≡ slots_of t → firsts ≡ replicate n None → n ≡ length x.signals → IsLeastSoFar x t e (record { rows = k; marks = m; firsts = firsts })
     begun_stands m firsts n own none many = record {
       of_entry = knows.of_entry;
       of_slots = knows.of_slots ∙ own;
@@ -534,7 +535,7 @@ module _ (x : Exchange) (t : FlowTable) (a : AnswerTable) (e : ℕ) where
       pub begun_least : (f : Fact) → Contains listed f → IsOwnLeast x e f
       begun_least f c = (let g = given.each f (subst (λ l. Contains l f) all_added c) in record { entry = g.entry; least = least_closed x f (inl (start_any x (Knows k) (IsLeast x) f g.gives)) })
 
-      pub begun_searches : (are : AreAnswers x a) (m : List ℕ) (firsts : List (Option ℕ)) (new : Search) → Stands x t e (record { rows = k; marks = m; firsts = firsts }) → m ≡ []
+      pub begun_searches : (are : AreAnswers x a) (m : List ℕ) (firsts : List (Option ℕ)) (new : Search) → IsLeastSoFar x t e (record { rows = k; marks = m; firsts = firsts }) → m ≡ []
           → Went x t a e (Contains listed) (record { rows = k; marks = m; firsts = firsts }) new → Searches x t e new
       begun_searches are m firsts new stands unmarked went = record {
         stands = went.goes.stands;
@@ -635,13 +636,13 @@ module _ (x : Exchange) (t : FlowTable) (a : AnswerTable) (e : ℕ) where
 
 -- where there is no bound, all that is wanted is found
 
-pub found_always : {P : Type 0} (looked : Option ℕ) → IfSome looked (λ n. P) → IsSome looked → P
-found_always None found some = cc
-found_always (Some n) found some = found
+pub found_always : {P : Type 0} (o : Looked) → FindsWithin None P o → P
+found_always (Whole looks) found = found
+found_always (Over looks) none = absurd none
 
-pub learned_some : (x : Exchange) (t : FlowTable) (e : ℕ) (a : Analyser) (looked : Option ℕ) → IfSome looked (λ n. AreFound x t e a.rows) → IfSome looked (λ n. HasLearned x e a)
-learned_some x t e a None found = found
-learned_some x t e a (Some n) found = record { rows = record { exact = found.exact } }
+pub learned_or_over : (x : Exchange) (t : FlowTable) (e : ℕ) (a : Analyser) (most : Option ℕ) (o : Looked) → FindsWithin most (AreFound x t e a.rows) o → FindsWithin most (HasLearned x e a) o
+learned_or_over x t e a most (Whole looks) found = record { rows = record { exact = found.exact } }
+learned_or_over x t e a most (Over looks) over = over
 
 -- what is found is listed
 

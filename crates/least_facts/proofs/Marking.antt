@@ -12,14 +12,14 @@ use Rattle.std.proofs.lemmas.Map.Lookups.{exact_unsigned}
 use Rattle.std.proofs.lemmas.Option.{none-some, same_Some, slice_get_past}
 use Rattle.std.proofs.lemmas.List.{drop_more, length-map}
 use Rattle.std.proofs.lemmas.List.Sums.{sum_by-cons}
-use Rattle.plex_num.proofs.Members.{first_or_later, none_in}
-use Rattle.source_meaning.proofs.Lists.{first_is, later_is}
+use Rattle.plex_num.proofs.Members.{first_or_later, none_in, first_is, later_is}
 use Rattle.flow_points.specs.Facts.{Reached}
 use Rattle.fact_rows.specs.Known.{Knows, Rows}
 use Rattle.fact_rows.proofs.Holding.{from_map, to_map}
 use Rattle.least_facts.specs.declared.answers.AnswerTable.{AnswerTable}
 use Rattle.least_facts.specs.Answers.{ReturnsOf, awaited_at, known_answer}
 use Rattle.least_facts.specs.Marks.{IsThis, Marks, Reaches, Settles, Takes, most_returns, point_in}
+use Rattle.plex_num.proofs.Lists.{get_set_same, get_set_other}
 
 -- one point
 
@@ -121,18 +121,6 @@ known_is None p is = absurd (none-some p is)
 known_is (Some o) p is = ap Some is
 
 -- the first RETRIEVE of an answer
-
-get_set_same : {A : Type 0} (xs : List A) (i : ℕ) (a : A) → i < length xs → slice_get (slice_set xs i a) i ≡ Some a
-get_set_same [] i a lt = absurd (omega arith)
-get_set_same (x ∷ xs) zero a lt = refl
-get_set_same (x ∷ xs) (suc i) a lt = get_set_same xs i a (omega arith)
-
-get_set_other : {A : Type 0} (xs : List A) (i j : ℕ) (a : A) → (j ≡ i → ⊥) → slice_get (slice_set xs i a) j ≡ slice_get xs j
-get_set_other [] i j a apart = refl
-get_set_other (x ∷ xs) zero zero a apart = absurd (apart refl)
-get_set_other (x ∷ xs) zero (suc j) a apart = refl
-get_set_other (x ∷ xs) (suc i) zero a apart = refl
-get_set_other (x ∷ xs) (suc i) (suc j) a apart = get_set_other xs i j a (λ e. apart (ap suc e))
 
 pub reaches_none : (a : AnswerTable) (q : ℕ) (m : List ℕ) (firsts : List (Option ℕ)) (o : Option ℕ) → o ≡ awaited_at a q → o ≡ None → Reaches a q m firsts m firsts
 reaches_none a q m firsts o is none = record {

@@ -1,9 +1,8 @@
 -- Each source over a flow gives values that have a number in the plane of the slot.
 use Rattle.std.proofs.Common.{◌≡◌, ℕ, zero, suc, ◌+◌, ◌<◌, ◌≤◌, Bool, true, false, nat_lt, nat_eq, if◌then◌else◌, List, [], ◌∷◌, length, map, Option, Some, None, slice_get, refl, sym, ap, subst, arith}
 use Rattle.std.proofs.lemmas.Bool.{ltb-true}
-use Rattle.std.proofs.lemmas.Option.{none-some, same_Some, slice_get_within}
+use Rattle.std.proofs.lemmas.Option.{slice_get_within}
 use Rattle.std.specs.List.{AllByRecursion}
-use Rattle.std.specs.Option.{option_map_or}
 use Rattle.plex_limits.specs.declared.limits.TheConstants.{MOST_BLOCKS, MOST_SIGNALS, MOST_VALUES}
 use Rattle.exchange_model.specs.declared.exchange.Exchange.{Exchange}
 use Rattle.exchange_model.specs.declared.expr.Expr.{Expr, out-Expr}
@@ -16,7 +15,7 @@ use Rattle.exchange_model.specs.declared.signal.SignalKind.{SignalKind}
 use Rattle.exchange_model.specs.declared.signal.SignalKind.TheVariants.{Combined}
 use Rattle.exchange_model.specs.Fits.{Scope, ExprFits, FactorFits}
 use Rattle.exchange_model.specs.Inside.{own_exprs}
-use Rattle.exchange_model.specs.Kept.{IsExchange, IsAnswerOf, signal_count, scope_of}
+use Rattle.exchange_model.specs.Kept.{IsExchange, IsAnswerOf, scope_of}
 use Rattle.exchange_model.specs.PartFits.{TermFits, JoinedFits, FactorOwnFits, InsideFits}
 use Rattle.exchange_model.proofs.Layers.{expr_fits-out, term_fits-out, joined_fits-out, factor_fits-out}
 use Rattle.source_meaning.specs.Changes.{value_count}
@@ -39,6 +38,7 @@ use Rattle.flow_table.specs.Shapes.{Shape, Stays, Assigns, Finds, TakesGiven, Ta
 use Rattle.flow_table.proofs.Shaping.{led_by}
 use Rattle.flow_table.proofs.Sourcing.{expr_source-out, term_source-out, joined_source-out, factor_as}
 use Rattle.least_facts.specs.Fit.{HowFits, Numbered, SourceFits}
+use Rattle.flow_points.proofs.Few.{count_few}
 
 no_number : Numbered (Is (Const 0))
 no_number = omega arith
@@ -206,25 +206,13 @@ module _ (x : Exchange) (exchange : IsExchange x) where
 
   -- the start
 
-  all_at : {A : Type 0} (P : A → Type 0) (xs : List A) (i : ℕ) (a : A) → AllByRecursion P xs → slice_get xs i ≡ Some a → P a
-  all_at P [] i a all there = absurd (none-some a there)
-  all_at P (y ∷ xs) zero a all there = subst P (same_Some y a there) all.0
-  all_at P (y ∷ xs) (suc i) a all there = all_at P xs i a all.1 there
-
-  count_few : (signal : ℕ) → value_count x signal ≤ MOST_VALUES
-  count_few signal = by (slice_get x.signals signal) refl
-    where
-      by : (o : Option SignalKind) → slice_get x.signals signal ≡ o → option_map_or signal_count o 0 ≤ MOST_VALUES
-      by None there = omega arith
-      by (Some s) there = all_at (λ k. signal_count k ≤ MOST_VALUES) x.signals signal s exchange.signals.values there
-
   given_start : (count k : ℕ) (t : Bool) → count ≤ MOST_VALUES → nat_lt k count ≡ t → Numbered (if t then Is (Arg k) else Is (Const 0))
   given_start count k true few is = (let lt = ltb-true k count is in omega (arith, few, lt))
   given_start count k false few is = no_number
 
   pub start_fits : (signal : ℕ) (s : Slot) → SourceFits s (start_source (value_count x signal) s)
   start_fits signal (Temp t) = no_number
-  start_fits signal (Given k) = given_start (value_count x signal) k (nat_lt k (value_count x signal)) (count_few signal) refl
+  start_fits signal (Given k) = given_start (value_count x signal) k (nat_lt k (value_count x signal)) (count_few x exchange signal) refl
   start_fits signal (Answered k) = tt
   start_fits signal Depth = no_number
   start_fits signal Awaits = omega arith

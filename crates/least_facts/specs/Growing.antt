@@ -85,7 +85,7 @@ IsHandedBy a firsts point None = (n : ℕ) → awaited_at a point ≡ Some n →
 IsHandedBy a firsts point (Some n) = (awaited_at a point ≡ Some n) × (slice_get firsts n ≡ Some (Some point))
 
 -- all that is known is least, and an answer has a first RETRIEVE exactly where one is reached
-pub record Stands (x : Exchange) (t : FlowTable) (e : ℕ) (s : Search) : Type 0 where
+pub record IsLeastSoFar (x : Exchange) (t : FlowTable) (e : ℕ) (s : Search) : Type 0 where
   pub of_entry : s.rows.entry ≡ e
   pub of_slots : s.rows.marks.slots ≡ slots_of t
   pub least : (f : Fact) → Knows s.rows f → IsLeast x f
@@ -102,7 +102,7 @@ pub record IsNew (x : Exchange) (marked : List ℕ) (n q : ℕ) : Type 0 where
 -- more is known: each point at which something is new is marked, and so is the first RETRIEVE of an answer where another one became
 -- reached; each fact more leaves room for so many marks
 pub record Goes (x : Exchange) (t : FlowTable) (a : AnswerTable) (e : ℕ) (s new : Search) : Type 0 where
-  pub stands : Stands x t e new
+  pub stands : IsLeastSoFar x t e new
   pub more : (f : Fact) → Knows s.rows f → Knows new.rows f
   pub still : (p : ℕ) → Contains s.marks p → Contains new.marks p
   pub fresh : (f : Fact) → Knows new.rows f → Knows s.rows f ⊎ Contains new.marks f.point
@@ -118,7 +118,7 @@ pub record Went (x : Exchange) (t : FlowTable) (a : AnswerTable) (e : ℕ) (G : 
 
 -- so it stands, what the start gives is known, and so is what goes on from a point, unless the point is marked
 pub record Searches (x : Exchange) (t : FlowTable) (e : ℕ) (s : Search) : Type 0 where
-  pub stands : Stands x t e s
+  pub stands : IsLeastSoFar x t e s
   pub start : (f : Fact) → GivenAtStart x (Knows s.rows) e f → Knows s.rows f
   pub points : (p : ℕ) → Contains s.marks p ⊎ ((f : Fact) → GoesOn x s.firsts (Knows s.rows) e p f → Knows s.rows f)
 

@@ -4,3 +4,4 @@ pub mod Marks
 pub mod Giving
 pub mod Growing
 pub mod Least
+pub mod Looks

@@ -1,17 +1,18 @@
 // The least facts of an entry.
-ghost use Rattle.std.specs.Prelude.{◌≡◌, ◌↔◌, ℕ, None, IfOk, IfSome, OnOk};
-ghost use Rattle.std.specs.Option.{IsSome};
+ghost use Rattle.std.specs.Prelude.{◌≡◌, ◌↔◌, ℕ, IfOk, OnOk};
 ghost use Rattle.std.specs.List.{Contains};
 ghost use Rattle.std.specs.List.Sorted.{IsStrictlySortedBy};
 ghost use Rattle.flow_points.specs.declared.fact.Fact.{Fact};
 ghost use Rattle.flow_points.specs.Facts.{IsLeast};
+ghost use Rattle.flow_points.specs.Orders.{fact_order};
 ghost use Rattle.flow_table.specs.Rows.{IsFlowTable};
-ghost use Rattle.fact_rows.specs.Orders.{fact_order};
 ghost use Rattle.exchange_model.specs.declared.exchange.Exchange.{Exchange as ExchangeType};
 ghost use Rattle.least_facts.specs.Least.{HasLearned, IsFor, KnowLeast};
+ghost use Rattle.least_facts.specs.Looks.{FindsWithin};
 
 use crate::answers::{AnswerTable, answers_of};
 use crate::finding::find;
+use crate::looks::Looked;
 use crate::order::order_of;
 use exchange_model::Exchange;
 use fact_rows::FactRows;
@@ -50,9 +51,8 @@ impl Analyser {
         })
     }
 
-    /// Learns the least facts of an entry, in place of what it has learned before; how many slots it looked at for that, some of
-    /// them again. `None` where there is a bound, `most`, and more are to be looked at: then nothing of use is learned. After
-    /// `Memory` the analyser is of no more use.
+    /// Learns the least facts of an entry, in place of what it has learned before. Where there is a bound, `most`, and more slots than
+    /// that were looked at, it is `Over`, and nothing of use is learned. After `Memory` the analyser is of no more use.
     pub fn learn(
         &mut self,
         alloc: Global,
@@ -60,12 +60,10 @@ impl Analyser {
         table: &FlowTable,
         entry: u32,
         most: Option<usize>,
-    ) -> Result<Option<usize>, Memory>
+    ) -> Result<Looked, Memory>
         requires table { IsFlowTable exchange.now table.now }
         requires own { IsFor exchange.now table.now self.old }
-        ensures learned { IfOk result (λ looked.
-            IfSome looked (λ _. HasLearned exchange.now entry self.new)) }
-        ensures all { IfOk result (λ looked. most ≡ None → IsSome looked) }
+        ensures learned { IfOk result (FindsWithin most (HasLearned exchange.now entry self.new)) }
         ensures own { OnOk result (IsFor exchange.now table.now self.new) }
     {
         let looked = find(

@@ -1,6 +1,5 @@
 // The search for what follows from nothing.
-ghost use Rattle.std.specs.Prelude.{◌≡◌, ◌∷◌, ℕ, None, Some, true, IfOk, IfSome, IsTrue, OnOk};
-ghost use Rattle.std.specs.Option.{IsSome};
+ghost use Rattle.std.specs.Prelude.{◌≡◌, ◌∷◌, ℕ, Some, true, IfOk, IsTrue, OnOk};
 ghost use Rattle.std.specs.List.{Contains};
 ghost use Rattle.flow_points.specs.declared.fact.Fact.{Fact as FactType};
 ghost use Rattle.flow_points.specs.Places.{IsRetrieveAt};
@@ -12,11 +11,13 @@ ghost use Rattle.fact_flows.specs.Flows.{FlowsTo, OneGives, WayGives};
 ghost use Rattle.fact_rows.specs.Known.{Knows, slots_of};
 ghost use Rattle.least_facts.specs.Answers.{AreAnswers};
 ghost use Rattle.least_facts.specs.Giving.{IsFact, IsGood, IsOwnLeast};
-ghost use Rattle.least_facts.specs.Growing.{AreFound, HandedFrom, IsHandedBy, IsVisited, Searches, Stands, WaySends, Went, answer_way, handing_of, is_answer as is_answer_of, search_of, without};
+ghost use Rattle.least_facts.specs.Growing.{AreFound, HandedFrom, IsHandedBy, IsVisited, Searches, IsLeastSoFar, WaySends, Went, answer_way, handing_of, is_answer as is_answer_of, search_of, without};
+ghost use Rattle.least_facts.specs.Looks.{FindsWithin, IsOver};
 ghost use Rattle.least_facts.specs.Marks.{marks_of};
 
 use crate::answers::AnswerTable;
 use crate::giving::give_slots;
+use crate::looks::Looked;
 use crate::marks::{Marked, awaited_in, first_of, settle, take};
 use exchange_model::Exchange;
 use fact_flows::{push_given_at_start, slots_at};
@@ -26,8 +27,8 @@ use flow_table::{Ends, FlowTable, KnownFacts, Way, is_guarded};
 use plex_num::{Memory, Seq};
 use std::alloc::Global;
 
-/// Finds the least facts of an entry, so that the rows know these and no others; how many slots it looked at for that. `None` where
-/// there is a bound, `most`, and more are to be looked at: then the rows know some of them.
+/// Finds the least facts of an entry, so that the rows know these and no others. Where there is a bound, `most`, and more slots than that
+/// were looked at, it is `Over`, and the rows know some of them.
 pub(crate) fn find(
     alloc: Global,
     exchange: &Exchange,
@@ -37,13 +38,12 @@ pub(crate) fn find(
     entry: u32,
     most: Option<usize>,
     rows: &mut FactRows,
-) -> Result<Option<usize>, Memory>
+) -> Result<Looked, Memory>
     requires table { IsFlowTable exchange.now table.now }
     requires answers { AreAnswers exchange.now answers.now }
     requires slots { rows.old.marks.slots ≡ slots_of table.now }
-    ensures found { IfOk result (λ looked.
-        IfSome looked (λ _. AreFound exchange.now table.now entry rows.new)) }
-    ensures all { IfOk result (λ looked. most ≡ None → IsSome looked) }
+    ensures found { IfOk result
+        (FindsWithin most (AreFound exchange.now table.now entry rows.new)) }
     ensures slots { OnOk result (rows.new.marks.slots ≡ slots_of table.now) }
 {
     exchange.kept();
@@ -62,10 +62,10 @@ pub(crate) fn find(
         rows,
         &mut marked,
     )?;
-    let mut looked: usize = 0;
+    let mut looks: usize = 0;
     while let Some(point) = take(&mut marked) {
-        if is_over(most, looked) {
-            return Ok(None);
+        if is_over(most, looks) {
+            return Ok(Looked::Over { looks });
         }
         let more = visit(
             alloc,
@@ -78,17 +78,17 @@ pub(crate) fn find(
             rows,
             &mut marked,
         )?;
-        looked = looked.saturating_add(more);
+        looks = looks.saturating_add(more);
     }
-    Ok(Some(looked))
+    Ok(Looked::Whole { looks })
 }
 
 /// Whether there is a bound, and more slots were looked at.
-fn is_over(most: Option<usize>, looked: usize) -> bool
-    ensures { IsTrue result → most ≡ None → ⊥ }
+fn is_over(most: Option<usize>, looks: usize) -> bool
+    ensures { IsTrue result → IsOver most looks }
 {
     match most {
-        Some(most) => looked > most,
+        Some(most) => looks > most,
         None => false,
     }
 }
@@ -106,7 +106,7 @@ fn add_all(
 ) -> Result<(), Memory>
     requires table { IsFlowTable exchange.now table.now }
     requires answers { AreAnswers exchange.now answers.now }
-    requires stands { Stands exchange.now table.now entry (search_of rows.old marked.old) }
+    requires stands { IsLeastSoFar exchange.now table.now entry (search_of rows.old marked.old) }
     requires least { (f : FactType) → Contains facts.now f → IsOwnLeast exchange.now entry f }
     ensures { OnOk result (Went exchange.now table.now answers.now entry (Contains facts.now)
         (search_of rows.old marked.old) (search_of rows.new marked.new)) }
@@ -132,7 +132,7 @@ fn add(
 ) -> Result<(), Memory>
     requires table { IsFlowTable exchange.now table.now }
     requires answers { AreAnswers exchange.now answers.now }
-    requires stands { Stands exchange.now table.now entry (search_of rows.old marked.old) }
+    requires stands { IsLeastSoFar exchange.now table.now entry (search_of rows.old marked.old) }
     requires least { IsOwnLeast exchange.now entry fact }
     ensures { OnOk result (Went exchange.now table.now answers.now entry (IsFact fact)
         (search_of rows.old marked.old) (search_of rows.new marked.new)) }
@@ -209,7 +209,7 @@ fn send_ways(
 ) -> Result<usize, Memory>
     requires table { IsFlowTable exchange.now table.now }
     requires answers { AreAnswers exchange.now answers.now }
-    requires stands { Stands exchange.now table.now entry (search_of rows.old marked.old) }
+    requires stands { IsLeastSoFar exchange.now table.now entry (search_of rows.old marked.old) }
     requires good { (w : WayType) → Contains ways.now w → (q : ℕ)
         → IsEnd exchange.now w.ends q → IsGood exchange.now entry point w.how q }
     ensures { OnOk result (Went exchange.now table.now answers.now entry
@@ -227,7 +227,8 @@ fn send_ways(
     Ok(looked)
 }
 
-/// Sends on what stands before a point that is reached on a way; how many slots were looked at.
+/// Sends on what stands before a point that is reached on a way, an answer to the RETRIEVE of it that was reached first; how many slots
+/// were looked at.
 fn send(
     alloc: Global,
     exchange: &Exchange,
@@ -242,7 +243,7 @@ fn send(
 ) -> Result<usize, Memory>
     requires table { IsFlowTable exchange.now table.now }
     requires answers { AreAnswers exchange.now answers.now }
-    requires stands { Stands exchange.now table.now entry (search_of rows.old marked.old) }
+    requires stands { IsLeastSoFar exchange.now table.now entry (search_of rows.old marked.old) }
     requires good { (q : ℕ)
         → IsEnd exchange.now way.now.ends q → IsGood exchange.now entry point way.now.how q }
     ensures { OnOk result (Went exchange.now table.now answers.now entry
@@ -260,17 +261,20 @@ fn send(
         }
         Ends::Retrieves(answer) => {
             let answer = *answer;
-            if gives_answer(how) {
-                let first = flow_first(
-                    alloc, exchange, table, answers, order, entry, point, how, answer, rows, marked,
-                )?;
-                Ok(first)
-            } else {
+            if !gives_answer(how) {
                 let all = flow_retrieves(
                     alloc, exchange, table, answers, order, entry, point, how, answer, rows, marked,
                 )?;
-                Ok(all)
+                return Ok(all);
             }
+            let Some(first) = first_of(&marked.firsts, answer) else {
+                return Ok(0);
+            };
+            let more = flow(
+                alloc, exchange, table, answers, order, entry, point, how, first, true, rows,
+                marked,
+            )?;
+            Ok(more)
         }
     }
 }
@@ -282,43 +286,6 @@ fn gives_answer(how: &Passing) -> bool
     match how {
         Passing::Answers { .. } => true,
         _ => false,
-    }
-}
-
-/// Sends what stands before a RETURN to the RETRIEVE of its answer that was reached first; how many slots were looked at.
-fn flow_first(
-    alloc: Global,
-    exchange: &Exchange,
-    table: &FlowTable,
-    answers: &AnswerTable,
-    order: &Seq<u32>,
-    entry: u32,
-    point: u32,
-    how: &Passing,
-    answer: u32,
-    rows: &mut FactRows,
-    marked: &mut Marked,
-) -> Result<usize, Memory>
-    requires table { IsFlowTable exchange.now table.now }
-    requires answers { AreAnswers exchange.now answers.now }
-    requires stands { Stands exchange.now table.now entry (search_of rows.old marked.old) }
-    requires answer { is_answer_of how.now ≡ true }
-    requires good { (q : ℕ)
-        → IsRetrieveAt exchange.now q answer → IsGood exchange.now entry point how.now q }
-    ensures { OnOk result (Went exchange.now table.now answers.now entry
-        (WaySends exchange.now marked.old.firsts.items (Knows rows.old) entry point
-        (answer_way how.now answer))
-        (search_of rows.old marked.old) (search_of rows.new marked.new)) }
-{
-    match first_of(&marked.firsts, answer) {
-        Some(first) => {
-            let more = flow(
-                alloc, exchange, table, answers, order, entry, point, how, first, true, rows,
-                marked,
-            )?;
-            Ok(more)
-        }
-        None => Ok(0),
     }
 }
 
@@ -338,7 +305,7 @@ fn flow_retrieves(
 ) -> Result<usize, Memory>
     requires table { IsFlowTable exchange.now table.now }
     requires answers { AreAnswers exchange.now answers.now }
-    requires stands { Stands exchange.now table.now entry (search_of rows.old marked.old) }
+    requires stands { IsLeastSoFar exchange.now table.now entry (search_of rows.old marked.old) }
     requires good { (q : ℕ)
         → IsRetrieveAt exchange.now q answer → IsGood exchange.now entry point how.now q }
     ensures { OnOk result (Went exchange.now table.now answers.now entry
@@ -374,7 +341,7 @@ fn flow_all(
 ) -> Result<usize, Memory>
     requires table { IsFlowTable exchange.now table.now }
     requires answers { AreAnswers exchange.now answers.now }
-    requires stands { Stands exchange.now table.now entry (search_of rows.old marked.old) }
+    requires stands { IsLeastSoFar exchange.now table.now entry (search_of rows.old marked.old) }
     requires good { (q : ℕ)
         → Contains ends.now q → IsGood exchange.now entry point how.now q }
     ensures { OnOk result (Went exchange.now table.now answers.now entry
@@ -409,7 +376,7 @@ fn flow(
 ) -> Result<usize, Memory>
     requires table { IsFlowTable exchange.now table.now }
     requires answers { AreAnswers exchange.now answers.now }
-    requires stands { Stands exchange.now table.now entry (search_of rows.old marked.old) }
+    requires stands { IsLeastSoFar exchange.now table.now entry (search_of rows.old marked.old) }
     requires good { IsGood exchange.now entry from how.now to }
     ensures { OnOk result (Went exchange.now table.now answers.now entry
         (FlowsTo exchange.now (Knows rows.old) entry from how.now to)
@@ -445,7 +412,7 @@ fn hand_out(
 ) -> Result<usize, Memory>
     requires table { IsFlowTable exchange.now table.now }
     requires answers { AreAnswers exchange.now answers.now }
-    requires stands { Stands exchange.now table.now entry (search_of rows.old marked.old) }
+    requires stands { IsLeastSoFar exchange.now table.now entry (search_of rows.old marked.old) }
     requires count { (n : ℕ)
         → IsRetrieveAt exchange.now point n → count ≡ answer_count exchange.now (Some n) }
     ensures { OnOk result (Went exchange.now table.now answers.now entry

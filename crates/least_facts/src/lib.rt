@@ -10,8 +10,10 @@ mod analyser;
 mod answers;
 mod finding;
 mod giving;
+mod looks;
 mod marks;
 mod order;
 
 pub use analyser::{Analyser, facts_of};
 pub use answers::{AnswerTable, answers_of};
+pub use looks::Looked;

@@ -2,7 +2,7 @@
 use Rattle.std.proofs.Common.{◌≡◌, ◌≢◌, ℕ, suc, ◌+◌, ◌-◌, ◌<◌, ◌≤◌, ◌^◌, Bool, true, nat_eq, List, [], ◌∷◌, ◌++◌, length, map, take, All, Ok, Err, refl, sym, ap, subst, ◌∙◌, arith, append_assoc, append-nil, length-append, ◌⊎◌, inl, inr}
 use Rattle.std.specs.List.{AllByRecursion}
 use Rattle.std.proofs.lemmas.Bool.{eqb-true}
-use Rattle.std.proofs.lemmas.List.{length-map, map-append, nil_from_length, take_at}
+use Rattle.std.proofs.lemmas.List.{length-map, map-append, nil_from_length}
 use Rattle.std.proofs.lemmas.List.Elements.{All-nil, All-push, recursion_from_All}
 use Rattle.machine_code.specs.Coded.{Code}
 use Rattle.machine_code.specs.declared.op.Op.{Op}
@@ -12,7 +12,7 @@ use Rattle.listing.specs.declared.fault.LineFault.TheVariants.{Form, Operand}
 use Rattle.listing.specs.declared.fault.ListFault.{ListFault}
 use Rattle.listing.specs.declared.statement.Statement.{Statement}
 use Rattle.listing.specs.declared.statement.Statement.TheVariants.{Entry, Instruction}
-use Rattle.listing.specs.Faults.{BeginForm, BeginListing, HasBadLine, HasBadOperand, Tells, whole}
+use Rattle.listing.specs.Faults.{BeginForm, BeginListing, HasBadLine, HasBadOperand, TellsListing, whole}
 use Rattle.listing.specs.Forms.{EachFrom, HasEntryForm, HasOpForm, IsEntryLine, IsOpLine}
 use Rattle.listing.specs.Listing.{CodeFits, IsListing, entry_line, entry_lines, first_line, inner_lines, last_line, op_line}
 use Rattle.listing.specs.Statements.{Adds, HasBadNumber, HasNoForm, ReadsStatement, fault_at}
@@ -22,6 +22,7 @@ use Rattle.listing.proofs.Texts.{code_text-lines, ended_has, lines_in-open, some
 use Rattle.text_lines.proofs.Texts.{ended_once, lines_in-cut}
 use Rattle.text_lines.specs.Lines.{lines_in, ended}
 use Rattle.text_lines.specs.Parts.{HasNo, IsCut}
+use Rattle.text_lines.proofs.Taken.{before_here, up_to_here}
 
 -- code of these instructions and entries
 abbrev pub code_of : List Op → List ℕ → Code
@@ -156,14 +157,6 @@ pub record Read (text rest : List ℕ) (ops : List Op) (entries : List ℕ) (num
   pub so : lines_in text ≡ front (code_of ops entries) ++ lines_in rest
   pub counted : number ≡ length (front (code_of ops entries))
   pub room : number + length rest ≤ length text
-
-before_here : (text : List ℕ) (lines pieces : List (List ℕ)) (number : ℕ) → lines_in text ≡ lines ++ pieces → number ≡ length lines → take number (lines_in text) ≡ lines
-before_here text lines pieces number so counted = ap (take number) so ∙ take_at lines pieces number (sym counted)
-
-up_to_here : (text : List ℕ) (lines : List (List ℕ)) (piece : List ℕ) (pieces : List (List ℕ)) (number : ℕ) → lines_in text ≡ lines ++ piece ∷ pieces → number ≡ length lines → take (number + 1) (lines_in text) ≡ lines ++ piece ∷ []
-up_to_here text lines piece pieces number so counted =
-    let more : length (lines ++ piece ∷ []) ≡ number + 1 = omega (arith, length-append lines (piece ∷ []), counted) in
-    ap (take (number + 1)) (so ∙ sym (append_assoc lines (piece ∷ []) pieces)) ∙ take_at (lines ++ piece ∷ []) pieces (number + 1) more
 
 -- a piece that no listing's form has here is a bad line
 bad_line : (text rest : List ℕ) (ops : List Op) (entries : List ℕ) (number : ℕ) (piece : List ℕ) (pieces : List (List ℕ)) → Read text rest ops entries number → lines_in rest ≡ piece ∷ pieces → (BeginForm (front (code_of ops entries) ++ piece ∷ []) → ⊥) → HasBadLine text (number + 1)
@@ -324,11 +317,11 @@ read_outside text rest line after ops entries number at_entries r next at outsid
     told (l, is, inr (inr here)) = outside.last (ended_once line l is ∙ here)
 
 -- a line with a fault
-pub read_fault : (text rest line after : List ℕ) (ops : List Op) (entries : List ℕ) (number : ℕ) (at_entries : Bool) (fault : LineFault) (told : ListFault) → Read text rest ops entries number → IsCut 10 rest line after → at_entries ≡ nat_eq (length ops) 0 → ReadsStatement (length entries) at_entries line (Err fault) → told ≡ fault_at fault (number + 1) → Tells text (Err told)
+pub read_fault : (text rest line after : List ℕ) (ops : List Op) (entries : List ℕ) (number : ℕ) (at_entries : Bool) (fault : LineFault) (told : ListFault) → Read text rest ops entries number → IsCut 10 rest line after → at_entries ≡ nat_eq (length ops) 0 → ReadsStatement (length entries) at_entries line (Err fault) → told ≡ fault_at fault (number + 1) → TellsListing text (Err told)
 read_fault text rest line after ops entries number at_entries Form told r next at reads is =
-    subst (λ (f : ListFault). Tells text (Err f)) (sym is) (read_strange text rest line after ops entries number at_entries r next at reads)
+    subst (λ (f : ListFault). TellsListing text (Err f)) (sym is) (read_strange text rest line after ops entries number at_entries r next at reads)
 read_fault text rest line after ops entries number at_entries Operand told r next at reads is =
-    subst (λ (f : ListFault). Tells text (Err f)) (sym is) (read_outside text rest line after ops entries number at_entries r next at reads)
+    subst (λ (f : ListFault). TellsListing text (Err f)) (sym is) (read_outside text rest line after ops entries number at_entries r next at reads)
 
 -- the text breaks off
 pub read_open : (text rest : List ℕ) (ops : List Op) (entries : List ℕ) (number : ℕ) → Read text rest ops entries number → HasNo 10 rest → HasBadLine text (number + 1)

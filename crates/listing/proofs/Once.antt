@@ -9,7 +9,7 @@ use Rattle.machine_code.specs.declared.op.Op.{Op}
 use Rattle.machine_code.specs.Operands.{OpFits, IsNumber}
 use Rattle.listing.specs.declared.fault.ListFault.{ListFault}
 use Rattle.listing.specs.declared.fault.ListFault.TheVariants.{BadLine, BadOperand, Memory}
-use Rattle.listing.specs.Faults.{BeginForm, BeginListing, HasBadLine, HasBadOperand, IsUnlessMemory, Tells, whole}
+use Rattle.listing.specs.Faults.{BeginForm, BeginListing, HasBadLine, HasBadOperand, IsUnlessMemory, TellsListing, whole}
 use Rattle.listing.specs.Forms.{IsEntryLine, IsOpLine}
 use Rattle.listing.specs.Instructions.{written}
 use Rattle.listing.specs.Listing.{CodeFits, IsListing, code_text, entry_line, entry_lines, first_line, inner_lines, last_line, op_line, spaced}
@@ -189,7 +189,7 @@ one_kind text l m bad other =
     let same = one_fault text l m (fault_of_line text l bad) (fault_of_operand text m other) in
     bad.here (subst (λ (k : ℕ). BeginForm (take k (lines_in text))) (sym same) other.form)
 
-one_answer : (text : List ℕ) (told wanted : Result Code ListFault) → Tells text told → Tells text wanted → wanted ≢ Err Memory → IsUnlessMemory told wanted
+one_answer : (text : List ℕ) (told wanted : Result Code ListFault) → TellsListing text told → TellsListing text wanted → wanted ≢ Err Memory → IsUnlessMemory told wanted
 one_answer text (Err Memory) wanted a b some = tt
 one_answer text (Ok c) (Ok d) a b some = ap (λ (k : Code). Ok k) (one_code text c d a b)
 one_answer text (Ok c) (Err (BadLine m)) a b some = absurd (no_fault text c m a (fault_of_line text m b))
@@ -228,19 +228,19 @@ bad_line_within text l bad = fault_within text l (fault_of_line text l bad)
 pub bad_operand_within : (text : List ℕ) (l : ℕ) → HasBadOperand text l → (1 ≤ l) × (l ≤ length (lines_in text))
 bad_operand_within text l bad = fault_within text l (fault_of_operand text l bad)
 
-pub listing_told : (text : List ℕ) (told : Result Code ListFault) (code : Code) → Tells text told → IsListing text code → IsUnlessMemory told (Ok code)
+pub listing_told : (text : List ℕ) (told : Result Code ListFault) (code : Code) → TellsListing text told → IsListing text code → IsUnlessMemory told (Ok code)
 listing_told text told code tells is = one_answer text told (Ok code) tells is (λ e. differ e)
   where
     differ : ◌≡◌ {A = Result Code ListFault} (Ok code) (Err Memory) → ⊥
     differ e = cc
 
-pub bad_line_told : (text : List ℕ) (told : Result Code ListFault) (l : ℕ) → Tells text told → HasBadLine text l → IsUnlessMemory told (Err (BadLine l))
+pub bad_line_told : (text : List ℕ) (told : Result Code ListFault) (l : ℕ) → TellsListing text told → HasBadLine text l → IsUnlessMemory told (Err (BadLine l))
 bad_line_told text told l tells bad = one_answer text told (Err (BadLine l)) tells bad (λ e. differ e)
   where
     differ : ◌≡◌ {A = Result Code ListFault} (Err (BadLine l)) (Err Memory) → ⊥
     differ e = cc
 
-pub bad_operand_told : (text : List ℕ) (told : Result Code ListFault) (l : ℕ) → Tells text told → HasBadOperand text l → IsUnlessMemory told (Err (BadOperand l))
+pub bad_operand_told : (text : List ℕ) (told : Result Code ListFault) (l : ℕ) → TellsListing text told → HasBadOperand text l → IsUnlessMemory told (Err (BadOperand l))
 bad_operand_told text told l tells bad = one_answer text told (Err (BadOperand l)) tells bad (λ e. differ e)
   where
     differ : ◌≡◌ {A = Result Code ListFault} (Err (BadOperand l)) (Err Memory) → ⊥
@@ -254,7 +254,7 @@ pub own_listing : (code : Code) → CodeFits code → IsListing (code_text code)
 own_listing code fits = record { fits = fits; so = refl }
 
 -- the code that was read, unless memory was refused
-pub code_told : (text : List ℕ) (told : Result Code ListFault) (code : Code) → IsListing text code → IsUnlessMemory told (Ok code) → Tells text told
+pub code_told : (text : List ℕ) (told : Result Code ListFault) (code : Code) → IsListing text code → IsUnlessMemory told (Ok code) → TellsListing text told
 code_told text (Ok c) code listing is =
     let e : ◌≡◌ {A = Result Code ListFault} (Ok c) (Ok code) = is in
     let same : c ≡ code = cc in

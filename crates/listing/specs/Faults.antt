@@ -45,11 +45,11 @@ pub record HasBadOperand (text : List ℕ) (l : ℕ) : Type 0 where
   pub here : BeginListing (take l (lines_in text)) → ⊥
 
 -- what an answer tells of a text
-abbrev pub Tells : List ℕ → Result Code ListFault → Type 0
-Tells text (Ok code) = IsListing text code
-Tells text (Err (BadLine l)) = HasBadLine text l
-Tells text (Err (BadOperand l)) = HasBadOperand text l
-Tells text (Err Memory) = Unit {0}
+abbrev pub TellsListing : List ℕ → Result Code ListFault → Type 0
+TellsListing text (Ok code) = IsListing text code
+TellsListing text (Err (BadLine l)) = HasBadLine text l
+TellsListing text (Err (BadOperand l)) = HasBadOperand text l
+TellsListing text (Err Memory) = Unit {0}
 
 -- the answer is this one, or memory was refused
 abbrev pub IsUnlessMemory : Result Code ListFault → Result Code ListFault → Type 0

@@ -1,6 +1,6 @@
 // Text as code.
 ghost use Rattle.std.specs.Prelude.{◌≡◌, ◌≤◌, ◌^◌, ℕ, Ok, Err, OnOk, length};
-ghost use Rattle.listing.specs.Faults.{HasBadLine, HasBadOperand, IsUnlessMemory, Tells};
+ghost use Rattle.listing.specs.Faults.{HasBadLine, HasBadOperand, IsUnlessMemory, TellsListing};
 ghost use Rattle.listing.specs.Listing.{IsListing, first_line};
 ghost use Rattle.listing.specs.Statements.{Adds};
 ghost use Rattle.machine_code.specs.Coded.{Code};
@@ -19,7 +19,7 @@ use text_lines::cut;
 /// has an operand out of its range, `BadOperand`. A text that ends too early is bad at the line after its last.
 pub fn read_code(alloc: Global, text: &[u8]) -> Result<Code, ListFault>
     requires { length text.now ≤ 2 ^ 24 }
-    ensures told { Tells text.now result }
+    ensures told { TellsListing text.now result }
     ensures listing { (code : Code) → IsListing text.now code → IsUnlessMemory result (Ok code) }
     ensures bad_line { (l : ℕ) → HasBadLine text.now l →
         IsUnlessMemory result (Err (ListFault.BadLine l)) }
@@ -32,7 +32,7 @@ pub fn read_code(alloc: Global, text: &[u8]) -> Result<Code, ListFault>
 /// The same, told once.
 fn read_text(alloc: Global, text: &[u8]) -> Result<Code, ListFault>
     requires { length text.now ≤ 2 ^ 24 }
-    ensures { Tells text.now result }
+    ensures { TellsListing text.now result }
 {
     let Some((line, rest)) = cut(text, b'\n') else {
         return Err(ListFault::BadLine { line: 1 });
@@ -48,7 +48,7 @@ fn read_text(alloc: Global, text: &[u8]) -> Result<Code, ListFault>
 fn read_lines(alloc: Global, text: &[u8], rest: &[u8]) -> Result<Code, ListFault>
     requires begun { IsCut 10 text.now first_line rest.now }
     requires small { length text.now ≤ 2 ^ 24 }
-    ensures { Tells text.now result }
+    ensures { TellsListing text.now result }
 {
     let table = operations();
     let mut ops = Seq::new(alloc);

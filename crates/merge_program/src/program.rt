@@ -1,26 +1,26 @@
 // The program as one call.
 ghost use Rattle.std.specs.Prelude.{◌≡◌, Ok, IfOk, IfSome};
 ghost use Rattle.plex_program.specs.Stages.{Comes, Reads};
-ghost use Rattle.plex_program.specs.Program.{AnswersOf, Ends, EndsAs, IsComplete, Makes, ReadCauseOf, WriteCause};
-ghost use Rattle.plex_program.specs.Runs.{AreRead};
-ghost use Rattle.merge_program.specs.Merge.{AreOthers, IsAnswerToNames, IsMergeAnswer, lines_answer, merge_of, usage_answer, usage_text};
+ghost use Rattle.plex_program.specs.Program.{Answers, Ends, EndsAs, IsComplete, IsEnding};
+ghost use Rattle.plex_program.specs.Program.{Makes, ReadCause, WriteCause};
+ghost use Rattle.merge_program.specs.Merge.{AreOthers, IsMergeAnswer, lines_answer, merge_of};
+ghost use Rattle.merge_program.specs.Merge.{usage_answer, usage_text};
 
 use exchange_model::Exchange;
 use job_table::write_out;
 use plex_io::{Shelf, Sink, Word};
-use plex_num::{Memory, Seq};
-use plex_program::{
-    Answer, Quit, Status, Stop, exchange_in, lines_in, merged_in, refused_answer, write_answer,
-};
+use plex_num::Seq;
+use plex_program::{Answer, Status, Stop, exchange_in, lines_in, merged_in, write_answer};
 use signal_file::Line;
 use std::alloc::Global;
 use text_parts::Text;
 
 /// The program: reads the three files that the words name, and writes the answer.
 ///
-/// `words` are the command's words without the program's name. Where the shelf tells its files, the status and the text are those of
-/// the answer (`IsMergeAnswer`), but for `Read` where a read failed, `Write` where the sink failed or is full, and then a proper front
-/// of the text was written, and `Memory`.
+/// `words` are the command's words without the program's name. Where the shelf tells its files, the
+/// status and the text are those of the answer (`IsMergeAnswer`), but for `Read` where a read failed,
+/// `Write` where the sink failed or is full, and then a proper front of the text was written, and
+/// `Memory`.
 #[tactic(auto, using(plex_program::proofs::Endings::ending))]
 pub fn plex_merge<S: Shelf, K: Sink>(
     alloc: Global,
@@ -34,7 +34,7 @@ pub fn plex_merge<S: Shelf, K: Sink>(
     ensures unshaped { AreOthers words.now →
         Ends usage_answer (K.written sink.old) (K.written sink.new) result }
     ensures usage { result ≡ Status.Usage → AreOthers words.now }
-    ensures read { result ≡ Status.Read → ReadCauseOf (IsMergeAnswer words.now) (S.held shelf.old)
+    ensures read { result ≡ Status.Read → ReadCause (IsMergeAnswer words.now) (S.held shelf.old)
         (S.faults shelf.old) (S.faults shelf.new) (K.written sink.old) (K.written sink.new) }
     ensures write { result ≡ Status.Write →
         WriteCause (K.size sink.old) (K.written sink.new) (K.faults sink.old) (K.faults sink.new) }
@@ -45,41 +45,23 @@ pub fn plex_merge<S: Shelf, K: Sink>(
 {
     match answered(alloc, words, shelf) {
         Ok(answer) => write_answer(sink, &answer),
-        Err(Quit::Read) => Status::Read,
-        Err(Quit::Memory) => Status::Memory,
+        Err(Stop::Told(answer)) => write_answer(sink, &answer),
+        Err(Stop::NotHeld) => Status::Read,
+        Err(Stop::Failed) => Status::Read,
+        Err(Stop::Memory) => Status::Memory,
     }
 }
 
 /// The answer to the words.
-#[tactic(auto, using(crate::proofs::Merging::made_usage))]
-fn answered<S: Shelf>(alloc: Global, words: &[Word], shelf: &mut S) -> Result<Answer, Quit>
-    ensures answers { AnswersOf (IsMergeAnswer words.now) (AreOthers words.now) usage_answer
-        (S.held shelf.old) (S.faults shelf.old) (S.faults shelf.new) result }
+#[tactic(auto, using(crate::proofs::Merging::usage_rules))]
+fn answered<S: Shelf>(alloc: Global, words: &[Word], shelf: &mut S) -> Result<Answer, Stop>
+    ensures answers { Answers (IsMergeAnswer words.now) (S.held shelf.old) (S.faults shelf.old)
+        (S.faults shelf.new) result }
+    ensures made { Makes (AreOthers words.now) usage_answer result }
 {
     match words {
-        [exchange, signals, table] => answered_of(alloc, shelf, exchange, signals, table),
+        [exchange, signals, table] => merge_files(alloc, shelf, exchange, signals, table),
         _ => usage_answer(alloc),
-    }
-}
-
-/// The answer to three names.
-#[tactic(auto, using(crate::proofs::Merging::merging))]
-fn answered_of<S: Shelf>(
-    alloc: Global,
-    shelf: &mut S,
-    exchange: &Word,
-    signals: &Word,
-    table: &Word,
-) -> Result<Answer, Quit>
-    ensures answers { AnswersOf (IsAnswerToNames exchange.now signals.now table.now) ⊥ usage_answer
-        (S.held shelf.old) (S.faults shelf.old) (S.faults shelf.new) result }
-{
-    match merge_files(alloc, shelf, exchange, signals, table) {
-        Ok(answer) => Ok(answer),
-        Err(Stop::NotHeld) => Err(Quit::Read),
-        Err(Stop::Refused(refused)) => refused_answer(alloc, refused),
-        Err(Stop::Failed) => Err(Quit::Read),
-        Err(Stop::Memory) => Err(Quit::Memory),
     }
 }
 
@@ -94,7 +76,7 @@ fn merge_files<S: Shelf>(
 ) -> Result<Answer, Stop>
     ensures comes { Comes (S.held shelf.old) (merge_of exchange.now signals.now table.now)
         (S.faults shelf.old) (S.faults shelf.new) result }
-    ensures done { IfOk result (λ a. a.status ≡ Status.Done) }
+    ensures ending { IfOk result (λ a. IsEnding a.status) }
 {
     let exchange = exchange_in(alloc, shelf, exchange)?;
     let lines = lines_in(alloc, shelf, &exchange, signals)?;
@@ -105,27 +87,27 @@ fn merge_files<S: Shelf>(
 /// The text of the signal file that has these lines, as a stage.
 fn lines_answer(alloc: Global, exchange: &Exchange, lines: &Seq<Line>) -> Result<Answer, Stop>
     ensures reads { Reads (Ok (lines_answer exchange.now lines.now)) result }
-    ensures done { IfOk result (λ a. a.status ≡ Status.Done) }
+    ensures ending { IfOk result (λ a. IsEnding a.status) }
 {
     match write_out(alloc, exchange, lines) {
         Ok(text) => Ok(Answer {
             status: Status::Done,
             text: Text::whole(alloc, text),
         }),
-        Err(Memory) => Err(Stop::Memory),
+        Err(_) => Err(Stop::Memory),
     }
 }
 
 /// The usage line.
 #[tactic(auto, unfolding(crate::specs::Merge::usage_text))]
-fn usage_answer(alloc: Global) -> Result<Answer, Quit>
-    ensures { Makes usage_answer result }
+fn usage_answer(alloc: Global) -> Result<Answer, Stop>
+    ensures { Reads (Ok usage_answer) result }
 {
     match Seq::copied(alloc, b"usage: plex-merge E S T\n") {
         Ok(text) => Ok(Answer {
             status: Status::Usage,
             text: Text::whole(alloc, text),
         }),
-        Err(_) => Err(Quit::Memory),
+        Err(_) => Err(Stop::Memory),
     }
 }

@@ -4,7 +4,6 @@ use Rattle.std.specs.List.{AllByRecursion}
 use Rattle.job_types.specs.declared.job.JobStart.{JobStart}
 use Rattle.job_types.specs.Forlopps.{is_dead}
 use Rattle.exchange_model.specs.declared.exchange.Exchange.{Exchange}
-use Rattle.source_meaning.proofs.Lists.{all_weaker}
 use Rattle.source_meaning.proofs.States.{IsLater, may_later}
 use Rattle.source_meaning.specs.Arrivals.{arrivals}
 use Rattle.source_meaning.specs.Job.{job}
@@ -22,6 +21,7 @@ use Rattle.order_laws.proofs.Moving.{jobs_more, window_books, window_first, wind
 use Rattle.order_laws.proofs.Picking.{picks_left}
 use Rattle.order_laws.proofs.Starting.{next_over}
 use Rattle.order_laws.proofs.Wording.{arrivals_over, over, retire_over}
+use Rattle.plex_num.proofs.Lists.{all_weaker}
 
 -- books over whatever words
 ahead_over : (x : Exchange) (s : State) (starts : List JobStart) (words : List ℕ) (books : State) → IsWindow x s starts → books ≡ over words (all_begun (jobs_of starts) s) → AreAhead x s starts books

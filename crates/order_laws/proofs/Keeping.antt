@@ -8,8 +8,8 @@ use Rattle.job_types.specs.declared.outcome.JobDone.{JobDone}
 use Rattle.job_types.specs.declared.outcome.Outcome.{Outcome}
 use Rattle.job_types.specs.declared.outcome.Outcome.TheVariants.{Ended, Faulted}
 use Rattle.job_types.specs.Forlopps.{chain_at, with_chain}
+use Rattle.job_types.proofs.ChainMaps.{chain_other}
 use Rattle.exchange_model.specs.declared.exchange.Exchange.{Exchange}
-use Rattle.source_meaning.proofs.Chains.{chain_other}
 use Rattle.source_meaning.specs.Config.{Config}
 use Rattle.source_meaning.specs.Retirement.{all_delivered, keeps_chain, releases, retires, with_outcome}
 use Rattle.source_meaning.specs.SingleRun.{ended_as}
@@ -20,6 +20,7 @@ use Rattle.order_laws.specs.Picks.{AllInPlace}
 use Rattle.order_laws.specs.Windows.{done_by}
 use Rattle.order_laws.proofs.Delivering.{sends_keep}
 use Rattle.order_laws.proofs.Placing.{placed_nobody, placed_others}
+use Rattle.job_types.proofs.ChainMaps.{chain_other}
 
 -- what a chain that is kept, and the outcome, leave as it is
 record BooksKeep (s t : State) : Type 0 where

@@ -1,12 +1,11 @@
 -- A window gets a job more, and its oldest job retires.
 use Rattle.std.proofs.Common.{◌≡◌, ℕ, ◌+◌, ◌≤◌, false, List, [], ◌∷◌, ◌++◌, length, Some, refl, sym, ap, ◌∙◌, subst, arith, length-append}
 use Rattle.std.specs.List.{AllByRecursion}
-use Rattle.plex_num.proofs.Lists.{all_append}
+use Rattle.plex_num.proofs.Lists.{all_append, all_weaker}
 use Rattle.job_types.specs.declared.job.JobStart.{JobStart}
 use Rattle.job_types.specs.declared.outcome.Outcome.{Outcome}
 use Rattle.job_types.specs.declared.outcome.Outcome.TheVariants.{Ended, Faulted}
 use Rattle.exchange_model.specs.declared.exchange.Exchange.{Exchange}
-use Rattle.source_meaning.proofs.Lists.{all_weaker}
 use Rattle.source_meaning.proofs.Retiring.{begun_valid, start_fits}
 use Rattle.source_meaning.proofs.States.{may_later}
 use Rattle.source_meaning.specs.Arrivals.{arrivals}

@@ -4,11 +4,10 @@ use Rattle.std.specs.Prelude.{◌==◌, if◌then◌else◌}
 use Rattle.std.specs.List.{AllByRecursion}
 use Rattle.plex_num.specs.declared.level.Level.{Level}
 use Rattle.plex_num.specs.declared.level.Level.TheVariants.{A, B, C, D}
-use Rattle.plex_num.proofs.Lists.{all_append}
+use Rattle.plex_num.proofs.Lists.{all_append, all_weaker}
 use Rattle.job_types.specs.declared.job.Job.{Job}
 use Rattle.job_types.specs.Waiting.{Waiting, after_pick, joins, last_at, nobody, others, others_in, rest_of}
 use Rattle.exchange_model.specs.declared.exchange.Exchange.{Exchange}
-use Rattle.source_meaning.proofs.Lists.{all_weaker}
 use Rattle.source_meaning.specs.State.{State}
 use Rattle.source_meaning.specs.Valid.{IsValid, WaitsAt}
 use Rattle.order_laws.specs.Picks.{AllInPlace, IsAt, after_picks}

@@ -12,14 +12,15 @@ use Rattle.job_types.specs.declared.outcome.Outcome.TheVariants.{Ended, Faulted}
 use Rattle.job_types.specs.Forlopps.{chain_at, is_dead}
 use Rattle.job_types.specs.Own.{untouched}
 use Rattle.job_types.specs.Waiting.{joins}
+use Rattle.job_types.proofs.ChainMaps.{chain_same}
 use Rattle.exchange_model.specs.declared.exchange.Exchange.{Exchange}
-use Rattle.source_meaning.proofs.Chains.{chain_same}
 use Rattle.source_meaning.specs.Arrivals.{arrivals, arrivals_of, arrives, comes, forlopp_for, is_due, next_after}
 use Rattle.exchange_model.specs.Names.{level_of}
 use Rattle.source_meaning.specs.Retirement.{all_delivered, delivered, delivered_to, keeps_chain, release_world, restart_world, retires, with_outcome}
 use Rattle.source_meaning.specs.State.{State, Coming, Origin, Fresh, Bare, Same, Lost, has_stopped}
 use Rattle.order_laws.specs.Ends.{words_left}
 use Rattle.order_laws.proofs.Delivering.{sends_keep}
+use Rattle.job_types.proofs.ChainMaps.{chain_same}
 
 -- the state with these words
 abbrev pub over : List ℕ → State → State

@@ -13,7 +13,7 @@ use Rattle.exchange_model.specs.declared.exchange.Exchange.{Exchange}
 use Rattle.exchange_model.proofs.Numbers.{cell_number-once}
 use Rattle.source_meaning.specs.State.{State, chain_in}
 use Rattle.source_meaning.specs.Valid.{IsFitting}
-use Rattle.source_meaning.proofs.Booleans.{true_not_false, or_right}
+use Rattle.plex_num.proofs.Booleans.{true_not_false, or_right}
 use Rattle.source_meaning.proofs.Chains.{holds_all}
 use Rattle.source_meaning.proofs.Lists.{all_members}
 use Rattle.flow_points.specs.declared.fact.Fact.{Fact}

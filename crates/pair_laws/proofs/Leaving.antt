@@ -1,17 +1,15 @@
 -- What a job leaves that keeps to its summary. The marks tell: one that the job's chain has at its end and had not at its start was
 -- stored to, and so was one that it had at its start and has no more; and the job may store to a mark only by a SEIZE of a record
 -- that is free, or by a FREE of one that it may hold.
-use Rattle.std.proofs.Common.{◌≡◌, ◌≢◌, ◌⊎◌, inl, inr, ⊎_elim, ℕ, zero, suc, ◌+◌, true, false, List, [], ◌∷◌, refl, sym, ap, ◌∙◌, subst, arith}
+use Rattle.std.proofs.Common.{◌≡◌, ◌≢◌, ◌⊎◌, inl, inr, ⊎_elim, ℕ, true, false, List, [], ◌∷◌, sym, ap, ◌∙◌, subst, arith}
 use Rattle.std.specs.Prelude.{slice_index}
 use Rattle.std.specs.List.{AllByRecursion, Contains}
 use Rattle.std.proofs.lemmas.Bool.{cases_eq}
-use Rattle.job_types.specs.declared.chain.Held.{Held}
 use Rattle.job_types.specs.declared.job.JobStart.{JobStart}
 use Rattle.job_types.specs.declared.touch.Touch.{Touch}
 use Rattle.job_types.specs.declared.touch.Touch.TheVariants.{Load, Store}
-use Rattle.job_types.specs.Chain.{holds, is_record}
+use Rattle.job_types.specs.Chain.{holds}
 use Rattle.job_types.specs.Forlopps.{ChainMap, chain_at}
-use Rattle.job_types.specs.Own.{budget}
 use Rattle.job_types.specs.Touches.{NoStore}
 use Rattle.exchange_model.specs.declared.entry.Cell.{Cell}
 use Rattle.exchange_model.specs.declared.entry.Cell.TheVariants as cell
@@ -20,19 +18,16 @@ use Rattle.exchange_model.specs.Cells.{IsCell, mark_cell}
 use Rattle.exchange_model.specs.Kept.{IsExchange}
 use Rattle.exchange_model.proofs.Numbers.{mark_is_cell, cell_number-mark, cell_number-once}
 use Rattle.source_meaning.specs.Config.{Config, files_of}
-use Rattle.source_meaning.specs.Job.{begins, job}
-use Rattle.source_meaning.specs.State.{State, chain_in}
+use Rattle.source_meaning.specs.Job.{job}
+use Rattle.source_meaning.specs.State.{State}
 use Rattle.source_meaning.specs.Traces.{trace_of}
 use Rattle.source_meaning.specs.Valid.{IsFitting, IsLive, IsRecord, IsValid}
 use Rattle.source_meaning.proofs.Agreeing.{job_keeps}
-use Rattle.source_meaning.proofs.Booleans.{bool_cases, or_left, true_not_false}
-use Rattle.source_meaning.proofs.Chains.{holds_all, record_itself}
+use Rattle.plex_num.proofs.Booleans.{bool_cases, true_not_false}
+use Rattle.source_meaning.proofs.Chains.{holds_all}
 use Rattle.source_meaning.proofs.Freeing.{put_chain, put_same, put_other}
-use Rattle.source_meaning.proofs.Holding.{HoldsOn, all_kept}
-use Rattle.source_meaning.proofs.Keeping.{steps_keep}
-use Rattle.source_meaning.proofs.Ranged.{start_ranges}
-use Rattle.source_meaning.proofs.Rests.{start_rests}
-use Rattle.source_meaning.proofs.States.{books_as, books_of, live_of}
+use Rattle.source_meaning.proofs.Holding.{HoldsOn}
+use Rattle.source_meaning.proofs.Retiring.{job_ends_so}
 use Rattle.flow_points.specs.declared.fact.Fact.{Fact}
 use Rattle.entry_summary.specs.declared.summary.Access.TheVariants.{Frees}
 use Rattle.entry_summary.specs.declared.summary.Summary.{Summary}
@@ -45,7 +40,7 @@ use Rattle.permit_laws.specs.Permitted.{ArePermitted, MayHoldAll}
 use Rattle.pair_laws.proofs.Naming.{access_fits}
 use Rattle.pair_laws.proofs.Cells.{AllFit, CellLet, written}
 use Rattle.pair_laws.proofs.Apart.{held_at_start, held_not_free}
-use Rattle.pair_laws.proofs.Staying.{bare_holds_none, chain_of}
+use Rattle.pair_laws.proofs.Staying.{chain_of}
 
 -- permitted touches do not store to a word, or it may be written
 stored_or_not : (x : Exchange) (m : Summary) (start : JobStart) (chains : ChainMap) (ts : List Touch) (w : ℕ) → ArePermitted x m start chains ts → NoStore w ts ⊎ MayWrite x m start chains w
@@ -66,31 +61,8 @@ module _ (x : Exchange) (facts : List Fact) (s : State) (m : Summary) (start : J
 
   -- chains and marks as the job ends
 
-  at_start : (n : ℕ) → put_chain (chain_at s.chains) f start.chain n ≡ chain_at s.chains n
-  at_start n = ⊎_elim
-      (λ same. ap (put_chain (chain_at s.chains) f start.chain) same ∙ put_same (chain_at s.chains) f start.chain ∙ fits.chain ∙ own f ∙ ap (chain_at s.chains) (sym same))
-      (λ other. put_other (chain_at s.chains) f start.chain n other) (cases_eq n f)
-    where
-      empty : (chain : List Held) → ((file number : ℕ) → holds chain file number ≡ true → ⊥) → chain ≡ []
-      empty [] none = refl
-      empty (r ∷ rest) none = absurd (none r.file r.number (or_left (is_record r.file r.number r) (holds rest r.file r.number) (record_itself r.file r.number)))
-
-      own : (n : ℕ) → chain_in s n ≡ chain_at s.chains n
-      own zero = sym (empty (chain_at s.chains 0) (λ file number h. bare_holds_none x s file number valid h))
-      own (suc n) = refl
-
-  begun_so : HoldsOn x (IsLive s) (chain_at s.chains) f (begins x start s.store)
-  begun_so = record {
-    forlopp = refl;
-    bare = λ none. fits.chain ∙ ap (chain_in s) none;
-    books = books_as {Still = IsLive s} at_start (λ n live. live) (books_of x s valid);
-  }
-
   ended_so : HoldsOn x (IsLive s) (chain_at s.chains) f end
-  unfolding job
-  ended_so =
-      (steps_keep (all_kept x kept (IsLive s) (chain_at s.chains) f (λ some. live_of s f some fits.forlopp)) (budget + 1) (begins x start s.store)
-      ((start_rests x start s.store, start_ranges x kept start s.store fits.job valid.store), begun_so)).1
+  ended_so = (job_ends_so x kept s valid start fits).holds
 
   end_records : AllByRecursion (IsRecord x) end.own.chain
   end_records = subst (AllByRecursion (IsRecord x)) (put_same (chain_at s.chains) f end.own.chain) (ended_so.books.records f)

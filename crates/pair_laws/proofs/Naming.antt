@@ -15,7 +15,7 @@ use Rattle.source_meaning.specs.Config.{files_of}
 use Rattle.source_meaning.specs.Deeds.{IsFileAt}
 use Rattle.source_meaning.specs.Named.{Layer, NamedField, named_in}
 use Rattle.source_meaning.specs.Rests.{IsOfBlock}
-use Rattle.source_meaning.proofs.Booleans.{true_not_false}
+use Rattle.plex_num.proofs.Booleans.{true_not_false}
 use Rattle.source_meaning.proofs.Fitting.{NamedFits, names_fit, row_fits}
 use Rattle.source_meaning.proofs.Lists.{all_contained}
 use Rattle.source_meaning.proofs.Touching.{field_of}

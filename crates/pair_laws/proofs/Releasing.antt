@@ -21,7 +21,7 @@ use Rattle.source_meaning.specs.Config.{files_of}
 use Rattle.source_meaning.specs.Retirement.{all_opened, opened, release_world}
 use Rattle.source_meaning.specs.State.{State}
 use Rattle.source_meaning.specs.Valid.{IsRecord}
-use Rattle.source_meaning.proofs.Booleans.{or_left, or_right}
+use Rattle.plex_num.proofs.Booleans.{or_left, or_right}
 use Rattle.source_meaning.proofs.Chains.{record_itself}
 use Rattle.source_meaning.proofs.Touching.{record_all}
 use Rattle.flow_points.specs.declared.fact.Fact.{Fact}

@@ -6,17 +6,18 @@ use Rattle.job_types.specs.declared.outcome.Outcome.{Outcome}
 use Rattle.job_types.specs.declared.outcome.Outcome.TheVariants.{Ended, Faulted}
 use Rattle.job_types.specs.Chain.{holds}
 use Rattle.job_types.specs.Forlopps.{ChainMap, chain_at, with_chain}
+use Rattle.job_types.proofs.ChainMaps.{chain_same, chain_other}
 use Rattle.exchange_model.specs.declared.exchange.Exchange.{Exchange}
 use Rattle.source_meaning.specs.Retirement.{all_delivered, keeps_chain, retires, with_outcome}
 use Rattle.source_meaning.specs.State.{State}
-use Rattle.source_meaning.proofs.Booleans.{true_not_false}
-use Rattle.source_meaning.proofs.Chains.{chain_other, chain_same}
+use Rattle.plex_num.proofs.Booleans.{true_not_false}
 use Rattle.source_meaning.proofs.Delivering.{all_delivered_chains}
 use Rattle.flow_points.specs.declared.fact.Fact.{Fact}
 use Rattle.entry_summary.specs.declared.summary.Summary.{Summary}
 use Rattle.pair_laws.specs.Pairs.{IsDoneBy, IsFaulted, LeavesChains, MayRunAtOnce}
 use Rattle.pair_laws.proofs.Apart.{held_at_start, some_forlopp}
 use Rattle.pair_laws.proofs.Staying.{bare_holds_none}
+use Rattle.job_types.proofs.ChainMaps.{chain_other, chain_same}
 
 -- sends leave the chains as they are
 

@@ -10,7 +10,7 @@ use Rattle.job_types.specs.Forlopps.{ChainMap, chain_at}
 use Rattle.exchange_model.specs.declared.exchange.Exchange.{Exchange}
 use Rattle.source_meaning.specs.State.{State, chain_in}
 use Rattle.source_meaning.specs.Valid.{HasRecords, IsValid}
-use Rattle.source_meaning.proofs.Booleans.{bool_cases, true_not_false}
+use Rattle.plex_num.proofs.Booleans.{bool_cases, true_not_false}
 use Rattle.flow_points.specs.declared.fact.Fact.{Fact}
 use Rattle.entry_summary.specs.declared.summary.Access.{Access}
 use Rattle.entry_summary.specs.declared.summary.Access.TheVariants.{Variable, Field, Own, Seizes, Frees}

@@ -14,6 +14,7 @@ use Rattle.job_types.specs.declared.touch.Touch.TheVariants.{Store}
 use Rattle.job_types.specs.Own.{World, untouched, writes}
 use Rattle.job_types.specs.Touches.{NoStore, stored}
 use Rattle.job_types.proofs.Touched.{stored-append}
+use Rattle.job_types.proofs.ChainMaps.{chain_same}
 use Rattle.exchange_model.specs.declared.block.Variable.{Variable}
 use Rattle.exchange_model.specs.declared.exchange.Exchange.{Exchange}
 use Rattle.exchange_model.specs.Cells.{Placed, field_cell, mark_cell}
@@ -21,7 +22,6 @@ use Rattle.source_meaning.specs.Changes.{opens_fields, opens_record}
 use Rattle.source_meaning.specs.Config.{files_of}
 use Rattle.source_meaning.specs.Retirement.{all_delivered, all_opened, delivered, delivered_to, keeps_chain, opened, release_world, retires, with_outcome}
 use Rattle.source_meaning.specs.State.{State}
-use Rattle.source_meaning.proofs.Chains.{chain_same}
 use Rattle.flow_points.specs.declared.fact.Fact.{Fact}
 use Rattle.entry_summary.specs.declared.summary.Summary.{Summary}
 use Rattle.start_permit.specs.Granted.{MayRead}
@@ -29,6 +29,7 @@ use Rattle.pair_laws.specs.Orders.{ended_touches, release_touches, retirement_to
 use Rattle.pair_laws.specs.Pairs.{IsDoneBy, IsFaulted, MayRunAtOnce}
 use Rattle.pair_laws.proofs.Apart.{some_forlopp}
 use Rattle.pair_laws.proofs.Releasing.{release_apart}
+use Rattle.job_types.proofs.ChainMaps.{chain_same}
 
 -- stores that are made, whatever the words are
 

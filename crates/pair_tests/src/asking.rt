@@ -184,7 +184,6 @@ fn in_order(tests: Seq<Test>) -> Result<Seq<Test>, Memory>
 
 /// What must hold of two jobs that run at once, the first before the later one in the single run: in order, each test once.
 pub fn tests_of(alloc: Global, first: &Summary, later: &Summary) -> Result<Seq<Test>, Memory>
-    requires { IsStrictlySortedBy access_order later.now.accesses }
     ensures exact { IfOk result
         (λ tests. (t : Test) → Contains tests t ↔ IsTest first.now later.now t) }
     ensures rising { IfOk result (IsStrictlySortedBy test_order) }

@@ -100,7 +100,6 @@ fn release_holds(fault: bool, others: &[Access], a: &JobStart, b: &JobStart) -> 
 /// Whether all tests of two summaries hold.
 #[tactic(auto, using(crate::proofs::Holding::tests_are))]
 fn tests_hold(first: &Summary, later: &Summary, a: &JobStart, b: &JobStart) -> bool
-    requires { IsStrictlySortedBy access_order later.now.accesses }
     ensures { IsTrue result ↔ AllHold (IsTest first.now later.now) a.now b.now }
 {
     let others = later.accesses.as_slice();
@@ -113,7 +112,6 @@ fn tests_hold(first: &Summary, later: &Summary, a: &JobStart, b: &JobStart) -> b
 /// tests hold, and they are not of one forlopp other than 0.
 #[tactic(auto, using(crate::proofs::Holding::passing))]
 pub fn passes(first: &Summary, later: &Summary, a: &JobStart, b: &JobStart) -> bool
-    requires { IsStrictlySortedBy access_order later.now.accesses }
     ensures { IsTrue result ↔ Passes first.now later.now a.now b.now }
 {
     if first_conflict(first, later).is_some() {

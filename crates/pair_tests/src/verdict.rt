@@ -1,6 +1,4 @@
 // The verdict of two summaries.
-ghost use Rattle.std.specs.List.Sorted.{IsStrictlySortedBy};
-ghost use Rattle.entry_summary.specs.Orders.{access_order};
 ghost use Rattle.pair_tests.specs.Clashes.{IsLeast};
 ghost use Rattle.pair_tests.specs.Pairs.{IsConflict, IsVerdict};
 
@@ -12,7 +10,6 @@ use entry_summary::Summary;
 /// The first conflict of two summaries.
 #[tactic(auto, using(crate::proofs::Conflicting::first_of))]
 pub fn first_conflict(first: &Summary, later: &Summary) -> Option<Conflict>
-    requires { IsStrictlySortedBy access_order later.now.accesses }
     ensures { IsLeast (IsConflict first.now later.now) result }
 {
     let clash = first_clash(first.accesses.as_slice(), later.accesses.as_slice());
@@ -24,7 +21,6 @@ pub fn first_conflict(first: &Summary, later: &Summary) -> Option<Conflict>
 /// order, or where tests hold.
 #[tactic(auto, unfolding(crate::specs::Clashes::IsLeast))]
 pub fn verdict_of(first: &Summary, later: &Summary) -> Verdict
-    requires { IsStrictlySortedBy access_order later.now.accesses }
     ensures { IsVerdict first.now later.now result }
 {
     match first_conflict(first, later) {

@@ -1,6 +1,6 @@
 -- The permit of a trace lets the trace be made, and no more than the touches of the trace are permitted.
-use Rattle.std.proofs.Common.{◌≡◌, ℕ, ◌+◌, ◌*◌, true, false, List, [], ◌∷◌, subst, inr, ⊎_elim, arith, lit<}
-use Rattle.std.proofs.lemmas.Bool.{or_cases, or_left, or_right}
+use Rattle.std.proofs.Common.{◌≡◌, ℕ, true, false, List, [], ◌∷◌, subst, inr, ⊎_elim}
+use Rattle.std.proofs.lemmas.Bool.{or_cases, or_left, or_right, false≢true}
 use Rattle.std.specs.List.{list_any}
 use Rattle.job_types.specs.declared.job.JobStart.{JobStart}
 use Rattle.job_types.specs.declared.touch.Touch.{Touch}
@@ -8,26 +8,18 @@ use Rattle.job_types.specs.declared.touch.Touch.TheVariants.{Load, Store}
 use Rattle.job_types.specs.Forlopps.{ChainMap}
 use Rattle.machine_code.specs.declared.permit.Permit.{Permit}
 use Rattle.machine_code.specs.Permits.{may_read, may_write, spans}
-use Rattle.machine_code.proofs.Spanned.{spans_in, spans_out}
 use Rattle.exchange_model.specs.declared.exchange.Exchange.{Exchange}
 use Rattle.entry_summary.specs.declared.summary.Summary.{Summary}
 use Rattle.start_permit.specs.Granted.{MayRead, MayWrite}
 use Rattle.permit_laws.specs.Permitted.{ArePermitted}
+use Rattle.shared_store.specs.Alone.{alone}
+use Rattle.shared_store.proofs.Alone.{alone_in, alone_out}
 use Rattle.job_runner.specs.Runs.{Keeps}
-use Rattle.parallel_dispatch.specs.Bare.{alone, bare, loads_of, stores_of}
-
-no-false : false ≡ true → ⊥
-no-false e = cc
-
-alone_in : (w : ℕ) → spans (alone w) w ≡ true
-alone_in w = let e : w + 0 * 1 ≡ w = omega arith in subst (λ (u : ℕ). spans (alone w) u ≡ true) e (spans_in (alone w) 0 (lit< tt))
-
-alone_out : (w u : ℕ) → spans (alone w) u ≡ true → w ≡ u
-alone_out w u e = let o = spans_out (alone w) u e in omega (arith, o.1, o.2)
+use Rattle.parallel_dispatch.specs.Bare.{bare, loads_of, stores_of}
 
 module _ (x : Exchange) (m : Summary) (start : JobStart) (chains : ChainMap) where
   stored : (ts : List Touch) → ArePermitted x m start chains ts → (w : ℕ) → list_any (λ s. spans s w) (stores_of ts) ≡ true → MayWrite x m start chains w
-  stored [] all w e = absurd (no-false e)
+  stored [] all w e = absurd (false≢true e)
   stored (Load u v ∷ ts) all w e = stored ts all.1 w e
   stored (Store u v ∷ ts) all w e = ⊎_elim
       (λ (h : spans (alone u) w ≡ true). subst (MayWrite x m start chains) (alone_out u w h) all.0)
@@ -35,7 +27,7 @@ module _ (x : Exchange) (m : Summary) (start : JobStart) (chains : ChainMap) whe
       (or_cases (spans (alone u) w) _ e)
 
   loaded : (ts : List Touch) → ArePermitted x m start chains ts → (w : ℕ) → list_any (λ s. spans s w) (loads_of ts) ≡ true → MayRead x m start chains w
-  loaded [] all w e = absurd (no-false e)
+  loaded [] all w e = absurd (false≢true e)
   loaded (Store u v ∷ ts) all w e = loaded ts all.1 w e
   loaded (Load u v ∷ ts) all w e = ⊎_elim
       (λ (h : spans (alone u) w ≡ true). subst (MayRead x m start chains) (alone_out u w h) all.0)

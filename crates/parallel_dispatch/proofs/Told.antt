@@ -25,7 +25,6 @@ use Rattle.source_meaning.specs.State.{State}
 use Rattle.source_meaning.specs.Traces.{AgreeOn, LeavesAlone, store_after, trace_of}
 use Rattle.source_meaning.specs.Valid.{IsFitting, IsValid}
 use Rattle.source_meaning.proofs.Agreeing.{job_agrees, left_alone}
-use Rattle.source_meaning.proofs.Chains.{chain_same}
 use Rattle.source_meaning.proofs.Growing.{job_store}
 use Rattle.entry_summary.specs.declared.summary.Summary.{Summary}
 use Rattle.start_permit.specs.Granted.{MayRead, MayWrite}
@@ -44,6 +43,7 @@ use Rattle.retire_order.specs.Retired.{outcome_world, retired_world}
 use Rattle.shared_store.specs.declared.view.Lent.{Lent}
 use Rattle.parallel_dispatch.specs.Flying.{IsLent}
 use Rattle.parallel_dispatch.specs.Told.{AreTrue, IsSummaryOf, PassBy}
+use Rattle.job_types.proofs.ChainMaps.{chain_same}
 
 -- two that pass by the tests pass by the summaries that are kept
 pub passes_of : (k : KeptSummaries) (a b : JobStart) → MayFollow k a b → PassBy k a b
@@ -75,7 +75,7 @@ module _ (x : Exchange) (k : KeptSummaries) (s : State) (l : Lent) (lent : IsLen
   same_over = ap (λ (c : Config). c.over) job_there
 
 module _ (x : Exchange) (k : KeptSummaries) (kept : IsExchange x) (checked : IsChecked x k) (s : State) (valid : IsValid x s) where
-  pub at_once : (m n : Summary) (a b : JobStart) → IsFitting x s a → IsFitting x s b → IsSummaryOf k a m → IsSummaryOf k b n → PassBy k a b → MayRunAtOnce x k.facts s m n a b
+  pub at_once : (m n : Summary) (a b : JobStart) → IsFitting x s a → IsFitting x s b → IsSummaryOf k a m → IsSummaryOf k b n → PassBy k a b → MayRunAtOnce x checked.facts s m n a b
   at_once m n a b fits_a fits_b told_a told_b pass = record {
     exchange = kept;
     state = valid;
@@ -91,8 +91,8 @@ module _ (x : Exchange) (k : KeptSummaries) (kept : IsExchange x) (checked : IsC
       → ((w : ℕ) → may_read p w ≡ true → MayRead x n b s.chains w) → ((w : ℕ) → may_write p w ≡ true → MayWrite x n b s.chains w) → Apart l.permit p
   apart_from l n b p lent fits_l fits_b told pass reads writes w =
       let h = at_once lent.summary n l.start b fits_l fits_b lent.told told pass in (
-        λ written. false_from_ne_true (may_read p w) (λ read. writes_apart x k.facts s lent.summary n l.start b h w (lent.writes w written) (reads w read)),
-        λ written. false_from_ne_true (may_read l.permit w) (λ read. reads_apart x k.facts s lent.summary n l.start b h w (lent.reads w read) (writes w written)),
+        λ written. false_from_ne_true (may_read p w) (λ read. writes_apart x checked.facts s lent.summary n l.start b h w (lent.writes w written) (reads w read)),
+        λ written. false_from_ne_true (may_read l.permit w) (λ read. reads_apart x checked.facts s lent.summary n l.start b h w (lent.reads w read) (writes w written)),
       )
 
   -- the job of one loan has its turn: what that leaves to the loan of a later one
@@ -109,7 +109,7 @@ module _ (x : Exchange) (k : KeptSummaries) (kept : IsExchange x) (checked : IsC
     abbrev mid : State
     mid = record (begun s) { store = store_after x a s.store }
 
-    h : MayRunAtOnce x k.facts s first.summary lent.summary a b
+    h : MayRunAtOnce x checked.facts s first.summary lent.summary a b
     h = at_once first.summary lent.summary a b fits_l fits_later first.told lent.told pass
 
     keeps_first : KeepsTo x s first.summary a
@@ -119,20 +119,20 @@ module _ (x : Exchange) (k : KeptSummaries) (kept : IsExchange x) (checked : IsC
     keeps_later = true_of.keeps s lent.summary b valid fits_later lent.told
 
     left : IsDoneBy x first.summary a s.chains done
-    left = job_leaves x k.facts s first.summary a kept valid fits_l h.first_told keeps_first
+    left = job_leaves x checked.facts s first.summary a kept valid fits_l h.first_told keeps_first
 
     chains : LeavesChains first.summary a s.chains (retires x a done mid).chains
-    chains = chains_left x k.facts s first.summary lent.summary a b done h left mid refl
+    chains = chains_left x checked.facts s first.summary lent.summary a b done h left mid refl
 
     alone : LeavesAlone (trace_of x a s.store ++ retirement_touches x done) (trace_of x b s.store)
     alone w at =
         no_store_append w (trace_of x a s.store) (retirement_touches x done)
-        (first_alone x k.facts s first.summary lent.summary a b h (trace_of x a s.store) (trace_of x b s.store) keeps_first.touches keeps_later.touches w at)
-        (retirement_apart x k.facts s first.summary lent.summary a b done h left w (touched_read x lent.summary b s.chains (trace_of x b s.store) w keeps_later.touches at))
+        (first_alone x checked.facts s first.summary lent.summary a b h (trace_of x a s.store) (trace_of x b s.store) keeps_first.touches keeps_later.touches w at)
+        (retirement_apart x checked.facts s first.summary lent.summary a b done h left w (touched_read x lent.summary b s.chains (trace_of x b s.store) w keeps_later.touches at))
 
     words : (retires x a done mid).store ≡ stored s.store (trace_of x a s.store ++ retirement_touches x done)
     words =
-        retired_store x k.facts s first.summary lent.summary a b done h left mid
+        retired_store x checked.facts s first.summary lent.summary a b done h left mid
         ∙ ap (λ ws. stored ws (retirement_touches x done)) (job_store x a s.store)
         ∙ sym (stored-append (trace_of x a s.store) (retirement_touches x done) s.store)
 
@@ -143,16 +143,16 @@ module _ (x : Exchange) (k : KeptSummaries) (kept : IsExchange x) (checked : IsC
           summary = lent.summary;
           told = lent.told;
           same = agree_then (trace_of x b later.base) later.base s.store t.store lent.same (subst (λ ts. AgreeOn ts s.store t.store) (same_trace x k s later lent) agree);
-          reads = λ w may. subst (λ m. MayRead x lent.summary b m w) (sym chains_are) ((reads_stay x k.facts s first.summary lent.summary a b (retires x a done mid).chains h chains w).0 (lent.reads w may));
-          writes = λ w may. subst (λ m. MayWrite x lent.summary b m w) (sym chains_are) ((writes_stay x k.facts s first.summary lent.summary a b (retires x a done mid).chains h chains w).0 (lent.writes w may));
+          reads = λ w may. subst (λ m. MayRead x lent.summary b m w) (sym chains_are) ((reads_stay x checked.facts s first.summary lent.summary a b (retires x a done mid).chains h chains w).0 (lent.reads w may));
+          writes = λ w may. subst (λ m. MayWrite x lent.summary b m w) (sym chains_are) ((writes_stay x checked.facts s first.summary lent.summary a b (retires x a done mid).chains h chains w).0 (lent.writes w may));
         }
 
     aside_by : (f : ℕ) (o : Outcome) (t : State) (over : List ℕ) (w : ℕ) → f ≡ a.job.forlopp → done.outcome ≡ o → MayRead x lent.summary b s.chains w → NoStore w (outcome_world x f o (keeps_chain f done.chain t) (untouched over)).trace
     aside_by f Ended t over w is how reads = tt
-    aside_by zero (Faulted f point) t over w is how reads = absurd (some_forlopp x k.facts s first.summary lent.summary a b h (left.fault (subst IsFaulted (sym how) tt)) (sym is))
+    aside_by zero (Faulted f point) t over w is how reads = absurd (some_forlopp x checked.facts s first.summary lent.summary a b h (left.fault (subst IsFaulted (sym how) tt)) (sym is))
     aside_by (suc n) (Faulted f point) t over w is how reads =
         subst (λ chain. NoStore w (release_world x chain (untouched over)).trace) (sym (chain_same t.chains (suc n) done.chain))
-        (release_apart x k.facts s first.summary lent.summary a b h (left.fault (subst IsFaulted (sym how) tt)) done.chain over w left.records left.held reads)
+        (release_apart x checked.facts s first.summary lent.summary a b h (left.fault (subst IsFaulted (sym how) tt)) done.chain over w left.records left.held reads)
 
     -- its retirement stores to no word of the later one's permit, whatever the books and the words are
     pub aside : (t : State) (over : List ℕ) (w : ℕ) → may_read later.permit w ≡ true → NoStore w (retired_world x a done t over).trace

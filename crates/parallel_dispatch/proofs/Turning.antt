@@ -2,11 +2,11 @@
 use Rattle.std.proofs.Common.{◌≡◌, ℕ, suc, ◌+◌, ◌%◌, ◌^◌, List, [], ◌∷◌, ◌++◌, Some, refl, sym, ap, ◌∙◌, subst, slice_get, arith}
 use Rattle.std.proofs.lemmas.Option.{get_or_from_slice_get}
 use Rattle.job_types.specs.declared.job.JobStart.{JobStart}
-use Rattle.job_types.specs.Own.{World}
 use Rattle.machine_code.specs.declared.op.Op.{Op}
 use Rattle.machine_code.specs.declared.op.Op.TheVariants.{End}
 use Rattle.register_machine.specs.Faithful.{Ends, begun, started}
-use Rattle.register_machine.specs.Machine.{Apart, Goes, Loads, Machine, Reach, Stores, by_op, here, machine_step, op_at, reach, touched, untouched}
+use Rattle.register_machine.specs.Machine.{Goes, Machine, by_op, here, machine_step, reach, untouched}
+use Rattle.register_machine.proofs.Stopping.{step_store}
 use Rattle.interleave_core.specs.declared.event.CoreEvent.{CoreEvent}
 use Rattle.interleave_core.specs.declared.event.CoreEvent.TheVariants.{Retire}
 use Rattle.interleave_core.specs.declared.window.WindowJob.{WindowJob}
@@ -30,22 +30,13 @@ runs_one k c e can = (can, refl)
 
 -- ## Steps of the oldest job
 
-op_is : (code : List Op) (a : ℕ) (op : Op) → slice_get code a ≡ Some op → op_at code a ≡ op
-op_is code a op at = get_or_from_slice_get code a op End at
-
--- what an instruction stores does not hang on the touches before it
-touch_free : (r : Reach) (w : World) → (touched r (untouched w.store)).store ≡ (touched r w).store
-touch_free Apart w = refl
-touch_free (Loads word) w = refl
-touch_free (Stores word value) w = refl
-
 -- the core after the instruction
 stepped_core : (k : Setting) (c : Core) (start : JobStart) (younger : List WindowJob) (op : Op) (m : Machine) → slice_get k.code.ops m.run.pc ≡ Some op
     → steps k.code 0 (record { start = start; run = m.run }) (at_machine c start younger m) ≡ at_machine c start younger (machine_step op m)
 stepped_core k c start younger op m at =
-    let is = op_is k.code.ops m.run.pc op at in
+    let is = get_or_from_slice_get k.code.ops m.run.pc op End at in
     ap (λ (o : Op). at_machine c start younger (machine_step o (record { run = m.run; world = untouched m.world.store }))) is
-    ∙ ap (λ ws. at_machine c start younger (record { run = (machine_step op m).run; world = untouched ws })) (touch_free (reach op m.run) m.world)
+    ∙ ap (λ ws. at_machine c start younger (record { run = (machine_step op m).run; world = untouched ws })) (step_store (reach op m.run) m.world)
 
 -- the machine goes to its end by so many events, whatever core the job is the oldest of, and counts as many instructions more
 pub record GoesBySteps (k : Setting) (m end : Machine) : Type 0 where

@@ -1,12 +1,10 @@
 -- The permit of a trace: the words that it loads and those that it stores, each alone. It stands in proofs alone.
-use Rattle.std.specs.Prelude.{ℕ, List, [], ◌∷◌}
+use Rattle.std.specs.Prelude.{List, [], ◌∷◌}
 use Rattle.job_types.specs.declared.touch.Touch.{Touch}
 use Rattle.job_types.specs.declared.touch.Touch.TheVariants.{Load, Store}
 use Rattle.machine_code.specs.declared.permit.Span.{Span}
 use Rattle.machine_code.specs.declared.permit.Permit.{Permit}
-
-abbrev pub alone : ℕ → Span
-alone w = record { first = w; count = 1; stride = 1 }
+use Rattle.shared_store.specs.Alone.{alone}
 
 abbrev pub loads_of : List Touch → List Span
 loads_of [] = []

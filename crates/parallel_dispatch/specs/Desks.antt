@@ -1,13 +1,16 @@
 -- What contracts see of the dispatcher's desk, and what its type keeps.
-use Rattle.std.specs.Prelude.{◌≡◌, ℕ, ◌<◌, []}
+use Rattle.std.specs.Prelude.{◌≡◌, ℕ, ◌<◌, [], Option, Some, None, MatchOption}
 use Rattle.std.specs.FinMap as map
 use Rattle.job_types.specs.Forlopps.{none_dead}
 use Rattle.job_types.specs.Waiting.{nobody}
 use Rattle.machine_code.specs.Coded.{Code}
 use Rattle.exchange_model.specs.declared.exchange.Exchange.{Exchange}
+use Rattle.source_meaning.specs.SingleRun.{ending_at}
 use Rattle.source_meaning.specs.State.{State}
 use Rattle.checked.specs.Kept.{KeptSummaries}
+use Rattle.retire_order.specs.declared.event.Ending.{Ending}
 use Rattle.retire_order.specs.Accounts.{Account}
+use Rattle.retire_order.specs.Events.{ending_of}
 use Rattle.shared_store.specs.Seats.{RootView, StoreId}
 use Rattle.parallel_dispatch.specs.Events.{IsReached}
 use Rattle.parallel_dispatch.specs.Moves.{AreCounted}
@@ -29,9 +32,17 @@ pub record IsDesk (x : Exchange) (k : KeptSummaries) (code : Code) (store : Stor
   pub some : 0 < workers
   pub counted : AreCounted books window
 
+-- the run is not over where none flies
+abbrev pub GoesOn : Account → View → Type 0
+GoesOn books w = w.loans ≡ [] → ending_at books.limit books.state ≡ None
+
+-- how the run ends, if none flies and it does
+abbrev pub TellsEnd : Account → View → Option Ending → Type 0
+TellsEnd books w ended = MatchOption ended (GoesOn books w) (λ e. (w.loans ≡ []) × (Some (ending_of e) ≡ ending_at books.limit books.state))
+
 -- what stands where no course is named
 abbrev pub no_kept : KeptSummaries
-no_kept = record { facts = []; summaries = [] }
+no_kept = record { summaries = [] }
 
 abbrev pub no_state : State
 no_state = record {

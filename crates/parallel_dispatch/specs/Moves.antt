@@ -28,7 +28,7 @@ use Rattle.parallel_dispatch.specs.declared.threads.Beginning.{Beginning}
 use Rattle.interleave_core.specs.declared.event.CoreEvent.{CoreEvent}
 use Rattle.interleave_core.specs.Allowed.{MayFollow}
 use Rattle.interleave_core.specs.Runs.{setting}
-use Rattle.parallel_dispatch.specs.Events.{IsLed}
+use Rattle.parallel_dispatch.specs.Events.{IsIssued, IsLed}
 use Rattle.parallel_dispatch.specs.Flying.{Fly, starts_of}
 use Rattle.parallel_dispatch.specs.Made.{JobMakes}
 use Rattle.parallel_dispatch.specs.Told.{AreTrue}
@@ -44,22 +44,36 @@ pub record AreOf (x : Exchange) (layout : Layout) (code : Code) (k : KeptSummari
 
 -- the exchange, the code, the store and the book of the setting are these
 abbrev pub HasNames : Exchange → Code → StoreId → BookId → Setting → Type 0
-HasNames x code store book s = (s.exchange.now ≡ x) × (s.code.now ≡ code) × (s.store.now ≡ store) × (s.book.now ≡ book)
+HasNames x code store book s = (s.work.exchange.now ≡ x) × (s.work.code.now ≡ code) × (s.store.now ≡ store) × (s.book.now ≡ book)
 
 -- the layout and the summaries of the setting are of this exchange, and so is this code
 abbrev pub IsSet : Exchange → Code → Setting → Type 0
-IsSet x code s = AreOf x s.layout.now code s.checked.now
+IsSet x code s = AreOf x s.work.layout.now code s.work.checked.now
+
+-- the setting has these names, and what it sets is of them
+pub record Suits (x : Exchange) (code : Code) (store : StoreId) (book : BookId) (s : Setting) : Type 0 where
+  pub named : HasNames x code store book s
+  pub set : IsSet x code s
+
+-- and this is kept of its certificate
+pub record SuitsBy (x : Exchange) (code : Code) (store : StoreId) (book : BookId) (k : KeptSummaries) (s : Setting) : Type 0 where
+  pub suits : Suits x code store book s
+  pub kept : s.work.checked.now ≡ k
 
 -- a summary is kept of the entry of the start
 abbrev pub HasSummary : KeptSummaries → JobStart → Type 0
 HasSummary k start = start.job.entry < length k.summaries
+
+-- a job may follow each of these
+abbrev pub FollowsAll : KeptSummaries → List JobStart → JobStart → Type 0
+FollowsAll k olders later = AllByRecursion (λ (older : JobStart). MayFollow k older later) olders
 
 -- the next job of the books may fly beside these: it passes with each of them, and they retire before the next line comes
 pub record MayFly (k : KeptSummaries) (books : Account) (w : View) (start : JobStart) : Type 0 where
   pub next : Some start ≡ upcoming books
   pub room : length w.loans < w.room
   pub line : NoLineBefore (books.state.ended + length w.loans + 1) books.state.lines
-  pub pass : AllByRecursion (λ (older : JobStart). MayFollow k older start) (starts_of w.loans)
+  pub pass : FollowsAll k (starts_of w.loans) start
 
 -- the next job of the books may run on the root's own words: none flies, and it retires before the next line comes
 pub record MayRunAlone (books : Account) (w : View) : Type 0 where
@@ -85,6 +99,21 @@ to_do b = 2 * (b.limit - (b.state.ended + b.running)) + b.running
 pub record AreCounted (books : Account) (w : View) : Type 0 where
   pub flown : w.flown ≤ books.state.ended + books.running
   pub limited : books.limit ≤ MOST_JOBS
+
+-- they do so with a root of this store, and no more jobs are counted than there are
+pub record StandBeside (x : Exchange) (k : KeptSummaries) (store : StoreId) (books : Account) (root : RootView) (w : View) : Type 0 where
+  pub home : root.0 ≡ store
+  pub counted : AreCounted books w
+  pub flying : Flying x k books root w
+
+-- one more job flies: beside whatever state books, root and window stood, they stand now, and an event of the core was made
+pub record HasIssued (x : Exchange) (k : KeptSummaries) (code : Code) (books : Account) (top : Top) (w : View) (next : Account) (now : Top) (v : View) : Type 0 where
+  pub fly : (s : State) → Fly x k s books top w.loans → Fly x k s next now v.loans
+  pub event : IsIssued (setting x code k w.room) books top w.loans next now v.loans
+
+-- the limit is as it was, no more jobs are counted than there are, and fewer are to do
+abbrev pub CountsOne : Account → Account → View → Type 0
+CountsOne old new w = (new.limit ≡ old.limit) × AreCounted new w × (to_do new < to_do old)
 
 -- the next job has had its turn by these events: beside whatever state books, root and window stood, what it left stands beside the one
 -- after it; it is the job whose run made so many instructions
@@ -120,3 +149,16 @@ pub record MayBegin (x : Exchange) (store : StoreId) (book : BookId) (workers : 
   pub root_is : b.root ≡ (store, unlent b.root.1.values)
   pub first_is : with_words b.books.state b.root.1.values ≡ first
   pub valid : IsValid x first
+
+-- the same with a window in which none flies, and for which no job has flown yet
+pub record MayOpen (x : Exchange) (store : StoreId) (workers : ℕ) (first : State) (limit : ℕ) (books : Account) (root : RootView) (w : View) : Type 0 where
+  pub first_is : with_words books.state root.1.values ≡ first
+  pub limit_is : books.limit ≡ limit
+  pub limited : books.limit ≤ MOST_JOBS
+  pub nobody : books.running ≡ 0
+  pub root_is : root ≡ (store, unlent root.1.values)
+  pub valid : IsValid x first
+  pub empty : w.loans ≡ []
+  pub flown : w.flown ≡ 0
+  pub room : w.room ≡ workers
+  pub some : 0 < w.room

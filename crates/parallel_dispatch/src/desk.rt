@@ -1,19 +1,18 @@
 // The dispatcher's desk: its books, the root of the store and the jobs that fly, which are a state of the core of events.
-ghost use Rattle.std.specs.Prelude.{◌≡◌, ◌<◌, ◌≤◌, [], Some, None, IfOk, IfErr, MatchOption};
-ghost use Rattle.plex_limits.specs.declared.limits.TheConstants.{MOST_JOBS};
-ghost use Rattle.retire_order.specs.Accounts.{upcoming, with_words};
+ghost use Rattle.std.specs.Prelude.{◌≡◌, ◌<◌, [], Some, None, IfOk, IfErr};
+ghost use Rattle.retire_order.specs.Accounts.{upcoming};
 ghost use Rattle.retire_order.specs.Events.{ending_of};
-ghost use Rattle.shared_store.specs.Loans.{unlent};
 ghost use Rattle.source_meaning.specs.SingleRun.{ending_at};
 ghost use Rattle.source_meaning.specs.Valid.{IsValid};
+ghost use Rattle.parallel_dispatch.specs.Desks.{GoesOn, TellsEnd};
 ghost use Rattle.parallel_dispatch.specs.Ends.{IsOverFrom};
-ghost use Rattle.parallel_dispatch.specs.Moves.{HasNames, IsLeft, IsSet, MayFly, MayMove, MayRunAlone, to_do};
+ghost use Rattle.parallel_dispatch.specs.Moves.{IsLeft, MayFly, MayMove, MayOpen, MayRunAlone, SuitsBy, to_do};
 
 use crate::course::Course;
 use crate::driving::Over;
 use crate::moves::{Left, Move, issue, next_move, retire, run_alone};
 use crate::pace::{Pace, Way};
-use crate::setting::Setting;
+use crate::setting::{Hall, Setting};
 use crate::window::Window;
 use interference_check::PairTable;
 use job_types::JobStart;
@@ -55,20 +54,12 @@ impl<B: Course> Desk<B> {
         root: RootSeat,
         window: Window<B>,
     ) -> Result<Desk<B>, Left<B>>
-        requires named { HasNames B.exchange B.code B.store B.book setting.now }
-        requires set { IsSet B.exchange B.code setting.now }
-        requires kept { setting.now.checked.now ≡ B.kept }
-        requires first { with_words books.state root.1.values ≡ B.first }
-        requires limit { (books.limit ≡ B.limit) × (books.limit ≤ MOST_JOBS) }
-        requires nobody { books.running ≡ 0 }
-        requires root { root ≡ (B.store, unlent root.1.values) }
-        requires valid { IsValid B.exchange B.first }
-        requires window { (window.loans ≡ []) × (window.flown ≡ 0) }
-        requires room { (window.room ≡ B.workers) × (0 < window.room) }
+        requires setting { SuitsBy B.exchange B.code B.store B.book B.kept setting.now }
+        requires open { MayOpen B.exchange B.store B.workers B.first B.limit books root window }
         ensures left { IfErr result (λ left. IsLeft B.store left.root left.window.loans) }
     {
         let mut books = books;
-        match let_arrive(setting.exchange, &mut books) {
+        match let_arrive(setting.work.exchange, &mut books) {
             Ok(()) => Ok(Desk {
                 books,
                 root,
@@ -81,12 +72,7 @@ impl<B: Course> Desk<B> {
 
     /// How the run ends, if none flies and it does.
     pub fn ending(&self) -> Option<Ending>
-        ensures { MatchOption result
-            (self.now.window.loans ≡ []
-            → ending_at self.now.books.limit self.now.books.state ≡ None)
-            (λ ending. (self.now.window.loans ≡ [])
-            × (Some (ending_of ending)
-            ≡ ending_at self.now.books.limit self.now.books.state)) }
+        ensures { TellsEnd self.now.books self.now.window result }
     {
         if self.window.len() == 0 {
             return self.books.finished();
@@ -97,40 +83,22 @@ impl<B: Course> Desk<B> {
     /// The next job flies, which may, in this way. The root and the window are given back where memory is refused.
     pub fn issue<R: Wait, G: Gate>(
         self,
-        rt: &R,
-        setting: &Setting<'_>,
-        shop: &Shop<B>,
-        gate: &G,
+        hall: &Hall<'_, B, R, G>,
         way: Way,
         start: JobStart,
     ) -> Result<Desk<B>, Left<B>>
-        requires named { HasNames B.exchange B.code B.store B.book setting.now }
-        requires set { IsSet B.exchange B.code setting.now }
-        requires kept { setting.now.checked.now ≡ B.kept }
+        requires setting { SuitsBy B.exchange B.code B.store B.book B.kept hall.now.setting }
         requires next { MayFly B.kept self.books self.window start }
         ensures fewer { IfOk result (λ desk. to_do desk.books < to_do self.books) }
         ensures left { IfErr result (λ left. IsLeft B.store left.root left.window.loans) }
     {
         let Desk {
-            books,
-            root,
-            window,
+            mut books,
+            mut root,
+            mut window,
             steps,
         } = self;
-        let mut books = books;
-        let mut root = root;
-        let mut window = window;
-        match issue(
-            rt,
-            setting,
-            shop,
-            gate,
-            way,
-            &mut books,
-            &mut root,
-            &mut window,
-            start,
-        ) {
+        match issue(hall, way, &mut books, &mut root, &mut window, start) {
             Ok(()) => Ok(Desk {
                 books,
                 root,
@@ -148,22 +116,18 @@ impl<B: Course> Desk<B> {
         gate: &G,
         pace: &mut Pace,
     ) -> Result<Desk<B>, Left<B>>
-        requires named { HasNames B.exchange B.code B.store B.book setting.now }
-        requires set { IsSet B.exchange B.code setting.now }
-        requires kept { setting.now.checked.now ≡ B.kept }
+        requires setting { SuitsBy B.exchange B.code B.store B.book B.kept setting.now }
         requires next { MayRunAlone self.books self.window }
         requires goes_on { ending_at self.books.limit self.books.state ≡ None }
         ensures fewer { IfOk result (λ desk. to_do desk.books < to_do self.books) }
         ensures left { IfErr result (λ left. IsLeft B.store left.root left.window.loans) }
     {
         let Desk {
-            books,
-            root,
-            window,
             steps,
+            root,
+            mut books,
+            mut window,
         } = self;
-        let mut books = books;
-        let mut window = window;
         match run_alone(setting, gate, pace, &mut books, root, &mut window) {
             Ok(alone) => Ok(Desk {
                 books,
@@ -178,30 +142,22 @@ impl<B: Course> Desk<B> {
     /// The oldest job that flies retires. The root and the window are given back where memory is refused.
     pub fn retire<R: Wait, G: Gate>(
         self,
-        rt: &R,
-        setting: &Setting<'_>,
-        shop: &Shop<B>,
-        gate: &G,
+        hall: &Hall<'_, B, R, G>,
         pace: &mut Pace,
     ) -> Result<Desk<B>, Left<B>>
-        requires named { HasNames B.exchange B.code B.store B.book setting.now }
-        requires set { IsSet B.exchange B.code setting.now }
-        requires kept { setting.now.checked.now ≡ B.kept }
+        requires setting { SuitsBy B.exchange B.code B.store B.book B.kept hall.now.setting }
         requires next { self.window.loans ≡ [] → None ≡ upcoming self.books }
-        requires goes_on { self.window.loans ≡ []
-            → ending_at self.books.limit self.books.state ≡ None }
+        requires goes_on { GoesOn self.books self.window }
         ensures fewer { IfOk result (λ desk. to_do desk.books < to_do self.books) }
         ensures left { IfErr result (λ left. IsLeft B.store left.root left.window.loans) }
     {
         let Desk {
-            books,
+            mut books,
             root,
-            window,
+            mut window,
             steps,
         } = self;
-        let mut books = books;
-        let mut window = window;
-        match retire(rt, setting, shop, gate, pace, &mut books, root, &mut window) {
+        match retire(hall, pace, &mut books, root, &mut window) {
             Ok(oldest) => Ok(Desk {
                 books,
                 root: oldest.root,
@@ -220,11 +176,9 @@ impl<B: Course> Desk<B> {
         shop: &Shop<B>,
         pace: &mut Pace,
     ) -> Move
-        requires set { IsSet B.exchange B.code setting.now }
-        requires kept { setting.now.checked.now ≡ B.kept }
+        requires setting { SuitsBy B.exchange B.code B.store B.book B.kept setting.now }
         requires pairs { pairs.now ≡ B.kept }
-        requires goes_on { self.now.window.loans ≡ []
-            → ending_at self.now.books.limit self.now.books.state ≡ None }
+        requires goes_on { GoesOn self.now.books self.now.window }
         ensures { MayMove B.kept self.now.books self.now.window result }
     {
         let _ = setting;
@@ -240,8 +194,7 @@ impl<B: Course> Desk<B> {
 
     /// The run is over, and none flies.
     pub fn finish(self, setting: &Setting<'_>, ending: Ending) -> (Books, Over)
-        requires set { IsSet B.exchange B.code setting.now }
-        requires kept { setting.now.checked.now ≡ B.kept }
+        requires setting { SuitsBy B.exchange B.code B.store B.book B.kept setting.now }
         requires valid { IsValid B.exchange B.first }
         requires none { self.window.loans ≡ [] }
         requires over { Some (ending_of ending) ≡ ending_at self.books.limit self.books.state }

@@ -1,17 +1,13 @@
 // Jobs run alone, fly and retire until the run is over.
-ghost use Rattle.std.specs.Prelude.{◌≡◌, ◌<◌, ◌≤◌, [], IfOk, IfErr};
-ghost use Rattle.plex_limits.specs.declared.limits.TheConstants.{MOST_JOBS};
-ghost use Rattle.shared_store.specs.Loans.{unlent};
-ghost use Rattle.source_meaning.specs.Valid.{IsValid};
-ghost use Rattle.retire_order.specs.Accounts.{with_words};
+ghost use Rattle.std.specs.Prelude.{◌≡◌, IfOk, IfErr};
 ghost use Rattle.parallel_dispatch.specs.Ends.{IsOverFrom};
-ghost use Rattle.parallel_dispatch.specs.Moves.{HasNames, IsLeft, IsSet};
+ghost use Rattle.parallel_dispatch.specs.Moves.{HasNames, IsLeft, MayOpen, SuitsBy};
 
 use crate::course::Course;
 use crate::desk::Desk;
 use crate::moves::{Left, Move};
 use crate::pace::{Pace, Way};
-use crate::setting::Setting;
+use crate::setting::Hall;
 use crate::window::Window;
 use interference_check::PairTable;
 use plex_io::Gate;
@@ -29,8 +25,9 @@ pub(crate) struct Over {
     pub steps: u64,
 }
 
-/// What is due arrives, and then jobs run alone, or fly and retire, until the run is over. Workers are started for the jobs that are
-/// brought to them. Where memory is refused the root and the window are given back.
+/// What is due arrives, and then jobs run alone, or fly and retire, until the run is over. Workers are
+/// started for the jobs that are brought to them. Where memory is refused the root and the window are
+/// given back.
 pub(crate) fn run_jobs<
     's,
     'e: 's,
@@ -38,74 +35,65 @@ pub(crate) fn run_jobs<
     R: Threads + Wait + Sync,
     G: Gate + Sync,
 >(
-    rt: &'e R,
     scope: &'s Scope<'s, &'e ()>,
-    setting: &Setting<'e>,
-    shop: &'e Shop<B>,
-    gate: &'e G,
+    hall: &Hall<'e, B, R, G>,
     pairs: &PairTable<'_>,
     pace: Pace,
     books: Books,
     root: RootSeat,
     window: Window<B>,
 ) -> Result<(Books, Over), Left<B>>
-    requires named { HasNames B.exchange B.code B.store B.book setting.now }
-    requires set { IsSet B.exchange B.code setting.now }
-    requires kept { setting.now.checked.now ≡ B.kept }
+    requires setting { SuitsBy B.exchange B.code B.store B.book B.kept hall.now.setting }
     requires pairs { pairs.now ≡ B.kept }
-    requires first { with_words books.state root.1.values ≡ B.first }
-    requires limit { (books.limit ≡ B.limit) × (books.limit ≤ MOST_JOBS) }
-    requires nobody { books.running ≡ 0 }
-    requires root { root ≡ (B.store, unlent root.1.values) }
-    requires valid { IsValid B.exchange B.first }
-    requires window { (window.loans ≡ []) × (window.flown ≡ 0) }
-    requires room { (window.room ≡ B.workers) × (0 < window.room) }
-    ensures over { IfOk result (λ end. IsOverFrom B.exchange B.code B.kept B.workers B.store
-        B.first B.limit end.0 end.1) }
+    requires open { MayOpen B.exchange B.store B.workers B.first B.limit books root window }
+    ensures over { IfOk result (λ end.
+        IsOverFrom B.exchange B.code B.kept B.workers B.store B.first B.limit end.0 end.1) }
     ensures left { IfErr result (λ left. IsLeft B.store left.root left.window.loans) }
 {
-    let mut desk = Desk::open(setting, books, root, window)?;
+    let mut desk = Desk::open(&hall.setting, books, root, window)?;
     let mut pace = pace;
     'jobs: loop {
         if let Some(ending) = desk.ending() {
-            return Ok(desk.finish(setting, ending));
+            return Ok(desk.finish(&hall.setting, ending));
         }
-        relieve(rt, setting, shop, gate, &pace, desk.window());
-        desk = match desk.next_move(setting, pairs, shop, &mut pace) {
-            Move::RunAlone => desk.run_alone(setting, gate, &mut pace)?,
+        relieve(hall, &pace, desk.window());
+        desk = match desk.next_move(&hall.setting, pairs, hall.shop, &mut pace) {
+            Move::RunAlone => desk.run_alone(&hall.setting, hall.gate, &mut pace)?,
             Move::Issue(start) => {
                 let entry = start.job.entry;
                 let way = pace.way(pairs, entry, desk.window().len());
-                let wanted = calls_for(way, entry, &mut pace, shop, desk.window());
-                hire(rt, scope, setting, shop, gate, wanted);
-                desk.issue(rt, setting, shop, gate, way, start)?
+                let wanted = calls_for(way, entry, &mut pace, hall.shop, desk.window());
+                hire(scope, hall, wanted);
+                desk.issue(hall, way, start)?
             }
             Move::Retire => {
-                let wanted = wanted_meanwhile(&pace, shop, desk.window());
-                hire(rt, scope, setting, shop, gate, wanted);
-                desk.retire(rt, setting, shop, gate, &mut pace)?
+                let wanted = wanted_meanwhile(&pace, hall.shop, desk.window());
+                hire(scope, hall, wanted);
+                desk.retire(hall, &mut pace)?
             }
         };
     }
 }
 
-/// Runs a job that waits for a thread, where enough do, each worker has one, and the oldest that flies is not in hand.
-fn relieve<B: Naming, R: Wait, G: Gate>(
-    rt: &R,
-    setting: &Setting<'_>,
-    shop: &Shop<B>,
-    gate: &G,
-    pace: &Pace,
-    window: &Window<B>,
-)
-    requires named { HasNames B.exchange B.code B.store B.book setting.now }
+/// Runs a job that waits for a thread, where enough do, each worker has one, and the oldest that flies
+/// is not in hand.
+fn relieve<B: Naming, R: Wait, G: Gate>(hall: &Hall<'_, B, R, G>, pace: &Pace, window: &Window<B>)
+    requires { HasNames B.exchange B.code B.store B.book hall.now.setting }
 {
+    let shop = hall.shop;
     if window.len() > 0
         && pace.are_enough(shop.waiting())
         && shop.are_all_busy()
         && !window.oldest_is_in_hand()
     {
-        shop.help(rt, setting.exchange, setting.code, setting.store, gate);
+        let setting = &hall.setting;
+        shop.help(
+            hall.rt,
+            setting.work.exchange,
+            setting.work.code,
+            setting.store,
+            hall.gate,
+        );
     }
 }
 
@@ -139,23 +127,20 @@ fn wanted_meanwhile<B: Naming>(pace: &Pace, shop: &Shop<B>, window: &Window<B>) 
 
 /// Starts workers, so that there are so many.
 fn hire<'s, 'e: 's, B: Naming + Send + Sync, R: Threads + Wait + Sync, G: Gate + Sync>(
-    rt: &'e R,
     scope: &'s Scope<'s, &'e ()>,
-    setting: &Setting<'e>,
-    shop: &'e Shop<B>,
-    gate: &'e G,
+    hall: &Hall<'e, B, R, G>,
     wanted: u64,
 )
-    requires named { HasNames B.exchange B.code B.store B.book setting.now }
+    requires { HasNames B.exchange B.code B.store B.book hall.now.setting }
 {
     start_workers(
-        rt,
+        hall.rt,
         scope,
-        shop,
-        setting.exchange,
-        setting.code,
-        setting.store,
-        gate,
+        hall.shop,
+        hall.setting.work.exchange,
+        hall.setting.work.code,
+        hall.setting.store,
+        hall.gate,
         wanted,
     );
 }

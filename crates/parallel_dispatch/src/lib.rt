@@ -16,4 +16,5 @@ mod setting;
 mod threads;
 mod window;
 
-pub use dispatcher::{Ended, Work, dispatch, dispatch_or_root};
+pub use dispatcher::{Ended, StoredRun, dispatch, dispatch_or_root};
+pub use setting::Work;

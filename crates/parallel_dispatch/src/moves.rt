@@ -1,22 +1,21 @@
 // The moves of the dispatcher: the next job runs alone, or it flies, or the oldest that flies retires.
-ghost use Rattle.std.specs.Prelude.{◌≡◌, ◌+◌, ◌<◌, ◌≤◌, ◌^◌, [], length, Some, None, IsTrue, OnOk, OnErr, IfOk, IfErr};
+ghost use Rattle.std.specs.Prelude.{◌≡◌, ◌+◌, ◌<◌, ◌^◌, [], length, Some, None, IsTrue, OnOk, OnErr, IfOk, IfErr};
 ghost use Rattle.std.specs.List.{AllByRecursion};
 ghost use Rattle.job_types.specs.declared.job.JobStart.{JobStart as StartType};
 ghost use Rattle.exchange_run.specs.Runs.{MayRun};
 ghost use Rattle.order_laws.specs.Keeps.{NoLineBefore};
 ghost use Rattle.register_machine.specs.Faithful.{Faithful, started};
-ghost use Rattle.retire_order.specs.Accounts.{next_count, upcoming};
+ghost use Rattle.retire_order.specs.Accounts.{upcoming};
 ghost use Rattle.source_meaning.specs.SingleRun.{ending_at};
-ghost use Rattle.source_meaning.specs.State.{State, Coming};
-ghost use Rattle.parallel_dispatch.specs.Flying.{Fly, arrived, starts_of};
-ghost use Rattle.interleave_core.specs.Runs.{setting as core_setting};
-ghost use Rattle.parallel_dispatch.specs.Events.{IsIssued, whole_turn};
+ghost use Rattle.job_runner.specs.Runs.{HasRun};
+ghost use Rattle.parallel_dispatch.specs.Flying.{arrived, starts_of};
+ghost use Rattle.parallel_dispatch.specs.Events.{whole_turn};
 ghost use Rattle.parallel_dispatch.specs.Turning.{turn_of};
 ghost use Rattle.parallel_dispatch.specs.Made.{HasRunAlone};
-ghost use Rattle.parallel_dispatch.specs.Moves.{AreCounted, Flying, HasNames, HasSummary, HasTurned, IsBare, IsLeft, IsSet, MayFly, MayMove, MayRunAlone, to_do};
+ghost use Rattle.parallel_dispatch.specs.Moves.{CountsOne, HasIssued, HasNames, HasSummary, HasTurned, IsBare, IsLeft, MayFly, MayMove, MayRunAlone, StandBeside, Suits};
 
 use crate::pace::{Pace, Way};
-use crate::setting::Setting;
+use crate::setting::{Hall, Setting};
 use crate::window::{Oldest, Window};
 use exchange_model::Exchange;
 use interference_check::PairTable;
@@ -27,7 +26,7 @@ use plex_io::{Gate, Place};
 use plex_num::Memory;
 use register_machine::{JobRun, run_to_end};
 use retire_order::{Books, let_arrive};
-use shared_store::{RootSeat, SharedStore};
+use shared_store::{JobSeat, RootSeat, SharedStore};
 use std::marker::Brand;
 use std::sync::Wait;
 use worker_pool::{Flight, Naming, Shop};
@@ -140,64 +139,55 @@ fn number_of_next(books: &Books) -> u64
 
 /// One more job flies, which may, in this way.
 pub(crate) fn issue<B: Naming, R: Wait, G: Gate>(
-    rt: &R,
-    setting: &Setting<'_>,
-    shop: &Shop<B>,
-    gate: &G,
+    hall: &Hall<'_, B, R, G>,
     way: Way,
     books: &mut Books,
     root: &mut RootSeat,
     window: &mut Window<B>,
     start: JobStart,
 ) -> Result<(), Memory>
-    requires named { HasNames B.exchange B.code B.store B.book setting.now }
-    requires set { IsSet B.exchange B.code setting.now }
-    requires root { root.old.0 ≡ B.store }
-    requires counted { AreCounted books.old window.old }
-    requires next { MayFly setting.now.checked.now books.old window.old start }
-    requires flying { Flying B.exchange setting.now.checked.now books.old root.old window.old }
-    ensures fly { OnOk result ((s : State)
-        → Fly B.exchange setting.now.checked.now s books.old root.old.1 window.old.loans
-        → Fly B.exchange setting.now.checked.now s books.new root.new.1 window.new.loans) }
-    ensures events { OnOk result (IsIssued
-        (core_setting B.exchange B.code setting.now.checked.now window.old.room)
-        books.old root.old.1 window.old.loans books.new root.new.1 window.new.loans) }
+    requires setting { Suits B.exchange B.code B.store B.book hall.now.setting }
+    requires next { MayFly hall.now.setting.work.checked.now books.old window.old start }
+    requires beside { StandBeside B.exchange hall.now.setting.work.checked.now B.store
+        books.old root.old window.old }
+    ensures issued { OnOk result (HasIssued B.exchange hall.now.setting.work.checked.now B.code
+        books.old root.old.1 window.old books.new root.new.1 window.new) }
+    ensures counted { OnOk result (CountsOne books.old books.new window.new) }
     ensures left { OnErr result (IsLeft B.store root.new window.new.loans) }
     ensures root { root.new.0 ≡ B.store }
-    ensures limit { OnOk result (books.new.limit ≡ books.old.limit) }
     ensures room { window.new.room ≡ window.old.room }
-    ensures counted { OnOk result (AreCounted books.new window.new) }
-    ensures fewer { OnOk result (to_do books.new < to_do books.old) }
 {
+    let setting = &hall.setting;
     let entry = start.job.entry;
-    let _told = setting.checked.summary(entry);
+    let _told = setting.work.checked.summary(entry);
     let mut run = window.idle_run(setting.alloc)?;
-    run.begin(setting.code, &start);
+    run.begin(setting.work.code, &start);
     let job = number_of_next(books);
     let _begun = books.next_job();
     let seat = setting.store.lend_as::<Brand>(root, &start);
     let flight = window.launch(setting.book, seat, run, job);
-    let flight = set_out(rt, setting, shop, gate, way, flight);
+    let flight = set_out(hall, way, flight);
     window.push(flight, start);
     Ok(())
 }
 
 /// A flight that is in hand goes this way.
 fn set_out<B: Naming, R: Wait, G: Gate>(
-    rt: &R,
-    setting: &Setting<'_>,
-    shop: &Shop<B>,
-    gate: &G,
+    hall: &Hall<'_, B, R, G>,
     way: Way,
     flight: Flight<B>,
 ) -> Flight<B>
-    requires named { HasNames B.exchange B.code B.store B.book setting.now }
+    requires { HasNames B.exchange B.code B.store B.book hall.now.setting }
     ensures { result ≡ flight }
 {
     match way {
         Way::InHand => flight,
-        Way::Brought => flight.bring(rt, shop),
-        Way::Here => flight.run_here(setting.exchange, setting.code, setting.store, gate),
+        Way::Brought => flight.bring(hall.rt, hall.shop),
+        Way::Here => {
+            let setting = &hall.setting;
+            let work = &setting.work;
+            flight.run_here(work.exchange, work.code, setting.store, hall.gate)
+        }
     }
 }
 
@@ -211,15 +201,14 @@ pub(crate) fn run_alone<B: Naming, G: Gate>(
     root: RootSeat,
     window: &mut Window<B>,
 ) -> Result<Retired, RootSeat>
-    requires named { HasNames B.exchange B.code B.store B.book setting.now }
-    requires set { IsSet B.exchange B.code setting.now }
-    requires root { root.0 ≡ B.store }
-    requires counted { AreCounted books.old window.old }
+    requires setting { Suits B.exchange B.code B.store B.book setting.now }
     requires next { MayRunAlone books.old window.old }
     requires goes_on { ending_at books.old.limit books.old.state ≡ None }
-    requires flying { Flying B.exchange setting.now.checked.now books.old root window.old }
-    ensures turned { IfOk result (λ left. HasTurned B.exchange setting.now.checked.now B.code B.store
-        whole_turn books.old root.1 window.old books.new left window.new) }
+    requires beside { StandBeside B.exchange setting.now.work.checked.now B.store
+        books.old root window.old }
+    ensures turned { IfOk result (λ left.
+        HasTurned B.exchange setting.now.work.checked.now B.code B.store whole_turn
+        books.old root.1 window.old books.new left window.new) }
     ensures left { IfErr result (λ back. IsLeft B.store back window.new.loans) }
 {
     let job = number_of_next(books);
@@ -230,11 +219,11 @@ pub(crate) fn run_alone<B: Naming, G: Gate>(
         unreachable!()
     };
     let mut run = run;
-    run.begin(setting.code, &start);
+    run.begin(setting.work.code, &start);
     gate.at(job, Place::Before);
     let root = run_on_root(
-        setting.exchange,
-        setting.code,
+        setting.work.exchange,
+        setting.work.code,
         setting.store,
         root,
         &mut run,
@@ -245,13 +234,14 @@ pub(crate) fn run_alone<B: Naming, G: Gate>(
     let done = run.done();
     pace.has_ended(start.job.entry, steps);
     let mut words = RootWords::new(setting.store, root);
-    let retired = books.retire(setting.exchange, setting.layout, &start, done, &mut words);
+    let work = &setting.work;
+    let retired = books.retire(work.exchange, work.layout, &start, done, &mut words);
     let root = words.into_root();
     window.keep_run(run);
     let Ok(()) = retired else {
         return Err(root);
     };
-    let Ok(()) = arrive(books, setting.exchange) else {
+    let Ok(()) = arrive(books, work.exchange) else {
         return Err(root);
     };
     Ok(Retired { root, steps })
@@ -283,23 +273,19 @@ fn run_on_root(
 
 /// The oldest job retires, once it has come to its end, and what is due arrives where no job is left. There must be one.
 pub(crate) fn retire<B: Naming, R: Wait, G: Gate>(
-    rt: &R,
-    setting: &Setting<'_>,
-    shop: &Shop<B>,
-    gate: &G,
+    hall: &Hall<'_, B, R, G>,
     pace: &mut Pace,
     books: &mut Books,
     root: RootSeat,
     window: &mut Window<B>,
 ) -> Result<Retired, RootSeat>
-    requires named { HasNames B.exchange B.code B.store B.book setting.now }
-    requires set { IsSet B.exchange B.code setting.now }
-    requires root { root.0 ≡ B.store }
-    requires counted { AreCounted books.old window.old }
+    requires setting { Suits B.exchange B.code B.store B.book hall.now.setting }
     requires some { 0 < length window.old.loans }
-    requires flying { Flying B.exchange setting.now.checked.now books.old root window.old }
-    ensures turned { IfOk result (λ left. HasTurned B.exchange setting.now.checked.now B.code B.store
-        turn_of books.old root.1 window.old books.new left window.new) }
+    requires beside { StandBeside B.exchange hall.now.setting.work.checked.now B.store
+        books.old root window.old }
+    ensures turned { IfOk result (λ left.
+        HasTurned B.exchange hall.now.setting.work.checked.now B.code B.store turn_of
+        books.old root.1 window.old books.new left window.new) }
     ensures left { IfErr result (λ back. IsLeft B.store back window.new.loans) }
 {
     let Some(oldest) = window.pop() else {
@@ -307,32 +293,50 @@ pub(crate) fn retire<B: Naming, R: Wait, G: Gate>(
     };
     let Oldest { flight, start } = oldest;
     pace.sets_down(start.job.entry, is_alone(window, &flight));
-    let (seat, run) = flight.finish(
-        rt,
-        shop,
-        setting.exchange,
-        setting.code,
-        setting.store,
-        setting.book,
-        gate,
-    );
+    let (seat, run) = finish(hall, flight);
     let steps = run.steps();
     let done = run.done();
     pace.has_ended(start.job.entry, steps);
     pace.has_retired();
     let mut root = root;
+    let setting = &hall.setting;
     setting.store.take_back(&mut root, seat);
     let mut words = RootWords::new(setting.store, root);
-    let retired = books.retire(setting.exchange, setting.layout, &start, done, &mut words);
+    let retired = books.retire(
+        setting.work.exchange,
+        setting.work.layout,
+        &start,
+        done,
+        &mut words,
+    );
     let root = words.into_root();
     window.keep_run(run);
     let Ok(()) = retired else {
         return Err(root);
     };
-    let Ok(()) = arrive(books, setting.exchange) else {
+    let Ok(()) = arrive(books, setting.work.exchange) else {
         return Err(root);
     };
     Ok(Retired { root, steps })
+}
+
+/// A flight comes to its end, and gives back its words and its run.
+fn finish<B: Naming, R: Wait, G: Gate>(
+    hall: &Hall<'_, B, R, G>,
+    flight: Flight<B>,
+) -> (JobSeat, Box<JobRun>)
+    requires { HasNames B.exchange B.code B.store B.book hall.now.setting }
+    ensures { HasRun B.exchange B.code B.store flight result.0 result.1.value }
+{
+    flight.finish(
+        hall.rt,
+        hall.shop,
+        hall.setting.work.exchange,
+        hall.setting.work.code,
+        hall.setting.store,
+        hall.setting.book,
+        hall.gate,
+    )
 }
 
 /// Whether a flight that has left the window is in hand, and no other flies.
@@ -359,13 +363,10 @@ pub(crate) struct Left<B: Naming> {
 
 /// All jobs that fly come to their ends, and give back their words: the root, which has lent nothing then.
 pub(crate) fn drain<B: Naming, R: Wait, G: Gate>(
-    rt: &R,
-    setting: &Setting<'_>,
-    shop: &Shop<B>,
-    gate: &G,
+    hall: &Hall<'_, B, R, G>,
     left: Left<B>,
 ) -> RootSeat
-    requires named { HasNames B.exchange B.code B.store B.book setting.now }
+    requires named { HasNames B.exchange B.code B.store B.book hall.now.setting }
     requires left { IsLeft B.store left.root left.window.loans }
     ensures { IsBare B.store result }
 {
@@ -378,15 +379,7 @@ pub(crate) fn drain<B: Naming, R: Wait, G: Gate>(
             return root;
         };
         let Oldest { flight, start: _ } = oldest;
-        let (seat, _run) = flight.finish(
-            rt,
-            shop,
-            setting.exchange,
-            setting.code,
-            setting.store,
-            setting.book,
-            gate,
-        );
-        setting.store.take_back(&mut root, seat);
+        let (seat, _run) = finish(hall, flight);
+        hall.setting.store.take_back(&mut root, seat);
     }
 }

@@ -1,4 +1,4 @@
-// What stays as it is while the jobs of an exchange run.
+// What the jobs of a run are jobs of, and what stays as it is while they run.
 use checked::Checked;
 use exchange_model::Exchange;
 use machine_code::Code;
@@ -6,15 +6,33 @@ use shared_store::SharedStore;
 use std::alloc::Global;
 use store_layout::Layout;
 use ticket_book::TicketBook;
+use worker_pool::{Naming, Shop};
+
+/// What the jobs of a run are jobs of: an exchange, with its layout, its code and what is kept of a
+/// certificate.
+#[derive(Clone, Copy)]
+pub struct Work<'a> {
+    pub exchange: &'a Exchange,
+    pub layout: &'a Layout,
+    pub code: &'a Code,
+    pub checked: &'a Checked,
+}
 
 /// What stays as it is while the jobs of an exchange run.
 #[derive(Clone, Copy)]
 pub(crate) struct Setting<'e> {
     pub alloc: Global,
-    pub exchange: &'e Exchange,
-    pub layout: &'e Layout,
-    pub code: &'e Code,
-    pub checked: &'e Checked,
+    pub work: Work<'e>,
     pub store: &'e SharedStore,
     pub book: &'e TicketBook,
+}
+
+/// Where jobs fly: the handle of threads, the setting, the shop from which workers take jobs, and the
+/// gate that the thread of each job calls.
+#[derive(Drop)]
+pub(crate) struct Hall<'e, B: Naming, R, G> {
+    pub rt: &'e R,
+    pub setting: Setting<'e>,
+    pub shop: &'e Shop<B>,
+    pub gate: &'e G,
 }

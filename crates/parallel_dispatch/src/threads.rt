@@ -1,27 +1,22 @@
 // The run of all jobs in a scope of threads.
 ghost use Rattle.std.specs.Prelude.{◌≡◌, IfOk, IfErr};
 ghost use Rattle.parallel_dispatch.specs.Ends.{IsOverFrom};
-ghost use Rattle.parallel_dispatch.specs.Moves.{AreOf, HasNames, IsBare, IsSet, MayBegin};
+ghost use Rattle.parallel_dispatch.specs.Moves.{AreOf, IsBare, MayBegin, SuitsBy};
 
 use crate::course::Course;
 use crate::driving::{Over, run_jobs};
 use crate::moves::drain;
 use crate::pace::Pace;
-use crate::setting::Setting;
+use crate::setting::{Hall, Setting, Work};
 use crate::window::Window;
-use checked::Checked;
-use exchange_model::Exchange;
 use interference_check::PairTable;
-use machine_code::Code;
 use plex_io::Gate;
 use retire_order::Books;
-use shared_store::{RootSeat, SharedStore};
-use std::alloc::Global;
+use shared_store::RootSeat;
 use std::sync::Wait;
 use std::thread;
 use std::thread::{Scope, Threads, available_parallelism};
-use store_layout::Layout;
-use ticket_book::{Pen, TicketBook};
+use ticket_book::Pen;
 use worker_pool::Shop;
 
 /// What a run begins with: its books, the root of the store, the pen of the tickets, and how many jobs may run at once.
@@ -40,12 +35,10 @@ pub(crate) fn run_named<B: Course + Send + Sync, R: Threads + Wait + Sync, G: Ga
     gate: &G,
     beginning: Beginning,
 ) -> Result<(Books, Over), RootSeat>
-    requires named { HasNames B.exchange B.code B.store B.book setting.now }
-    requires set { IsSet B.exchange B.code setting.now }
-    requires kept { setting.now.checked.now ≡ B.kept }
+    requires setting { SuitsBy B.exchange B.code B.store B.book B.kept setting.now }
     requires begin { MayBegin B.exchange B.store B.book B.workers B.first B.limit beginning }
-    ensures over { IfOk result (λ end. IsOverFrom B.exchange B.code B.kept B.workers B.store
-        B.first B.limit end.0 end.1) }
+    ensures over { IfOk result (λ end.
+        IsOverFrom B.exchange B.code B.kept B.workers B.store B.first B.limit end.0 end.1) }
     ensures bare { IfErr result (λ root. IsBare B.store root) }
 {
     let Ok(shop) = Shop::<B>::new(setting.alloc, beginning.workers) else {
@@ -57,44 +50,31 @@ pub(crate) fn run_named<B: Course + Send + Sync, R: Threads + Wait + Sync, G: Ga
         } = beginning;
         return Err(root);
     };
-    run_shop(
-        rt,
-        setting.alloc,
-        setting.exchange,
-        setting.layout,
-        setting.code,
-        setting.checked,
-        setting.store,
-        setting.book,
-        &shop,
-        gate,
-        beginning,
-    )
+    run_shop(rt, setting, &shop, gate, beginning)
 }
 
-/// The same with a place for the pool's jobs.
+/// The same with a place for the pool's jobs. What the threads see is handed to them one by one, so
+/// that contracts follow it.
 fn run_shop<'x, B: Course + Send + Sync, R: Threads + Wait + Sync, G: Gate + Sync>(
     rt: &'x R,
-    alloc: Global,
-    exchange: &'x Exchange,
-    layout: &'x Layout,
-    code: &'x Code,
-    checked: &'x Checked,
-    store: &'x SharedStore,
-    book: &'x TicketBook,
+    setting: &'x Setting<'x>,
     shop: &'x Shop<B>,
     gate: &'x G,
     beginning: Beginning,
 ) -> Result<(Books, Over), RootSeat>
-    requires named { (exchange.now ≡ B.exchange) × (code.now ≡ B.code)
-        × (store.now ≡ B.store) × (book.now ≡ B.book) }
-    requires set { AreOf B.exchange layout.now B.code checked.now }
-    requires kept { checked.now ≡ B.kept }
+    requires setting { SuitsBy B.exchange B.code B.store B.book B.kept setting.now }
     requires begin { MayBegin B.exchange B.store B.book B.workers B.first B.limit beginning }
-    ensures over { IfOk result (λ end. IsOverFrom B.exchange B.code B.kept B.workers B.store
-        B.first B.limit end.0 end.1) }
+    ensures over { IfOk result (λ end.
+        IsOverFrom B.exchange B.code B.kept B.workers B.store B.first B.limit end.0 end.1) }
     ensures bare { IfErr result (λ root. IsBare B.store root) }
 {
+    let alloc = setting.alloc;
+    let exchange = setting.work.exchange;
+    let layout = setting.work.layout;
+    let code = setting.work.code;
+    let checked = setting.work.checked;
+    let store = setting.store;
+    let book = setting.book;
     thread::scope(
         thread::scope_env(),
         rt,
@@ -109,68 +89,62 @@ fn run_shop<'x, B: Course + Send + Sync, R: Threads + Wait + Sync, G: Gate + Syn
                 B.first B.limit end.0 end.1)
                 × IfErr result (λ root. IsBare B.store root) }
         {
-            drive(
-                rt, scope, alloc, exchange, layout, code, checked, store, book, shop, gate,
-                beginning,
-            )
+            let hall = Hall {
+                rt,
+                setting: Setting {
+                    alloc,
+                    work: Work {
+                        exchange,
+                        layout,
+                        code,
+                        checked,
+                    },
+                    store,
+                    book,
+                },
+                shop,
+                gate,
+            };
+            drive(scope, &hall, beginning)
         },
     )
 }
 
-/// The same in a scope: in the end no job flies, also where memory was refused, and the workers are told that no more jobs come.
+/// The same in a scope: in the end no job flies, also where memory was refused, and the workers are
+/// told that no more jobs come.
 fn drive<'s, 'e: 's, B: Course + Send + Sync, R: Threads + Wait + Sync, G: Gate + Sync>(
-    rt: &'e R,
     scope: &'s Scope<'s, &'e ()>,
-    alloc: Global,
-    exchange: &'e Exchange,
-    layout: &'e Layout,
-    code: &'e Code,
-    checked: &'e Checked,
-    store: &'e SharedStore,
-    book: &'e TicketBook,
-    shop: &'e Shop<B>,
-    gate: &'e G,
+    hall: &Hall<'e, B, R, G>,
     beginning: Beginning,
 ) -> Result<(Books, Over), RootSeat>
-    requires named { (exchange.now ≡ B.exchange) × (code.now ≡ B.code)
-        × (store.now ≡ B.store) × (book.now ≡ B.book) }
-    requires set { AreOf B.exchange layout.now B.code checked.now }
-    requires kept { checked.now ≡ B.kept }
+    requires setting { SuitsBy B.exchange B.code B.store B.book B.kept hall.now.setting }
     requires begin { MayBegin B.exchange B.store B.book B.workers B.first B.limit beginning }
-    ensures over { IfOk result (λ end. IsOverFrom B.exchange B.code B.kept B.workers B.store
-        B.first B.limit end.0 end.1) }
+    ensures over { IfOk result (λ end.
+        IsOverFrom B.exchange B.code B.kept B.workers B.store B.first B.limit end.0 end.1) }
     ensures bare { IfErr result (λ root. IsBare B.store root) }
 {
-    let setting = Setting {
-        alloc,
-        exchange,
-        layout,
-        code,
-        checked,
-        store,
-        book,
-    };
     let Beginning {
         books,
         root,
         pen,
         workers,
     } = beginning;
+    let alloc = hall.setting.alloc;
+    let checked = hall.setting.work.checked;
     let Ok(pairs) = PairTable::new(alloc, checked) else {
         return Err(root);
     };
-    let Ok(pace) = Pace::new(alloc, checked.entries(), helpers(rt, workers), workers) else {
+    let helpers = helpers(hall.rt, workers);
+    let Ok(pace) = Pace::new(alloc, checked.entries(), helpers, workers) else {
         return Err(root);
     };
     let Ok(window) = Window::<B>::new(alloc, pen, workers) else {
         return Err(root);
     };
-    let _closing = shop.closing();
-    match run_jobs(
-        rt, scope, &setting, shop, gate, &pairs, pace, books, root, window,
-    ) {
+    let _closing = hall.shop.closing();
+    match run_jobs(scope, hall, &pairs, pace, books, root, window) {
         Ok(over) => Ok(over),
-        Err(left) => Err(drain(rt, &setting, shop, gate, left)),
+        Err(left) => Err(drain(hall, left)),
     }
 }
 

@@ -1,11 +1,10 @@
 // The jobs that fly, in the order of the single run.
-ghost use Rattle.std.specs.Prelude.{◌≡◌, ◌+◌, ◌<◌, ◌^◌, ◌∷◌, ◌++◌, [], length, true, IsTrue, IfOk, MatchOption};
+ghost use Rattle.std.specs.Prelude.{◌≡◌, ◌+◌, ◌<◌, ◌^◌, ◌∷◌, ◌++◌, [], length, IsTrue, IfOk, MatchOption};
 ghost use Rattle.std.specs.List.{AllByRecursion};
-ghost use Rattle.job_types.specs.declared.job.JobStart.{JobStart as StartType};
 ghost use Rattle.job_runner.specs.Runs.{IsReady};
 ghost use Rattle.register_machine.specs.Faithful.{Faithful};
 ghost use Rattle.parallel_dispatch.specs.Flying.{starts_of};
-ghost use Rattle.parallel_dispatch.specs.Moves.{HasSummary};
+ghost use Rattle.parallel_dispatch.specs.Moves.{FollowsAll, HasSummary};
 ghost use Rattle.interleave_core.specs.Allowed.{MayFollow};
 
 use interference_check::PairTable;
@@ -85,8 +84,7 @@ impl<B: Naming> Window<B> {
     pub fn blockers(&self, pairs: &PairTable<'_>, later: &JobStart) -> usize
         requires window { AllByRecursion (HasSummary pairs.now) (starts_of self.now.loans) }
         requires later { HasSummary pairs.now later.now }
-        ensures { result ≡ 0 → AllByRecursion
-            (λ (older : StartType). MayFollow pairs.now older later.now) (starts_of self.now.loans) }
+        ensures { result ≡ 0 → FollowsAll pairs.now (starts_of self.now.loans) later.now }
     {
         blockers_among(pairs, &self.starts, later)
     }
@@ -204,8 +202,7 @@ impl<B: Naming> Window<B> {
 fn blockers_among(pairs: &PairTable<'_>, older: &VecDeque<JobStart>, later: &JobStart) -> usize
     requires older { AllByRecursion (HasSummary pairs.now) older.now.items }
     requires later { HasSummary pairs.now later.now }
-    ensures { result ≡ 0 → AllByRecursion
-        (λ (start : StartType). MayFollow pairs.now start later.now) older.now.items }
+    ensures { result ≡ 0 → FollowsAll pairs.now older.now.items later.now }
 {
     for behind in 0..older.len() {
         let place = older.len() - 1 - behind;
@@ -217,7 +214,6 @@ fn blockers_among(pairs: &PairTable<'_>, older: &VecDeque<JobStart>, later: &Job
 }
 
 /// Whether a job passes with an older one.
-#[tactic(auto, using(crate::proofs::Passing::passes_by))]
 fn passes_with(pairs: &PairTable<'_>, older: &JobStart, later: &JobStart) -> bool
     requires older { HasSummary pairs.now older.now }
     requires later { HasSummary pairs.now later.now }

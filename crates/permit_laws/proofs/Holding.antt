@@ -13,7 +13,7 @@ use Rattle.exchange_model.specs.Kept.{IsExchange}
 use Rattle.source_meaning.specs.Changes.{opens_record}
 use Rattle.source_meaning.specs.State.{State}
 use Rattle.source_meaning.specs.Valid.{MarksFit}
-use Rattle.source_meaning.proofs.Booleans.{bool_cases}
+use Rattle.plex_num.proofs.Booleans.{bool_cases}
 use Rattle.source_meaning.proofs.Chains.{record_is, holds_more, holds_before}
 use Rattle.source_meaning.proofs.Marks.{HasMark, mark_put, opened_other}
 use Rattle.entry_summary.specs.declared.summary.Access.TheVariants.{Seizes, Frees}

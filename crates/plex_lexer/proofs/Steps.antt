@@ -10,7 +10,7 @@ use Rattle.plex_lexer.specs.declared.fault.LexFault.TheVariants as faults
 use Rattle.plex_lexer.specs.declared.token.Token.{Token}
 use Rattle.plex_lexer.specs.declared.token.TokenKind.{TokenKind}
 use Rattle.plex_lexer.specs.Bytes.{is_blank, in_word, in_comment}
-use Rattle.plex_lexer.specs.Lexed.{Mode, Between, Comment, InWord, InDigits, InMark, goes_on, lexed, tokens_of, begins, put, with_kind, with_mark, Tells}
+use Rattle.plex_lexer.specs.Lexed.{Mode, Between, Comment, InWord, InDigits, InMark, goes_on, lexed, tokens_of, begins, put, with_kind, with_mark, TellsTokens}
 use Rattle.plex_lexer.specs.Marks.{mark_of}
 use Rattle.plex_lexer.specs.Pieces.{with_tokens, token_at, and_the_rest, kind_and_rest, mark_and_rest}
 use Rattle.plex_lexer.specs.Words.{word_kind, number_kind}
@@ -166,7 +166,7 @@ begin_on w = same (lexed Between (length w) 1 w)
     same (Ok ts) = refl
     same (Err e) = refl
 
-pub tells_err : (e : LexFault) (read : Read) → read ≡ Err e → Tells (Err e) read
+pub tells_err : (e : LexFault) (read : Read) → read ≡ Err e → TellsTokens (Err e) read
 tells_err (faults.BadByte o l) read h = h
 tells_err (faults.BadNumber o l) read h = h
 tells_err (faults.LongName o l) read h = h

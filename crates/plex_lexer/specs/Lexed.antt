@@ -67,9 +67,9 @@ unfoldable pub tokens_of : List ℕ → Result (List Token) LexFault
 tokens_of text = lexed Between (length text) 1 text
 
 -- an answer tells what was read, and may be that memory was refused
-abbrev pub Tells : Result (List Token) LexFault → Result (List Token) LexFault → Type 0
-Tells (Ok tokens) read = read ≡ Ok tokens
-Tells (Err (BadByte offset line)) read = read ≡ Err (BadByte offset line)
-Tells (Err (BadNumber offset line)) read = read ≡ Err (BadNumber offset line)
-Tells (Err (LongName offset line)) read = read ≡ Err (LongName offset line)
-Tells (Err Memory) read = Unit {0}
+abbrev pub TellsTokens : Result (List Token) LexFault → Result (List Token) LexFault → Type 0
+TellsTokens (Ok tokens) read = read ≡ Ok tokens
+TellsTokens (Err (BadByte offset line)) read = read ≡ Err (BadByte offset line)
+TellsTokens (Err (BadNumber offset line)) read = read ≡ Err (BadNumber offset line)
+TellsTokens (Err (LongName offset line)) read = read ≡ Err (LongName offset line)
+TellsTokens (Err Memory) read = Unit {0}

@@ -1,7 +1,7 @@
 ghost use Rattle.std.specs.Prelude.{◌≡◌, ◌≤◌, ◌<◌, ◌∷◌, length, IfOk};
 ghost use Rattle.case_table.specs.Names.{keyword_names};
 ghost use Rattle.case_table.specs.Rows.{names_of};
-ghost use Rattle.plex_lexer.specs.Lexed.{tokens_of, Tells};
+ghost use Rattle.plex_lexer.specs.Lexed.{tokens_of, TellsTokens};
 ghost use Rattle.plex_lexer.specs.Pieces.{token_at, seen, IsEnd};
 ghost use Rattle.plex_lexer.specs.Spots.{IsSmall};
 
@@ -54,7 +54,7 @@ fn read_token<'t>(
 #[tactic(auto, using(crate::proofs::Steps::line_on, crate::proofs::Steps::blank_on, crate::proofs::Steps::comment_on, crate::proofs::Steps::end_on, crate::proofs::Steps::begin_on, crate::proofs::Ends::end_self, crate::proofs::Ends::end_after, crate::proofs::Ends::end_on))]
 pub fn lex<'t>(alloc: Global, text: &'t [u8]) -> Result<Tokens<'t>, LexFault>
     requires { length text.now ≤ MOST_BYTES }
-    ensures tokens { Tells result (tokens_of text.now) }
+    ensures tokens { TellsTokens result (tokens_of text.now) }
     ensures few { IfOk result (λ tokens. length tokens ≤ length text.now) }
 {
     let table = keywords();

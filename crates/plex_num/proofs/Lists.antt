@@ -1,5 +1,5 @@
 -- Small facts of lists: what stands at a place, what holds of all, and how they are put together.
-use Rattle.std.proofs.Common.{◌≡◌, ◌⊎◌, inl, inr, ⊎_elim, ℕ, zero, suc, ◌+◌, ◌-◌, ◌<◌, ◌≤◌, Bool, ◌||◌, not, cond, List, [], ◌∷◌, ◌++◌, length, drop, map, replicate, get_or, position, Some, slice_get, refl, sym, subst, ap, ◌∙◌, arith, add-one, drop-cons}
+use Rattle.std.proofs.Common.{◌≡◌, ◌⊎◌, inl, inr, ⊎_elim, ℕ, zero, suc, ◌+◌, ◌-◌, ◌<◌, ◌≤◌, Bool, ◌||◌, not, cond, List, [], ◌∷◌, ◌++◌, length, drop, map, replicate, get_or, position, Some, slice_get, slice_set, refl, sym, subst, ap, ◌∙◌, arith, add-one, drop-cons}
 use Rattle.std.proofs.lemmas.List.{append_assoc, length-map}
 use Rattle.std.proofs.lemmas.Option.{none-some, same_Some, slice_get-map, slice_get_past}
 use Rattle.std.specs.List.{AllByRecursion, list_any, position_or_len, slice_index}
@@ -54,6 +54,20 @@ pub index_zeros : (n k : ℕ) → slice_index (replicate n 0) k ≡ 0
 index_zeros zero k = refl
 index_zeros (suc n) zero = refl
 index_zeros (suc n) (suc k) = index_zeros n k
+
+-- a list in which one item is set
+
+pub get_set_same : {A : Type 0} (xs : List A) (i : ℕ) (a : A) → i < length xs → slice_get (slice_set xs i a) i ≡ Some a
+get_set_same [] i a lt = absurd (omega arith)
+get_set_same (x ∷ xs) zero a lt = refl
+get_set_same (x ∷ xs) (suc i) a lt = get_set_same xs i a (omega arith)
+
+pub get_set_other : {A : Type 0} (xs : List A) (i j : ℕ) (a : A) → (j ≡ i → ⊥) → slice_get (slice_set xs i a) j ≡ slice_get xs j
+get_set_other [] i j a other = refl
+get_set_other (x ∷ xs) zero zero a other = absurd (other refl)
+get_set_other (x ∷ xs) zero (suc j) a other = refl
+get_set_other (x ∷ xs) (suc i) zero a other = refl
+get_set_other (x ∷ xs) (suc i) (suc j) a other = get_set_other xs i j a (λ e. other (ap suc e))
 
 -- the rest of a list begins with the item at its place
 pub opens : {X : Type 0} (xs : List X) (i : ℕ) (x : X) → i < length xs → x ≡ get_or xs i x → drop i xs ≡ x ∷ drop (i + 1) xs

@@ -18,6 +18,7 @@ use Rattle.kept_trees.specs.Words.{AreWords, IsWord}
 use Rattle.plex_print.specs.Writing.{Writer, say, semi, leave, ◌▷◌, each_of, maybe_of, flag_of}
 use Rattle.plex_print.specs.Printed.{name_text, number_text, level_text}
 use Rattle.plex_print.proofs.Lexing.{kinds_of, kinds-append, Reads, Reads-none, Reads-append, Reads-word, Reads-name, Reads-number, Reads-semi}
+use Rattle.kept_trees.proofs.Kept.{words-first, words-second, word_at}
 
 -- what was added to a text is read as tokens of these kinds
 pub record Wrote (ks : List TokenKind) (old new : List ℕ) : Type 0 where
@@ -39,14 +40,6 @@ pub record Fits (K : Type 0) (L M : Lang) (f : Writer) : Type 0 where
   pub has : K → Some_words M
 
 -- lists of words
-
-words-first : (a b : List Token) → AreWords (a ++ b) → AreWords a
-words-first [] b k = tt
-words-first (t ∷ a) b k = (k.0, words-first a b k.1)
-
-words-second : (a b : List Token) → AreWords (a ++ b) → AreWords b
-words-second [] b k = k
-words-second (t ∷ a) b k = words-second a b k.1
 
 words-both : (a b : List Token) → AreWords a → AreWords b → AreWords (a ++ b)
 words-both [] b k j = j
@@ -248,9 +241,6 @@ unfolding semi
 Fits-semi = Fits-word (mark 0) (kinds.Mark 0) (59 ∷ 10 ∷ []) semi tt (one_is 7) (only_mark 0) Reads-semi (λ old. refl)
 
 -- names and numbers
-
-word_at : (u : List Token) (t : Token) (k : TokenKind) → u ≡ t ∷ [] → t.kind ≡ k → AreWords u → IsWord k
-word_at u t k e h w = subst IsWord h ((subst AreWords e w).0)
 
 pub Fits-name : (s : Bool) (x : Named) → Fits (IsNamed x) (named s x) (named false x) (name_text x)
 Fits-name s x = record {

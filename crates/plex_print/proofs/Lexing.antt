@@ -13,7 +13,7 @@ use Rattle.plex_lexer.specs.Lexed.{Between, lexed, put}
 use Rattle.plex_lexer.specs.Marks.{single_mark}
 use Rattle.plex_lexer.specs.Pieces.{with_tokens, token_at, and_the_rest, kind_and_rest}
 use Rattle.plex_lexer.specs.Words.{word_kind, number_kind, number_or_fault}
-use Rattle.plex_lexer.proofs.Steps.{at_token, at_blank}
+use Rattle.plex_lexer.proofs.Steps.{at_token, at_blank, yes_then, no_then}
 use Rattle.kept_trees.specs.Keeps.{IsName}
 use Rattle.std.proofs.lemmas.Fmt.{decimal_nonempty}
 use Rattle.text_lines.proofs.Numerals.{decimal_all_digits, number_of-decimal}
@@ -113,12 +113,6 @@ begins_number b h = (grind (arith, nat_tests), grind (arith, nat_tests), grind (
 
 after_blank : (n line : ℕ) (rest : List ℕ) → lexed Between n line (32 ∷ rest) ≡ lexed Between n line rest
 after_blank n line rest = at_blank n line 32 rest refl refl
-
-yes_then : {Z : Type 0} (b : Bool) (x y : Z) → b ≡ true → cond b x y ≡ x
-yes_then b x y h = ap (λ z. cond z x y) h
-
-no_then : {Z : Type 0} (b : Bool) (x y : Z) → b ≡ false → cond b x y ≡ y
-no_then b x y h = ap (λ z. cond z x y) h
 
 -- a word and a blank
 pub Reads-word : (b : ℕ) (bs : List ℕ) (k : TokenKind) → is_ascii_uppercase b ≡ true → list_all in_word bs ≡ true → ((o l : ℕ) → word_kind (b ∷ bs) o l ≡ Ok k) → Reads (k ∷ []) ((b ∷ bs) ++ (32 ∷ []))

@@ -21,14 +21,16 @@ use Rattle.text_soundness.proofs.Whole.{is_exchange}
 use Rattle.front_end.specs.Resolved.{resolved, told_or}
 use Rattle.job_table.specs.Fit.{HasWords}
 use Rattle.plex_program.specs.Outcome.{Out, goes_on, or_refused}
-use Rattle.plex_program.specs.Given.{exchange_at, exchange_of_file, text_at, text_of_file}
-use Rattle.plex_program.specs.Given as given
-use Rattle.plex_program.specs.Reading.{IsSpelled, resolve_fault, tree_of, tree_of_lexed, tree_or_fault}
-use Rattle.plex_program.specs.declared.perform.Refused.{Refused}
-use Rattle.plex_program.specs.declared.perform.Refused.TheVariants.{Source}
+use Rattle.plex_program.specs.declared.fault.Which.{Which}
+use Rattle.plex_program.specs.declared.fault.SourceFault.{SourceFault}
+use Rattle.plex_program.specs.Given.{exchange_as, exchange_of_file, text_at, text_of_file}
+use Rattle.plex_program.specs.Text.{source_refusal}
+use Rattle.front_end.specs.declared.fault.TextFault.{TextFault}
+use Rattle.plex_program.specs.declared.perform.Answer.{Answer}
+use Rattle.plex_program.specs.Reading.{IsSpelled, exchange_of, exchange_of_text, resolved_or, tree_of, tree_of_lexed, tree_or_fault}
 use Rattle.plex_program.proofs.FewTokens.{tokens_few}
 use Rattle.plex_program.proofs.NamedWords.{has_words}
-use Rattle.plex_program.proofs.Spelled.{text_spells}
+use Rattle.plex_program.proofs.Faults.{text_spells}
 
 -- what a stage gave, and what came of it
 pub gone_on : {A B : Type 0} (s : Out A) (go : A → Out B) (b : B) → goes_on s go ≡ Ok b → (a : A) × (s ≡ Ok a) × (go a ≡ Ok b)
@@ -50,7 +52,7 @@ text_small name files text e = fits_held (files name) text e
 
 -- the tree of a text
 
-pub read : {A F : Type 0} (by : F → Refused) (r : Result A F) (a : A) → or_refused by r ≡ Ok a → r ≡ Ok a
+pub read : {A F : Type 0} (by : F → Answer) (r : Result A F) (a : A) → or_refused by r ≡ Ok a → r ≡ Ok a
 read by (Ok b) a e = ap Ok (same_Some b a (ap result_ok e))
 read by (Err f) a e = absurd (none-some a (ap result_ok e))
 
@@ -83,17 +85,24 @@ pub record IsAccepted (x : Exchange) : Type 0 where
   pub kept : IsExchange x
   pub words : HasWords x
 
-pub accepted : (name : List ℕ) (files : Files) (x : Exchange) → exchange_at name files ≡ Ok x → IsAccepted x
-accepted name files x e = let a = gone_on (text_at name files) exchange_of_file x e in by a.0 a.1 a.2
+-- the exchange of a tree that was found is one of a tree
+resolves : (r : Result Exchange TextFault) (x : Exchange) → resolved_or r ≡ Ok x → r ≡ Ok x
+resolves (Ok y) x e = ap Ok (same_Some y x (ap result_ok e))
+resolves (Err f) x e = absurd (none-some x (ap result_ok e))
+
+means : (text : List ℕ) (r : Result Tree SourceFault) (x : Exchange) → length text ≤ MOST_BYTES → tree_of text ≡ r → exchange_of r ≡ Ok x → IsAccepted x
+means text (Err f) x small is e = absurd (none-some x (ap result_ok e))
+means text (Ok t) x small is e =
+    let s = spells text t small is in
+    let r = breaks_none t x (resolves (resolved t) x e) in
+    record {
+      kept = subst IsExchange r.1 (is_exchange t (record { spelled = s.keeps; few = s.few; fine = r.0 }));
+      words = subst HasWords r.1 (has_words t s.keeps);
+    }
+
+pub accepted : (which : Which) (name : List ℕ) (files : Files) (x : Exchange) → exchange_as which name files ≡ Ok x → IsAccepted x
+accepted which name files x e = let a = gone_on (text_at name files) (exchange_of_file which) x e in by a.0 a.1 (read (source_refusal which) (exchange_of_text a.0) x a.2)
   where
-    by : (o : Option (List ℕ)) → text_at name files ≡ Ok o → exchange_of_file o ≡ Ok x → IsAccepted x
+    by : (o : Option (List ℕ)) → text_at name files ≡ Ok o → exchange_of_text o ≡ Ok x → IsAccepted x
     by None held e = absurd (none-some x (ap result_ok e))
-    by (Some text) held e =
-        let b = gone_on (or_refused Source (tree_of text)) given.exchange_of_tree x e in
-        let t : Tree = b.0 in
-        let s = spells text t (text_small name files text held) (read Source (tree_of text) t b.1) in
-        let r = breaks_none t x (read (λ f. Source (resolve_fault f)) (resolved t) x b.2) in
-        record {
-          kept = subst IsExchange r.1 (is_exchange t (record { spelled = s.keeps; few = s.few; fine = r.0 }));
-          words = subst HasWords r.1 (has_words t s.keeps);
-        }
+    by (Some text) held e = means text (tree_of text) x (text_small name files text held) refl e

@@ -1,20 +1,21 @@
 -- From what a command comes to, to the answer.
-use Rattle.std.proofs.Common.{◌≡◌, ℕ, List, Option, Some, None, Result, Ok, Err, IfSome, IsSomeAnd, ◌⊎◌, ap, refl, sym, subst, ◌∙◌, inl, inr}
+use Rattle.std.proofs.Common.{◌≡◌, ℕ, List, Option, Some, None, Result, Ok, Err, IfOk, IfSome, IsSomeAnd, ◌⊎◌, ap, refl, sym, subst, ◌∙◌, inl, inr}
+use Rattle.std.specs.Result.{result_ok}
+use Rattle.std.proofs.lemmas.Option.{none-some, same_Some}
+use Rattle.plex_io.specs.Causes.{Rose}
 use Rattle.plex_io.specs.Files.{Files}
 use Rattle.command_words.specs.Words.{Word, shape}
-use Rattle.plex_program.specs.Outcome.{Out}
-use Rattle.plex_program.specs.Stages.{Performs}
-use Rattle.plex_program.specs.Answer.{IsAnswer, IsAnswerBy, answer_of, performed, refused_answer, refused_status, usage_answer}
-use Rattle.plex_program.specs.Program.{Answers, Ends, EndsAs, IsComplete, IsEnding, IsMade, IsPlain, Makes, QuitsBy, WriteCause, not_held}
+use Rattle.plex_program.specs.Outcome.{Out, not_held}
+use Rattle.plex_program.specs.Stages.{IsRefusal, Performs, Reads}
+use Rattle.plex_program.specs.Answer.{IsAnswer, IsAnswerBy, answer_of, performed, usage_answer}
+use Rattle.plex_program.specs.Program.{Answers, Ends, EndsAs, IsComplete, IsEnding, IsMade, IsPlain, Makes, ReadCause, WriteCause}
 use Rattle.command_words.specs.declared.command.Command.{Command}
-use Rattle.plex_program.specs.declared.perform.Refused.{Refused}
-use Rattle.plex_program.specs.declared.perform.Refused.TheVariants.{Source}
 use Rattle.plex_program.specs.declared.perform.Answer.{Answer}
+use Rattle.plex_program.specs.declared.perform.Stop.{Stop}
 use Rattle.plex_program.specs.declared.perform.Stop.TheVariants as stop
-use Rattle.plex_program.specs.declared.program.Quit.{Quit}
-use Rattle.plex_program.specs.declared.program.Quit.TheVariants as quit
 use Rattle.plex_program.specs.declared.program.Status.{Status}
 use Rattle.plex_program.specs.declared.program.Status.TheVariants as status
+use Rattle.plex_program.proofs.Stages.{performs_as, performs_told}
 
 IsSomething : Option Command → Type 0
 IsSomething None = ⊥
@@ -41,10 +42,19 @@ complete_written Is (Some files) a size written shelf shelf' sink sink' s is cau
 complete_written Is (Some files) a size written shelf shelf' sink sink' s is cause (inr same) = λ no_read no_write. inl (record { answer = a; is = is; status = same })
 
 -- a read failed, or a file is not held
-pub complete_read : (Is : Files → Answer → Type 0) (held : Option Files) (shelf shelf' sink sink' : ℕ) → QuitsBy Is held shelf shelf' quit.Read → IfSome held (λ files. IsComplete (Is files) shelf shelf' sink sink' status.Read)
-complete_read Is None shelf shelf' sink sink' quits = tt
-complete_read Is (Some files) shelf shelf' sink sink' (inl rose) = λ no_read no_write. absurd (no_read rose)
-complete_read Is (Some files) shelf shelf' sink sink' (inr is) = λ no_read no_write. inl (record { answer = not_held; is = is; status = refl })
+pub complete_failed : (Is : Files → Answer → Type 0) (held : Option Files) (shelf shelf' sink sink' : ℕ) → Rose shelf shelf' → IfSome held (λ files. IsComplete (Is files) shelf shelf' sink sink' status.Read)
+complete_failed Is None shelf shelf' sink sink' rose = tt
+complete_failed Is (Some files) shelf shelf' sink sink' rose = λ no_read no_write. absurd (no_read rose)
+
+pub complete_absent : (Is : Files → Answer → Type 0) (held : Option Files) (shelf shelf' sink sink' : ℕ) → IsSomeAnd held (λ files. Is files not_held) → IfSome held (λ files. IsComplete (Is files) shelf shelf' sink sink' status.Read)
+complete_absent Is None shelf shelf' sink sink' is = tt
+complete_absent Is (Some files) shelf shelf' sink sink' is = λ no_read no_write. inl (record { answer = not_held; is = is; status = refl })
+
+pub read_failed : (Is : Files → Answer → Type 0) (held : Option Files) (faults faults' : ℕ) (before after : Option (List ℕ)) → Rose faults faults' → after ≡ before → ReadCause Is held faults faults' before after
+read_failed Is held faults faults' before after rose silent = record { cause = inl rose; silent = silent }
+
+pub read_absent : (Is : Files → Answer → Type 0) (held : Option Files) (faults faults' : ℕ) (before after : Option (List ℕ)) → IsSomeAnd held (λ files. Is files not_held) → after ≡ before → ReadCause Is held faults faults' before after
+read_absent Is held faults faults' before after is silent = record { cause = inr is; silent = silent }
 
 pub complete_memory : (Is : Files → Answer → Type 0) (held : Option Files) (shelf shelf' sink sink' : ℕ) → IfSome held (λ files. IsComplete (Is files) shelf shelf' sink sink' status.Memory)
 complete_memory Is None shelf shelf' sink sink' = tt
@@ -55,23 +65,16 @@ answer_is : (words : List Word) (c : Command) (files : Files) (o : Out Answer) �
 unfolding IsAnswer
 answer_is words c files o e p = subst (λ s. IsAnswerBy s files (answer_of o)) e (record { outcome = o; comes = p; told = refl })
 
+pub answers_command : (held : Option Files) (words : List Word) (c : Command) (b a : ℕ) (r : Result Answer Stop) → Some c ≡ shape words → Performs held (performed c) b a r → Answers (IsAnswer words) held b a r
+answers_command held words c b a r e p = performs_as held (performed c) (λ files o. IsAnswer words files (answer_of o)) b a r (λ files o comes. answer_is words c files o e comes) p
+
 -- no words of a command
-pub answered_usage : (held : Option Files) (words : List Word) (b a : ℕ) (r : Result Answer Quit) → None ≡ shape words → Makes usage_answer r → Answers held words b a r
+usage_is : (words : List Word) (files : Files) (a : Answer) → None ≡ shape words → usage_answer ≡ a → IsAnswer words files a
 unfolding IsAnswer
-answered_usage held words b a (Ok ans) e m = record { same = same held; plain = rw m tt; usage = λ _. sym e; unshaped = λ _. m } where
-  same : (h : Option Files) → IfSome h (λ files. IsAnswer words files ans)
-  same None = tt
-  same (Some files) = subst (λ s. IsAnswerBy s files ans) e (sym m)
-answered_usage held words b a (Err quit.Memory) e m = tt
-answered_usage held words b a (Err quit.Read) e m = absurd m
+usage_is words files a e is = subst (λ s. IsAnswerBy s files a) e is
 
-IsUsage : Status → Type 0
-IsUsage status.Usage = Unit {0}
-IsUsage s = ⊥
-
-other : (s : Status) → (IsUsage s → ⊥) → s ≡ status.Usage → ⊥
-unfolding IsUsage
-other s no_usage e = no_usage (subst IsUsage (sym e) tt)
+pub answers_usage : (held : Option Files) (words : List Word) (n : ℕ) (r : Result Answer Stop) → None ≡ shape words → Reads (Ok usage_answer) r → Answers (IsAnswer words) held n n r
+answers_usage held words n r e reads = performs_as held (λ files o. Ok usage_answer ≡ o) (λ files o. IsAnswer words files (answer_of o)) n n r (λ files o is. usage_is words files (answer_of o) e (ap answer_of is)) (performs_told held (λ o. Ok usage_answer ≡ o) n r reads)
 
 -- the status of a run
 plain_ending : (s : Status) → IsEnding s → IsPlain s
@@ -81,43 +84,41 @@ plain_ending status.Limit e = tt
 plain_ending status.Change e = tt
 plain_ending s e = absurd e
 
-no_usage_ending : (s : Status) → IsEnding s → s ≡ status.Usage → ⊥
-no_usage_ending s e is = subst IsEnding is e
+-- that of a refusal
+plain_refusal : (s : Status) → IsRefusal s → IsPlain s
+plain_refusal status.Source e = tt
+plain_refusal status.Signals e = tt
+plain_refusal status.Certificate e = tt
+plain_refusal status.Table e = tt
+plain_refusal status.Filter e = tt
+plain_refusal s e = absurd e
 
--- a report
-pub answered_report : (held : Option Files) (words : List Word) (c : Command) (b a : ℕ) (ans : Answer) → Some c ≡ shape words → Performs held (performed c) b a (Ok ans) → IsEnding ans.status → IsMade (IsAnswer words) (shape words ≡ None) usage_answer held ans
-answered_report held words c b a ans e comes ends = record { same = same held comes.ok; plain = plain_ending ans.status ends; usage = λ u. absurd (no_usage_ending ans.status ends u); unshaped = λ none. absurd (some_none c (e ∙ none)) } where
-  same : (h : Option Files) → IfSome h (λ files. performed c files (Ok ans)) → IfSome h (λ files. IsAnswer words files ans)
-  same None p = tt
-  same (Some files) p = answer_is words c files (Ok ans) e p
+pub made_ending : (Unshaped : Type 0) (usage_line a : Answer) → (Unshaped → ⊥) → IsEnding a.status → IsMade Unshaped usage_line a
+made_ending Unshaped usage_line a shaped is = record { plain = plain_ending a.status is; usage = λ u. absurd (subst IsEnding u is); unshaped = λ no. absurd (shaped no) }
 
--- a file that is not held
-pub answered_not_held : (held : Option Files) (words : List Word) (c : Command) (b a : ℕ) → Some c ≡ shape words → Performs held (performed c) b a (Err stop.NotHeld) → QuitsBy (IsAnswer words) held b a quit.Read
-answered_not_held held words c b a e comes = inr (same held comes.stops) where
-  same : (h : Option Files) → IsSomeAnd h (λ files. performed c files (Err None)) → IsSomeAnd h (λ files. IsAnswer words files not_held)
-  same None p = absurd p
-  same (Some files) p = answer_is words c files (Err None) e p
+pub made_refusal : (Unshaped : Type 0) (usage_line a : Answer) → (Unshaped → ⊥) → IsRefusal a.status → IsMade Unshaped usage_line a
+made_refusal Unshaped usage_line a shaped is = record { plain = plain_refusal a.status is; usage = λ u. absurd (subst IsRefusal u is); unshaped = λ no. absurd (shaped no) }
 
--- a status of a refusal
-pub plain_refused : (r : Refused) → IsPlain (refused_status r)
-plain_refused (Source f) = tt
-plain_refused r = tt
+-- the answer of a stage is that of an ending or of a refusal
+pub makes_told : (Unshaped : Type 0) (usage_line : Answer) (held : Option Files) (work : Files → Out Answer → Type 0) (b a : ℕ) (r : Result Answer Stop) → (Unshaped → ⊥) → Performs held work b a r → IfOk r (λ a. IsEnding a.status) → Makes Unshaped usage_line r
+makes_told Unshaped usage_line held work b a (Ok v) shaped p ends = made_ending Unshaped usage_line v shaped ends
+makes_told Unshaped usage_line held work b a (Err (stop.Told v)) shaped p ends = made_refusal Unshaped usage_line v shaped p.stops.0
+makes_told Unshaped usage_line held work b a (Err stop.NotHeld) shaped p ends = tt
+makes_told Unshaped usage_line held work b a (Err stop.Failed) shaped p ends = tt
+makes_told Unshaped usage_line held work b a (Err stop.Memory) shaped p ends = tt
 
-pub no_usage_refused : (r : Refused) → refused_status r ≡ status.Usage → ⊥
-unfolding IsUsage
-no_usage_refused (Source f) e = other status.Source (λ u. u) e
-no_usage_refused r e = other (refused_status r) (λ u. u) e
+pub makes_command : (held : Option Files) (words : List Word) (c : Command) (b a : ℕ) (r : Result Answer Stop) → Some c ≡ shape words → Performs held (performed c) b a r → IfOk r (λ a. IsEnding a.status) → Makes (shape words ≡ None) usage_answer r
+makes_command held words c b a r e p ends = makes_told (shape words ≡ None) usage_answer held (performed c) b a r (λ none. some_none c (e ∙ none)) p ends
 
--- a refusal
-pub answered_refused : (held : Option Files) (words : List Word) (c : Command) (b a : ℕ) (r : Refused) (res : Result Answer Quit) → Some c ≡ shape words → Performs held (performed c) b a (Err (stop.Refused r)) → Makes (refused_answer r) res → Answers held words b a res
-unfolding IsUsage
-answered_refused held words c b a r (Ok ans) e comes m = record { same = same held comes.stops; plain = rw m (plain_refused r); usage = λ u. absurd (no_usage_refused r (sym (ap (λ x. x.status) m) ∙ u)); unshaped = λ none. absurd (some_none c (e ∙ none)) } where
-  same : (h : Option Files) → IfSome h (λ files. performed c files (Err (Some r))) → IfSome h (λ files. IsAnswer words files ans)
-  same None p = tt
-  same (Some files) p = subst (IsAnswer words files) (sym m) (answer_is words c files (Err (Some r)) e p)
-answered_refused held words c b a r (Err quit.Memory) e comes m = tt
-answered_refused held words c b a r (Err quit.Read) e comes m = absurd m
+pub makes_usage : (Unshaped : Type 0) (a : Answer) (r : Result Answer Stop) → Unshaped → a.status ≡ status.Usage → Reads (Ok a) r → Makes Unshaped a r
+makes_usage Unshaped a (Ok v) none usage reads =
+    let same : a ≡ v = same_Some a v (ap result_ok reads) in
+    record { plain = subst (λ (x : Answer). IsPlain x.status) same (subst IsPlain (sym usage) tt); usage = λ u. none; unshaped = λ n. sym same }
+makes_usage Unshaped a (Err (stop.Told v)) none usage reads = absurd (none-some a (ap result_ok (sym reads.1)))
+makes_usage Unshaped a (Err stop.NotHeld) none usage reads = tt
+makes_usage Unshaped a (Err stop.Failed) none usage reads = tt
+makes_usage Unshaped a (Err stop.Memory) none usage reads = tt
 
-pub ruleset answering = (answered_usage, answered_report, answered_not_held, answered_refused)
+pub ruleset answering = (answers_command, answers_usage, makes_command, makes_usage)
 
-pub ruleset ending = (ends_held, complete_written, complete_read, complete_memory)
+pub ruleset ending = (ends_held, complete_written, complete_failed, complete_absent, complete_memory, read_failed, read_absent)

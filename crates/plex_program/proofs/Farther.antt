@@ -1,10 +1,7 @@
 -- A run that ends after fewer jobs at the latest, beside the same run with a higher limit.
-use Rattle.std.proofs.Common.{◌≡◌, ℕ, zero, suc, ◌+◌, ◌<◌, ◌≤◌, Bool, true, false, List, length, get_or, Some, None, refl, sym, ap, ◌∙◌, subst, arith, if◌then◌else◌}
-use Rattle.std.specs.Prelude.{is_some, nat_le, nat_lt, unwrap_or}
-use Rattle.std.specs.List.{position_or_len, range_with_len}
+use Rattle.std.proofs.Common.{◌≡◌, ℕ, zero, suc, ◌<◌, ◌≤◌, Bool, true, false, Some, None, refl, sym, ap, ◌∙◌, subst, arith, if◌then◌else◌}
+use Rattle.std.specs.Prelude.{nat_le}
 use Rattle.std.proofs.lemmas.Bool.Decides.{nat_tests}
-use Rattle.std.proofs.lemmas.List.FromFn.{get_or-range_with_len, length-range_with_len}
-use Rattle.std.proofs.lemmas.List.Sums.{passes_at_first}
 use Rattle.std.proofs.lemmas.Option.{none-some, same_Some}
 use Rattle.exchange_model.specs.declared.exchange.Exchange.{Exchange}
 use Rattle.source_meaning.specs.Arrivals.{is_quiet}
@@ -71,40 +68,6 @@ goes_so limit s e other is = by (has_stopped s) is
     by true is = absurd (subst IsNoRestart (sym (same_Some Restarted e is)) other)
     by false is = refl
 
--- where no earlier state is the end, the run goes so far
-reaches : (x : Exchange) (s : State) (limit k : ℕ) → k ≤ limit → ((m : ℕ) → m < k → ending_at limit (after x s m) ≡ None) → k ≤ jobs_at_end x limit s
-unfolding jobs_at_end
-reaches x s limit k le goes = by (nat_lt place (length all)) refl
-  where
-    all : List ℕ
-    all = range_with_len 0 (limit + 1)
-
-    p : ℕ → Bool
-    p n = is_some (ending_at limit (after x s n))
-
-    place : ℕ
-    place = position_or_len p all
-
-    passed : place < length all → place < k → ⊥
-    passed inside less =
-        let long = length-range_with_len 0 (limit + 1) in
-        let at : get_or all place 0 ≡ place = let g = get_or-range_with_len 0 (limit + 1) place 0 (omega (arith, long, inside)) in omega (arith, g) in
-        let passes : p place ≡ true = ap p (sym at) ∙ passes_at_first p all 0 inside in
-        let fails : p place ≡ false = ap is_some (goes place less) in
-        let both : true ≡ false = sym passes ∙ fails in
-        cc
-
-    no_less : place < length all → k ≤ place
-    no_less inside = side (nat_lt place k) refl
-      where
-        side : (b : Bool) → nat_lt place k ≡ b → k ≤ place
-        side true less = absurd (passed inside (grind (arith, nat_tests, less)))
-        side false more = grind (arith, nat_tests, more)
-
-    by : (b : Bool) → nat_lt place (length all) ≡ b → k ≤ unwrap_or (if b then Some place else None) limit
-    by true inside = no_less (grind (arith, nat_tests, inside))
-    by false past = le
-
 module _ (x : Exchange) (first : State) (none : first.ended ≡ 0) where
   -- there are at most as many as the limit says
   pub few_jobs : (limit : ℕ) → jobs_at_end x limit first ≤ limit
@@ -128,12 +91,6 @@ module _ (x : Exchange) (first : State) (none : first.ended ≡ 0) where
 
     pub same_ending : (e : Ending) → IsOwn e → ending_at low (end_state x low first) ≡ Some e → ending_at high (end_state x high first) ≡ Some e
     same_ending e own is = ap (λ n. ending_at high (after x first n)) (same_end e own is) ∙ own_ending low high (end_state x low first) e own is
-
-    -- it goes at least as far
-    pub as_far : jobs_at_end x low first ≤ jobs_at_end x high first
-    as_far =
-        let few = few_jobs low in
-        reaches x first high (jobs_at_end x low first) (omega (arith, few, le)) (λ m lt. higher low high (after x first m) le (before_end x first low m lt))
 
 -- an ending before so many jobs is none by the limit
 pub own_before : (limit : ℕ) (s : State) (e : Ending) → ending_at limit s ≡ Some e → s.ended < limit → IsOwn e

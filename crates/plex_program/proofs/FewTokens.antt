@@ -2,6 +2,8 @@
 use Rattle.std.proofs.Common.{◌≡◌, ℕ, suc, ◌+◌, ◌-◌, ◌≤◌, Bool, true, false, nat_eq, List, [], ◌∷◌, length, Result, Ok, Err, Option, Some, None, ap, refl, arith, if◌then◌else◌}
 use Rattle.std.specs.Char.{is_ascii_digit, is_ascii_uppercase}
 use Rattle.std.specs.List.{take_while}
+use Rattle.std.specs.Result.{result_ok}
+use Rattle.std.proofs.lemmas.Option.{none-some, same_Some}
 use Rattle.plex_lexer.specs.declared.fault.LexFault.{LexFault}
 use Rattle.plex_lexer.specs.declared.token.Token.{Token}
 use Rattle.plex_lexer.specs.declared.token.TokenKind.{TokenKind}
@@ -13,12 +15,6 @@ use Rattle.plex_lexer.specs.Words.{number_kind, word_kind}
 
 abbrev Lexed : Type 0
 Lexed = Result (List Token) LexFault
-
-same_tokens : (a b : List Token) → ◌≡◌ {A = Lexed} (Ok a) (Ok b) → a ≡ b
-same_tokens a b e = cc
-
-no_tokens : (f : LexFault) (b : List Token) → ◌≡◌ {A = Lexed} (Err f) (Ok b) → ⊥
-no_tokens f b e = cc
 
 -- by cases on a test
 pick : {Z P : Type 0} (c : Bool) {x y z : Z} → (x ≡ z → P) → (y ≡ z → P) → (if c then x else y) ≡ z → P
@@ -33,15 +29,15 @@ more_few : (n : ℕ) (r : Lexed) → AreFew n r → AreFew (suc n) r
 more_few n r few tokens e = let le = few tokens e in omega (arith, le)
 
 put_few : (n : ℕ) (t : Token) (r : Lexed) → AreFew n r → AreFew (suc n) (put t r)
-put_few n t (Ok ts) few tokens e = let le = few ts refl in let same : suc (length ts) ≡ length tokens = ap length (same_tokens (t ∷ ts) tokens e) in omega (arith, le, same)
-put_few n t (Err f) few tokens e = absurd (no_tokens f tokens e)
+put_few n t (Ok ts) few tokens e = let le = few ts refl in let same : suc (length ts) ≡ length tokens = ap length (same_Some (t ∷ ts) tokens (ap result_ok e)) in omega (arith, le, same)
+put_few n t (Err f) few tokens e = absurd (none-some tokens (ap result_ok e))
 
 kind_few : (n : ℕ) (k : Result TokenKind LexFault) (offset line : ℕ) (r : Lexed) → AreFew n r → AreFew (suc n) (with_kind k offset line r)
 kind_few n (Ok kind) offset line r few tokens e = put_few n (record { kind = kind; line = line; offset = offset }) r few tokens e
-kind_few n (Err f) offset line r few tokens e = absurd (no_tokens f tokens e)
+kind_few n (Err f) offset line r few tokens e = absurd (none-some tokens (ap result_ok e))
 
 mark_few : (n : ℕ) (m : Option (ℕ × Bool)) (offset line : ℕ) (follow : Mode → Lexed) → ((mode : Mode) → AreFew n (follow mode)) → AreFew (suc n) (with_mark m offset line follow)
-mark_few n None offset line follow few tokens e = absurd (no_tokens _ tokens e)
+mark_few n None offset line follow few tokens e = absurd (none-some tokens (ap result_ok e))
 mark_few n (Some mark) offset line follow few tokens e = put_few n (record { kind = kinds.Mark mark.0; line = line; offset = offset }) (follow (if mark.1 then InMark else Between)) (few (if mark.1 then InMark else Between)) tokens e
 
 begins_few : (n : ℕ) (follow : Mode → ℕ → Lexed) → ((mode : Mode) (line : ℕ) → AreFew n (follow mode line)) → (offset line b : ℕ) (rest : List ℕ) → AreFew (suc n) (begins follow offset line b rest)
@@ -54,7 +50,7 @@ begins_few n follow few offset line b rest tokens =
     mark_few n (mark_of b rest) offset line (λ mode. follow mode line) (λ mode. few mode line) tokens e)))))
 
 nothing_few : AreFew 0 (Ok [])
-nothing_few tokens e = let same : 0 ≡ length tokens = ap length (same_tokens [] tokens e) in omega (arith, same)
+nothing_few tokens e = let same : 0 ≡ length tokens = ap length (same_Some [] tokens (ap result_ok e)) in omega (arith, same)
 
 lexed_few : (mode : Mode) (n line : ℕ) (bs : List ℕ) → AreFew (length bs) (lexed mode n line bs)
 unfolding lexed

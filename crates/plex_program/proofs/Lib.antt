@@ -4,16 +4,12 @@ pub mod Certified
 pub mod Changed
 pub mod Endings
 pub mod Farther
+pub mod Faults
 pub mod FewTokens
 pub mod NamedWords
 pub mod Opened
-pub mod Ordered
-pub mod Resolving
-pub mod Signals
-pub mod Spelled
 pub mod Stages
 pub mod Tables
-pub mod TokenLines
 pub mod Traced
 pub mod Whole
 pub mod Words

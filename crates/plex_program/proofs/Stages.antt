@@ -5,13 +5,10 @@ use Rattle.std.proofs.lemmas.Bool.{lt-ltb, le-ltb}
 use Rattle.std.proofs.lemmas.Bool.Decides.{nat_tests}
 use Rattle.plex_io.specs.Files.{Files, Gives, Lacks}
 use Rattle.plex_limits.specs.declared.limits.TheConstants.{MOST_BYTES}
-use Rattle.plex_program.specs.Outcome.{GoesOn, Out, goes_on, or_refused}
-use Rattle.plex_program.specs.Stages.{Comes, Performs, Reads, StopsBy, Tells}
-use Rattle.plex_program.specs.Given.{exchange_at, fitting, text_of_file, text_at}
-use Rattle.plex_program.specs.ExchangeAnswer.{FromExchange, OfExchange}
-use Rattle.exchange_model.specs.declared.exchange.Exchange.{Exchange}
+use Rattle.plex_program.specs.Outcome.{GoesOn, Out, goes_on, not_held, or_refused}
+use Rattle.plex_program.specs.Stages.{Comes, IsStopOf, Performs, Reads, StopsBy, TellsOutcome}
+use Rattle.plex_program.specs.Given.{fitting, text_of_file, text_at}
 use Rattle.plex_program.specs.declared.perform.Answer.{Answer}
-use Rattle.plex_program.specs.declared.perform.Refused.{Refused}
 use Rattle.plex_program.specs.declared.perform.Stop.{Stop}
 use Rattle.plex_program.specs.declared.perform.Stop.TheVariants as stop
 
@@ -50,20 +47,21 @@ text_comes held name got kept b a given is later = record { ok = by held given; 
     by (Some files) e = of (files name) e
 
 -- there is none
-pub text_absent : (files : Option Files) (name : List ℕ) → Lacks files name → IsSomeAnd files (λ f. text_at name f ≡ Err None)
+pub text_absent : (files : Option Files) (name : List ℕ) → Lacks files name → IsSomeAnd files (λ f. text_at name f ≡ Err not_held)
 text_absent None name e = absurd e
 text_absent (Some files) name e = rw e refl
 
 -- a stage that stops, before what comes of it
-stopped : {A B : Type 0} (held : Option Files) (f : Files → Out A) (work : Files → Out B → Type 0) (b a : ℕ) (e : Stop) → ((files : Files) (r : Option Refused) → f files ≡ Err r → work files (Err r)) → Comes held f b a (Err e) → Performs held work b a (Err e)
-stopped {A = A} {B = B} held f work b a e so c = record { ok = tt; stops = by held e c.stops; later = c.later } where
-  by : (h : Option Files) (e : Stop) → StopsBy {A = A} h (λ files o. f files ≡ o) b a e → StopsBy {A = B} h work b a e
-  by None (stop.Refused r) s = tt
-  by (Some files) (stop.Refused r) s = so files (Some r) s
-  by None stop.NotHeld s = s
-  by (Some files) stop.NotHeld s = so files None s
-  by h stop.Failed s = s
-  by h stop.Memory s = tt
+stops_on : {A B : Type 0} (held : Option Files) (was : Files → Out A → Type 0) (work : Files → Out B → Type 0) (b a : ℕ) (e : Stop) → ((files : Files) (r : Answer) → was files (Err r) → work files (Err r)) → StopsBy held was b a e → StopsBy held work b a e
+stops_on None was work b a (stop.Told r) so s = (s.0, tt)
+stops_on (Some files) was work b a (stop.Told r) so s = (s.0, so files r s.1)
+stops_on None was work b a stop.NotHeld so s = s
+stops_on (Some files) was work b a stop.NotHeld so s = so files not_held s
+stops_on held was work b a stop.Failed so s = s
+stops_on held was work b a stop.Memory so s = tt
+
+stopped : {A B : Type 0} (held : Option Files) (f : Files → Out A) (work : Files → Out B → Type 0) (b a : ℕ) (e : Stop) → ((files : Files) (r : Answer) → f files ≡ Err r → work files (Err r)) → Comes held f b a (Err e) → Performs held work b a (Err e)
+stopped held f work b a e so c = record { ok = tt; stops = stops_on held (λ files o. f files ≡ o) work b a e so c.stops; later = c.later }
 
 -- a stage, and what comes of its value
 went_on : {A B : Type 0} (held : Option Files) (f : Files → Out A) (next work : Files → Out B → Type 0) (b m a : ℕ) (v : A) (r : Result B Stop) → ((files : Files) (o : Out B) → f files ≡ Ok v → next files o → work files o) → Comes held f b m (Ok v) → Performs held next m a r → Performs held work b a r
@@ -73,15 +71,23 @@ went_on held f next work b m a v (Ok w) so c d = record { ok = by held c.ok d.ok
   by (Some files) c d = so files (Ok w) c d
 went_on {A = A} {B = B} held f next work b m a v (Err e) so c d = record { ok = tt; stops = by held e c.ok c.later d.stops; later = omega (arith, c.later, d.later) } where
   by : (h : Option Files) (e : Stop) → IfSome h (λ files. f files ≡ Ok v) → b ≤ m → StopsBy {A = B} h next m a e → StopsBy {A = B} h work b a e
-  by None (stop.Refused r) c le s = tt
-  by (Some files) (stop.Refused r) c le s = so files (Err (Some r)) c s
+  by None (stop.Told r) c le s = (s.0, tt)
+  by (Some files) (stop.Told r) c le s = (s.0, so files (Err r) c s.1)
   by None stop.NotHeld c le s = s
-  by (Some files) stop.NotHeld c le s = so files (Err None) c s
+  by (Some files) stop.NotHeld c le s = so files (Err not_held) c s
   by h stop.Failed c le s = omega (arith, le, s)
   by h stop.Memory c le s = tt
 
+-- what a command comes to, told in other words
+pub performs_as : {A : Type 0} (held : Option Files) (was work : Files → Out A → Type 0) (b a : ℕ) (r : Result A Stop) → ((files : Files) (o : Out A) → was files o → work files o) → Performs held was b a r → Performs held work b a r
+performs_as held was work b a (Ok v) so c = record { ok = by held c.ok; stops = tt; later = c.later } where
+  by : (h : Option Files) → IfSome h (λ files. was files (Ok v)) → IfSome h (λ files. work files (Ok v))
+  by None c = tt
+  by (Some files) c = so files (Ok v) c
+performs_as held was work b a (Err e) so c = record { ok = tt; stops = stops_on held was work b a e (λ files r. so files (Err r)) c.stops; later = c.later }
+
 -- the same of functions
-on_err : {A B : Type 0} (s : Out A) (go : A → Out B) (r : Option Refused) → s ≡ Err r → goes_on s go ≡ Err r
+on_err : {A B : Type 0} (s : Out A) (go : A → Out B) (r : Answer) → s ≡ Err r → goes_on s go ≡ Err r
 on_err s go r is = ap (λ s. goes_on s go) is
 
 on_ok : {A B : Type 0} (s : Out A) (go : A → Out B) (v : A) (o : Out B) → s ≡ Ok v → go v ≡ o → goes_on s go ≡ o
@@ -94,7 +100,7 @@ pub comes_go : {A B : Type 0} (held : Option Files) (f : Files → Out A) (g : F
 comes_go held f g b m a v r c d = went_on held f (λ files o. g files v ≡ o) (λ files o. goes_on (f files) (g files) ≡ o) b m a v r (λ files o is gone. on_ok (f files) (g files) v o is gone) c d
 
 -- the same of relations
-goes_err : {A : Type 0} (s : Out A) (Go : A → Out Answer → Type 0) (r : Option Refused) → s ≡ Err r → GoesOn s Go (Err r)
+goes_err : {A : Type 0} (s : Out A) (Go : A → Out Answer → Type 0) (r : Answer) → s ≡ Err r → GoesOn s Go (Err r)
 goes_err s Go r is = subst (λ s. GoesOn s Go (Err r)) (sym is) refl
 
 goes_ok : {A : Type 0} (s : Out A) (Go : A → Out Answer → Type 0) (v : A) (o : Out Answer) → s ≡ Ok v → Go v o → GoesOn s Go o
@@ -107,11 +113,11 @@ pub performs_go : {A : Type 0} (held : Option Files) (f : Files → Out A) (Go :
 performs_go held f Go b m a v r c d = went_on held f (λ files. Go files v) (λ files. GoesOn (f files) (Go files)) b m a v r (λ files o is go. goes_ok (f files) (Go files) v o is go) c d
 
 -- an outcome that needs no file
-pub performs_told : {A : Type 0} (held : Option Files) (Is : Out A → Type 0) (n : ℕ) (r : Result A Stop) → Tells Is r → Performs held (λ files. Is) n n r
+pub performs_told : {A : Type 0} (held : Option Files) (Is : Out A → Type 0) (n : ℕ) (r : Result A Stop) → TellsOutcome Is r → Performs held (λ files. Is) n n r
 performs_told None Is n (Ok v) s = record { ok = tt; stops = tt; later = omega arith }
 performs_told (Some files) Is n (Ok v) s = record { ok = s; stops = tt; later = omega arith }
-performs_told None Is n (Err (stop.Refused r)) s = record { ok = tt; stops = tt; later = omega arith }
-performs_told (Some files) Is n (Err (stop.Refused r)) s = record { ok = tt; stops = s; later = omega arith }
+performs_told None Is n (Err (stop.Told r)) s = record { ok = tt; stops = (s.0, tt); later = omega arith }
+performs_told (Some files) Is n (Err (stop.Told r)) s = record { ok = tt; stops = s; later = omega arith }
 performs_told held Is n (Err stop.NotHeld) s = absurd s
 performs_told held Is n (Err stop.Failed) s = absurd s
 performs_told held Is n (Err stop.Memory) s = record { ok = tt; stops = tt; later = omega arith }
@@ -132,7 +138,7 @@ pub ruleset performs_rules = (performs_stop, performs_go, performs_told, perform
 
 -- a text's refusal
 pub reads_stop : {A B : Type 0} (f : Out A) (g : A → Out B) (e : Stop) → Reads f (Err e) → Reads (goes_on f g) (Err e)
-reads_stop f g (stop.Refused r) s = on_err f g (Some r) s
+reads_stop f g (stop.Told r) s = (s.0, on_err f g r s.1)
 reads_stop f g stop.NotHeld s = s
 reads_stop f g stop.Failed s = s
 reads_stop f g stop.Memory s = tt
@@ -140,7 +146,7 @@ reads_stop f g stop.Memory s = tt
 -- a text's value, and what comes of it
 pub reads_go : {A B : Type 0} (f : Out A) (g : A → Out B) (v : A) (r : Result B Stop) → f ≡ Ok v → Reads (g v) r → Reads (goes_on f g) r
 reads_go f g v (Ok w) is s = on_ok f g v (Ok w) is s
-reads_go f g v (Err (stop.Refused r)) is s = on_ok f g v (Err (Some r)) is s
+reads_go f g v (Err (stop.Told r)) is s = (s.0, on_ok f g v (Err r) is s.1)
 reads_go f g v (Err stop.NotHeld) is s = s
 reads_go f g v (Err stop.Failed) is s = s
 reads_go f g v (Err stop.Memory) is s = tt
@@ -153,27 +159,17 @@ reads_answer said v is = ap Ok (sym is)
 
 pub ruleset reads_rules = (reads_stop, reads_go, reads_memory, reads_answer)
 
--- the value of a file, or its first fault
-pub refused_ok : {A F : Type 0} (by : F → Refused) (said : Result A F) (a : A) → Ok a ≡ said → Reads (or_refused by said) (Ok a)
+-- the value of a file, or the stop of its first fault
+pub refused_ok : {A F : Type 0} (by : F → Answer) (said : Result A F) (a : A) → Ok a ≡ said → Reads (or_refused by said) (Ok a)
 refused_ok by said a is = ap (or_refused by) (sym is)
 
-pub refused_fault : {A F : Type 0} (by : F → Refused) (said : Result A F) (f : F) → Err f ≡ said → Reads (or_refused by said) (Err (stop.Refused (by f)))
-refused_fault by said f is = ap (or_refused by) (sym is)
+pub refused_so : {A : Type 0} (said : Out A) (a : Answer) (s : Stop) → said ≡ Err a → IsStopOf a s → Reads said (Err s)
+refused_so said a (stop.Told b) is stops = (stops.0, is ∙ ap Err stops.1)
+refused_so said a stop.NotHeld is stops = stops
+refused_so said a stop.Failed is stops = stops
+refused_so said a stop.Memory is stops = tt
 
-pub ruleset refused_rules = (refused_ok, refused_fault)
+pub refused_fault : {A F : Type 0} (by : F → Answer) (said : Result A F) (f : F) (s : Stop) → Err f ≡ said → IsStopOf (by f) s → Reads (or_refused by said) (Err s)
+refused_fault by said f s is stops = refused_so (or_refused by said) (by f) s (ap (or_refused by) (sym is)) stops
 
--- an answer of the exchange of a file
-pub exchange_told : (held : Option Files) (name : List ℕ) (Is : Exchange → Answer → Type 0) (b a : ℕ) (x : Exchange) (v : Answer) → Comes held (exchange_at name) b a (Ok x) → Is x v → Performs held (FromExchange name Is) b a (Ok v)
-exchange_told held name Is b a x v c is = record { ok = of held c.ok; stops = tt; later = c.later } where
-  of : (h : Option Files) → IfSome h (λ files. exchange_at name files ≡ Ok x) → IfSome h (λ files. OfExchange name Is files v)
-  of None comes = tt
-  of (Some files) comes = record { exchange = x; comes = comes; answers = is }
-
--- a file that is none
-pub exchange_stop : (held : Option Files) (name : List ℕ) (Is : Exchange → Answer → Type 0) (b a : ℕ) (e : Stop) → Comes {A = Exchange} held (exchange_at name) b a (Err e) → Performs held (FromExchange name Is) b a (Err e)
-exchange_stop held name Is b a e c = stopped held (exchange_at name) (FromExchange name Is) b a e (λ files r is. is) c
-
-pub exchange_memory : (held : Option Files) (name : List ℕ) (Is : Exchange → Answer → Type 0) (b a : ℕ) (x : Exchange) (e : Stop) → Comes held (exchange_at name) b a (Ok x) → e ≡ stop.Memory → Performs held (FromExchange name Is) b a (Err e)
-exchange_memory held name Is b a x e c is = refused_memory held (FromExchange name Is) b a e is c.later
-
-pub ruleset exchange_rules = (exchange_told, exchange_stop, exchange_memory)
+pub ruleset refused_rules = (refused_ok, refused_fault, refused_so)

@@ -1,8 +1,11 @@
 -- The lines of a signal file and the signals of a table, as a stage.
 use Rattle.std.proofs.Common.{◌≡◌, ℕ, ◌≤◌, ◌<◌, ◌^◌, List, length, Result, Ok, Err, ap, sym, subst, ◌∙◌, arith}
+use Rattle.std.proofs.Math.Nat.{le_trans}
 use Rattle.plex_limits.specs.declared.limits.TheConstants.{MOST_BYTES}
 use Rattle.exchange_model.specs.declared.exchange.Exchange.{Exchange}
 use Rattle.signal_file.specs.declared.line.Line.{Line}
+use Rattle.signal_file.specs.Lines.{signal_lines}
+use Rattle.retire_order.proofs.Fitting.{signal_lines_few, signal_lines_fit}
 use Rattle.job_table.specs.declared.fault.TableFault.{TableFault}
 use Rattle.job_table.specs.declared.period.Period.{Period}
 use Rattle.job_table.specs.Merged.{all_lines, by_count, line_count, merged, number_in}
@@ -12,25 +15,32 @@ use Rattle.job_table.proofs.Numbering.{length-numbered}
 use Rattle.job_table.proofs.Sorting.{length-by_count}
 use Rattle.job_table.proofs.Turns.{length-all_lines}
 use Rattle.plex_program.specs.Outcome.{goes_on, or_refused}
-use Rattle.plex_program.specs.Stages.{Reads}
+use Rattle.plex_program.specs.Stages.{IsStopOf, Reads}
 use Rattle.plex_program.specs.Runs.{AreOfText, AreRead}
-use Rattle.plex_program.specs.declared.perform.Refused.TheVariants.{Table}
+use Rattle.plex_program.specs.Text.{table_refusal}
 use Rattle.plex_program.specs.declared.perform.Stop.{Stop}
-use Rattle.plex_program.specs.declared.perform.Stop.TheVariants as stop
+use Rattle.plex_program.proofs.Stages.{refused_so}
 
 -- a text that is not too large for a file
 pub table_fits : (text : List ℕ) → length text ≤ MOST_BYTES → length text ≤ 2 ^ 24
-table_fits text small = short MOST_BYTES (omega arith) (length text) small
-  where
-    short : (most : ℕ) → most ≤ 2 ^ 24 → (n : ℕ) → n ≤ most → n ≤ 2 ^ 24
-    short most le n few = omega (arith, le, few)
+table_fits text small = le_trans small (omega arith)
+
+-- the lines of a signal file fit, and are few
+pub lines_are_read : (x : Exchange) (text : List ℕ) (lines : List Line) → length text ≤ MOST_BYTES → Ok lines ≡ signal_lines x text → AreRead x lines
+lines_are_read x text lines small is = record {
+  fit = signal_lines_fit x text lines (sym is);
+  few = signal_lines_few x text lines (table_fits text small) (sym is);
+}
+
+pub lines_of_text : (x : Exchange) (text : List ℕ) (lines : List Line) → Ok lines ≡ signal_lines x text → AreOfText x lines
+lines_of_text x text lines is = record { text = text; are = sym is }
 
 -- the periods of a table, and what comes of them
-pub table_read : (lines : List Line) (said : Result (List Period) TableFault) (periods : List Period) (r : Result (List Line) Stop) → Ok periods ≡ said → Reads (Ok (merged lines periods)) r → Reads (goes_on (or_refused Table said) (λ ps. Ok (merged lines ps))) r
-table_read lines said periods r is reads = subst (λ s. Reads (goes_on (or_refused Table s) (λ ps. Ok (merged lines ps))) r) is reads
+pub table_read : (lines : List Line) (said : Result (List Period) TableFault) (periods : List Period) (r : Result (List Line) Stop) → Ok periods ≡ said → Reads (Ok (merged lines periods)) r → Reads (goes_on (or_refused table_refusal said) (λ ps. Ok (merged lines ps))) r
+table_read lines said periods r is reads = subst (λ s. Reads (goes_on (or_refused table_refusal s) (λ ps. Ok (merged lines ps))) r) is reads
 
-pub table_refused : (lines : List Line) (said : Result (List Period) TableFault) (f : TableFault) → Err f ≡ said → Reads (goes_on (or_refused Table said) (λ ps. Ok (merged lines ps))) (Err (stop.Refused (Table f)))
-table_refused lines said f is = ap (λ s. goes_on (or_refused Table s) (λ ps. Ok (merged lines ps))) (sym is)
+pub table_refused : (lines : List Line) (said : Result (List Period) TableFault) (f : TableFault) (s : Stop) → Err f ≡ said → IsStopOf (table_refusal f) s → Reads (goes_on (or_refused table_refusal said) (λ ps. Ok (merged lines ps))) (Err s)
+table_refused lines said f s is stops = refused_so (goes_on (or_refused table_refusal said) (λ ps. Ok (merged lines ps))) (table_refusal f) s (ap (λ s. goes_on (or_refused table_refusal s) (λ ps. Ok (merged lines ps))) (sym is)) stops
 
 -- how many merged lines there are
 pub length-merged : (lines : List Line) (periods : List Period) → length (merged lines periods) ≡ line_count lines periods

@@ -9,7 +9,8 @@ use Rattle.plex_io.specs.Steady.{SteadyState}
 use Rattle.plex_io.specs.Written.{WroteLess}
 use Rattle.command_words.specs.Words.{Word}
 use Rattle.plex_program.specs.Answer.{IsAnswer}
-use Rattle.plex_program.specs.Program.{EndsAs, IsWritten, ReadCause, WriteCause, not_held}
+use Rattle.plex_program.specs.Outcome.{not_held}
+use Rattle.plex_program.specs.Program.{EndsAs, IsWritten, ReadCause, WriteCause}
 use Rattle.plex_program.specs.Whole.{HasRoom, IsWhole}
 use Rattle.plex_program.specs.declared.perform.Answer.{Answer}
 use Rattle.plex_program.specs.declared.program.Status.{Status}
@@ -38,7 +39,7 @@ not_read words files old new (inr is) silent = record { answer = not_held; is = 
 written : (Is : Answer → Type 0) (old new : List ℕ) (s : Status) (a : Answer) → Is a → IsWritten a (Some old) (Some new) s → IsWhole Is old new s
 written Is old new s a is w = record { answer = a; is = is; status = w.status; text = same_Some _ _ w.text }
 
-pub whole_end : (words : List Word) (files : Files) (old new : SteadyState) (s : Status) → EndsAs (IsAnswer words files) (Some old.bytes) (Some new.bytes) s → (s ≡ status.Read → ReadCause (Some files) words 0 0 (Some old.bytes) (Some new.bytes)) → (s ≡ status.Write → WriteCause (Some old.size) (Some new.bytes) old.faults new.faults) → HasRoom (IsAnswer words files) old → (s ≡ status.Memory) ⊎ IsWhole (IsAnswer words files) old.bytes new.bytes s
+pub whole_end : (words : List Word) (files : Files) (old new : SteadyState) (s : Status) → EndsAs (IsAnswer words files) (Some old.bytes) (Some new.bytes) s → (s ≡ status.Read → ReadCause (IsAnswer words) (Some files) 0 0 (Some old.bytes) (Some new.bytes)) → (s ≡ status.Write → WriteCause (Some old.size) (Some new.bytes) old.faults new.faults) → HasRoom (IsAnswer words files) old → (s ≡ status.Memory) ⊎ IsWhole (IsAnswer words files) old.bytes new.bytes s
 whole_end words files old new status.Memory ends read write room = inl refl
 whole_end words files old new status.Read ends read write room = inr (not_read words files old.bytes new.bytes (read refl).cause (same_Some _ _ (read refl).silent))
 whole_end words files old new status.Write ends read write room = absurd (no_room old.bytes new.bytes ends.answer.text old.size ends.ends (write refl).full (room ends.answer ends.is))

@@ -25,7 +25,8 @@ use Rattle.plex_program.specs.RunAnswer.{run_answer, run_of}
 use Rattle.plex_program.specs.TimedAnswer.{merged_at, merged_of_file, timed_of}
 use Rattle.command_words.specs.Words.{Word}
 use Rattle.command_words.specs.declared.command.TimedWords.{TimedWords}
-use Rattle.plex_program.specs.declared.perform.Refused.TheVariants.{Signals, Table}
+use Rattle.plex_program.specs.declared.fault.Which.TheVariants.{First}
+use Rattle.plex_program.specs.Text.{signals_refusal, table_refusal}
 use Rattle.plex_program.proofs.Accepted.{IsAccepted, accepted, gone_on, read, text_small}
 use Rattle.plex_program.proofs.Stages.{is_fitting}
 use Rattle.plex_program.proofs.Tables.{length-merged, table_fits}
@@ -41,7 +42,7 @@ has_lines x name files lines e = let a = gone_on (text_at name files) (lines_of_
   where
     by : (o : Option (List ℕ)) → text_at name files ≡ Ok o → lines_of_file x o ≡ Ok lines → HasLines x lines
     by None held e = absurd (none-some lines (ap result_ok e))
-    by (Some text) held e = record { text = text; small = text_small name files text held; are = read Signals (signal_lines x text) lines e }
+    by (Some text) held e = record { text = text; small = text_small name files text held; are = read signals_refusal (signal_lines x text) lines e }
 
 -- the text of a table has these periods, and these are all lines
 record HasTable (x : Exchange) (lines all : List Line) : Type 0 where
@@ -56,8 +57,8 @@ has_table x lines name files all e = let a = gone_on (text_at name files) (merge
     by : (o : Option (List ℕ)) → merged_of_file x lines o ≡ Ok all → HasTable x lines all
     by None e = absurd (none-some all (ap result_ok e))
     by (Some text) e =
-        let p = gone_on (or_refused Table (table_periods x (length lines) text)) (λ periods. Ok (merged lines periods)) all e in
-        record { text = text; periods = p.0; are = read Table (table_periods x (length lines) text) p.0 p.1; merge = same_Some (merged lines p.0) all (ap result_ok p.2) }
+        let p = gone_on (or_refused table_refusal (table_periods x (length lines) text)) (λ periods. Ok (merged lines periods)) all e in
+        record { text = text; periods = p.0; are = read table_refusal (table_periods x (length lines) text) p.0 p.1; merge = same_Some (merged lines p.0) all (ap result_ok p.2) }
 
 -- what is written out is read again
 read_again : (x : Exchange) (lines all : List Line) → IsAccepted x → HasLines x lines → HasTable x lines all → signal_lines x (written_out x all) ≡ Ok all
@@ -75,14 +76,14 @@ lines_again : (x : Exchange) (name : Word) (others : Files) (all : List Line) �
 lines_again x name others all held short are =
     ap (λ o. goes_on (text_of_file o) (λ text. lines_of_file x text)) held
     ∙ ap (λ (o : Option (List ℕ)). lines_of_file x o) (sym (is_fitting (written_out x all) short))
-    ∙ ap (or_refused Signals) are
+    ∙ ap (or_refused signals_refusal) are
 
 pub lines_of_text : (name : Word) (files : Files) (x : Exchange) (lines : List Line) → exchange_at name files ≡ Ok x → LinesFit x [] (map coming_of lines) → AreNumberedFrom 1 lines
     → AllByRecursion (λ (l : Line). l.after < 2 ^ 32) lines → length lines < 2 ^ 32 → signal_lines x (written_out x lines) ≡ Ok lines
-lines_of_text name files x lines is fit numbers small few = let a = accepted name files x is in written_read x lines a.kept a.words fit numbers small few
+lines_of_text name files x lines is fit numbers small few = let a = accepted First name files x is in written_read x lines a.kept a.words fit numbers small few
 
 pub merged_again : (w : TimedWords) (files : Files) (x : Exchange) (lines all : List Line) → exchange_at w.run.exchange files ≡ Ok x → lines_at x w.run.signals files ≡ Ok lines → merged_at x lines w.table files ≡ Ok all → signal_lines x (written_out x all) ≡ Ok all
-merged_again w files x lines all is reads merges_to = read_again x lines all (accepted w.run.exchange files x is) (has_lines x w.run.signals files lines reads) (has_table x lines w.table files all merges_to)
+merged_again w files x lines all is reads merges_to = read_again x lines all (accepted First w.run.exchange files x is) (has_lines x w.run.signals files lines reads) (has_table x lines w.table files all merges_to)
 
 pub timed_is_run : (w : TimedWords) (files others : Files) (name : Word) (x : Exchange) (lines all : List Line) → exchange_at w.run.exchange files ≡ Ok x → lines_at x w.run.signals files ≡ Ok lines → merged_at x lines w.table files ≡ Ok all
     → exchange_at w.run.exchange others ≡ Ok x → others name ≡ Some (written_out x all) → length (written_out x all) ≤ MOST_BYTES → run_of (record w.run { signals = name }) others ≡ timed_of w files

@@ -1,14 +1,11 @@
 -- What the program answers: a status and a text for each list of words and each set of files.
-use Rattle.std.specs.Prelude.{◌≡◌, List, [], Option, Some, None, Ok, Err}
+use Rattle.std.specs.Prelude.{◌≡◌, List, Option, Some, None, Ok, Err}
 use Rattle.plex_io.specs.Files.{Files}
-use Rattle.plex_program.specs.Text.{refusal_text, usage_text}
+use Rattle.plex_program.specs.Text.{usage_text}
 use Rattle.command_words.specs.Words.{Word, shape}
 use Rattle.command_words.specs.declared.command.Command.{Command}
 use Rattle.command_words.specs.declared.command.Command.TheVariants.{Run, Single, Analyse, Certify, List as Listing, Load, Timed, Change, Trace}
 use Rattle.plex_program.specs.declared.perform.Answer.{Answer}
-use Rattle.plex_program.specs.declared.perform.Refused.{Refused}
-use Rattle.plex_program.specs.declared.perform.Refused.TheVariants.{Certificate as Uncertified, Filter, NewSource, Signals, Source, Table}
-use Rattle.plex_program.specs.declared.program.Status.{Status}
 use Rattle.plex_program.specs.declared.program.Status.TheVariants as status
 use Rattle.plex_program.specs.Outcome.{Out}
 use Rattle.plex_program.specs.RunAnswer.{RunComes, run_of}
@@ -31,24 +28,10 @@ performed (Timed w) files o = timed_of w files ≡ o
 performed (Change w) files o = ChangeComes w files o
 performed (Trace w) files o = trace_of w files ≡ o
 
--- the status of a refusal
-abbrev pub refused_status : Refused → Status
-refused_status (Source f) = status.Source
-refused_status (Signals f) = status.Signals
-refused_status (Uncertified f) = status.Certificate
-refused_status (Table f) = status.Table
-refused_status (NewSource f) = status.Source
-refused_status (Filter f) = status.Filter
-
--- the status and the text of a refusal
-abbrev pub refused_answer : Refused → Answer
-refused_answer r = record { status = refused_status r; text = refusal_text r }
-
 -- the status and the text
 abbrev pub answer_of : Out Answer → Answer
 answer_of (Ok a) = a
-answer_of (Err (Some r)) = refused_answer r
-answer_of (Err None) = record { status = status.Read; text = [] }
+answer_of (Err a) = a
 
 -- what a command comes to, and the answer then
 pub record IsAnswerOf (c : Command) (files : Files) (a : Answer) : Type 0 where

@@ -1,12 +1,10 @@
 -- Whether a text is that of a certificate of an exchange, or what keeps it from being one.
-use Rattle.std.specs.Prelude.{ℕ, List, Option, Some, None}
+use Rattle.std.specs.Prelude.{ℕ, List, Option, Some, None, Result, Ok, Err}
 use Rattle.exchange_model.specs.declared.exchange.Exchange.{Exchange}
 use Rattle.certificate_text.specs.declared.certificate.Certificate.{Certificate}
 use Rattle.certificate_text.specs.Lines.{HasBadLine, IsTextOf}
 use Rattle.checked.specs.Kept.{IsChecked, KeptSummaries}
-use Rattle.checked.specs.Verdicts.{AreShapes, IsClosedCertificate, IsMissing, IsStrange}
-use Rattle.plex_program.specs.declared.certifying.Unkept.{Unkept}
-use Rattle.plex_program.specs.declared.certifying.Unkept.TheVariants.{Faulty, Memory}
+use Rattle.checked.specs.Verdicts.{Accepts, AreShapes, IsClosedCertificate, IsMissing, IsStrange}
 use Rattle.plex_program.specs.declared.fault.CertificateFault.{CertificateFault}
 use Rattle.plex_program.specs.declared.fault.CertificateFault.TheVariants.{TooLarge, BadText, WrongExchange, Strange, Missing}
 
@@ -30,12 +28,12 @@ pub record IsKeptBy (x : Exchange) (text : Option (List ℕ)) (k : KeptSummaries
   pub judged : IsJudged x text None
   pub checked : IsChecked x k
 
--- why nothing is kept of a text
-abbrev pub IsUnkept : Exchange → Option (List ℕ) → Unkept → Type 0
-IsUnkept x text (Faulty f) = IsJudged x text (Some f)
-IsUnkept x text Memory = Unit {0}
+-- that, or its fault
+abbrev pub IsKeptOrNot : Exchange → Option (List ℕ) → Result KeptSummaries CertificateFault → Type 0
+IsKeptOrNot x text (Ok k) = IsKeptBy x text k
+IsKeptOrNot x text (Err f) = IsJudged x text (Some f)
 
--- why nothing is kept of a certificate
-abbrev pub IsFaulty : Exchange → Certificate → Unkept → Type 0
-IsFaulty x c (Faulty f) = Judges x c (Some f)
-IsFaulty x c Memory = Unit {0}
+-- a certificate is accepted and this is kept of it, or it has this fault
+abbrev pub IsAcceptedOrNot : Exchange → Certificate → Result KeptSummaries CertificateFault → Type 0
+IsAcceptedOrNot x c (Ok k) = Accepts x c k
+IsAcceptedOrNot x c (Err f) = Judges x c (Some f)

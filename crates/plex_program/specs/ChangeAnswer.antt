@@ -1,54 +1,27 @@
 -- `change`: a run that goes on with another exchange.
-use Rattle.std.specs.Prelude.{◌≡◌, ℕ, nat_le, nat_lt, Bool, true, false, not, ◌&&◌, List, ◌++◌, map, Option, Some, None, Ok, Err}
-use Rattle.std.specs.Option.{option_map}
+use Rattle.std.specs.Prelude.{◌≡◌, ℕ, nat_le, nat_lt, Bool, true, false, not, ◌&&◌, List, ◌++◌, Option, Some, None}
 use Rattle.plex_io.specs.Files.{Files}
 use Rattle.exchange_model.specs.declared.exchange.Exchange.{Exchange}
 use Rattle.signal_file.specs.declared.line.Line.{Line}
-use Rattle.source_meaning.specs.SingleRun.{Ending, Finished, Limited, Restarted, after, end_state, opening}
+use Rattle.source_meaning.specs.SingleRun.{Ending, Finished, Limited, Restarted, end_state}
 use Rattle.source_meaning.specs.State.{State, has_stopped}
-use Rattle.retire_order.specs.Lines.{coming_of}
 use Rattle.report_text.specs.Report.{event_lines, text_of}
 use Rattle.block_change.specs.declared.misfit.Misfit.{Misfit}
 use Rattle.block_change.specs.Carried.{IsCarried}
 use Rattle.block_change.specs.Misfits.{misfit}
 use Rattle.plex_program.specs.Text.{change_text, misfit_text}
-use Rattle.command_words.specs.Words.{Word}
 use Rattle.command_words.specs.declared.command.ChangeWords.{ChangeWords}
 use Rattle.plex_program.specs.declared.perform.Answer.{Answer}
-use Rattle.plex_program.specs.declared.perform.Refused.{Refused}
-use Rattle.plex_program.specs.declared.perform.Refused.TheVariants.{NewSource, Source}
-use Rattle.plex_program.specs.declared.perform.Stop.{Stop}
-use Rattle.plex_program.specs.declared.perform.Stop.TheVariants as stop
+use Rattle.plex_program.specs.declared.fault.Which.TheVariants.{New}
 use Rattle.plex_program.specs.declared.program.Status.TheVariants as status
 use Rattle.plex_program.specs.Outcome.{GoesOn, IsAnAnswer, Out, headed_by}
-use Rattle.plex_program.specs.Given.{exchange_at, lines_at}
+use Rattle.plex_program.specs.Given.{exchange_as, exchange_at, lines_at}
 use Rattle.plex_program.specs.RunAnswer.{end_of, ended_answer, ending_of, run_answer}
 
--- a fault of the exchange that is to take the place of another one is told as one of the new exchange
-abbrev pub new_refusal : Refused → Refused
-new_refusal (Source f) = NewSource f
-new_refusal r = r
-
-abbrev pub as_new : {A : Type 0} → Out A → Out A
-as_new (Ok a) = Ok a
-as_new (Err r) = Err (option_map new_refusal r)
-
--- the same of a stop
-abbrev pub new_stop : Stop → Stop
-new_stop (stop.Refused r) = stop.Refused (new_refusal r)
-new_stop s = s
-
--- the new exchange, of a file
-abbrev pub new_exchange_at : Word → Files → Out Exchange
-new_exchange_at name files = as_new (exchange_at name files)
-
--- the state of the single run of these lines after so many jobs
-abbrev pub state_at : Exchange → List Line → ℕ → State
-state_at x lines n = after x (opening x (map coming_of lines)) n
-
--- blocks are changed after so many jobs where the run may have so many, has them, and has not stopped with the last of them
+-- blocks are changed after so many jobs where the run may have so many, and the run that has so many at most has them, and has not stopped
+-- with the last of them
 abbrev pub is_changed : Exchange → List Line → (jobs at : ℕ) → Bool
-is_changed x lines jobs at = nat_le at jobs && (nat_le at (end_of x lines jobs).ended && not (has_stopped (state_at x lines at)))
+is_changed x lines jobs at = nat_le at jobs && (nat_le at (end_of x lines at).ended && not (has_stopped (end_of x lines at)))
 
 -- a run that ended so, after so many jobs, has not so many as this, or stopped with the last of them
 abbrev pub ends_before : Ending → (ended at : ℕ) → Bool
@@ -72,7 +45,7 @@ pub record IsChanged (old new : Exchange) (before : State) (jobs at : ℕ) (a : 
 
 -- a run whose blocks are changed, or one without a change
 abbrev pub ChangesOrNot : (old new : Exchange) → List Line → (jobs at : ℕ) → Bool → Answer → Type 0
-ChangesOrNot old new lines jobs at true a = IsChanged old new (state_at old lines at) jobs at a
+ChangesOrNot old new lines jobs at true a = IsChanged old new (end_of old lines at) jobs at a
 ChangesOrNot old new lines jobs at false a = a ≡ run_answer old lines jobs
 
 -- what the new exchange has not
@@ -87,11 +60,9 @@ AnswersChange old new lines jobs at (Some m) a = a ≡ misfit_answer old m
 abbrev pub ChangeAnswers : (old new : Exchange) → List Line → (jobs at : ℕ) → Answer → Type 0
 ChangeAnswers old new lines jobs at = AnswersChange old new lines jobs at (misfit old new)
 
-abbrev pub ChangeFrom : ChangeWords → Exchange → Files → Out Answer → Type 0
-ChangeFrom w old files =
-    GoesOn (lines_at old w.run.signals files) (λ lines.
-    GoesOn (new_exchange_at w.new files) (λ new.
-    IsAnAnswer (ChangeAnswers old new lines w.run.bounds.jobs w.at)))
-
 abbrev pub ChangeComes : ChangeWords → Files → Out Answer → Type 0
-ChangeComes w files = GoesOn (exchange_at w.run.exchange files) (λ old. ChangeFrom w old files)
+ChangeComes w files =
+    GoesOn (exchange_at w.run.exchange files) (λ old.
+    GoesOn (lines_at old w.run.signals files) (λ lines.
+    GoesOn (exchange_as New w.new files) (λ new.
+    IsAnAnswer (ChangeAnswers old new lines w.run.bounds.jobs w.at))))

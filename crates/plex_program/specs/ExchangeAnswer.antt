@@ -1,5 +1,5 @@
 -- `analyse` and `certify`: what is told of an exchange alone.
-use Rattle.std.specs.Prelude.{◌≡◌, List, Ok, Err}
+use Rattle.std.specs.Prelude.{◌≡◌, List}
 use Rattle.plex_io.specs.Files.{Files}
 use Rattle.exchange_model.specs.declared.exchange.Exchange.{Exchange}
 use Rattle.entry_summary.specs.declared.summary.Summary.{Summary}
@@ -11,7 +11,7 @@ use Rattle.certificate.specs.Certified.{IsCertificate}
 use Rattle.command_words.specs.Words.{Word}
 use Rattle.plex_program.specs.declared.perform.Answer.{Answer}
 use Rattle.plex_program.specs.declared.program.Status.TheVariants as status
-use Rattle.plex_program.specs.Outcome.{Out}
+use Rattle.plex_program.specs.Outcome.{GoesOn, IsAnAnswer, Out}
 use Rattle.plex_program.specs.Given.{exchange_at}
 
 -- the analysis of an exchange: what the summaries of its entries say, which are those by the least facts
@@ -28,12 +28,6 @@ pub record AnswersCertificate (x : Exchange) (a : Answer) : Type 0 where
   pub is : IsCertificate x certificate
   pub told : a.text ≡ certificate_text certificate
 
--- such an answer of the exchange of a file, or what keeps that file from being one
-pub record OfExchange (name : Word) (Is : Exchange → Answer → Type 0) (files : Files) (a : Answer) : Type 0 where
-  pub exchange : Exchange
-  pub comes : exchange_at name files ≡ Ok exchange
-  pub answers : Is exchange a
-
+-- such an answer of the exchange of a file
 abbrev pub FromExchange : Word → (Exchange → Answer → Type 0) → Files → Out Answer → Type 0
-FromExchange name Is files (Ok a) = OfExchange name Is files a
-FromExchange name Is files (Err r) = exchange_at name files ≡ Err r
+FromExchange name Is files = GoesOn (exchange_at name files) (λ x. IsAnAnswer (Is x))

@@ -9,6 +9,7 @@ use Rattle.report_text.specs.Load.{load_text}
 use Rattle.load_maker.specs.Exchange.{exchange_text}
 use Rattle.load_maker.specs.Signals.{signals_text}
 use Rattle.command_words.specs.declared.command.TheConstants.{USUAL_JOBS}
+use Rattle.plex_program.specs.declared.fault.Which.TheVariants.{First}
 use Rattle.plex_program.specs.declared.perform.Answer.{Answer}
 use Rattle.plex_program.specs.Outcome.{Out, goes_on}
 use Rattle.plex_program.specs.Given.{exchange_of_file, fitting, lines_of_file}
@@ -24,6 +25,6 @@ load_answer calls x lines = summed_answer calls (end_of x lines USUAL_JOBS) (end
 -- the two texts of a load stand in place of an exchange file and a signal file
 abbrev pub load_of : ℕ → Out Answer
 load_of calls =
-    goes_on (exchange_of_file (fitting MOST_BYTES (exchange_text calls))) (λ x.
+    goes_on (exchange_of_file First (fitting MOST_BYTES (exchange_text calls))) (λ x.
     goes_on (lines_of_file x (fitting MOST_BYTES (signals_text calls))) (λ lines.
     Ok (load_answer calls x lines)))

@@ -1,16 +1,20 @@
 -- What a stage of a command comes to, and one stage after another.
-use Rattle.std.specs.Prelude.{◌≡◌, ℕ, List, ◌++◌, Option, Some, Result, Ok, Err}
+use Rattle.std.specs.Prelude.{◌≡◌, ℕ, List, [], ◌++◌, Result, Ok, Err}
 use Rattle.plex_program.specs.declared.perform.Answer.{Answer}
-use Rattle.plex_program.specs.declared.perform.Refused.{Refused}
+use Rattle.plex_program.specs.declared.program.Status.TheVariants as status
 
--- a value, or the first refusal, or none where a file is not held
+-- a value, or the answer where there is none
 abbrev pub Out : Type 0 → Type 0
-Out A = Result A (Option Refused)
+Out A = Result A Answer
 
--- the value, or the refusal by its fault
-abbrev pub or_refused : {A F : Type 0} → (F → Refused) → Result A F → Out A
+-- the answer where a file is not held
+abbrev pub not_held : Answer
+not_held = record { status = status.Read; text = [] }
+
+-- the value, or what its fault is answered by
+abbrev pub or_refused : {A F : Type 0} → (F → Answer) → Result A F → Out A
 or_refused by (Ok a) = Ok a
-or_refused by (Err f) = Err (Some (by f))
+or_refused by (Err f) = Err (by f)
 
 -- goes on with the value
 abbrev pub goes_on : {A B : Type 0} → Out A → (A → Out B) → Out B
@@ -21,7 +25,7 @@ goes_on (Err r) go = Err r
 abbrev pub headed_by : List ℕ → Answer → Answer
 headed_by text a = record { status = a.status; text = text ++ a.text }
 
--- what comes of the value, or the refusal
+-- what comes of the value, or the answer where there is none
 abbrev pub GoesOn : {A : Type 0} → Out A → (A → Out Answer → Type 0) → Out Answer → Type 0
 GoesOn (Ok a) Go o = Go a o
 GoesOn (Err r) Go o = Err r ≡ o

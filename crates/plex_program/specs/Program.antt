@@ -1,13 +1,14 @@
 -- What the top call promises.
-use Rattle.std.specs.Prelude.{◌≡◌, ℕ, List, [], Option, None, Result, Ok, Err, IfSome, IsSomeAnd, ◌⊎◌}
+use Rattle.std.specs.Prelude.{◌≡◌, ℕ, List, Option, Result, Ok, Err, IsSomeAnd, ◌⊎◌}
 use Rattle.plex_io.specs.Causes.{Rose}
 use Rattle.plex_io.specs.Files.{Files}
 use Rattle.plex_io.specs.Written.{appended, WroteLess, IsFull}
-use Rattle.command_words.specs.Words.{Word, shape}
-use Rattle.plex_program.specs.Answer.{IsAnswer, usage_answer}
+use Rattle.plex_program.specs.Answer.{answer_of}
 use Rattle.plex_program.specs.declared.perform.Answer.{Answer}
-use Rattle.plex_program.specs.declared.program.Quit.{Quit}
-use Rattle.plex_program.specs.declared.program.Quit.TheVariants as quit
+use Rattle.plex_program.specs.declared.perform.Stop.{Stop}
+use Rattle.plex_program.specs.declared.perform.Stop.TheVariants as stop
+use Rattle.plex_program.specs.Outcome.{not_held}
+use Rattle.plex_program.specs.Stages.{Performs}
 use Rattle.plex_program.specs.declared.program.Status.{Status}
 use Rattle.plex_program.specs.declared.program.Status.TheVariants as status
 
@@ -35,18 +36,10 @@ EndsAs Is before after status.Read = Unit {0}
 EndsAs Is before after status.Memory = Unit {0}
 EndsAs Is before after s = EndsBy Is before after s
 
--- a file is not held
-abbrev pub not_held : Answer
-not_held = record { status = status.Read; text = [] }
-
 -- a read failed in this call, or the shelf tells its files and such an answer is that one is not held; nothing was written
-pub record ReadCauseOf (Is : Files → Answer → Type 0) (held : Option Files) (faults faults' : ℕ) (before after : Option (List ℕ)) : Type 0 where
+pub record ReadCause (Is : Files → Answer → Type 0) (held : Option Files) (faults faults' : ℕ) (before after : Option (List ℕ)) : Type 0 where
   pub cause : Rose faults faults' ⊎ IsSomeAnd held (λ files. Is files not_held)
   pub silent : after ≡ before
-
--- the same of the answer to these words
-abbrev pub ReadCause : Option Files → List Word → (faults faults' : ℕ) → (before after : Option (List ℕ)) → Type 0
-ReadCause held words faults faults' before after = ReadCauseOf (IsAnswer words) held faults faults' before after
 
 -- a write failed in this call, and a sink that tells its size is full
 pub record WriteCause (size : Option ℕ) (written : Option (List ℕ)) (faults faults' : ℕ) : Type 0 where
@@ -70,31 +63,23 @@ IsPlain status.Write = ⊥
 IsPlain status.Memory = ⊥
 IsPlain s = Unit {0}
 
--- why nothing is written
-abbrev pub QuitsBy : (Files → Answer → Type 0) → Option Files → (faults faults' : ℕ) → Quit → Type 0
-QuitsBy Is held faults faults' quit.Read = Rose faults faults' ⊎ IsSomeAnd held (λ files. Is files not_held)
-QuitsBy Is held faults faults' quit.Memory = Unit {0}
+-- such an answer comes, or why there is none
+abbrev pub Answers : (Files → Answer → Type 0) → Option Files → (faults faults' : ℕ) → Result Answer Stop → Type 0
+Answers Is held faults faults' result = Performs held (λ files o. Is files (answer_of o)) faults faults' result
 
--- such an answer is to be written; that of no shape is the usage line, and no other is
-pub record IsMade (Is : Files → Answer → Type 0) (Unshaped : Type 0) (usage_line : Answer) (held : Option Files) (a : Answer) : Type 0 where
-  pub same : IfSome held (λ files. Is files a)
+-- an answer that may be written: that of no shape is the usage line, and no other is
+pub record IsMade (Unshaped : Type 0) (usage_line a : Answer) : Type 0 where
   pub plain : IsPlain a.status
   pub usage : a.status ≡ status.Usage → Unshaped
   pub unshaped : Unshaped → a ≡ usage_line
 
--- what is written, or why nothing is
-abbrev pub AnswersOf : (Files → Answer → Type 0) → Type 0 → Answer → Option Files → (faults faults' : ℕ) → Result Answer Quit → Type 0
-AnswersOf Is Unshaped usage_line held faults faults' (Ok a) = IsMade Is Unshaped usage_line held a
-AnswersOf Is Unshaped usage_line held faults faults' (Err q) = QuitsBy Is held faults faults' q
-
-abbrev pub Answers : Option Files → List Word → (faults faults' : ℕ) → Result Answer Quit → Type 0
-Answers held words faults faults' result = AnswersOf (IsAnswer words) (shape words ≡ None) usage_answer held faults faults' result
-
--- this answer is made, or memory was refused
-abbrev pub Makes : Answer → Result Answer Quit → Type 0
-Makes a (Ok b) = b ≡ a
-Makes a (Err quit.Memory) = Unit {0}
-Makes a (Err quit.Read) = ⊥
+-- what is to be written, if anything is, is such a one
+abbrev pub Makes : Type 0 → Answer → Result Answer Stop → Type 0
+Makes Unshaped usage_line (Ok a) = IsMade Unshaped usage_line a
+Makes Unshaped usage_line (Err (stop.Told a)) = IsMade Unshaped usage_line a
+Makes Unshaped usage_line (Err stop.NotHeld) = Unit {0}
+Makes Unshaped usage_line (Err stop.Failed) = Unit {0}
+Makes Unshaped usage_line (Err stop.Memory) = Unit {0}
 
 -- the number with which the program ends
 abbrev pub exit_number : Status → ℕ

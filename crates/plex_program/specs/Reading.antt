@@ -1,5 +1,6 @@
 -- The tree of an exchange text, or its first fault: a fault of its size, then of its tokens, then of its sentence.
-use Rattle.std.specs.Prelude.{ℕ, ◌≤◌, ◌+◌, List, slice_get, Option, Some, None, Result, Ok, Err}
+use Rattle.std.specs.Prelude.{◌≡◌, ℕ, ◌≤◌, ◌+◌, List, slice_get, Option, Some, None, Result, Ok, Err}
+use Rattle.plex_num.specs.declared.seq.Memory.{Memory}
 use Rattle.plex_lexer.specs.Lexed.{tokens_of}
 use Rattle.plex_lexer.specs.Cursors.{lines}
 use Rattle.plex_lexer.specs.Lines.{feeds}
@@ -19,6 +20,8 @@ use Rattle.text_rules.specs.Blocks as blocks
 use Rattle.resolved_block.specs.Texts.{choices_in, exchange_of_tree}
 use Rattle.front_end.specs.declared.fault.TextFault.{TextFault}
 use Rattle.front_end.specs.declared.fault.TextFault.TheVariants as resolving
+use Rattle.front_end.specs.Resolved.{resolved}
+use Rattle.exchange_model.specs.declared.exchange.Exchange.{Exchange}
 use Rattle.plex_program.specs.declared.fault.SourceFault.{SourceFault}
 use Rattle.plex_program.specs.declared.fault.Rule.{Rule}
 use Rattle.plex_program.specs.declared.fault.Rule.TheVariants as rule
@@ -94,3 +97,21 @@ rule_of (Links r) = rule.Link r
 abbrev pub resolve_fault : TextFault → SourceFault
 resolve_fault (resolving.Rule broken line) = at_line line (rule_of broken)
 resolve_fault resolving.Memory = too_large
+
+-- what is said is found, or memory was refused
+abbrev pub Finds : {A F : Type 0} → Result A F → Result (Result A F) Memory → Type 0
+Finds said (Ok found) = said ≡ found
+Finds said (Err m) = Unit {0}
+
+-- the exchange that a tree means, or the first rule that it breaks
+abbrev pub resolved_or : Result Exchange TextFault → Result Exchange SourceFault
+resolved_or (Ok x) = Ok x
+resolved_or (Err f) = Err (resolve_fault f)
+
+abbrev pub exchange_of : Result Tree SourceFault → Result Exchange SourceFault
+exchange_of (Ok t) = resolved_or (resolved t)
+exchange_of (Err f) = Err f
+
+-- the exchange that a text means, or its first fault
+abbrev pub exchange_of_text : Option (List ℕ) → Result Exchange SourceFault
+exchange_of_text text = exchange_of (tree_of_file text)

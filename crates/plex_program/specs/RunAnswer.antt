@@ -5,14 +5,17 @@ use Rattle.exchange_model.specs.declared.exchange.Exchange.{Exchange}
 use Rattle.signal_file.specs.declared.line.Line.{Line}
 use Rattle.source_meaning.specs.SingleRun.{Ending, Finished, Limited, Restarted, end_state, ending_at, opening}
 use Rattle.source_meaning.specs.State.{State}
+use Rattle.retire_order.specs.Accounts.{with_words}
+use Rattle.retire_order.specs.Events.{ending_of as told_ending}
 use Rattle.retire_order.specs.Lines.{coming_of}
+use Rattle.exchange_run.specs.declared.turns.Ended.{Ended}
 use Rattle.report_text.specs.Report.{report_text}
 use Rattle.plex_program.specs.Certificates.{IsJudged}
 use Rattle.command_words.specs.Words.{Word}
 use Rattle.plex_program.specs.declared.fault.CertificateFault.{CertificateFault}
 use Rattle.command_words.specs.declared.command.RunWords.{RunWords}
 use Rattle.plex_program.specs.declared.perform.Answer.{Answer}
-use Rattle.plex_program.specs.declared.perform.Refused.TheVariants.{Certificate as Uncertified}
+use Rattle.plex_program.specs.Text.{certificate_refusal}
 use Rattle.plex_program.specs.declared.program.Status.{Status}
 use Rattle.plex_program.specs.declared.program.Status.TheVariants as status
 use Rattle.plex_program.specs.Outcome.{GoesOn, Out, goes_on}
@@ -32,6 +35,10 @@ ending_of jobs s = unwrap_or (ending_at jobs s) Limited
 abbrev pub ended_answer : Exchange → State → Ending → Answer
 ended_answer x s ending = record { status = ended_status ending; text = report_text x s ending }
 
+-- the same of the books and words of an end
+abbrev pub ending_answer : Exchange → Ended → Answer
+ending_answer x end = ended_answer x (with_words end.books.state end.words) (told_ending end.ending)
+
 -- the state in which the single run of these lines ends, which ends after so many jobs at the latest
 abbrev pub end_of : Exchange → List Line → ℕ → State
 end_of x lines jobs = end_state x jobs (opening x (map coming_of lines))
@@ -48,7 +55,7 @@ run_of w files =
 -- the answer, or the refusal of the certificate
 abbrev pub or_certificate_fault : Option CertificateFault → Answer → Out Answer
 or_certificate_fault None a = Ok a
-or_certificate_fault (Some f) a = Err (Some (Uncertified f))
+or_certificate_fault (Some f) a = Err (certificate_refusal f)
 
 -- a run with this answer comes to this where its certificate has such a text: a certificate of the exchange changes nothing
 pub record IsCertifiedRun (x : Exchange) (text : Option (List ℕ)) (a : Answer) (o : Out Answer) : Type 0 where

@@ -1,15 +1,28 @@
 -- What a stage comes to over a shelf, or why it stops.
-use Rattle.std.specs.Prelude.{◌≡◌, ℕ, ◌≤◌, Option, Some, None, Result, Ok, Err, IfOk, IfErr, IfSome, IsSomeAnd}
+use Rattle.std.specs.Prelude.{◌≡◌, ℕ, ◌≤◌, List, Option, Result, Ok, Err, IfOk, IfErr, IfSome, IsSomeAnd}
 use Rattle.plex_io.specs.Causes.{Rose}
 use Rattle.plex_io.specs.Files.{Files}
+use Rattle.plex_num.specs.declared.seq.Memory.{Memory}
+use Rattle.plex_program.specs.declared.perform.Answer.{Answer}
 use Rattle.plex_program.specs.declared.perform.Stop.{Stop}
 use Rattle.plex_program.specs.declared.perform.Stop.TheVariants as stop
-use Rattle.plex_program.specs.Outcome.{Out}
+use Rattle.plex_program.specs.declared.program.Status.{Status}
+use Rattle.plex_program.specs.declared.program.Status.TheVariants as status
+use Rattle.plex_program.specs.Outcome.{Out, not_held}
+
+-- a status of a fault of a file
+abbrev pub IsRefusal : Status → Type 0
+IsRefusal status.Source = Unit {0}
+IsRefusal status.Signals = Unit {0}
+IsRefusal status.Certificate = Unit {0}
+IsRefusal status.Table = Unit {0}
+IsRefusal status.Filter = Unit {0}
+IsRefusal s = ⊥
 
 -- why a stage stops
 abbrev pub StopsBy : {A : Type 0} → Option Files → (Files → Out A → Type 0) → ℕ → ℕ → Stop → Type 0
-StopsBy held work before after (stop.Refused r) = IfSome held (λ files. work files (Err (Some r)))
-StopsBy held work before after stop.NotHeld = IsSomeAnd held (λ files. work files (Err None))
+StopsBy held work before after (stop.Told a) = IsRefusal a.status × IfSome held (λ files. work files (Err a))
+StopsBy held work before after stop.NotHeld = IsSomeAnd held (λ files. work files (Err not_held))
 StopsBy held work before after stop.Failed = Rose before after
 StopsBy held work before after stop.Memory = Unit {0}
 
@@ -24,13 +37,25 @@ abbrev pub Comes : {A : Type 0} → Option Files → (Files → Out A) → ℕ �
 Comes held stage before after result = Performs held (λ files o. stage files ≡ o) before after result
 
 -- an outcome comes that is such a one, or memory was refused; no file is read
-abbrev pub Tells : {A : Type 0} → (Out A → Type 0) → Result A Stop → Type 0
-Tells Is (Ok a) = Is (Ok a)
-Tells Is (Err (stop.Refused r)) = Is (Err (Some r))
-Tells Is (Err stop.NotHeld) = ⊥
-Tells Is (Err stop.Failed) = ⊥
-Tells Is (Err stop.Memory) = Unit {0}
+abbrev pub TellsOutcome : {A : Type 0} → (Out A → Type 0) → Result A Stop → Type 0
+TellsOutcome Is (Ok a) = Is (Ok a)
+TellsOutcome Is (Err (stop.Told a)) = IsRefusal a.status × Is (Err a)
+TellsOutcome Is (Err stop.NotHeld) = ⊥
+TellsOutcome Is (Err stop.Failed) = ⊥
+TellsOutcome Is (Err stop.Memory) = Unit {0}
 
 -- the outcome is as said
 abbrev pub Reads : {A : Type 0} → Out A → Result A Stop → Type 0
-Reads said result = Tells (λ o. said ≡ o) result
+Reads said result = TellsOutcome (λ o. said ≡ o) result
+
+-- the stop that this refusal makes
+abbrev pub IsStopOf : Answer → Stop → Type 0
+IsStopOf a (stop.Told b) = IsRefusal b.status × (a ≡ b)
+IsStopOf a stop.NotHeld = ⊥
+IsStopOf a stop.Failed = ⊥
+IsStopOf a stop.Memory = Unit {0}
+
+-- the same of a refusal of this status with a line, for which there was memory or not
+abbrev pub IsStopWith : Status → Result (List ℕ) Memory → Stop → Type 0
+IsStopWith s (Ok line) t = IsStopOf (record { status = s; text = line }) t
+IsStopWith s (Err m) t = t ≡ stop.Memory

@@ -1,4 +1,4 @@
--- The lines that are written in place of a report.
+-- The lines that are written in place of a report, and the answers to what is refused.
 use Rattle.std.specs.Prelude.{List, ℕ, [], ◌∷◌, ◌++◌, codes, slice_get}
 use Rattle.std.specs.Fmt.{decimal}
 use Rattle.std.specs.List.{flat_map}
@@ -23,8 +23,14 @@ use Rattle.signal_file.specs.declared.fault.SignalsRule.{SignalsRule}
 use Rattle.signal_file.specs.declared.fault.SignalsRule.TheVariants as signals_rule
 use Rattle.job_table.specs.declared.fault.TableRule.{TableRule}
 use Rattle.job_table.specs.declared.fault.TableRule.TheVariants as table_rule
-use Rattle.plex_program.specs.declared.perform.Refused.{Refused}
-use Rattle.plex_program.specs.declared.perform.Refused.TheVariants.{Certificate, Filter, NewSource, Signals, Source, Table}
+use Rattle.signal_file.specs.declared.fault.SignalsFault.{SignalsFault}
+use Rattle.job_table.specs.declared.fault.TableFault.{TableFault}
+use Rattle.signal_trace.specs.declared.fault.FilterFault.{FilterFault}
+use Rattle.plex_program.specs.declared.fault.SourceFault.{SourceFault}
+use Rattle.plex_program.specs.declared.fault.Which.{Which}
+use Rattle.plex_program.specs.declared.fault.Which.TheVariants.{First, New}
+use Rattle.plex_program.specs.declared.perform.Answer.{Answer}
+use Rattle.plex_program.specs.declared.program.Status.TheVariants as status
 
 -- the end of a line
 abbrev pub LF : List ℕ
@@ -107,14 +113,26 @@ certificate_text (certificate.WrongExchange x c) = other_exchange x c
 certificate_text (certificate.Strange f) = fact_text (codes "CERTIFICATE STRANGE ") f
 certificate_text (certificate.Missing f) = fact_text (codes "CERTIFICATE MISSING ") f
 
--- the first fault of the exchange text, of the signal file, of the certificate, of the table, of the new exchange text or of the filter
-unfoldable pub refusal_text : Refused → List ℕ
-refusal_text (Source f) = rule_line (codes "SOURCE line ") f.line (rule_name f.rule)
-refusal_text (Signals f) = rule_line (codes "SIGNALS line ") f.line (signals_rule_name f.rule)
-refusal_text (Certificate f) = certificate_text f
-refusal_text (Table f) = rule_line (codes "TABLE line ") f.line (table_rule_name f.rule)
-refusal_text (NewSource f) = rule_line (codes "NEWSOURCE line ") f.line (rule_name f.rule)
-refusal_text (Filter f) = rule_line (codes "FILTER line ") f.line (filter_rule_name f.rule)
+-- the words in front of the line of a fault of an exchange text
+abbrev pub source_words : Which → List ℕ
+source_words First = codes "SOURCE line "
+source_words New = codes "NEWSOURCE line "
+
+-- what the first fault of a file is answered by
+unfoldable pub source_refusal : Which → SourceFault → Answer
+source_refusal which f = record { status = status.Source; text = rule_line (source_words which) f.line (rule_name f.rule) }
+
+unfoldable pub signals_refusal : SignalsFault → Answer
+signals_refusal f = record { status = status.Signals; text = rule_line (codes "SIGNALS line ") f.line (signals_rule_name f.rule) }
+
+unfoldable pub certificate_refusal : CertificateFault → Answer
+certificate_refusal f = record { status = status.Certificate; text = certificate_text f }
+
+unfoldable pub table_refusal : TableFault → Answer
+table_refusal f = record { status = status.Table; text = rule_line (codes "TABLE line ") f.line (table_rule_name f.rule) }
+
+unfoldable pub filter_refusal : FilterFault → Answer
+filter_refusal f = record { status = status.Filter; text = rule_line (codes "FILTER line ") f.line (filter_rule_name f.rule) }
 
 -- `BLOCK.FILE`, a file by its number
 abbrev pub file_words : Exchange → ℕ → List ℕ

@@ -13,15 +13,15 @@ use Rattle.signal_trace.specs.Trace.{trace}
 use Rattle.command_words.specs.Words.{Word}
 use Rattle.command_words.specs.declared.command.TraceWords.{TraceWords}
 use Rattle.plex_program.specs.declared.perform.Answer.{Answer}
-use Rattle.plex_program.specs.declared.perform.Refused.TheVariants.{Filter}
+use Rattle.plex_program.specs.Text.{filter_refusal}
 use Rattle.plex_program.specs.Outcome.{Out, goes_on, headed_by, or_refused}
 use Rattle.plex_program.specs.Given.{exchange_at, lines_at, text_at}
 use Rattle.plex_program.specs.RunAnswer.{run_answer}
 
 -- the lines of a filter's text, or its first fault; a text that is too large has no line
 abbrev pub shows_of_file : Exchange → Option (List ℕ) → Out (List Show)
-shows_of_file x None = Err (Some (Filter (breach TooLarge 0)))
-shows_of_file x (Some text) = or_refused Filter (filter_of x text)
+shows_of_file x None = Err (filter_refusal (breach TooLarge 0))
+shows_of_file x (Some text) = or_refused filter_refusal (filter_of x text)
 
 -- the lines of the filter of a file
 abbrev pub shows_at : Exchange → Word → Files → Out (List Show)

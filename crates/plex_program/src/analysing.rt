@@ -13,7 +13,6 @@ use plex_num::Memory;
 use std::alloc::Global;
 
 /// The answer with the analysis of an exchange.
-#[tactic(auto, using(crate::proofs::Ordered::in_order))]
 pub fn analysis_answer(alloc: Global, exchange: &Exchange) -> Result<Answer, Memory>
     ensures answer { IfOk result (AnswersAnalysis exchange.now) }
     ensures ending { IfOk result (λ a. IsEnding a.status) }

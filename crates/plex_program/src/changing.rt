@@ -1,32 +1,31 @@
 // A run that goes on with another exchange after some jobs.
 ghost use Rattle.std.specs.Prelude.{◌≡◌, ◌≤◌, ◌++◌, IfOk, None, OnOk};
-ghost use Rattle.block_change.specs.Carried.{IsCarried};
+ghost use Rattle.plex_limits.specs.declared.limits.TheConstants.{MOST_JOBS};
+ghost use Rattle.store_layout.specs.Laid.{IsLayout};
+ghost use Rattle.block_change.specs.Carried.{AreStanding, state_with};
 ghost use Rattle.block_change.specs.Misfits.{misfit};
-ghost use Rattle.exchange_run.specs.Runs.{RunsTo};
-ghost use Rattle.retire_order.specs.Accounts.{with_words};
 ghost use Rattle.retire_order.specs.Events.{ending_of};
 ghost use Rattle.retire_order.specs.Parts.{AreParts, account_of};
 ghost use Rattle.report_text.specs.Report.{event_lines, text_of};
-ghost use Rattle.source_meaning.specs.Valid.{IsValid};
-ghost use Rattle.plex_program.specs.Stages.{Comes, Performs};
-ghost use Rattle.plex_program.specs.ChangeAnswer.{ChangeAnswers, ChangeComes, ChangeFrom};
-ghost use Rattle.plex_program.specs.ChangeAnswer.{ChangesOrNot, IsChanged, ends_before, is_changed};
-ghost use Rattle.plex_program.specs.ChangeAnswer.{misfit_answer, new_exchange_at, new_refusal};
-ghost use Rattle.plex_program.specs.ChangeAnswer.{new_stop};
+ghost use Rattle.plex_program.specs.Stages.{Performs};
+ghost use Rattle.plex_program.specs.ChangeAnswer.{ChangeAnswers, ChangeComes, ChangesOrNot};
+ghost use Rattle.plex_program.specs.ChangeAnswer.{IsChanged, ends_before, is_changed};
+ghost use Rattle.plex_program.specs.ChangeAnswer.{misfit_answer};
 ghost use Rattle.plex_program.specs.Program.{IsEnding};
 ghost use Rattle.plex_program.specs.Runs.{AreRead};
 ghost use Rattle.command_words.specs.Bounded.{AreWithin, HasBounds};
 ghost use Rattle.plex_program.specs.Text.{change_text, file_words, misfit_text};
 
-use crate::going::{go_on, run_first};
-use crate::perform::{Answer, Refused, Stop, exchange_in, lines_in};
+use crate::fault::Which;
+use crate::going::{Crew, Host, go_on, run_first};
+use crate::perform::{Answer, Stop, exchange_as, exchange_in, lines_in};
 use crate::program::Status;
-use crate::running::{answer_at, code_answer, headed_answer};
+use crate::running::{end_answer, headed_answer, run_answer};
 use block_change::{Misfit, carry, misfit_of};
 use command_words::{Bounds, ChangeWords};
 use exchange_model::Exchange;
 use exchange_run::{Ended, Standing};
-use plex_io::{Gate, Shelf, Word};
+use plex_io::{Gate, Shelf};
 use plex_num::{Memory, Seq, print_number};
 use report_text::event_lines;
 use retire_order::{BookParts, Books, Ending};
@@ -34,7 +33,7 @@ use signal_file::Line;
 use std::alloc::Global;
 use std::sync::Wait;
 use std::thread::Threads;
-use store_layout::layout_of;
+use store_layout::{Layout, layout_of};
 use text_parts::Text;
 
 /// A change from one exchange to another after so many jobs.
@@ -48,88 +47,35 @@ struct Change<'a> {
 /// `change`.
 #[tactic(auto, using(crate::proofs::Stages::performs_rules))]
 pub fn perform_change<R: Threads + Wait + Sync, S: Shelf, G: Gate + Sync>(
-    rt: &R,
-    alloc: Global,
+    host: &Host<'_, R, G>,
     shelf: &mut S,
     words: &ChangeWords,
-    gate: &G,
 ) -> Result<Answer, Stop>
     requires { HasBounds words.now.run }
     ensures comes { Performs (S.held shelf.old) (ChangeComes words.now)
         (S.faults shelf.old) (S.faults shelf.new) result }
     ensures ending { IfOk result (λ a. IsEnding a.status) }
 {
-    let old = exchange_in(alloc, shelf, &words.run.exchange)?;
-    change_from(rt, alloc, shelf, words, &old, gate)
-}
-
-/// The same, of the exchange that the run begins with.
-#[tactic(auto, using(crate::proofs::Stages::performs_rules))]
-fn change_from<R: Threads + Wait + Sync, S: Shelf, G: Gate + Sync>(
-    rt: &R,
-    alloc: Global,
-    shelf: &mut S,
-    words: &ChangeWords,
-    old: &Exchange,
-    gate: &G,
-) -> Result<Answer, Stop>
-    requires { HasBounds words.now.run }
-    ensures comes { Performs (S.held shelf.old) (ChangeFrom words.now old.now)
-        (S.faults shelf.old) (S.faults shelf.new) result }
-    ensures ending { IfOk result (λ a. IsEnding a.status) }
-{
-    let lines = lines_in(alloc, shelf, old, &words.run.signals)?;
-    let new = new_exchange_in(alloc, shelf, &words.new)?;
+    let old = exchange_in(host.alloc, shelf, &words.run.exchange)?;
+    let lines = lines_in(host.alloc, shelf, &old, &words.run.signals)?;
+    let new = exchange_as(host.alloc, shelf, &words.new, Which::New)?;
     let change = Change {
-        old,
+        old: &old,
         new: &new,
         at: words.at,
     };
-    let answer = change_answer(rt, alloc, &change, lines, words.run.bounds, gate)?;
+    let answer = change_answer(host, &change, lines, words.run.bounds)?;
     Ok(answer)
 }
 
-/// The exchange of a file that is to take the place of another one.
-#[tactic(auto, using(crate::proofs::Changed::new_comes, crate::proofs::Changed::new_stops))]
-fn new_exchange_in<S: Shelf>(alloc: Global, shelf: &mut S, name: &Word) -> Result<Exchange, Stop>
-    ensures comes { Comes (S.held shelf.old) (new_exchange_at name.now) (S.faults shelf.old)
-        (S.faults shelf.new) result }
-    ensures kept { S.held shelf.new ≡ S.held shelf.old }
-{
-    match exchange_in(alloc, shelf, name) {
-        Ok(exchange) => Ok(exchange),
-        Err(stop) => Err(new_stop(stop)),
-    }
-}
-
-/// The stop at a fault of the new exchange.
-fn new_stop(stop: Stop) -> Stop
-    ensures { result ≡ new_stop stop }
-{
-    match stop {
-        Stop::Refused(refused) => Stop::Refused(new_refusal(refused)),
-        other => other,
-    }
-}
-
-fn new_refusal(refused: Refused) -> Refused
-    ensures { result ≡ new_refusal refused }
-{
-    match refused {
-        Refused::Source(fault) => Refused::NewSource(fault),
-        other => other,
-    }
-}
-
-/// The answer of a change: what the new exchange has not, or else that of the run.
-#[tactic(auto, using(crate::proofs::Changed::answers_misfit, crate::proofs::Changed::answers_fit))]
+/// The answer of a change: what the new exchange has not, or else that of the run, which goes on there
+/// where it may have so many jobs.
+#[tactic(auto, using(crate::proofs::Changed::answers_misfit, crate::proofs::Changed::answers_fit, crate::proofs::Changed::never_reached))]
 fn change_answer<R: Threads + Wait + Sync, G: Gate + Sync>(
-    rt: &R,
-    alloc: Global,
+    host: &Host<'_, R, G>,
     change: &Change<'_>,
     lines: Seq<Line>,
     bounds: Bounds,
-    gate: &G,
 ) -> Result<Answer, Memory>
     requires lines { AreRead change.now.old.now lines }
     requires bounds { AreWithin bounds }
@@ -137,10 +83,15 @@ fn change_answer<R: Threads + Wait + Sync, G: Gate + Sync>(
         (ChangeAnswers change.now.old.now change.now.new.now lines bounds.jobs change.now.at) }
     ensures ending { IfOk result (λ a. IsEnding a.status) }
 {
-    let found = misfit_of(alloc, change.old, change.new)?;
+    let found = misfit_of(host.alloc, change.old, change.new)?;
     match found {
-        Some(misfit) => misfit_answer(alloc, change.old, misfit),
-        None => fitting_answer(rt, alloc, change, lines, bounds, gate),
+        Some(misfit) => misfit_answer(host.alloc, change.old, misfit),
+        None => {
+            if change.at > bounds.jobs {
+                return run_answer(host, change.old, None, lines, bounds);
+            }
+            fitting_answer(host, change, lines, bounds)
+        }
     }
 }
 
@@ -196,18 +147,17 @@ fn add_file(text: &mut Seq<u8>, exchange: &Exchange, file: u32) -> Result<(), Me
     text.append(place.file.name.as_slice())
 }
 
-/// The answer of the run with an exchange that fits: it goes on there after so many jobs where it may have so many, has them, and has not
-/// stopped with the last of them.
-#[tactic(auto, using(crate::proofs::Changed::never_reached, crate::proofs::Changed::not_changed, crate::proofs::Changed::is_changed_so, crate::proofs::Changed::parts_few, crate::proofs::Changed::parts_valid))]
+/// The answer of the run with an exchange that fits: it goes on there after so many jobs where it has
+/// them, and has not stopped with the last of them.
+#[tactic(auto, using(crate::proofs::Changed::not_changed, crate::proofs::Changed::is_changed_so, crate::proofs::Changed::parts_few, crate::proofs::Changed::parts_stand))]
 fn fitting_answer<R: Threads + Wait + Sync, G: Gate + Sync>(
-    rt: &R,
-    alloc: Global,
+    host: &Host<'_, R, G>,
     change: &Change<'_>,
     lines: Seq<Line>,
     bounds: Bounds,
-    gate: &G,
 ) -> Result<Answer, Memory>
     requires fits { misfit change.now.old.now change.now.new.now ≡ None }
+    requires reached { change.now.at ≤ bounds.jobs }
     requires lines { AreRead change.now.old.now lines }
     requires bounds { AreWithin bounds }
     ensures answer { IfOk result
@@ -216,57 +166,79 @@ fn fitting_answer<R: Threads + Wait + Sync, G: Gate + Sync>(
     ensures ending { IfOk result (λ a. IsEnding a.status) }
 {
     let old = change.old;
-    let at = change.at;
-    let Bounds { workers, jobs } = bounds;
     old.kept();
-    if at > jobs {
-        return code_answer(rt, alloc, old, lines, bounds, gate);
-    }
-    let until = Bounds { workers, jobs: at };
-    let mut end = run_first(rt, alloc, old, None, lines, until, gate)?;
-    if ends_before(end.ending, end.books.ended(), at) {
-        return answer_at(alloc, old, &mut end.books, &end.words, end.ending);
+    let Bounds { workers, jobs: _ } = bounds;
+    let until = Bounds {
+        workers,
+        jobs: change.at,
+    };
+    let layout = layout_of(host.alloc, old)?;
+    let end = run_first(host, old, &layout, None, lines, until)?;
+    if ends_before(&end, change.at) {
+        return end_answer(host.alloc, old, end);
     }
     let parts = end.books.into_parts();
-    changed_answer(rt, alloc, change, parts, &end.words, bounds, gate)
+    changed_answer(host, change, &layout, parts, &end.words, bounds)
 }
 
-/// Whether a run that ended so, after so many jobs, has not so many jobs as this, or stopped with the last of them.
-fn ends_before(ending: Ending, ended: u64, at: u32) -> bool
-    ensures { result ≡ ends_before (ending_of ending) ended at }
+/// Whether a run that ended so has not so many jobs as this, or stopped with the last of them.
+fn ends_before(end: &Ended, at: u32) -> bool
+    ensures { result ≡ ends_before (ending_of end.now.ending) end.now.books.state.ended at }
 {
-    match ending {
+    match end.ending {
         Ending::Restart => true,
-        Ending::Done => ended < u64::from(at),
-        Ending::Limit => ended < u64::from(at),
+        Ending::Done => end.books.ended() < u64::from(at),
+        Ending::Limit => end.books.ended() < u64::from(at),
     }
 }
 
 /// The events up to the change, the change, and the report of what follows on the new exchange.
-#[tactic(auto, using(crate::proofs::Changed::changes))]
+#[tactic(auto, using(crate::proofs::Changed::raised_few))]
 fn changed_answer<R: Threads + Wait + Sync, G: Gate + Sync>(
-    rt: &R,
-    alloc: Global,
+    host: &Host<'_, R, G>,
     change: &Change<'_>,
+    layout: &Layout,
     parts: BookParts,
     words: &Seq<u32>,
     bounds: Bounds,
-    gate: &G,
 ) -> Result<Answer, Memory>
     requires fits { misfit change.now.old.now change.now.new.now ≡ None }
-    requires parts { AreParts parts }
+    requires layout { IsLayout change.now.old.now.blocks layout.now }
+    requires standing { AreStanding change.now.old.now parts words.now }
     requires few { parts.ended ≤ bounds.jobs }
-    requires valid { IsValid change.now.old.now (with_words (account_of parts).state words.now) }
     requires bounds { AreWithin bounds }
     ensures answer { IfOk result (IsChanged change.now.old.now change.now.new.now
-        (with_words (account_of parts).state words.now) bounds.jobs change.now.at) }
+        (state_with parts words.now) bounds.jobs change.now.at) }
     ensures ending { IfOk result (λ a. IsEnding a.status) }
 {
-    let text = text_before(alloc, change.old, &parts, change.at)?;
-    let (moved, carried) = carried_over(alloc, change, parts, words)?;
-    let mut end = run_further(rt, alloc, change.new, moved, carried, bounds, gate)?;
-    let answer = headed_answer(text, change.new, &mut end.books, &end.words, end.ending)?;
+    let old = change.old;
+    let new = change.new;
+    let text = text_before(host.alloc, old, &parts, change.at)?;
+    let to = layout_of(host.alloc, new)?;
+    let (moved, carried) = carry(host.alloc, old, new, layout, &to, parts, words)?;
+    let run = raised(moved, carried, bounds.jobs);
+    let crew = Crew {
+        given: None,
+        workers: bounds.workers,
+    };
+    let end = go_on(host, new, &to, crew, run)?;
+    let answer = headed_answer(text, new, end)?;
     Ok(answer)
+}
+
+/// These parts of books and these words, which may go on to so many jobs.
+#[tactic(auto, using(crate::proofs::Changed::raised_books))]
+fn raised(parts: BookParts, words: Seq<u32>, jobs: u32) -> Standing
+    requires parts { AreParts parts }
+    requires few { parts.ended ≤ jobs }
+    requires most { jobs ≤ MOST_JOBS }
+    ensures books { result.books ≡ account_of (record parts { limit = jobs }) }
+    ensures words { result.words ≡ words }
+{
+    let mut parts = parts;
+    parts.limit = u64::from(jobs);
+    let books = Books::from_parts(parts);
+    Standing { books, words }
 }
 
 /// The events up to the change, and the change.
@@ -288,61 +260,4 @@ fn change_text(alloc: Global, at: u32) -> Result<Seq<u8>, Memory>
     print_number(u64::from(at), &mut text)?;
     text.append(b"\n")?;
     Ok(text)
-}
-
-/// The books and the words of the old exchange, as the new one has them.
-fn carried_over(
-    alloc: Global,
-    change: &Change<'_>,
-    parts: BookParts,
-    words: &Seq<u32>,
-) -> Result<(BookParts, Seq<u32>), Memory>
-    requires fits { misfit change.now.old.now change.now.new.now ≡ None }
-    requires parts { AreParts parts }
-    requires valid { IsValid change.now.old.now (with_words (account_of parts).state words.now) }
-    ensures parts { IfOk result (λ r. AreParts r.0) }
-    ensures carried { IfOk result (λ r. IsCarried change.now.old.now change.now.new.now
-        (with_words (account_of parts).state words.now) (with_words (account_of r.0).state r.1)) }
-    ensures valid { IfOk result (λ r. IsValid change.now.new.now
-        (with_words (account_of r.0).state r.1)) }
-{
-    let old_layout = layout_of(alloc, change.old)?;
-    let new_layout = layout_of(alloc, change.new)?;
-    carry(
-        alloc,
-        change.old,
-        change.new,
-        &old_layout,
-        &new_layout,
-        parts,
-        words,
-    )
-}
-
-/// What the single run comes to that goes on from these parts and words, which ends after so many jobs at the latest.
-#[tactic(auto, using(crate::proofs::Changed::raised_rules))]
-fn run_further<R: Threads + Wait + Sync, G: Gate + Sync>(
-    rt: &R,
-    alloc: Global,
-    exchange: &Exchange,
-    parts: BookParts,
-    words: Seq<u32>,
-    bounds: Bounds,
-    gate: &G,
-) -> Result<Ended, Memory>
-    requires parts { AreParts parts }
-    requires few { parts.ended ≤ bounds.jobs }
-    requires valid { IsValid exchange.now (with_words (account_of parts).state words) }
-    requires bounds { AreWithin bounds }
-    ensures { IfOk result (λ end. RunsTo exchange.now
-        (with_words (account_of parts).state words) bounds.jobs
-        end.books.state end.words (ending_of end.ending)) }
-{
-    let Bounds { workers, jobs } = bounds;
-    let mut parts = parts;
-    parts.limit = u64::from(jobs);
-    let books = Books::from_parts(parts);
-    let layout = layout_of(alloc, exchange)?;
-    let run = Standing { books, words };
-    go_on(rt, alloc, exchange, &layout, run, workers, gate)
 }

@@ -4,6 +4,15 @@ use certificate_text::Shape;
 use flow_points::Fact;
 use text_rules::LinkRule;
 
+/// Which exchange text of a command.
+#[derive(Clone, Copy)]
+pub enum Which {
+    /// The one with which it begins.
+    First,
+    /// The one that is to take the place of that.
+    New,
+}
+
 /// Why an exchange text is refused, and where.
 #[derive(Clone, Copy, Debug)]
 pub struct SourceFault {

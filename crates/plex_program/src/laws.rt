@@ -16,8 +16,8 @@ ghost use Rattle.plex_program.specs.TimedAnswer.{merged_at, timed_of};
 ghost use Rattle.command_words.specs.Words.{Word};
 ghost use Rattle.command_words.specs.declared.command.TimedWords.{TimedWords};
 
-/// Where `timed` makes a run, `run` makes the same one of the signal file to which the merged lines are written out, if that is not
-/// too large for a file.
+/// Where `timed` makes a run, `run` makes the same one of the signal file to which the merged lines
+/// are written out, if that is not too large for a file.
 pub fn timed_runs_are_runs()
     ensures { (w : TimedWords) (files others : Files) (name : Word) (x : Exchange)
         (lines all : List Line)
@@ -31,8 +31,8 @@ pub fn timed_runs_are_runs()
 {}
 
 /// What is written out is read again, in the exchange of every text: lines that fit it, that are
-/// numbered from 1 and fewer than 2^32, and whose counts are below 2^32, are the signal lines of the
-/// text that they are written to. So are the merged lines of a signal file and a table.
+/// numbered from 1 and fewer than 2^32, and whose counts are below 2^32, are the signal lines of
+/// the text that they are written to. So are the merged lines of a signal file and a table.
 pub fn written_lines_of_texts_are_read()
     ensures lines { (name : Word) (files : Files) (x : Exchange) (lines : List Line)
         → exchange_at name files ≡ Ok x

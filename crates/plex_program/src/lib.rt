@@ -1,9 +1,9 @@
 // The program as one call.
 //
-// What goes in: the words of the command, a shelf of files and a sink. What comes out: a status, and
-// the text in the sink. The contract of `plex` says which: the answer is a function of the words and
-// the files, the report of the single run among it.
-// It knows no process: main gives it the real devices.
+// What goes in: the words of the command, a shelf of files and a sink. What comes out: a status,
+// and the text in the sink. The contract of `plex` says which: the answer is a function of the
+// words and the files, the report of the single run among it. It knows no process: main gives it
+// the real devices.
 #![tactic(auto)]
 
 mod analysing;
@@ -21,12 +21,11 @@ mod text;
 mod timing;
 mod tracing;
 
-pub use certifying::Unkept;
-pub use fault::{CertificateFault, Rule, SourceFault};
+pub use fault::{CertificateFault, Rule, SourceFault, Which};
 pub use job_table::{TableFault, TableRule};
 pub use laws::{timed_runs_are_runs, written_lines_of_texts_are_read};
-pub use perform::{Answer, Refused, Stop, exchange_in, lines_in};
-pub use program::{Quit, Status, plex, refused_answer, write_answer};
+pub use perform::{Answer, Stop, exchange_in, lines_in};
+pub use program::{Status, plex, write_answer};
 pub use signal_file::{SignalsFault, SignalsRule};
 pub use signal_trace::{FilterFault, FilterRule};
 pub use steady::plex_steady;

@@ -1,16 +1,14 @@
 // The work of each command, up to its answer.
-ghost use Rattle.std.specs.Prelude.{◌≡◌, ◌≤◌, Ok, IfOk, IfSome, length};
+ghost use Rattle.std.specs.Prelude.{◌≡◌, ◌≤◌, IfOk, IfSome, length};
 ghost use Rattle.plex_limits.specs.declared.limits.TheConstants.{MOST_BYTES, MOST_JOBS};
-ghost use Rattle.front_end.specs.Resolved.{resolved};
 ghost use Rattle.plex_program.specs.Program.{IsEnding};
-ghost use Rattle.plex_program.specs.Reading.{IsSpelled};
-ghost use Rattle.plex_program.specs.Stages.{Comes, Performs, Reads, Tells};
-ghost use Rattle.plex_program.specs.Given.{exchange_at, exchange_of_file, exchange_of_tree};
+ghost use Rattle.plex_program.specs.Stages.{Comes, Performs, Reads, TellsOutcome};
+ghost use Rattle.plex_program.specs.Given.{exchange_as, exchange_at, exchange_of_file};
 ghost use Rattle.plex_program.specs.Given.{fitting, lines_at, lines_of_file, text_at};
-ghost use Rattle.plex_program.specs.RunAnswer.{IsCertifiedRun, RunComes, RunsWith, run_answer};
+ghost use Rattle.plex_program.specs.RunAnswer.{IsCertifiedRun, RunsWith, run_answer};
 ghost use Rattle.plex_program.specs.RunAnswer.{run_of};
-ghost use Rattle.plex_program.specs.ListAnswer.{list_of, listing_answer};
-ghost use Rattle.plex_program.specs.LoadAnswer.{load_answer, load_of};
+ghost use Rattle.plex_program.specs.ListAnswer.{list_of};
+ghost use Rattle.plex_program.specs.LoadAnswer.{load_of};
 ghost use Rattle.plex_program.specs.ExchangeAnswer.{AnswersAnalysis, AnswersCertificate};
 ghost use Rattle.plex_program.specs.ExchangeAnswer.{FromExchange};
 ghost use Rattle.plex_program.specs.Answer.{performed};
@@ -18,46 +16,27 @@ ghost use Rattle.plex_program.specs.Runs.{AreOfText, AreRead};
 ghost use Rattle.command_words.specs.Bounded.{AreWithin, HasBounds, IsBounded};
 
 use crate::analysing::{analysis_answer, certificate_answer};
-use crate::certifying::{Unkept, kept_of_text};
+use crate::certifying::kept_of_text;
 use crate::changing::perform_change;
-use crate::fault::{CertificateFault, SourceFault};
+use crate::fault::Which;
+use crate::going::Host;
 use crate::program::Status;
-use crate::reading::{rule_of, source_stop, tree_of_file};
-use crate::running::{answer_by, code_answer, listing_answer, load_answer, source_answer};
+use crate::reading::exchange_of_text;
+use crate::running::{listing_answer, load_answer, run_answer, source_answer};
+use crate::text::{certificate_stop, signals_stop, source_stop};
 use crate::timing::perform_timed;
 use crate::tracing::perform_trace;
 use command_words::{Bounds, Command, RunWords};
 use exchange_model::Exchange;
-use front_end::{TextFault, resolve};
-use job_table::TableFault;
 use load_maker::{load_exchange, load_signals};
-use plex_ast::Tree;
 use plex_io::{Gate, Shelf, ShelfFault, Word};
 use plex_limits::MOST_BYTES;
 use plex_num::{Memory, Seq};
 use signal_file::{Line, SignalsFault, SignalsRule, read_signals};
-use signal_trace::FilterFault;
 use std::alloc::Global;
 use std::sync::Wait;
 use std::thread::Threads;
 use text_parts::Text;
-
-/// The first refusal.
-#[derive(Clone, Copy)]
-pub enum Refused {
-    /// The exchange text has a fault.
-    Source(SourceFault),
-    /// The signal file has a fault.
-    Signals(SignalsFault),
-    /// The certificate is none of the exchange.
-    Certificate(CertificateFault),
-    /// The table of periodic signals has a fault.
-    Table(TableFault),
-    /// The exchange text that is to take the place of the first one has a fault.
-    NewSource(SourceFault),
-    /// The filter has a fault.
-    Filter(FilterFault),
-}
 
 /// What the program writes and ends with.
 pub struct Answer {
@@ -72,9 +51,10 @@ impl Drop for Answer {
 }
 
 /// Why the work stops.
-#[derive(Clone, Copy)]
+#[derive(Drop)]
 pub enum Stop {
-    Refused(Refused),
+    /// With this status and text, which tell the first fault of a file.
+    Told(Answer),
     /// The shelf holds no file of this name.
     NotHeld,
     /// A file could not be read.
@@ -113,41 +93,46 @@ pub(crate) fn text_in<S: Shelf>(
     }
 }
 
-/// The exchange of a file, or the first fault of its text. It stops where the file cannot be read, and wherever memory is refused.
-#[tactic(auto, using(crate::proofs::Stages::comes_rules))]
+/// The exchange of a file, or the first fault of its text. It stops where the file cannot be read,
+/// and wherever memory is refused.
 pub fn exchange_in<S: Shelf>(alloc: Global, shelf: &mut S, name: &Word) -> Result<Exchange, Stop>
     ensures comes { Comes (S.held shelf.old) (exchange_at name.now) (S.faults shelf.old)
         (S.faults shelf.new) result }
     ensures kept { S.held shelf.new ≡ S.held shelf.old }
 {
+    exchange_as(alloc, shelf, name, Which::First)
+}
+
+/// The same of the first exchange of a command, or of another one.
+#[tactic(auto, using(crate::proofs::Stages::comes_rules))]
+pub(crate) fn exchange_as<S: Shelf>(
+    alloc: Global,
+    shelf: &mut S,
+    name: &Word,
+    which: Which,
+) -> Result<Exchange, Stop>
+    ensures comes { Comes (S.held shelf.old) (exchange_as which name.now) (S.faults shelf.old)
+        (S.faults shelf.new) result }
+    ensures kept { S.held shelf.new ≡ S.held shelf.old }
+{
     let text = text_in(alloc, shelf, name)?;
-    exchange_of_file(alloc, &text)
+    exchange_of_file(alloc, which, &text)
 }
 
 /// The exchange that a file's text means.
-#[tactic(auto, using(crate::proofs::Stages::reads_rules))]
-fn exchange_of_file(alloc: Global, text: &Option<Seq<u8>>) -> Result<Exchange, Stop>
+#[tactic(auto, using(crate::proofs::Stages::refused_rules))]
+fn exchange_of_file(alloc: Global, which: Which, text: &Option<Seq<u8>>) -> Result<Exchange, Stop>
     requires { IfSome text.now (λ t. length t ≤ MOST_BYTES) }
-    ensures { Reads (exchange_of_file text.now) result }
+    ensures { Reads (exchange_of_file which text.now) result }
 {
-    let tree = tree_of_file(alloc, text)?;
-    exchange_of_tree(alloc, &tree)
-}
-
-/// The exchange of a tree that breaks no rule.
-#[tactic(auto, using(crate::proofs::Resolving::resolve_rules))]
-fn exchange_of_tree(alloc: Global, tree: &Tree) -> Result<Exchange, Stop>
-    requires { IsSpelled tree.now }
-    ensures { Reads (exchange_of_tree tree.now) result }
-{
-    match resolve(alloc, tree) {
+    match exchange_of_text(alloc, text)? {
         Ok(exchange) => Ok(exchange),
-        Err(TextFault::Rule { rule, line }) => Err(source_stop(line, rule_of(rule))),
-        Err(TextFault::Memory) => Err(Stop::Memory),
+        Err(fault) => Err(source_stop(alloc, which, fault)),
     }
 }
 
-/// The signal lines of a file, or its first faulty line. It stops where the file cannot be read, and wherever memory is refused.
+/// The signal lines of a file, or its first faulty line. It stops where the file cannot be read, and
+/// wherever memory is refused.
 #[tactic(auto, using(crate::proofs::Stages::comes_rules))]
 pub fn lines_in<S: Shelf>(
     alloc: Global,
@@ -158,15 +143,15 @@ pub fn lines_in<S: Shelf>(
     ensures comes { Comes (S.held shelf.old) (lines_at exchange.now name.now) (S.faults shelf.old)
         (S.faults shelf.new) result }
     ensures kept { S.held shelf.new ≡ S.held shelf.old }
-    ensures read { IfOk result (λ lines. AreRead exchange.now lines) }
-    ensures of_text { IfOk result (λ lines. AreOfText exchange.now lines) }
+    ensures read { IfOk result (AreRead exchange.now) }
+    ensures of_text { IfOk result (AreOfText exchange.now) }
 {
     let text = text_in(alloc, shelf, name)?;
     lines_of_file(alloc, exchange, &text)
 }
 
 /// The signal lines of a file's text, which may be too large.
-#[tactic(auto, using(crate::proofs::Stages::refused_rules, crate::proofs::Signals::lines_of_text))]
+#[tactic(auto, using(crate::proofs::Stages::refused_rules, crate::proofs::Tables::lines_of_text))]
 fn lines_of_file(
     alloc: Global,
     exchange: &Exchange,
@@ -174,130 +159,101 @@ fn lines_of_file(
 ) -> Result<Seq<Line>, Stop>
     requires { IfSome text.now (λ t. length t ≤ MOST_BYTES) }
     ensures reads { Reads (lines_of_file exchange.now text.now) result }
-    ensures read { IfOk result (λ lines. AreRead exchange.now lines) }
-    ensures of_text { IfOk result (λ lines. AreOfText exchange.now lines) }
+    ensures read { IfOk result (AreRead exchange.now) }
+    ensures of_text { IfOk result (AreOfText exchange.now) }
 {
     let Some(text) = text else {
-        return Err(Stop::Refused(Refused::Signals(SignalsFault {
-            line: 0,
-            rule: SignalsRule::TooLarge,
-        })));
+        let rule = SignalsRule::TooLarge;
+        return Err(signals_stop(alloc, SignalsFault { line: 0, rule }));
     };
     match read_signals(alloc, exchange, text.as_slice())? {
         Ok(lines) => Ok(lines),
-        Err(fault) => Err(Stop::Refused(Refused::Signals(fault))),
+        Err(fault) => Err(signals_stop(alloc, fault)),
     }
 }
 
 /// `single`.
 #[tactic(auto, using(crate::proofs::Stages::comes_rules))]
-fn perform_single<S: Shelf, G: Gate>(
-    alloc: Global,
+fn perform_single<R, S: Shelf, G: Gate>(
+    host: &Host<'_, R, G>,
     shelf: &mut S,
     words: &RunWords,
-    gate: &G,
 ) -> Result<Answer, Stop>
     requires { words.now.bounds.jobs ≤ MOST_JOBS }
     ensures comes { Comes (S.held shelf.old) (run_of words.now) (S.faults shelf.old)
         (S.faults shelf.new) result }
     ensures ending { IfOk result (λ a. IsEnding a.status) }
 {
-    let exchange = exchange_in(alloc, shelf, &words.exchange)?;
-    let lines = lines_in(alloc, shelf, &exchange, &words.signals)?;
-    let answer = source_answer(alloc, &exchange, lines, words.bounds.jobs, gate)?;
+    let exchange = exchange_in(host.alloc, shelf, &words.exchange)?;
+    let lines = lines_in(host.alloc, shelf, &exchange, &words.signals)?;
+    let answer = source_answer(host, &exchange, lines, words.bounds.jobs)?;
     Ok(answer)
 }
 
 /// `run` without a certificate.
 #[tactic(auto, using(crate::proofs::Stages::comes_rules))]
 fn perform_plain<R: Threads + Wait + Sync, S: Shelf, G: Gate + Sync>(
-    rt: &R,
-    alloc: Global,
+    host: &Host<'_, R, G>,
     shelf: &mut S,
     words: &RunWords,
-    gate: &G,
 ) -> Result<Answer, Stop>
     requires { HasBounds words.now }
     ensures comes { Comes (S.held shelf.old) (run_of words.now) (S.faults shelf.old)
         (S.faults shelf.new) result }
     ensures ending { IfOk result (λ a. IsEnding a.status) }
 {
-    let exchange = exchange_in(alloc, shelf, &words.exchange)?;
-    let lines = lines_in(alloc, shelf, &exchange, &words.signals)?;
-    let answer = code_answer(rt, alloc, &exchange, lines, words.bounds, gate)?;
+    let exchange = exchange_in(host.alloc, shelf, &words.exchange)?;
+    let lines = lines_in(host.alloc, shelf, &exchange, &words.signals)?;
+    let answer = run_answer(host, &exchange, None, lines, words.bounds)?;
     Ok(answer)
 }
 
 /// `run` with a certificate.
 #[tactic(auto, using(crate::proofs::Stages::performs_rules))]
 fn perform_certified<R: Threads + Wait + Sync, S: Shelf, G: Gate + Sync>(
-    rt: &R,
-    alloc: Global,
+    host: &Host<'_, R, G>,
     shelf: &mut S,
     words: &RunWords,
     name: &Word,
-    gate: &G,
 ) -> Result<Answer, Stop>
     requires { HasBounds words.now }
     ensures comes { Performs (S.held shelf.old) (RunsWith words.now name.now)
         (S.faults shelf.old) (S.faults shelf.new) result }
     ensures ending { IfOk result (λ a. IsEnding a.status) }
 {
-    let exchange = exchange_in(alloc, shelf, &words.exchange)?;
-    let lines = lines_in(alloc, shelf, &exchange, &words.signals)?;
-    let text = text_in(alloc, shelf, name)?;
-    answer_certified(rt, alloc, &exchange, &text, lines, words.bounds, gate)
+    let exchange = exchange_in(host.alloc, shelf, &words.exchange)?;
+    let lines = lines_in(host.alloc, shelf, &exchange, &words.signals)?;
+    let text = text_in(host.alloc, shelf, name)?;
+    certified_answer(host, &exchange, &text, lines, words.bounds)
 }
 
 /// The answer of a run whose certificate has this text, which may be too large.
-#[tactic(auto, using(crate::proofs::Certified::certified_runs, crate::proofs::Certified::certified_refused, crate::proofs::Stages::reads_memory, crate::proofs::Stages::reads_answer))]
-fn answer_certified<R: Threads + Wait + Sync, G: Gate + Sync>(
-    rt: &R,
-    alloc: Global,
+#[tactic(auto, using(crate::proofs::Certified::certified_rules))]
+fn certified_answer<R: Threads + Wait + Sync, G: Gate + Sync>(
+    host: &Host<'_, R, G>,
     exchange: &Exchange,
     text: &Option<Seq<u8>>,
     lines: Seq<Line>,
     bounds: Bounds,
-    gate: &G,
 ) -> Result<Answer, Stop>
     requires text { IfSome text.now (λ t. length t ≤ MOST_BYTES) }
     requires lines { AreRead exchange.now lines }
     requires bounds { AreWithin bounds }
-    ensures told { Tells
+    ensures told { TellsOutcome
         (IsCertifiedRun exchange.now text.now (run_answer exchange.now lines bounds.jobs)) result }
     ensures ending { IfOk result (λ a. IsEnding a.status) }
 {
-    match kept_of_text(alloc, exchange, text) {
+    match kept_of_text(host.alloc, exchange, text)? {
         Ok(checked) => {
-            let answer = answer_by(rt, alloc, exchange, Some(checked), lines, bounds, gate)?;
+            let answer = run_answer(host, exchange, Some(checked), lines, bounds)?;
             Ok(answer)
         }
-        Err(Unkept::Faulty(fault)) => Err(Stop::Refused(Refused::Certificate(fault))),
-        Err(Unkept::Memory) => Err(Stop::Memory),
-    }
-}
-
-/// `run`, with a certificate or without one.
-fn perform_code<R: Threads + Wait + Sync, S: Shelf, G: Gate + Sync>(
-    rt: &R,
-    alloc: Global,
-    shelf: &mut S,
-    words: &RunWords,
-    gate: &G,
-) -> Result<Answer, Stop>
-    requires { HasBounds words.now }
-    ensures comes { Performs (S.held shelf.old) (RunComes words.now words.now.certificate)
-        (S.faults shelf.old) (S.faults shelf.new) result }
-    ensures ending { IfOk result (λ a. IsEnding a.status) }
-{
-    match &words.certificate {
-        Some(name) => perform_certified(rt, alloc, shelf, words, name, gate),
-        None => perform_plain(rt, alloc, shelf, words, gate),
+        Err(fault) => Err(certificate_stop(host.alloc, fault)),
     }
 }
 
 /// `analyse`.
-#[tactic(auto, using(crate::proofs::Stages::exchange_rules))]
+#[tactic(auto, using(crate::proofs::Stages::performs_rules))]
 fn perform_analysis<S: Shelf>(alloc: Global, shelf: &mut S, name: &Word) -> Result<Answer, Stop>
     ensures comes { Performs (S.held shelf.old) (FromExchange name.now AnswersAnalysis)
         (S.faults shelf.old) (S.faults shelf.new) result }
@@ -309,7 +265,7 @@ fn perform_analysis<S: Shelf>(alloc: Global, shelf: &mut S, name: &Word) -> Resu
 }
 
 /// `certify`.
-#[tactic(auto, using(crate::proofs::Stages::exchange_rules))]
+#[tactic(auto, using(crate::proofs::Stages::performs_rules))]
 fn perform_certificate<S: Shelf>(alloc: Global, shelf: &mut S, name: &Word) -> Result<Answer, Stop>
     ensures comes { Performs (S.held shelf.old) (FromExchange name.now AnswersCertificate)
         (S.faults shelf.old) (S.faults shelf.new) result }
@@ -335,19 +291,17 @@ fn perform_list<S: Shelf>(alloc: Global, shelf: &mut S, name: &Word) -> Result<A
 /// `load`.
 #[tactic(auto, using(crate::proofs::Stages::reads_rules))]
 fn perform_load<R: Threads + Wait + Sync, G: Gate + Sync>(
-    rt: &R,
-    alloc: Global,
+    host: &Host<'_, R, G>,
     calls: u32,
-    gate: &G,
 ) -> Result<Answer, Stop>
     ensures reads { Reads (load_of calls) result }
     ensures ending { IfOk result (λ a. IsEnding a.status) }
 {
-    let text = load_exchange(alloc, calls)?;
-    let exchange = exchange_of_file(alloc, &fitting(text))?;
-    let text = load_signals(alloc, calls)?;
-    let lines = lines_of_file(alloc, &exchange, &fitting(text))?;
-    let answer = load_answer(rt, alloc, calls, &exchange, lines, gate)?;
+    let text = load_exchange(host.alloc, calls)?;
+    let exchange = exchange_of_file(host.alloc, Which::First, &fitting(text))?;
+    let text = load_signals(host.alloc, calls)?;
+    let lines = lines_of_file(host.alloc, &exchange, &fitting(text))?;
+    let answer = load_answer(host, calls, &exchange, lines)?;
     Ok(answer)
 }
 
@@ -364,14 +318,13 @@ fn fitting(text: Seq<u8>) -> Option<Seq<u8>>
     }
 }
 
-/// What a command comes to. Jobs may run at once on the threads of the handle, and the thread of each calls the gate.
+/// What a command comes to. Jobs may run at once on the threads of the host, and the thread of each
+/// calls the gate.
 #[tactic(auto, using(crate::proofs::Stages::performs_told))]
 pub fn perform<R: Threads + Wait + Sync, S: Shelf, G: Gate + Sync>(
-    rt: &R,
-    alloc: Global,
+    host: &Host<'_, R, G>,
     shelf: &mut S,
     command: &Command,
-    gate: &G,
 ) -> Result<Answer, Stop>
     requires { IsBounded command.now }
     ensures comes { Performs (S.held shelf.old) (performed command.now) (S.faults shelf.old)
@@ -379,14 +332,17 @@ pub fn perform<R: Threads + Wait + Sync, S: Shelf, G: Gate + Sync>(
     ensures ending { IfOk result (λ a. IsEnding a.status) }
 {
     match command {
-        Command::Run(words) => perform_code(rt, alloc, shelf, words, gate),
-        Command::Single(words) => perform_single(alloc, shelf, words, gate),
-        Command::Analyse(name) => perform_analysis(alloc, shelf, name),
-        Command::Certify(name) => perform_certificate(alloc, shelf, name),
-        Command::List(name) => perform_list(alloc, shelf, name),
-        Command::Load(calls) => perform_load(rt, alloc, *calls, gate),
-        Command::Timed(words) => perform_timed(rt, alloc, shelf, words, gate),
-        Command::Change(words) => perform_change(rt, alloc, shelf, words, gate),
-        Command::Trace(words) => perform_trace(alloc, shelf, words),
+        Command::Run(words) => match &words.certificate {
+            Some(name) => perform_certified(host, shelf, words, name),
+            None => perform_plain(host, shelf, words),
+        },
+        Command::Single(words) => perform_single(host, shelf, words),
+        Command::Analyse(name) => perform_analysis(host.alloc, shelf, name),
+        Command::Certify(name) => perform_certificate(host.alloc, shelf, name),
+        Command::List(name) => perform_list(host.alloc, shelf, name),
+        Command::Load(calls) => perform_load(host, *calls),
+        Command::Timed(words) => perform_timed(host, shelf, words),
+        Command::Change(words) => perform_change(host, shelf, words),
+        Command::Trace(words) => perform_trace(host.alloc, shelf, words),
     }
 }

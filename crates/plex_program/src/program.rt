@@ -1,14 +1,15 @@
 // The program as one call.
-ghost use Rattle.std.specs.Prelude.{◌≡◌, IfSome, None, Some, ◌⊎◌};
-ghost use Rattle.plex_program.specs.Answer.{IsAnswer, refused_answer, refused_status, usage_answer};
+ghost use Rattle.std.specs.Prelude.{◌≡◌, IfSome, None, Ok, ◌⊎◌};
+ghost use Rattle.plex_program.specs.Answer.{IsAnswer, usage_answer};
 ghost use Rattle.plex_program.specs.Program.{Answers, Ends, EndsAs, IsComplete, IsPlain, Makes};
 ghost use Rattle.plex_program.specs.Program.{ReadCause, WriteCause, exit_number};
-ghost use Rattle.command_words.specs.Bounded.{IsBounded};
+ghost use Rattle.plex_program.specs.Stages.{Reads};
 ghost use Rattle.command_words.specs.Words.{shape};
 
-use crate::perform::{Answer, Refused, Stop, perform};
-use crate::text::{refusal_line, usage_line};
-use command_words::{Command, read_command};
+use crate::going::Host;
+use crate::perform::{Answer, Stop, perform};
+use crate::text::usage_line;
+use command_words::read_command;
 use plex_io::{Gate, Shelf, Sink, Word};
 use plex_num::Seq;
 use std::alloc::Global;
@@ -41,7 +42,8 @@ pub enum Status {
     Certificate,
     /// The table of periodic signals has a fault; the line that tells the first one was written.
     Table,
-    /// The exchange that is to take the place of the first one does not fit; the line that tells what it has not was written.
+    /// The exchange that is to take the place of the first one does not fit; the line that tells what
+    /// it has not was written.
     Change,
     /// The filter has a fault; the line that tells the first one was written.
     Filter,
@@ -73,10 +75,10 @@ impl Status {
 /// The program: reads the files that the words name, and writes the answer.
 ///
 /// `words` are the command's words without the program's name. Where the shelf tells its files, the
-/// status and the text are those of the answer (`IsAnswer`), but for `Read` where a read failed, `Write` where the
-/// sink failed or is full, and then a proper front of the text was written, and `Memory`. Where the words
-/// allow more than one worker, jobs may run at once on threads of `rt`, each of which calls `gate` before and after its job;
-/// the answer is that of the single run all the same.
+/// status and the text are those of the answer (`IsAnswer`), but for `Read` where a read failed,
+/// `Write` where the sink failed or is full, and then a proper front of the text was written, and
+/// `Memory`. Where the words allow more than one worker, jobs may run at once on threads of `rt`, each
+/// of which calls `gate` before and after its job; the answer is that of the single run all the same.
 #[tactic(auto, using(crate::proofs::Endings::ending))]
 pub fn plex<R: Threads + Wait + Sync, S: Shelf, K: Sink, G: Gate + Sync>(
     rt: &R,
@@ -92,7 +94,7 @@ pub fn plex<R: Threads + Wait + Sync, S: Shelf, K: Sink, G: Gate + Sync>(
     ensures unshaped { shape words.now ≡ None →
         Ends usage_answer (K.written sink.old) (K.written sink.new) result }
     ensures usage { result ≡ Status.Usage → shape words.now ≡ None }
-    ensures read { result ≡ Status.Read → ReadCause (S.held shelf.old) words.now
+    ensures read { result ≡ Status.Read → ReadCause (IsAnswer words.now) (S.held shelf.old)
         (S.faults shelf.old) (S.faults shelf.new) (K.written sink.old) (K.written sink.new) }
     ensures write { result ≡ Status.Write →
         WriteCause (K.size sink.old) (K.written sink.new) (K.faults sink.old) (K.faults sink.new) }
@@ -100,100 +102,44 @@ pub fn plex<R: Threads + Wait + Sync, S: Shelf, K: Sink, G: Gate + Sync>(
     ensures complete { IfSome (S.held shelf.old) (λ files. IsComplete (IsAnswer words.now files)
         (S.faults shelf.old) (S.faults shelf.new) (K.faults sink.old) (K.faults sink.new) result) }
 {
-    match answered(rt, alloc, words, shelf, gate) {
+    let host = Host { rt, alloc, gate };
+    match answered(&host, words, shelf) {
         Ok(answer) => write_answer(sink, &answer),
-        Err(Quit::Read) => Status::Read,
-        Err(Quit::Memory) => Status::Memory,
+        Err(Stop::Told(answer)) => write_answer(sink, &answer),
+        Err(Stop::NotHeld) => Status::Read,
+        Err(Stop::Failed) => Status::Read,
+        Err(Stop::Memory) => Status::Memory,
     }
-}
-
-/// Why nothing is written.
-#[derive(Clone, Copy, Debug)]
-pub enum Quit {
-    Read,
-    Memory,
 }
 
 /// The answer to the words.
 #[tactic(auto, using(crate::proofs::Endings::answering))]
 fn answered<R: Threads + Wait + Sync, S: Shelf, G: Gate + Sync>(
-    rt: &R,
-    alloc: Global,
+    host: &Host<'_, R, G>,
     words: &[Word],
     shelf: &mut S,
-    gate: &G,
-) -> Result<Answer, Quit>
-    ensures answers { Answers (S.held shelf.old) words.now (S.faults shelf.old)
+) -> Result<Answer, Stop>
+    ensures answers { Answers (IsAnswer words.now) (S.held shelf.old) (S.faults shelf.old)
         (S.faults shelf.new) result }
+    ensures made { Makes (shape words.now ≡ None) usage_answer result }
 {
-    match read_command(alloc, words) {
-        Ok(Some(command)) => commanded(rt, alloc, words, &command, shelf, gate),
-        Ok(None) => usage_answer(alloc),
-        Err(_) => Err(Quit::Memory),
-    }
-}
-
-/// The answer to the command that these words are.
-#[tactic(auto, using(crate::proofs::Endings::answering))]
-fn commanded<R: Threads + Wait + Sync, S: Shelf, G: Gate + Sync>(
-    rt: &R,
-    alloc: Global,
-    words: &[Word],
-    command: &Command,
-    shelf: &mut S,
-    gate: &G,
-) -> Result<Answer, Quit>
-    requires bounded { IsBounded command.now }
-    requires is { Some command.now ≡ shape words.now }
-    ensures answers { Answers (S.held shelf.old) words.now (S.faults shelf.old)
-        (S.faults shelf.new) result }
-{
-    let _ = words;
-    match perform(rt, alloc, shelf, command, gate) {
-        Ok(answer) => Ok(answer),
-        Err(Stop::NotHeld) => Err(Quit::Read),
-        Err(Stop::Refused(refused)) => refused_answer(alloc, refused),
-        Err(Stop::Failed) => Err(Quit::Read),
-        Err(Stop::Memory) => Err(Quit::Memory),
-    }
-}
-
-/// The answer of a refusal: its line, and the status of what is refused.
-pub fn refused_answer(alloc: Global, refused: Refused) -> Result<Answer, Quit>
-    ensures { Makes (refused_answer refused) result }
-{
-    match refusal_line(alloc, refused) {
-        Ok(text) => Ok(Answer {
-            status: refused_status(refused),
-            text: Text::whole(alloc, text),
-        }),
-        Err(_) => Err(Quit::Memory),
-    }
-}
-
-fn refused_status(refused: Refused) -> Status
-    ensures { result ≡ refused_status refused }
-{
-    match refused {
-        Refused::Source(_) => Status::Source,
-        Refused::Signals(_) => Status::Signals,
-        Refused::Certificate(_) => Status::Certificate,
-        Refused::Table(_) => Status::Table,
-        Refused::NewSource(_) => Status::Source,
-        Refused::Filter(_) => Status::Filter,
+    match read_command(host.alloc, words) {
+        Ok(Some(command)) => perform(host, shelf, &command),
+        Ok(None) => usage_answer(host.alloc),
+        Err(_) => Err(Stop::Memory),
     }
 }
 
 /// The usage line.
-fn usage_answer(alloc: Global) -> Result<Answer, Quit>
-    ensures { Makes usage_answer result }
+fn usage_answer(alloc: Global) -> Result<Answer, Stop>
+    ensures { Reads (Ok usage_answer) result }
 {
     match Seq::copied(alloc, usage_line()) {
         Ok(text) => Ok(Answer {
             status: Status::Usage,
             text: Text::whole(alloc, text),
         }),
-        Err(_) => Err(Quit::Memory),
+        Err(_) => Err(Stop::Memory),
     }
 }
 

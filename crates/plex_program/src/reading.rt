@@ -1,70 +1,107 @@
-// The tree of an exchange text, or its first fault.
+// The exchange of a text, or its first fault.
 ghost use Rattle.std.specs.Prelude.{◌≡◌, ◌≤◌, IfOk, IfSome, length};
 ghost use Rattle.plex_ast.specs.Grammar.{Sentence};
 ghost use Rattle.plex_limits.specs.declared.limits.TheConstants.{MOST_BYTES, MOST_TOKENS};
 ghost use Rattle.plex_lexer.specs.Lines.{feeds};
-ghost use Rattle.plex_program.specs.Stages.{Reads};
-ghost use Rattle.plex_program.specs.Outcome.{or_refused};
-ghost use Rattle.plex_program.specs.Reading.{at_line, end_line, rule_of, token_line, tree_of};
-ghost use Rattle.plex_program.specs.Reading.{tree_of_file, tree_of_tokens, IsSpelled};
+ghost use Rattle.front_end.specs.Resolved.{resolved};
+ghost use Rattle.plex_program.specs.Reading.{Finds, IsSpelled, at_line, end_line};
+ghost use Rattle.plex_program.specs.Reading.{exchange_of_text};
+ghost use Rattle.plex_program.specs.Reading.{resolved_or, rule_of, token_line, tree_of};
+ghost use Rattle.plex_program.specs.Reading.{tree_of_file, tree_of_tokens};
 
 use crate::fault::{Rule, SourceFault};
-use crate::perform::{Refused, Stop};
+use exchange_model::Exchange;
+use front_end::{TextFault, resolve};
 use plex_ast::Tree;
 use plex_lexer::{LexFault, Tokens, lex};
-use plex_num::Seq;
+use plex_num::{Memory, Seq};
 use plex_parser::{ParseFault, parse};
 use std::alloc::Global;
 use text_rules::Rule as TextRule;
 
-/// The tree of a file's text, which may be too large.
-pub fn tree_of_file(alloc: Global, text: &Option<Seq<u8>>) -> Result<Tree, Stop>
+/// The exchange that a file's text means, which may be too large, or its first fault.
+#[tactic(auto, using(crate::proofs::Faults::found_rules))]
+pub fn exchange_of_text(
+    alloc: Global,
+    text: &Option<Seq<u8>>,
+) -> Result<Result<Exchange, SourceFault>, Memory>
     requires { IfSome text.now (λ t. length t ≤ MOST_BYTES) }
-    ensures reads { Reads (or_refused Refused.Source (tree_of_file text.now)) result }
-    ensures spelled { IfOk result IsSpelled }
+    ensures { Finds (exchange_of_text text.now) result }
+{
+    match tree_of_file(alloc, text)? {
+        Ok(tree) => {
+            let found = exchange_of_tree(alloc, &tree)?;
+            Ok(found)
+        }
+        Err(fault) => Ok(Err(fault)),
+    }
+}
+
+/// The exchange of a tree that breaks no rule.
+#[tactic(auto, using(crate::proofs::Faults::resolve_rules))]
+fn exchange_of_tree(alloc: Global, tree: &Tree) -> Result<Result<Exchange, SourceFault>, Memory>
+    requires { IsSpelled tree.now }
+    ensures { Finds (resolved_or (resolved tree.now)) result }
+{
+    match resolve(alloc, tree) {
+        Ok(exchange) => Ok(Ok(exchange)),
+        Err(TextFault::Rule { rule, line }) => Ok(Err(fault_at(line, rule_of(rule)))),
+        Err(TextFault::Memory) => Err(Memory),
+    }
+}
+
+/// The tree of a file's text.
+fn tree_of_file(alloc: Global, text: &Option<Seq<u8>>) -> Result<Result<Tree, SourceFault>, Memory>
+    requires { IfSome text.now (λ t. length t ≤ MOST_BYTES) }
+    ensures is { Finds (tree_of_file text.now) result }
+    ensures spelled { IfOk result (λ found. IfOk found IsSpelled) }
 {
     match text {
         Some(text) => tree_of(alloc, text.as_slice()),
-        None => Err(source_stop(0, Rule::TooLarge)),
+        None => Ok(Err(fault_at(0, Rule::TooLarge))),
     }
 }
 
-#[tactic(auto, unfolding(crate::specs::Reading::tree_of), using(crate::proofs::Spelled::text_spells))]
-fn tree_of(alloc: Global, text: &[u8]) -> Result<Tree, Stop>
+#[tactic(auto, unfolding(crate::specs::Reading::tree_of), using(crate::proofs::Faults::all_found))]
+fn tree_of(alloc: Global, text: &[u8]) -> Result<Result<Tree, SourceFault>, Memory>
     requires { length text.now ≤ MOST_BYTES }
-    ensures reads { Reads (or_refused Refused.Source (tree_of text.now)) result }
-    ensures spelled { IfOk result IsSpelled }
+    ensures is { Finds (tree_of text.now) result }
+    ensures spelled { IfOk result (λ found. IfOk found IsSpelled) }
 {
     match lex(alloc, text) {
         Ok(tokens) => tree_of_tokens(alloc, text, &tokens),
-        Err(LexFault::BadByte { line, .. }) => Err(source_stop(line, Rule::BadByte)),
-        Err(LexFault::BadNumber { line, .. }) => Err(source_stop(line, Rule::BadNumber)),
-        Err(LexFault::LongName { line, .. }) => Err(source_stop(line, Rule::LongName)),
-        Err(LexFault::Memory) => Err(Stop::Memory),
+        Err(LexFault::BadByte { line, .. }) => Ok(Err(fault_at(line, Rule::BadByte))),
+        Err(LexFault::BadNumber { line, .. }) => Ok(Err(fault_at(line, Rule::BadNumber))),
+        Err(LexFault::LongName { line, .. }) => Ok(Err(fault_at(line, Rule::LongName))),
+        Err(LexFault::Memory) => Err(Memory),
     }
 }
 
-fn tree_of_tokens(alloc: Global, text: &[u8], tokens: &Tokens<'_>) -> Result<Tree, Stop>
+fn tree_of_tokens(
+    alloc: Global,
+    text: &[u8],
+    tokens: &Tokens<'_>,
+) -> Result<Result<Tree, SourceFault>, Memory>
     requires text { length text.now ≤ MOST_BYTES }
     requires tokens { length tokens.now ≤ MOST_TOKENS }
-    ensures reads { Reads (or_refused Refused.Source (tree_of_tokens text.now tokens.now)) result }
-    ensures spelled { IfOk result (λ t. Sentence t tokens.now) }
+    ensures is { Finds (tree_of_tokens text.now tokens.now) result }
+    ensures spelled { IfOk result (λ found. IfOk found (λ t. Sentence t tokens.now)) }
 {
     match parse(alloc, tokens) {
-        Ok(tree) => Ok(tree),
+        Ok(tree) => Ok(Ok(tree)),
         Err(ParseFault::Unexpected { token }) => {
-            Err(source_stop(token_line(tokens, token), Rule::Unexpected))
+            Ok(Err(fault_at(token_line(tokens, token), Rule::Unexpected)))
         }
-        Err(ParseFault::Ended) => Err(source_stop(end_line(text), Rule::Ended)),
+        Err(ParseFault::Ended) => Ok(Err(fault_at(end_line(text), Rule::Ended))),
         Err(ParseFault::TooDeep { token }) => {
-            Err(source_stop(token_line(tokens, token), Rule::TooDeep))
+            Ok(Err(fault_at(token_line(tokens, token), Rule::TooDeep)))
         }
-        Err(ParseFault::Memory) => Err(Stop::Memory),
+        Err(ParseFault::Memory) => Err(Memory),
     }
 }
 
 /// The word of a rule of a text.
-pub fn rule_of(rule: TextRule) -> Rule
+fn rule_of(rule: TextRule) -> Rule
     ensures { result ≡ rule_of rule }
 {
     match rule {
@@ -74,15 +111,15 @@ pub fn rule_of(rule: TextRule) -> Rule
     }
 }
 
-/// The stop at a fault of the source.
-pub fn source_stop(line: u32, rule: Rule) -> Stop
-    ensures { result ≡ Stop.Refused (Refused.Source (at_line line rule)) }
+/// The fault of a rule on a line.
+fn fault_at(line: u32, rule: Rule) -> SourceFault
+    ensures { result ≡ at_line line rule }
 {
-    Stop::Refused(Refused::Source(SourceFault { line, rule }))
+    SourceFault { line, rule }
 }
 
 /// The line of the token at a place; 0 where there is none.
-#[tactic(auto, using(crate::proofs::TokenLines::line_rules))]
+#[tactic(auto, using(crate::proofs::Faults::line_rules))]
 fn token_line(tokens: &Tokens<'_>, place: u32) -> u32
     ensures { result ≡ token_line tokens.now place }
 {

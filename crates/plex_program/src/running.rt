@@ -1,31 +1,30 @@
-// The single run of an exchange, and what is told of it: one job at a time, by the source or by the code, or several at once; and the
-// listing of the code that runs.
+// What is told of the single run of an exchange: one job at a time, by the source or by the code, or
+// several at once; and the listing of the code that runs.
 ghost use Rattle.std.specs.Prelude.{◌≡◌, ◌≤◌, IfOk, IfSome};
 ghost use Rattle.plex_limits.specs.declared.limits.TheConstants.{MOST_JOBS};
 ghost use Rattle.checked.specs.Kept.{IsChecked};
-ghost use Rattle.retire_order.specs.Accounts.{with_words};
 ghost use Rattle.retire_order.specs.Events.{ending_of};
 ghost use Rattle.plex_program.specs.Outcome.{headed_by};
-ghost use Rattle.plex_program.specs.RunAnswer.{ended_answer, ended_status, run_answer};
+ghost use Rattle.plex_program.specs.RunAnswer.{ended_status, ending_answer, run_answer};
 ghost use Rattle.plex_program.specs.ListAnswer.{listing_answer};
 ghost use Rattle.plex_program.specs.LoadAnswer.{load_answer};
 ghost use Rattle.plex_program.specs.Program.{IsEnding};
 ghost use Rattle.plex_program.specs.Runs.{AreRead};
 ghost use Rattle.command_words.specs.Bounded.{AreWithin};
 
-use crate::going::run_first;
+use crate::going::{Host, run_first};
 use crate::perform::Answer;
 use crate::program::Status;
 use checked::Checked;
 use code_gen::compile;
 use command_words::{Bounds, USUAL_JOBS, USUAL_WORKERS};
 use exchange_model::Exchange;
-use exchange_run::{BySource, run_lines};
+use exchange_run::{BySource, Ended, Unwatched, before_lines, run_books};
 use listing::print_code;
 use plex_io::Gate;
 use plex_num::{Memory, Seq};
 use report_text::{add_report, load_summary, report};
-use retire_order::{Books, Ending};
+use retire_order::Ending;
 use signal_file::Line;
 use std::alloc::Global;
 use std::sync::Wait;
@@ -33,58 +32,38 @@ use std::thread::Threads;
 use store_layout::layout_of;
 use text_parts::Text;
 
-/// The answer of the single run of these lines by the source itself, which ends after so many jobs at the latest. It calls the gate before
-/// and after each job.
-#[tactic(auto, using(crate::proofs::Answering::answer_is))]
-pub fn source_answer<G: Gate>(
-    alloc: Global,
+/// The answer of the single run of these lines by the source itself, which ends after so many jobs at
+/// the latest. It calls the gate before and after each job.
+#[tactic(auto, using(crate::proofs::Answering::answer_is, crate::proofs::Opened::opened_rules))]
+pub fn source_answer<R, G: Gate>(
+    host: &Host<'_, R, G>,
     exchange: &Exchange,
     lines: Seq<Line>,
     jobs: u32,
-    gate: &G,
 ) -> Result<Answer, Memory>
     requires lines { AreRead exchange.now lines }
     requires jobs { jobs ≤ MOST_JOBS }
     ensures answer { IfOk result (λ a. a ≡ run_answer exchange.now lines jobs) }
     ensures ending { IfOk result (λ a. IsEnding a.status) }
 {
-    let layout = layout_of(alloc, exchange)?;
-    let mut runner = BySource::new(alloc, gate);
-    let limit = u64::from(jobs);
-    let mut end = run_lines(alloc, exchange, &layout, lines, limit, &mut runner)?;
-    let answer = answer_at(alloc, exchange, &mut end.books, &end.words, end.ending)?;
+    let layout = layout_of(host.alloc, exchange)?;
+    let run = before_lines(host.alloc, exchange, &layout, lines, u64::from(jobs))?;
+    let mut runner = BySource::new(host.alloc, exchange, host.gate)?;
+    let end = run_books(exchange, &layout, run, &mut runner, &mut Unwatched)?;
+    let answer = end_answer(host.alloc, exchange, end)?;
     Ok(answer)
 }
 
-/// The same answer, by compiled code. One worker runs one job after the other; with more, so many jobs run at once at most, as far as
-/// the exchange's own certificate lets them. Where that would have so many facts that it takes long to make, one job runs after the
-/// other too.
-pub fn code_answer<R: Threads + Wait + Sync, G: Gate + Sync>(
-    rt: &R,
-    alloc: Global,
-    exchange: &Exchange,
-    lines: Seq<Line>,
-    bounds: Bounds,
-    gate: &G,
-) -> Result<Answer, Memory>
-    requires lines { AreRead exchange.now lines }
-    requires bounds { AreWithin bounds }
-    ensures answer { IfOk result (λ a. a ≡ run_answer exchange.now lines bounds.jobs) }
-    ensures ending { IfOk result (λ a. IsEnding a.status) }
-{
-    answer_by(rt, alloc, exchange, None, lines, bounds, gate)
-}
-
-/// The same answer, as far as what is kept of a certificate lets jobs run at once; one job after the other where nothing is kept.
+/// The same answer by compiled code, as far as what is kept of a certificate lets jobs run at once,
+/// or the exchange's own, where none is given. Where that would have so many facts that it takes long
+/// to make, and with one worker, one job runs after the other.
 #[tactic(auto, using(crate::proofs::Answering::answer_is))]
-pub fn answer_by<R: Threads + Wait + Sync, G: Gate + Sync>(
-    rt: &R,
-    alloc: Global,
+pub fn run_answer<R: Threads + Wait + Sync, G: Gate + Sync>(
+    host: &Host<'_, R, G>,
     exchange: &Exchange,
     given: Option<Checked>,
     lines: Seq<Line>,
     bounds: Bounds,
-    gate: &G,
 ) -> Result<Answer, Memory>
     requires given { IfSome given (IsChecked exchange.now) }
     requires lines { AreRead exchange.now lines }
@@ -92,25 +71,24 @@ pub fn answer_by<R: Threads + Wait + Sync, G: Gate + Sync>(
     ensures answer { IfOk result (λ a. a ≡ run_answer exchange.now lines bounds.jobs) }
     ensures ending { IfOk result (λ a. IsEnding a.status) }
 {
-    let mut end = run_first(rt, alloc, exchange, given, lines, bounds, gate)?;
-    let answer = answer_at(alloc, exchange, &mut end.books, &end.words, end.ending)?;
+    let layout = layout_of(host.alloc, exchange)?;
+    let end = run_first(host, exchange, &layout, given, lines, bounds)?;
+    let answer = end_answer(host.alloc, exchange, end)?;
     Ok(answer)
 }
 
 /// The report of a run that has come to this end, and the status of its ending.
 #[tactic(auto, using(crate::proofs::Answering::told_at, crate::proofs::Answering::status_ends))]
-pub(crate) fn answer_at(
-    alloc: Global,
-    exchange: &Exchange,
-    books: &mut Books,
-    words: &Seq<u32>,
-    ending: Ending,
-) -> Result<Answer, Memory>
-    ensures answer { IfOk result (λ a. a ≡ ended_answer exchange.now
-        (with_words books.old.state words.now) (ending_of ending)) }
+pub fn end_answer(alloc: Global, exchange: &Exchange, end: Ended) -> Result<Answer, Memory>
+    ensures answer { IfOk result (λ a. a ≡ ending_answer exchange.now end) }
     ensures ending { IfOk result (λ a. IsEnding a.status) }
 {
-    let text = report(alloc, exchange, books, words, ending)?;
+    let Ended {
+        mut books,
+        words,
+        ending,
+    } = end;
+    let text = report(alloc, exchange, &mut books, &words, ending)?;
     Ok(Answer {
         status: status_of(ending),
         text,
@@ -119,34 +97,31 @@ pub(crate) fn answer_at(
 
 /// The same report behind a text, and the status of its ending.
 #[tactic(auto, using(crate::proofs::Answering::told_headed, crate::proofs::Answering::status_ends))]
-pub(crate) fn headed_answer(
-    text: Text,
-    exchange: &Exchange,
-    books: &mut Books,
-    words: &Seq<u32>,
-    ending: Ending,
-) -> Result<Answer, Memory>
-    ensures answer { IfOk result (λ a. a ≡ headed_by text (ended_answer exchange.now
-        (with_words books.old.state words.now) (ending_of ending))) }
+pub fn headed_answer(text: Text, exchange: &Exchange, end: Ended) -> Result<Answer, Memory>
+    ensures answer { IfOk result (λ a. a ≡ headed_by text (ending_answer exchange.now end)) }
     ensures ending { IfOk result (λ a. IsEnding a.status) }
 {
+    let Ended {
+        mut books,
+        words,
+        ending,
+    } = end;
     let mut text = text;
-    add_report(&mut text, exchange, books, words, ending)?;
+    add_report(&mut text, exchange, &mut books, &words, ending)?;
     Ok(Answer {
         status: status_of(ending),
         text,
     })
 }
 
-/// The answer of the single run of these lines of a load, as far as the exchange's own certificate lets jobs run at once.
+/// The answer of the single run of these lines of a load, as far as the exchange's own certificate
+/// lets jobs run at once.
 #[tactic(auto, using(crate::proofs::Answering::status_ends))]
 pub fn load_answer<R: Threads + Wait + Sync, G: Gate + Sync>(
-    rt: &R,
-    alloc: Global,
+    host: &Host<'_, R, G>,
     calls: u32,
     exchange: &Exchange,
     lines: Seq<Line>,
-    gate: &G,
 ) -> Result<Answer, Memory>
     requires lines { AreRead exchange.now lines }
     ensures answer { IfOk result (λ a. a ≡ load_answer calls exchange.now lines) }
@@ -156,8 +131,9 @@ pub fn load_answer<R: Threads + Wait + Sync, G: Gate + Sync>(
         workers: USUAL_WORKERS,
         jobs: USUAL_JOBS,
     };
-    let mut end = run_first(rt, alloc, exchange, None, lines, bounds, gate)?;
-    let text = load_summary(alloc, calls, &mut end.books, end.ending)?;
+    let layout = layout_of(host.alloc, exchange)?;
+    let mut end = run_first(host, exchange, &layout, None, lines, bounds)?;
+    let text = load_summary(host.alloc, calls, &mut end.books, end.ending)?;
     Ok(Answer {
         status: status_of(end.ending),
         text,

@@ -10,9 +10,10 @@ use std::alloc::Global;
 use std::sync::Wait;
 use std::thread::Threads;
 
-/// `plex` over a steady shelf and a steady sink. No read fails and no file is missing. Where the sink has room for the answer's text, no
-/// write fails either: the whole text is written and the status is the answer's, or memory was refused. After `Memory` nothing was
-/// written. This follows from the contract of `plex` alone, and so holds for each call of it with two such devices.
+/// `plex` over a steady shelf and a steady sink. No read fails and no file is missing. Where the
+/// sink has room for the answer's text, no write fails either: the whole text is written and the
+/// status is the answer's, or memory was refused. After `Memory` nothing was written. This follows
+/// from the contract of `plex` alone, and so holds for each call of it with two such devices.
 #[tactic(auto, using(crate::proofs::Whole::whole_end, crate::proofs::Whole::silent_end))]
 pub fn plex_steady<R: Threads + Wait + Sync, G: Gate + Sync>(
     rt: &R,

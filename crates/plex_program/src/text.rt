@@ -1,20 +1,25 @@
-// The lines that are written in place of a report.
+// The lines that are written in place of a report, and the stops that tell them.
 ghost use Rattle.std.specs.Prelude.{◌≡◌, ◌++◌, IfOk, OnOk};
 ghost use Rattle.std.specs.List.{flat_map};
-ghost use Rattle.plex_program.specs.Text.{certificate_text, fact_text, filter_rule_name, link_name};
-ghost use Rattle.plex_program.specs.Text.{numbered_name, other_exchange, refusal_text, rule_line};
-ghost use Rattle.plex_program.specs.Text.{rule_name, shape_numbers, signals_rule_name, spaced};
+ghost use Rattle.plex_program.specs.Stages.{IsRefusal, IsStopOf, IsStopWith};
+ghost use Rattle.plex_program.specs.Text.{certificate_refusal, certificate_text, fact_text};
+ghost use Rattle.plex_program.specs.Text.{filter_refusal, filter_rule_name, link_name};
+ghost use Rattle.plex_program.specs.Text.{numbered_name, other_exchange, rule_line, rule_name};
+ghost use Rattle.plex_program.specs.Text.{shape_numbers, signals_refusal, signals_rule_name};
+ghost use Rattle.plex_program.specs.Text.{source_refusal, source_words, spaced, table_refusal};
 ghost use Rattle.plex_program.specs.Text.{table_rule_name, usage_text};
 
-use crate::fault::{CertificateFault, Rule, SourceFault};
-use crate::perform::Refused;
+use crate::fault::{CertificateFault, Rule, SourceFault, Which};
+use crate::perform::{Answer, Stop};
+use crate::program::Status;
 use certificate_text::{Shape, print_fact};
 use flow_points::Fact;
-use job_table::TableRule;
+use job_table::{TableFault, TableRule};
 use plex_num::{Memory, Seq, print_number};
-use signal_file::SignalsRule;
-use signal_trace::FilterRule;
+use signal_file::{SignalsFault, SignalsRule};
+use signal_trace::{FilterFault, FilterRule};
 use std::alloc::Global;
+use text_parts::Text;
 use text_rules::LinkRule;
 
 /// The usage line.
@@ -25,29 +30,75 @@ pub fn usage_line() -> &'static [u8]
     b"usage: plex run E S [--workers N] [--jobs N] [--cert F] | plex single E S [--jobs N] | plex analyse E | plex certify E | plex list E | plex load N | plex timed E S T [--workers N] [--jobs N] | plex change E S E2 K [--workers N] [--jobs N] | plex trace E S Q [--jobs N]\n"
 }
 
-/// The line of a refusal.
-#[tactic(auto, unfolding(crate::specs::Text::refusal_text))]
-pub fn refusal_line(alloc: Global, refused: Refused) -> Result<Seq<u8>, Memory>
-    ensures { IfOk result (λ text. text ≡ refusal_text refused) }
+/// The stop at a fault of an exchange text.
+#[tactic(auto, unfolding(crate::specs::Text::source_refusal), using(crate::proofs::Faults::told_so))]
+pub fn source_stop(alloc: Global, which: Which, fault: SourceFault) -> Stop
+    ensures { IsStopOf (source_refusal which fault) result }
 {
-    match refused {
-        Refused::Source(fault) => source_line(alloc, b"SOURCE line ", fault),
-        Refused::Signals(fault) => {
-            line_of(
-                alloc,
-                b"SIGNALS line ",
-                fault.line,
-                signals_word(fault.rule),
-            )
-        }
-        Refused::Certificate(fault) => certificate_line(alloc, fault),
-        Refused::Table(fault) => {
-            line_of(alloc, b"TABLE line ", fault.line, table_word(fault.rule))
-        }
-        Refused::NewSource(fault) => source_line(alloc, b"NEWSOURCE line ", fault),
-        Refused::Filter(fault) => {
-            line_of(alloc, b"FILTER line ", fault.line, filter_word(fault.rule))
-        }
+    let line = source_line(alloc, source_words(which), fault);
+    stop_with(alloc, Status::Source, line)
+}
+
+/// The words in front of the line of a fault of an exchange text.
+fn source_words(which: Which) -> &'static [u8]
+    ensures { result.now ≡ source_words which }
+{
+    match which {
+        Which::First => b"SOURCE line ",
+        Which::New => b"NEWSOURCE line ",
+    }
+}
+
+/// The stop at a fault of a signal file.
+#[tactic(auto, unfolding(crate::specs::Text::signals_refusal), using(crate::proofs::Faults::told_so))]
+pub fn signals_stop(alloc: Global, fault: SignalsFault) -> Stop
+    ensures { IsStopOf (signals_refusal fault) result }
+{
+    let rule = signals_word(fault.rule);
+    let line = line_of(alloc, b"SIGNALS line ", fault.line, rule);
+    stop_with(alloc, Status::Signals, line)
+}
+
+/// The stop at a fault of a certificate.
+#[tactic(auto, unfolding(crate::specs::Text::certificate_refusal), using(crate::proofs::Faults::told_so))]
+pub fn certificate_stop(alloc: Global, fault: CertificateFault) -> Stop
+    ensures { IsStopOf (certificate_refusal fault) result }
+{
+    let line = certificate_line(alloc, fault);
+    stop_with(alloc, Status::Certificate, line)
+}
+
+/// The stop at a fault of a table.
+#[tactic(auto, unfolding(crate::specs::Text::table_refusal), using(crate::proofs::Faults::told_so))]
+pub fn table_stop(alloc: Global, fault: TableFault) -> Stop
+    ensures { IsStopOf (table_refusal fault) result }
+{
+    let rule = table_word(fault.rule);
+    let line = line_of(alloc, b"TABLE line ", fault.line, rule);
+    stop_with(alloc, Status::Table, line)
+}
+
+/// The stop at a fault of a filter.
+#[tactic(auto, unfolding(crate::specs::Text::filter_refusal), using(crate::proofs::Faults::told_so))]
+pub fn filter_stop(alloc: Global, fault: FilterFault) -> Stop
+    ensures { IsStopOf (filter_refusal fault) result }
+{
+    let rule = filter_word(fault.rule);
+    let line = line_of(alloc, b"FILTER line ", fault.line, rule);
+    stop_with(alloc, Status::Filter, line)
+}
+
+/// The stop with this status and line, or for want of memory, where there was none for the line.
+fn stop_with(alloc: Global, status: Status, line: Result<Seq<u8>, Memory>) -> Stop
+    requires { IsRefusal status }
+    ensures { IsStopWith status line result }
+{
+    match line {
+        Ok(text) => Stop::Told(Answer {
+            status,
+            text: Text::whole(alloc, text),
+        }),
+        Err(Memory) => Stop::Memory,
     }
 }
 
@@ -196,14 +247,6 @@ fn filter_word(rule: FilterRule) -> &'static [u8]
     }
 }
 
-/// Appends a word.
-fn add_word(text: &mut Seq<u8>, word: &[u8]) -> Result<(), Memory>
-    ensures { OnOk result (text.new ≡ text.old ++ word.now) }
-{
-    text.append(word)?;
-    Ok(())
-}
-
 /// Appends `N` and the number of a rule.
 #[tactic(auto, using(crate::proofs::Words::two_pieces))]
 fn add_number(text: &mut Seq<u8>, number: u8) -> Result<(), Memory>
@@ -219,15 +262,15 @@ fn add_rule(text: &mut Seq<u8>, rule: Rule) -> Result<(), Memory>
     ensures { OnOk result (text.new ≡ text.old ++ rule_name rule) }
 {
     match rule {
-        Rule::TooLarge => add_word(text, b"TOOLARGE"),
-        Rule::BadByte => add_word(text, b"BADBYTE"),
-        Rule::BadNumber => add_word(text, b"BADNUMBER"),
-        Rule::LongName => add_word(text, b"LONGNAME"),
-        Rule::Unexpected => add_word(text, b"UNEXPECTED"),
-        Rule::Ended => add_word(text, b"ENDED"),
-        Rule::TooDeep => add_word(text, b"TOODEEP"),
+        Rule::TooLarge => text.append(b"TOOLARGE"),
+        Rule::BadByte => text.append(b"BADBYTE"),
+        Rule::BadNumber => text.append(b"BADNUMBER"),
+        Rule::LongName => text.append(b"LONGNAME"),
+        Rule::Unexpected => text.append(b"UNEXPECTED"),
+        Rule::Ended => text.append(b"ENDED"),
+        Rule::TooDeep => text.append(b"TOODEEP"),
         Rule::Numbered(number) => add_number(text, number),
-        Rule::Link(rule) => add_word(text, link_word(rule)),
+        Rule::Link(rule) => text.append(link_word(rule)),
     }
 }
 

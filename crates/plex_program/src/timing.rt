@@ -7,8 +7,10 @@ ghost use Rattle.plex_program.specs.Program.{IsEnding};
 ghost use Rattle.plex_program.specs.Runs.{AreOfText, AreRead};
 ghost use Rattle.command_words.specs.Bounded.{HasBounds};
 
-use crate::perform::{Answer, Refused, Stop, exchange_in, lines_in, text_in};
-use crate::running::code_answer;
+use crate::going::Host;
+use crate::perform::{Answer, Stop, exchange_in, lines_in, text_in};
+use crate::running::run_answer;
+use crate::text::table_stop;
 use command_words::TimedWords;
 use exchange_model::Exchange;
 use job_table::{TableFault, TableRule, merge, read_table};
@@ -22,26 +24,24 @@ use std::thread::Threads;
 /// `timed`.
 #[tactic(auto, using(crate::proofs::Stages::comes_rules))]
 pub fn perform_timed<R: Threads + Wait + Sync, S: Shelf, G: Gate + Sync>(
-    rt: &R,
-    alloc: Global,
+    host: &Host<'_, R, G>,
     shelf: &mut S,
     words: &TimedWords,
-    gate: &G,
 ) -> Result<Answer, Stop>
     requires { HasBounds words.now.run }
     ensures comes { Comes (S.held shelf.old) (timed_of words.now) (S.faults shelf.old)
         (S.faults shelf.new) result }
     ensures ending { IfOk result (λ a. IsEnding a.status) }
 {
-    let exchange = exchange_in(alloc, shelf, &words.run.exchange)?;
-    let lines = lines_in(alloc, shelf, &exchange, &words.run.signals)?;
-    let all = merged_in(alloc, shelf, &exchange, &lines, &words.table)?;
-    let answer = code_answer(rt, alloc, &exchange, all, words.run.bounds, gate)?;
+    let exchange = exchange_in(host.alloc, shelf, &words.run.exchange)?;
+    let lines = lines_in(host.alloc, shelf, &exchange, &words.run.signals)?;
+    let all = merged_in(host.alloc, shelf, &exchange, &lines, &words.table)?;
+    let answer = run_answer(host, &exchange, None, all, words.run.bounds)?;
     Ok(answer)
 }
 
-/// The lines of a signal file and the signals of a table's file, as one list, or the first faulty line of the table. It stops where the
-/// file cannot be read, and wherever memory is refused.
+/// The lines of a signal file and the signals of a table's file, as one list, or the first faulty
+/// line of the table. It stops where the file cannot be read, and wherever memory is refused.
 #[tactic(auto, using(crate::proofs::Stages::comes_rules))]
 pub fn merged_in<S: Shelf>(
     alloc: Global,
@@ -55,14 +55,14 @@ pub fn merged_in<S: Shelf>(
     ensures comes { Comes (S.held shelf.old) (merged_at exchange.now lines.now name.now)
         (S.faults shelf.old) (S.faults shelf.new) result }
     ensures kept { S.held shelf.new ≡ S.held shelf.old }
-    ensures read { IfOk result (λ all. AreRead exchange.now all) }
+    ensures read { IfOk result (AreRead exchange.now) }
 {
     let text = text_in(alloc, shelf, name)?;
     merged_of_file(alloc, exchange, lines, &text)
 }
 
 /// The same with the text of a table, which may be too large.
-#[tactic(auto, using(crate::proofs::Tables::table_rules, crate::proofs::Stages::reads_rules))]
+#[tactic(auto, using(crate::proofs::Tables::table_rules, crate::proofs::Stages::reads_rules, crate::proofs::Stages::refused_rules))]
 fn merged_of_file(
     alloc: Global,
     exchange: &Exchange,
@@ -73,19 +73,17 @@ fn merged_of_file(
     requires few { length lines.now < 2 ^ 32 }
     requires size { IfSome text.now (λ t. length t ≤ MOST_BYTES) }
     ensures reads { Reads (merged_of_file exchange.now lines.now text.now) result }
-    ensures read { IfOk result (λ all. AreRead exchange.now all) }
+    ensures read { IfOk result (AreRead exchange.now) }
 {
     let Some(text) = text else {
-        return Err(Stop::Refused(Refused::Table(TableFault {
-            line: 0,
-            rule: TableRule::TooLarge,
-        })));
+        let rule = TableRule::TooLarge;
+        return Err(table_stop(alloc, TableFault { line: 0, rule }));
     };
     match read_table(alloc, exchange, lines, text.as_slice())? {
         Ok(periods) => {
             let all = merge(alloc, lines, &periods)?;
             Ok(all)
         }
-        Err(fault) => Err(Stop::Refused(Refused::Table(fault))),
+        Err(fault) => Err(table_stop(alloc, fault)),
     }
 }

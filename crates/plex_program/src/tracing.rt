@@ -2,19 +2,18 @@
 ghost use Rattle.std.specs.Prelude.{◌≡◌, ◌≤◌, IfOk, IfSome, length, map};
 ghost use Rattle.plex_limits.specs.declared.limits.TheConstants.{MOST_BYTES, MOST_JOBS};
 ghost use Rattle.source_meaning.specs.SingleRun.{opening};
-ghost use Rattle.retire_order.specs.Events.{ending_of};
 ghost use Rattle.retire_order.specs.Lines.{coming_of};
-ghost use Rattle.exchange_run.specs.Runs.{ComesTo};
 ghost use Rattle.signal_trace.specs.Text.{trace_text};
 ghost use Rattle.signal_trace.specs.Trace.{trace};
 ghost use Rattle.plex_program.specs.Stages.{Comes, Reads};
 ghost use Rattle.plex_program.specs.TraceAnswer.{shows_at, shows_of_file, trace_answer, trace_of};
 ghost use Rattle.plex_program.specs.Program.{IsEnding};
-ghost use Rattle.plex_program.specs.Runs.{AreRead};
+ghost use Rattle.plex_program.specs.Runs.{AreRead, IsRunOf};
 
 use crate::going::has_short_code;
-use crate::perform::{Answer, Refused, Stop, exchange_in, lines_in, text_in};
+use crate::perform::{Answer, Stop, exchange_in, lines_in, text_in};
 use crate::running::headed_answer;
+use crate::text::filter_stop;
 use code_gen::compile;
 use command_words::TraceWords;
 use exchange_model::Exchange;
@@ -72,14 +71,12 @@ fn shows_of_file(
     ensures { Reads (shows_of_file exchange.now text.now) result }
 {
     let Some(text) = text else {
-        return Err(Stop::Refused(Refused::Filter(FilterFault {
-            line: 0,
-            rule: FilterRule::TooLarge,
-        })));
+        let rule = FilterRule::TooLarge;
+        return Err(filter_stop(alloc, FilterFault { line: 0, rule }));
     };
     match read_filter(alloc, exchange, text.as_slice())? {
         Ok(shows) => Ok(shows),
-        Err(fault) => Err(Stop::Refused(Refused::Filter(fault))),
+        Err(fault) => Err(filter_stop(alloc, fault)),
     }
 }
 
@@ -97,13 +94,13 @@ fn trace_answer(
     ensures answer { IfOk result (λ a. a ≡ trace_answer exchange.now lines shows.now jobs) }
     ensures ending { IfOk result (λ a. IsEnding a.status) }
 {
-    let Traced { text, mut end } = run_traced(alloc, exchange, lines, shows, jobs)?;
-    let answer = headed_answer(text, exchange, &mut end.books, &end.words, end.ending)?;
+    let Traced { text, end } = run_traced(alloc, exchange, lines, shows, jobs)?;
+    let answer = headed_answer(text, exchange, end)?;
     Ok(answer)
 }
 
-/// The single run of these lines, one job after the other, and the text of the jobs of it that the filter shows: by compiled code, or by the
-/// source itself where that would be long.
+/// The single run of these lines, one job after the other, and the text of the jobs of it that the
+/// filter shows: by compiled code, or by the source itself where that would be long.
 #[tactic(auto, using(crate::proofs::Traced::traced_rules))]
 fn run_traced(
     alloc: Global,
@@ -114,8 +111,7 @@ fn run_traced(
 ) -> Result<Traced, Memory>
     requires lines { AreRead exchange.now lines }
     requires jobs { jobs ≤ MOST_JOBS }
-    ensures end { IfOk result (λ t. ComesTo exchange.now (map coming_of lines) jobs
-        t.end.books.state t.end.words (ending_of t.end.ending)) }
+    ensures end { IfOk result (λ t. IsRunOf exchange.now lines jobs t.end) }
     ensures text { IfOk result (λ t. t.text ≡ trace_text exchange.now
         (trace exchange.now jobs (opening exchange.now (map coming_of lines)) shows.now)) }
 {
@@ -123,12 +119,12 @@ fn run_traced(
     let layout = layout_of(alloc, exchange)?;
     let run = before_lines(alloc, exchange, &layout, lines, u64::from(jobs))?;
     if !has_short_code(alloc, exchange)? {
-        let mut runner = BySource::new(alloc, &NoGate);
-        let end = trace_run(alloc, exchange, &layout, run, shows, &mut runner)?;
-        return Ok(end);
+        let mut runner = BySource::new(alloc, exchange, &NoGate)?;
+        let traced = trace_run(alloc, exchange, &layout, run, shows, &mut runner)?;
+        return Ok(traced);
     }
     let code = compile(alloc, exchange, &layout)?;
-    let mut runner = ByCode::new(&code, &NoGate);
-    let end = trace_run(alloc, exchange, &layout, run, shows, &mut runner)?;
-    Ok(end)
+    let mut runner = ByCode::behind(&code, &NoGate, 0);
+    let traced = trace_run(alloc, exchange, &layout, run, shows, &mut runner)?;
+    Ok(traced)
 }

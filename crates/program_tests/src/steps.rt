@@ -1,13 +1,20 @@
 // How many instructions the dispatcher counts.
+ghost use Rattle.std.specs.Prelude.{◌≤◌};
+ghost use Rattle.plex_limits.specs.declared.limits.TheConstants.{MOST_JOBS};
+ghost use Rattle.store_layout.specs.Laid.{IsLayout};
+ghost use Rattle.register_machine.specs.Faithful.{Faithful};
+ghost use Rattle.checked.specs.Kept.{IsChecked};
+ghost use Rattle.exchange_run.specs.Runs.{MayGoOn};
 ghost use Rattle.plex_program.specs.Runs.{AreRead};
 
 use crate::devices::files_of;
 use crate::whole::NotMade;
-use checked::keep_own_if_few;
+use checked::{Checked, Own, keep_own_if_few};
 use code_gen::compile;
 use exchange_model::Exchange;
-use exchange_run::before_lines;
-use parallel_dispatch::{Work, dispatch};
+use exchange_run::{Standing, before_lines};
+use machine_code::Code;
+use parallel_dispatch::{StoredRun, Work, dispatch};
 use plex_io::{NoGate, SteadyShelf};
 use plex_num::Seq;
 use plex_program::{exchange_in, lines_in};
@@ -16,7 +23,7 @@ use signal_file::Line;
 use std::alloc::Global;
 use std::sync::Wait;
 use std::thread::Threads;
-use store_layout::layout_of;
+use store_layout::{Layout, layout_of};
 
 /// How many looks at facts the analysis may take.
 const LOOKS: usize = 65_536;
@@ -39,7 +46,7 @@ pub fn steps_of<R: Threads + Wait + Sync>(
 }
 
 /// The same of lines that were read.
-#[tactic(auto, using(plex_program::proofs::Opened::opened_rules, plex_program::proofs::Opened::root_rules))]
+#[tactic(auto, using(plex_program::proofs::Opened::opened_rules))]
 fn counted<R: Threads + Wait + Sync>(
     rt: &R,
     alloc: Global,
@@ -52,17 +59,41 @@ fn counted<R: Threads + Wait + Sync>(
     let layout = layout_of(alloc, exchange)?;
     let run = before_lines(alloc, exchange, &layout, lines, 100)?;
     let code = compile(alloc, exchange, &layout)?;
-    let Some(checked) = keep_own_if_few(alloc, exchange, LOOKS)? else {
-        return Err(NotMade);
-    };
-    let (store, root) = SharedStore::new(alloc, &run.words)?;
+    match keep_own_if_few(alloc, exchange, LOOKS)? {
+        Own::Kept(checked) => dispatched(rt, alloc, exchange, &layout, &code, &checked, run),
+        Own::Many(_) => Err(NotMade),
+    }
+}
+
+/// The same of a run on its way.
+#[tactic(auto, using(plex_program::proofs::Opened::root_rules))]
+fn dispatched<R: Threads + Wait + Sync>(
+    rt: &R,
+    alloc: Global,
+    exchange: &Exchange,
+    layout: &Layout,
+    code: &Code,
+    checked: &Checked,
+    run: Standing,
+) -> Result<u64, NotMade>
+    requires layout { IsLayout exchange.now.blocks layout.now }
+    requires faithful { Faithful exchange.now code.now }
+    requires checked { IsChecked exchange.now checked.now }
+    requires run { MayGoOn exchange.now run }
+    requires limit { run.books.limit ≤ MOST_JOBS }
+{
     let work = Work {
         exchange,
-        layout: &layout,
-        code: &code,
-        checked: &checked,
-        gate: &NoGate,
+        layout,
+        code,
+        checked,
     };
-    let end = dispatch(rt, alloc, &work, run.books, store, root, 2)?;
+    let (store, root) = SharedStore::new(alloc, &run.words)?;
+    let stored = StoredRun {
+        books: run.books,
+        store,
+        root,
+    };
+    let end = dispatch(rt, alloc, &work, &NoGate, stored, 2)?;
     Ok(end.steps)
 }

@@ -3,6 +3,7 @@ pub mod Acting
 pub mod Choosing
 pub mod Counting
 pub mod Going
+pub mod Making
 pub mod Meaning
 pub mod Returning
 pub mod Searching

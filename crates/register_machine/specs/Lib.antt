@@ -4,3 +4,5 @@ pub mod Search
 pub mod Machine
 pub mod Faithful
 pub mod Steps
+pub mod Turns
+pub mod Making

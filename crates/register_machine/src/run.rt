@@ -5,6 +5,7 @@ pub(crate) mod row;
 pub(crate) mod search;
 pub(crate) mod stand;
 pub(crate) mod table;
+pub(crate) mod turning;
 mod unseen;
 
 ghost use Rattle.std.specs.Prelude.{◌≡◌, ◌<◌, ◌≤◌, ◌^◌, Some, length, slice_index, is_some, IsSome};

@@ -17,6 +17,7 @@ use Rattle.job_types.specs.declared.fault.Fault.{Fault}
 use Rattle.job_types.specs.Forlopps.{ChainMap, chain_at}
 use Rattle.source_meaning.specs.SingleRun.{Ending, Finished, Limited, Restarted}
 use Rattle.source_meaning.specs.State.{RunEvent, Lost, Out, Release, Restart, State}
+use Rattle.retire_order.specs.declared.event.Faulty.{Faulty}
 use Rattle.report_text.specs.Names.{fault_word, name_of_held, name_of_point, record_name}
 use Rattle.exchange_model.specs.Names.{name_of_signal}
 
@@ -42,6 +43,10 @@ out_line x job signal values forlopp = codes "OUT " ++ decimal job ++ codes " " 
 abbrev pub fault_words : Exchange → ℕ → Fault → (point jobs records : ℕ) → List ℕ
 fault_words x job fault point jobs records =
     codes " job " ++ decimal job ++ codes " " ++ fault_word fault ++ codes " at " ++ name_of_point x point ++ codes " jobs " ++ decimal jobs ++ codes " records " ++ decimal records
+
+-- the same of a fault as it is told
+abbrev pub words_of_fault : Exchange → Faulty → (jobs records : ℕ) → List ℕ
+words_of_fault x f jobs records = fault_words x f.job f.fault f.point jobs records
 
 -- the line of an event
 abbrev pub event_line : Exchange → RunEvent → List ℕ

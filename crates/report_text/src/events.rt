@@ -1,13 +1,12 @@
 // The lines of the events.
 ghost use Rattle.std.specs.Prelude.{◌≡◌, ◌++◌, IfOk, OnOk};
 ghost use Rattle.retire_order.specs.Events.{event_of};
-ghost use Rattle.report_text.specs.Report.{event_line, event_lines, fault_words, out_line, text_of, value_words, written};
+ghost use Rattle.report_text.specs.Report.{event_line, event_lines, out_line, text_of, value_words, words_of_fault, written};
 
 use crate::names::{add_point, fault_word};
 use exchange_model::Exchange;
-use job_types::Fault;
 use plex_num::{Memory, Seq, add_number};
-use retire_order::{Event, EventQueue};
+use retire_order::{Event, EventQueue, Faulty};
 use std::alloc::Global;
 use text_parts::Text;
 
@@ -57,25 +56,21 @@ fn add_event(text: &mut Seq<u8>, exchange: &Exchange, event: &Event) -> Result<(
         } => add_out(text, exchange, *job, *signal, values.as_slice(), *forlopp),
         Event::Release {
             forlopp,
-            job,
             fault,
-            point,
             jobs,
             records,
         } => {
             add_number(text, b"RELEASE F", *forlopp)?;
-            add_fault(text, exchange, *job, *fault, *point, *jobs, *records)
+            add_fault(text, exchange, fault, *jobs, *records)
         }
         Event::Lost { line } => add_number(text, b"LOST line ", u64::from(*line)),
         Event::Restart {
-            job,
             fault,
-            point,
             jobs,
             records,
         } => {
             text.append(b"RESTART")?;
-            add_fault(text, exchange, *job, *fault, *point, *jobs, *records)
+            add_fault(text, exchange, fault, *jobs, *records)
         }
     }
 }
@@ -113,20 +108,18 @@ pub fn add_values(text: &mut Seq<u8>, values: &[u32]) -> Result<(), Memory>
 fn add_fault(
     text: &mut Seq<u8>,
     exchange: &Exchange,
-    job: u64,
-    fault: Fault,
-    point: u32,
+    fault: &Faulty,
     jobs: u64,
     records: u32,
 ) -> Result<(), Memory>
     ensures { OnOk result
-        (text.new ≡ text.old ++ fault_words exchange.now job fault point jobs records) }
+        (text.new ≡ text.old ++ words_of_fault exchange.now fault.now jobs records) }
 {
-    add_number(text, b" job ", job)?;
+    add_number(text, b" job ", fault.job)?;
     text.append(b" ")?;
-    text.append(fault_word(fault))?;
+    text.append(fault_word(fault.fault))?;
     text.append(b" at ")?;
-    add_point(text, exchange, point)?;
+    add_point(text, exchange, fault.point)?;
     add_number(text, b" jobs ", jobs)?;
     add_number(text, b" records ", u64::from(records))
 }

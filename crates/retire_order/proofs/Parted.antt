@@ -31,7 +31,7 @@ use Rattle.forlopp_chain.specs.Chains.{AreBelow, IsSound, NoneEmpty}
 use Rattle.source_meaning.specs.Config.{files_of}
 use Rattle.source_meaning.specs.State.{Arrived, Bare, Coming, Fresh, Origin, Same, State}
 use Rattle.source_meaning.specs.Valid.{HasRecords, HoldsRecord, IsRecord, IsValid}
-use Rattle.source_meaning.proofs.Booleans.{or_right}
+use Rattle.plex_num.proofs.Booleans.{or_right}
 use Rattle.source_meaning.proofs.Chains.{record_itself}
 use Rattle.retire_order.specs.Accounts.{Account, with_words}
 use Rattle.retire_order.specs.Lines.{arrived_of, coming_of, found_in, origin_of}
@@ -107,7 +107,7 @@ alike_of_books p q are_p are_q same = alike p q are_p are_q (ap (λ (b : Account
 
 -- ## Chains of a valid state: each has a record of its own, so that there are no more of them than cells
 
-not_equal : (r : Ordering) → T (is_lt r) → is_eq r ≡ false
+pub not_equal : (r : Ordering) → T (is_lt r) → is_eq r ≡ false
 not_equal Less lt = refl
 not_equal Equal lt = absurd lt
 not_equal Greater lt = refl

@@ -1,6 +1,6 @@
 -- Events in few bytes: an event is a row of numbers, the first of which tells its kind and how many values or which fault it
 -- has. A number is its digits to the base 128, the lowest first, each but the last with 128 added.
-use Rattle.std.specs.Prelude.{◌≡◌, ℕ, zero, suc, ◌+◌, ◌-◌, ◌*◌, ◌/◌, ◌%◌, ◌<◌, ◌≤◌, ◌^◌, nat_lt, min, List, [], ◌∷◌, flat_map, length, slice_get, unwrap_or, if◌then◌else◌}
+use Rattle.std.specs.Prelude.{◌≡◌, ℕ, zero, suc, ◌+◌, ◌-◌, ◌*◌, ◌/◌, ◌%◌, ◌<◌, ◌≤◌, ◌^◌, nat_lt, min, List, [], ◌∷◌, flat_map, length, slice_get, unwrap_or, Option, MatchOption, if◌then◌else◌}
 use Rattle.std.specs.List.{AllByRecursion}
 use Rattle.plex_limits.specs.declared.limits.TheConstants.{MOST_VALUES}
 use Rattle.job_types.specs.declared.fault.Fault.{Fault}
@@ -107,6 +107,10 @@ events_in (suc most) (b ∷ bytes) = first_event (b ∷ bytes) ∷ events_in mos
 -- the events that these bytes tell: an event takes a byte or more
 unfoldable pub told : List ℕ → List RunEvent
 told bytes = events_in (length bytes) bytes
+
+-- the first of these bytes has been taken, if there is one, and the others are left
+abbrev pub TakesFirst : Option ℕ → List ℕ → List ℕ → Type 0
+TakesFirst taken bytes rest = MatchOption taken ((bytes ≡ []) × (rest ≡ [])) (λ b. bytes ≡ b ∷ rest)
 
 -- the numbers of an event have the width of those that are read
 abbrev pub IsNarrow : RunEvent → Type 0

@@ -10,9 +10,9 @@ use Rattle.retire_order.specs.declared.event.Ending.TheVariants.{Done, Restart a
 -- an event
 abbrev pub event_of : Event → state.RunEvent
 event_of (Out job signal values forlopp) = state.Out job signal values forlopp
-event_of (Release forlopp job fault point jobs records) = state.Release forlopp job fault point jobs records
+event_of (Release forlopp f jobs records) = state.Release forlopp f.job f.fault f.point jobs records
 event_of (Lost line) = state.Lost line
-event_of (Restart job fault point jobs records) = state.Restart job fault point jobs records
+event_of (Restart f jobs records) = state.Restart f.job f.fault f.point jobs records
 
 -- an ending
 abbrev pub ending_of : Ending → run.Ending

@@ -1,6 +1,9 @@
 -- The lines of a signal file, as the single run has them: those that are left, and those that have arrived, each with the
 -- forlopp that it got.
-use Rattle.std.specs.Prelude.{ℕ, nat_eq, List, [], ◌∷◌, map, drop, length, Option, Some, None, if◌then◌else◌}
+use Rattle.std.specs.Prelude.{◌≡◌, ℕ, nat_eq, List, [], ◌∷◌, ◌++◌, map, drop, length, Option, Some, None, Result, Ok, MatchResult, if◌then◌else◌}
+use Rattle.std.specs.Option.{option_or}
+use Rattle.exchange_model.specs.declared.exchange.Exchange.{Exchange}
+use Rattle.signal_file.specs.Lines.{signal_lines}
 use Rattle.signal_file.specs.declared.line.Line.{Line}
 use Rattle.signal_file.specs.declared.line.LineKind.{LineKind}
 use Rattle.signal_file.specs.declared.line.LineKind.TheVariants.{Fresh, Bare, Same}
@@ -34,3 +37,19 @@ timetable lines given = record { lines = map coming_of (drop (length given) line
 abbrev pub found_in : List Arrived → ℕ → Option ℕ
 found_in [] line = None
 found_in (a ∷ rest) line = (if nat_eq a.line.number line then Some a.forlopp else found_in rest line)
+
+-- a table has what is found of these lines, the first of which have arrived and got these forlopps
+abbrev pub AreFound : (ℕ → Option ℕ) → List Line → List ℕ → Type 0
+AreFound table lines given = (n : ℕ) → table n ≡ found_in (arrived_of lines given) n
+
+-- a table has the forlopp of a line too, unless it had one of that number
+abbrev pub Notes : (ℕ → Option ℕ) → (ℕ → Option ℕ) → ℕ → ℕ → Type 0
+Notes old new line forlopp = (n : ℕ) → new n ≡ option_or (old n) (if nat_eq line n then Some forlopp else None)
+
+-- the next line has arrived, and got this forlopp; where memory was refused, nothing has changed
+abbrev pub NextArrives : {A E : Type 0} → Timetable → Timetable → ℕ → Result A E → Type 0
+NextArrives old new forlopp told = MatchResult told (λ _. (l : Coming) × (old.lines ≡ l ∷ new.lines) × (new.arrived ≡ old.arrived ++ record { line = l; forlopp = forlopp } ∷ [])) (λ _. new ≡ old)
+
+-- this is so of the lines of every signal file that has no fault
+abbrev pub OfEachFile : (Exchange → List ℕ → List Line → Type 0) → Type 0
+OfEachFile P = (x : Exchange) (text : List ℕ) (lines : List Line) → signal_lines x text ≡ Ok lines → P x text lines

@@ -3,7 +3,7 @@ use Rattle.std.specs.Prelude.{◌≡◌, ℕ, nat_eq, ◌≤◌, length}
 use Rattle.std.specs.HashMap.{get}
 use Rattle.retire_order.specs.declared.parts.BookParts.{BookParts}
 use Rattle.retire_order.specs.Accounts.{Account, IsKept, account}
-use Rattle.retire_order.specs.Lines.{arrived_of, found_in, timetable}
+use Rattle.retire_order.specs.Lines.{AreFound, timetable}
 
 -- the books of these parts
 abbrev pub account_of : BookParts → Account
@@ -14,7 +14,7 @@ account_of p = account (timetable p.lines p.given) p.buffers.waiting p.chains.ch
 pub record AreParts (p : BookParts) : Type 0 where
   pub next_line : p.next_line ≡ length p.given
   pub within : length p.given ≤ length p.lines
-  pub numbers : (n : ℕ) → get nat_eq p.numbers n ≡ found_in (arrived_of p.lines p.given) n
+  pub numbers : AreFound (get nat_eq p.numbers) p.lines p.given
   pub kept : IsKept (account_of p)
 
 -- the same parts but for the events: two tables are the same in which each look finds the same

@@ -2,6 +2,7 @@
 use Rattle.std.specs.Prelude.{◌≡◌, ℕ, zero, suc, ◌+◌, ◌*◌, Bool, true, List, [], ◌∷◌, ◌++◌, flat_map, length, slice_get, if◌then◌else◌}
 use Rattle.std.specs.Option.{option_map_or}
 use Rattle.job_types.specs.declared.chain.Held.{Held}
+use Rattle.job_types.specs.declared.outcome.JobDone.{JobDone}
 use Rattle.job_types.specs.declared.outcome.Outcome.{Outcome}
 use Rattle.job_types.specs.declared.outcome.Outcome.TheVariants.{Ended, Faulted}
 use Rattle.job_types.specs.declared.touch.Touch.{Touch}
@@ -38,6 +39,14 @@ held_stores files h = option_map_or (λ p. record_stores p h.number) (slice_get 
 abbrev pub all_stores : List Placed → List Held → List Write
 all_stores files hs = flat_map (held_stores files) hs
 
+-- a record of an exchange is opened
+abbrev pub open_store : Exchange → Held → List Write
+open_store x h = held_stores (placed_files x.blocks) h
+
+-- these records of an exchange are opened
+abbrev pub open_stores : Exchange → List Held → List Write
+open_stores x hs = all_stores (placed_files x.blocks) hs
+
 -- a variable gets its INIT value, if it is CLEAR
 abbrev pub clear_of : ℕ → Variable → List Write
 clear_of cell v = (if v.clear then record { word = cell; value = v.init } ∷ [] else [])
@@ -62,6 +71,10 @@ abbrev pub IsAftermath : Exchange → ℕ → Outcome → List Held → ChainMap
 IsAftermath x forlopp Ended chain chains a = a.stores ≡ []
 IsAftermath x zero (Faulted f point) chain chains a = (a.stores ≡ restart_stores x chains) × (a.records ≡ length (all_records chains))
 IsAftermath x (suc n) (Faulted f point) chain chains a = a.stores ≡ all_stores (placed_files x.blocks) chain
+
+-- the aftermath of a job of this forlopp that left this
+abbrev pub IsAftermathOf : Exchange → ℕ → JobDone → ChainMap → Aftermath → Type 0
+IsAftermathOf x forlopp done chains a = IsAftermath x forlopp done.outcome done.chain chains a
 
 -- each store of a list of touches is of a word that may be written
 abbrev pub MayStore : (ℕ → Bool) → List Touch → Type 0

@@ -1,10 +1,9 @@
 // What is to be stored after a job has come to its end: it is listed before the first change, so that none can be refused.
 ghost use Rattle.std.specs.Prelude.{◌≡◌, ◌+◌, ◌≤◌, length, IfOk};
 ghost use Rattle.std.specs.FinMap as map;
-ghost use Rattle.exchange_model.specs.Cells.{placed_files};
 ghost use Rattle.job_types.specs.Forlopps.{all_records};
 ghost use Rattle.plex_limits.specs.declared.limits.TheConstants.{MOST_CELLS, MOST_JOBS};
-ghost use Rattle.retire_order.specs.Stores.{IsAftermath, all_stores, restart_stores};
+ghost use Rattle.retire_order.specs.Stores.{IsAftermathOf, open_stores, restart_stores};
 ghost use Rattle.store_layout.specs.Laid.{IsLayout};
 
 use crate::stores::{Write, list_cleared, list_records};
@@ -35,7 +34,7 @@ pub fn aftermath_of(
     requires layout { IsLayout exchange.now.blocks layout.now }
     requires few { map.len chains.now.chains ≤ MOST_CELLS + MOST_JOBS }
     ensures { IfOk result
-        (λ a. IsAftermath exchange.now forlopp done.now.outcome done.now.chain chains.now.chains a) }
+        (λ a. IsAftermathOf exchange.now forlopp done.now chains.now.chains a) }
 {
     let Outcome::Faulted { .. } = done.outcome else {
         return Ok(Aftermath {
@@ -80,7 +79,7 @@ fn of_release(
     chain: &[Held],
 ) -> Result<Aftermath, Memory>
     requires { IsLayout exchange.now.blocks layout.now }
-    ensures { IfOk result (λ a. a.stores ≡ all_stores (placed_files exchange.now.blocks) chain.now) }
+    ensures { IfOk result (λ a. a.stores ≡ open_stores exchange.now chain.now) }
 {
     let mut stores = Seq::new(alloc);
     list_records(&mut stores, exchange, layout, chain)?;

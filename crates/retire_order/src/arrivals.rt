@@ -1,13 +1,9 @@
 // Lines of the signal file arrive.
-ghost use Rattle.std.specs.Prelude.{◌≡◌, ◌+◌, ◌<◌, ◌^◌, ◌++◌, ◌∷◌, [], List, false, length, MatchResult, if◌then◌else◌};
-ghost use Rattle.exchange_model.specs.declared.exchange.Exchange.{Exchange};
+ghost use Rattle.std.specs.Prelude.{◌≡◌, ◌+◌, ◌<◌, ◌^◌, false, length};
 ghost use Rattle.job_buffers.specs.Room.{room_at};
-ghost use Rattle.job_types.specs.Forlopps.{is_dead};
-ghost use Rattle.job_types.specs.Waiting.{joins};
-ghost use Rattle.source_meaning.specs.Arrivals.{arrives, forlopp_for, is_due, next_after};
-ghost use Rattle.exchange_model.specs.Names.{level_of};
-ghost use Rattle.source_meaning.specs.State.{Coming, Lost, has_stopped};
-ghost use Rattle.retire_order.specs.Accounts.{IsLine, after_arrival, after_arrivals, is_next_due};
+ghost use Rattle.source_meaning.specs.Arrivals.{forlopp_for, is_due, next_after};
+ghost use Rattle.source_meaning.specs.State.{has_stopped};
+ghost use Rattle.retire_order.specs.Accounts.{LetsArrive, TakesLine, TellsArrival, admitted, job_of, with_loss};
 ghost use Rattle.retire_order.specs.Lines.{coming_of, origin_of};
 
 use crate::books::Books;
@@ -26,10 +22,7 @@ impl Books {
     pub fn arrive(&mut self, exchange: &Exchange) -> Result<bool, Memory>
         requires nobody { self.old.running ≡ 0 }
         requires goes_on { has_stopped self.old.state ≡ false }
-        ensures { MatchResult result
-            (λ due. (due ≡ is_next_due self.old.state.lines self.old.state)
-            × (self.new ≡ after_arrival exchange.now self.old))
-            (λ _. self.new ≡ self.old) }
+        ensures { TellsArrival exchange.now self.old self.new result }
     {
         let Some(line) = self.schedule.next() else {
             return Ok(false);
@@ -46,11 +39,7 @@ impl Books {
     /// The next line arrives, which must be there; it has this number, its forlopp comes from there, and this is its job.
     fn take_line(&mut self, number: u32, kind: LineKind, job: Job) -> Result<(), Memory>
         requires { 0 < length self.old.state.lines }
-        ensures { MatchResult result
-            (λ _. (x : Exchange) (l : Coming) (rest : List Coming)
-            → IsLine x l rest number (origin_of kind) job self.old.state
-            → self.new ≡ record self.old { state = arrives x l rest self.old.state })
-            (λ _. self.new ≡ self.old) }
+        ensures { TakesLine number (origin_of kind) job self.old self.new result }
     {
         self.waiting.reserve(job.level, 1)?;
         self.events.reserve(1)?;
@@ -86,12 +75,7 @@ impl Books {
 
     /// The job of a line that arrives.
     fn job_of(&self, exchange: &Exchange, line: &Line) -> Job
-        ensures { result ≡ record {
-          entry = line.now.entry;
-          level = level_of exchange.now line.now.entry;
-          values = line.now.values;
-          forlopp = forlopp_for (origin_of line.now.kind) self.now.state;
-        } }
+        ensures { result ≡ job_of exchange.now (coming_of line.now) self.now.state }
     {
         Job {
             entry: line.entry,
@@ -106,9 +90,7 @@ impl Books {
 /// is refused, some of them have arrived, and the same call lets the others follow.
 pub fn let_arrive(exchange: &Exchange, books: &mut Books) -> Result<(), Memory>
     requires nobody { books.old.running ≡ 0 }
-    ensures { MatchResult result
-        (λ _. books.new ≡ after_arrivals exchange.now books.old)
-        (λ _. after_arrivals exchange.now books.new ≡ after_arrivals exchange.now books.old) }
+    ensures { LetsArrive exchange.now books.old books.new result }
 {
     if books.stopped() {
         return Ok(());
@@ -135,10 +117,8 @@ fn next_after(kind: LineKind, next: u64) -> u64
 fn admit(chains: &Chains, waiting: &mut Buffers, events: &mut EventLog, number: u32, job: Job)
     requires waiting { 0 < room_at job.level waiting.old.room }
     requires events { 0 < events.old.room }
-    ensures waiting { waiting.new.waiting
-        ≡ (if is_dead chains.now.dead job.forlopp then waiting.old.waiting else joins job waiting.old.waiting) }
-    ensures events { events.new.events
-        ≡ (if is_dead chains.now.dead job.forlopp then events.old.events ++ Lost number ∷ [] else events.old.events) }
+    ensures waiting { waiting.new.waiting ≡ admitted chains.now.dead job waiting.old.waiting }
+    ensures events { events.new.events ≡ with_loss chains.now.dead job number events.old.events }
 {
     if chains.is_dead(job.forlopp) {
         events.push_reserved(Event::Lost { line: number });

@@ -1,8 +1,7 @@
 // The sends of a job that retires take effect.
-ghost use Rattle.std.specs.Prelude.{◌≡◌, ◌+◌, ◌<◌, ◌≤◌, ◌^◌, length};
+ghost use Rattle.std.specs.Prelude.{◌+◌, ◌<◌, ◌≤◌, ◌^◌, length};
 ghost use Rattle.source_meaning.specs.Retirement.{all_delivered, delivered};
-ghost use Rattle.source_meaning.specs.State.{State};
-ghost use Rattle.retire_order.specs.Traffic.{HasRoom, LosesOne, with_traffic};
+ghost use Rattle.retire_order.specs.Traffic.{HasRoom, Leads, LosesOne, with_traffic};
 
 use crate::event::Event;
 use crate::event_log::EventLog;
@@ -23,9 +22,9 @@ pub fn deliver_all(
     requires jobs { HasRoom (length sends.now) waiting.old.room }
     requires events { length sends.now ≤ events.old.room }
     requires next { next + length sends.now < 2 ^ 64 }
-    ensures state { (s : State) → s.ended ≡ ended
-        → all_delivered forlopp sends.now (with_traffic waiting.old.waiting events.old.events next s)
-        ≡ with_traffic waiting.new.waiting events.new.events result s }
+    ensures state { Leads ended (all_delivered forlopp sends.now)
+        (with_traffic waiting.old.waiting events.old.events next)
+        (with_traffic waiting.new.waiting events.new.events result) }
     ensures events { events.old.room ≤ events.new.room + length sends.now }
     ensures up { next ≤ result }
     ensures few { result ≤ next + length sends.now }
@@ -50,9 +49,9 @@ fn deliver(
     requires jobs { HasRoom 1 waiting.old.room }
     requires events { 0 < events.old.room }
     requires next { next + 1 < 2 ^ 64 }
-    ensures state { (s : State) → s.ended ≡ ended
-        → delivered forlopp sent.now (with_traffic waiting.old.waiting events.old.events next s)
-        ≡ with_traffic waiting.new.waiting events.new.events result s }
+    ensures state { Leads ended (delivered forlopp sent.now)
+        (with_traffic waiting.old.waiting events.old.events next)
+        (with_traffic waiting.new.waiting events.new.events result) }
     ensures room { LosesOne waiting.old.room waiting.new.room }
     ensures events { events.old.room ≤ events.new.room + 1 }
     ensures up { next ≤ result }

@@ -2,7 +2,16 @@
 use job_types::Fault;
 use plex_num::Values;
 
-/// What leaves the exchange, and what happens to forlopps. `job` is by which job, as the number of jobs that have ended with it.
+/// A fault: by which job, as the number of jobs that have ended with it, which, and at which point.
+#[derive(Clone, Copy)]
+pub struct Faulty {
+    pub job: u64,
+    pub fault: Fault,
+    pub point: u32,
+}
+
+/// What leaves the exchange, and what happens to forlopps. The `job` of a signal is by which job it
+/// was sent, as the number of jobs that have ended with it.
 #[derive(Drop)]
 pub enum Event {
     /// A signal left the exchange.
@@ -15,9 +24,7 @@ pub enum Event {
     /// A forlopp was released: so many of its jobs were removed, and so many records were freed.
     Release {
         forlopp: u64,
-        job: u64,
-        fault: Fault,
-        point: u32,
+        fault: Faulty,
         jobs: u64,
         records: u32,
     },
@@ -27,9 +34,7 @@ pub enum Event {
     },
     /// The exchange began anew: so many jobs were removed, and so many records were freed.
     Restart {
-        job: u64,
-        fault: Fault,
-        point: u32,
+        fault: Faulty,
         jobs: u64,
         records: u32,
     },

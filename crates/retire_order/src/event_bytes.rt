@@ -1,11 +1,11 @@
 // Events in few bytes: they are put behind one another, and read from the last byte of a list that is turned round.
-ghost use Rattle.std.specs.Prelude.{◌≡◌, ℕ, ◌+◌, ◌*◌, ◌%◌, ◌<◌, ◌≤◌, ◌^◌, ◌++◌, ◌∷◌, [], flat_map, length, min, reverse, MatchOption, option_to_list, vec_capacity, vec_len};
+ghost use Rattle.std.specs.Prelude.{◌≡◌, ℕ, ◌+◌, ◌*◌, ◌%◌, ◌<◌, ◌≤◌, ◌^◌, ◌++◌, flat_map, length, reverse, option_to_list, vec_capacity, vec_len};
 ghost use Rattle.std.specs.List.{AllByRecursion};
 ghost use Rattle.plex_limits.specs.declared.limits.TheConstants.{MOST_VALUES};
 ghost use Rattle.retire_order.specs.Events.{event_of};
-ghost use Rattle.retire_order.specs.Bytes.{IsNarrow, after_event, after_kind, after_number, after_words, event_bytes, event_of_kind, fault_number, fault_of, first_event, long_at, number_bytes, word_at, words_at};
+ghost use Rattle.retire_order.specs.Bytes.{IsNarrow, TakesFirst, after_event, after_kind, after_number, after_words, event_bytes, event_of_kind, fault_number, fault_of, first_event, long_at, number_bytes, word_at, words_at};
 
-use crate::event::Event;
+use crate::event::{Event, Faulty};
 use job_types::Fault;
 use plex_limits::MOST_VALUES;
 use plex_num::Values;
@@ -38,29 +38,35 @@ pub fn put_event(bytes: &mut Vec<u8>, event: &Event)
         }
         Event::Release {
             forlopp,
-            job,
             fault,
-            point,
             jobs,
             records,
         } => {
-            let kind = 4 * number_of(*fault) + 1;
-            let (point, records) = (u64::from(*point), u64::from(*records));
-            put_all(bytes, &[kind, *forlopp, *job, point, *jobs, records]);
+            are_in_range(*fault);
+            let kind = 4 * number_of(fault.fault) + 1;
+            let (point, records) = (u64::from(fault.point), u64::from(*records));
+            put_all(bytes, &[kind, *forlopp, fault.job, point, *jobs, records]);
         }
         Event::Lost { line } => put_all(bytes, &[2, u64::from(*line)]),
         Event::Restart {
-            job,
             fault,
-            point,
             jobs,
             records,
         } => {
-            let kind = 4 * number_of(*fault) + 3;
-            let (point, records) = (u64::from(*point), u64::from(*records));
-            put_all(bytes, &[kind, *job, point, *jobs, records]);
+            are_in_range(*fault);
+            let kind = 4 * number_of(fault.fault) + 3;
+            let (point, records) = (u64::from(fault.point), u64::from(*records));
+            put_all(bytes, &[kind, fault.job, point, *jobs, records]);
         }
     }
+}
+
+/// The job and the point of a fault are numbers of 64 and of 32 bits.
+fn are_in_range(fault: Faulty)
+    ensures job { fault.job < 2 ^ 64 }
+    ensures point { fault.point < 2 ^ 32 }
+{
+    let _ = fault;
 }
 
 /// Puts these numbers behind; there must be room for them.
@@ -185,9 +191,11 @@ fn read_release(bytes: &mut Vec<u8>, more: u64) -> Event
     let records = read_word(bytes);
     Event::Release {
         forlopp,
-        job,
-        fault: fault_of(more),
-        point,
+        fault: Faulty {
+            job,
+            fault: fault_of(more),
+            point,
+        },
         jobs,
         records,
     }
@@ -203,9 +211,11 @@ fn read_restart(bytes: &mut Vec<u8>, more: u64) -> Event
     let jobs = read_number(bytes);
     let records = read_word(bytes);
     Event::Restart {
-        job,
-        fault: fault_of(more),
-        point,
+        fault: Faulty {
+            job,
+            fault: fault_of(more),
+            point,
+        },
         jobs,
         records,
     }
@@ -274,9 +284,7 @@ fn read_number(bytes: &mut Vec<u8>) -> u64
 
 /// Takes the byte that stands last.
 fn read_byte(bytes: &mut Vec<u8>) -> Option<u8>
-    ensures items { MatchOption result
-        ((reverse bytes.old.items ≡ []) × (reverse bytes.new.items ≡ []))
-        (λ b. reverse bytes.old.items ≡ b ∷ reverse bytes.new.items) }
+    ensures items { TakesFirst result (reverse bytes.old.items) (reverse bytes.new.items) }
     ensures len { vec_len bytes.new + length (option_to_list result) ≡ vec_len bytes.old }
 {
     bytes.pop()

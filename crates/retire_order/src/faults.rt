@@ -1,26 +1,16 @@
 // A fault takes effect in the books: its forlopp is released, or the exchange begins anew.
-ghost use Rattle.std.specs.Prelude.{◌≡◌, ◌≢◌, ◌+◌, ◌<◌, ◌≤◌, ◌^◌, ◌++◌, ◌∷◌, [], false, length, OnOk};
+ghost use Rattle.std.specs.Prelude.{◌≡◌, ◌≢◌, ◌+◌, ◌<◌, ◌≤◌, ◌^◌, ◌++◌, ◌∷◌, [], false, OnOk};
 ghost use Rattle.std.specs.FinMap as map;
 ghost use Rattle.forlopp_chain.specs.Chains.{AreBelow};
-ghost use Rattle.job_types.specs.Forlopps.{chain_at, dead_below, is_dead, with_chain, with_dead};
-ghost use Rattle.job_types.specs.Waiting.{count_of, nobody, others, waiting_count};
-ghost use Rattle.source_meaning.specs.State.{Release, Restart};
-ghost use Rattle.retire_order.specs.Traffic.{HasRoom};
+ghost use Rattle.job_types.specs.Forlopps.{dead_below, is_dead, with_chain, with_dead};
+ghost use Rattle.job_types.specs.Waiting.{nobody, others};
+ghost use Rattle.retire_order.specs.Traffic.{HasRoom, release_of, restart_of};
 
-use crate::event::Event;
+use crate::event::{Event, Faulty};
 use crate::event_log::EventLog;
 use forlopp_chain::Chains;
 use job_buffers::Buffers;
-use job_types::Fault;
 use plex_num::{Level, Memory};
-
-/// A fault: by which job, as the number of jobs that have ended with it, which, and at which point.
-#[derive(Clone, Copy)]
-pub struct Faulty {
-    pub job: u64,
-    pub fault: Fault,
-    pub point: u32,
-}
 
 /// Makes room for so many more jobs at each level.
 pub fn reserve_each(waiting: &mut Buffers, more: usize) -> Result<(), Memory>
@@ -50,17 +40,13 @@ pub fn release(
     ensures chains { chains.new.chains ≡ with_chain chains.old.chains forlopp [] }
     ensures dead { chains.new.dead ≡ with_dead chains.old.dead forlopp }
     ensures events { events.new.events ≡ events.old.events
-        ++ Release forlopp fault.job fault.fault fault.point
-        (count_of forlopp waiting.old.waiting)
-        (length (chain_at chains.old.chains forlopp)) ∷ [] }
+        ++ release_of forlopp fault waiting.old.waiting chains.old.chains ∷ [] }
 {
     let jobs = waiting.remove_forlopp(forlopp);
     let chain = chains.kill_reserved(forlopp);
     events.push_reserved(Event::Release {
         forlopp,
-        job: fault.job,
-        fault: fault.fault,
-        point: fault.point,
+        fault,
         jobs,
         records: chain.as_slice().len() as u32,
     });
@@ -82,14 +68,12 @@ pub fn begin_anew(
     ensures chains { chains.new.chains ≡ map.empty }
     ensures dead { chains.new.dead ≡ dead_below chains.old.dead next }
     ensures events { events.new.events ≡ events.old.events
-        ++ Restart fault.job fault.fault fault.point (waiting_count waiting.old.waiting) records ∷ [] }
+        ++ restart_of fault waiting.old.waiting records ∷ [] }
 {
     let jobs = waiting.remove_all();
     chains.kill_below(next);
     events.push_reserved(Event::Restart {
-        job: fault.job,
-        fault: fault.fault,
-        point: fault.point,
+        fault,
         jobs,
         records,
     });

@@ -1,15 +1,12 @@
 // What holds of the lines of every signal file, and of books and their parts, said by clauses.
-ghost use Rattle.std.specs.Prelude.{◌≡◌, ◌<◌, ◌≤◌, ◌^◌, ℕ, List, [], length, map, nat_eq, Ok};
+ghost use Rattle.std.specs.Prelude.{◌≡◌, ◌<◌, ◌≤◌, ◌^◌, ℕ, List, [], length, map, nat_eq};
 ghost use Rattle.std.specs.HashMap.{get};
 ghost use Rattle.plex_limits.specs.declared.limits.TheConstants.{MOST_JOBS};
-ghost use Rattle.exchange_model.specs.declared.exchange.Exchange.{Exchange};
 ghost use Rattle.exchange_model.specs.Kept.{IsExchange};
-ghost use Rattle.signal_file.specs.declared.line.Line.{Line};
-ghost use Rattle.signal_file.specs.Lines.{signal_lines};
 ghost use Rattle.source_meaning.specs.SingleRun.{opening};
 ghost use Rattle.source_meaning.specs.Valid.{IsValid, LinesFit};
 ghost use Rattle.retire_order.specs.Accounts.{with_words};
-ghost use Rattle.retire_order.specs.Lines.{arrived_of, coming_of, found_in};
+ghost use Rattle.retire_order.specs.Lines.{AreFound, OfEachFile, coming_of};
 ghost use Rattle.retire_order.specs.Parts.{AreAlike, AreParts, account_of};
 
 use crate::books::Books;
@@ -19,12 +16,10 @@ use exchange_model::Exchange;
 /// The lines of a signal file that has no fault fit its exchange, so that the state before the first of them has arrived is
 /// valid. A text of at most 16 MiB has fewer than 2^32 of them.
 pub fn lines_fit_their_exchange()
-    ensures lines { (x : Exchange) (text : List ℕ) (lines : List Line)
-        → signal_lines x text ≡ Ok lines → LinesFit x [] (map coming_of lines) }
-    ensures few { (x : Exchange) (text : List ℕ) (lines : List Line)
-        → length text ≤ 2 ^ 24 → signal_lines x text ≡ Ok lines → length lines < 2 ^ 32 }
-    ensures opening { (x : Exchange) (text : List ℕ) (lines : List Line)
-        → IsExchange x → signal_lines x text ≡ Ok lines → IsValid x (opening x (map coming_of lines)) }
+    ensures lines { OfEachFile (λ x _ lines. LinesFit x [] (map coming_of lines)) }
+    ensures few { OfEachFile (λ _ text lines. length text ≤ 2 ^ 24 → length lines < 2 ^ 32) }
+    ensures opening { OfEachFile (λ x _ ls.
+        IsExchange x → IsValid x (opening x (map coming_of ls))) }
 {}
 
 /// Books that are taken apart and put together again are the same books.
@@ -55,8 +50,7 @@ pub fn valid_states_have_books(exchange: &Exchange, parts: &BookParts)
     requires lines { length parts.now.lines < 2 ^ 32 }
     requires next_line { parts.now.next_line ≡ length parts.now.given }
     requires given { length parts.now.given ≤ length parts.now.lines }
-    requires numbers { (n : ℕ) → get nat_eq parts.now.numbers n
-        ≡ found_in (arrived_of parts.now.lines parts.now.given) n }
+    requires numbers { AreFound (get nat_eq parts.now.numbers) parts.now.lines parts.now.given }
     ensures { (words : List ℕ)
         → IsValid exchange.now (with_words (account_of parts.now).state words)
         → AreParts parts.now }

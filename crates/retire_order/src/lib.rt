@@ -23,6 +23,6 @@ mod stores;
 
 pub use arrivals::let_arrive;
 pub use books::Books;
-pub use event::{Ending, Event};
+pub use event::{Ending, Event, Faulty};
 pub use event_log::{EventLog, EventQueue};
 pub use parts::BookParts;

@@ -1,7 +1,7 @@
 // A job retires.
-ghost use Rattle.std.specs.Prelude.{◌≡◌, ◌≢◌, ◌<◌, ◌≤◌, false, MatchResult};
+ghost use Rattle.std.specs.Prelude.{◌≡◌, ◌≢◌, ◌<◌, ◌≤◌, false};
 ghost use Rattle.job_types.specs.Forlopps.{is_dead};
-ghost use Rattle.retire_order.specs.Retired.{chain_kept, HasRetired, HasSettled, IsAsBefore, retired_world};
+ghost use Rattle.retire_order.specs.Retired.{Retires, Settles, chain_kept, retired_trace};
 ghost use Rattle.retire_order.specs.Stores.{MayStore};
 ghost use Rattle.source_meaning.specs.Valid.{MayBe};
 ghost use Rattle.store_layout.specs.Laid.{IsLayout};
@@ -9,7 +9,8 @@ ghost use Rattle.store_layout.specs.Laid.{IsLayout};
 use crate::aftermath::aftermath_of;
 use crate::books::Books;
 use crate::deliveries::deliver_all;
-use crate::faults::{Faulty, begin_anew, release, reserve_each};
+use crate::event::Faulty;
+use crate::faults::{begin_anew, release, reserve_each};
 use crate::stores::{Write, make_stores};
 use exchange_model::Exchange;
 use forlopp_chain::Chains;
@@ -38,12 +39,9 @@ impl Books {
         requires forlopp { MayBe self.old.state start.now.job.forlopp }
         requires layout { IsLayout exchange.now.blocks layout.now }
         requires words { MayStore (W.may_write words.old)
-            (retired_world exchange.now start.now done.now self.old.state (W.values words.old)).trace }
-        ensures retired { MatchResult result
-            (λ _. HasRetired exchange.now start.now done.now self.old self.new
-            (W.values words.old) (W.values words.new) (W.told words.old) (W.told words.new))
-            (λ _. IsAsBefore self.old self.new
-            (W.values words.old) (W.values words.new) (W.told words.old) (W.told words.new)) }
+            (retired_trace exchange.now start.now done.now self.old.state (W.values words.old)) }
+        ensures retired { Retires exchange.now start.now done.now self.old self.new
+            (W.values words.old) (W.values words.new) (W.told words.old) (W.told words.new) result }
         ensures allowed { (W.may_read words.new ≡ W.may_read words.old)
             × (W.may_write words.new ≡ W.may_write words.old) }
         ensures like { W.like words.old words.new }
@@ -65,9 +63,7 @@ impl Books {
         requires running { 0 < self.old.running }
         requires forlopp { MayBe self.old.state start.now.job.forlopp }
         requires layout { IsLayout exchange.now.blocks layout.now }
-        ensures { MatchResult result
-            (λ stores. HasSettled exchange.now start.now done.now self.old self.new stores)
-            (λ _. self.new ≡ self.old) }
+        ensures { Settles exchange.now start.now done.now self.old self.new result }
     {
         let forlopp = start.job.forlopp;
         let sends = done.sends.as_slice();

@@ -1,10 +1,9 @@
 // The lines of a signal file, and the forlopps that those got which have arrived.
-ghost use Rattle.std.specs.Prelude.{◌≡◌, ℕ, ◌+◌, ◌<◌, ◌≤◌, ◌^◌, ◌++◌, ◌∷◌, [], List, length, map, drop, nat_eq, slice_get, MatchResult, OnOk, OnErr, Option, Some, if◌then◌else◌};
-ghost use Rattle.std.specs.Option.{option_copied, option_map, option_or};
+ghost use Rattle.std.specs.Prelude.{◌≡◌, ℕ, ◌<◌, ◌≤◌, [], length, map, nat_eq, slice_get, OnOk, OnErr, Some};
+ghost use Rattle.std.specs.Option.{option_copied, option_map};
 ghost use Rattle.std.specs.HashMap.{get};
 ghost use Rattle.source_meaning.specs.Arrivals.{given_to};
-ghost use Rattle.source_meaning.specs.State.{Arrived, Coming};
-ghost use Rattle.retire_order.specs.Lines.{arrived_of, coming_of, found_in, timetable};
+ghost use Rattle.retire_order.specs.Lines.{AreFound, NextArrives, Notes, coming_of, timetable};
 
 use plex_num::{Memory, Seq};
 use signal_file::Line;
@@ -30,16 +29,16 @@ impl Drop for Schedule {
 }
 
 impl Model for Schedule {
-    ghost use Rattle.std.specs.Prelude.{◌≡◌, ℕ, ◌≤◌, length, nat_eq};
+    ghost use Rattle.std.specs.Prelude.{◌≤◌, length, nat_eq};
     ghost use Rattle.std.specs.HashMap.{get};
-    ghost use Rattle.retire_order.specs.Lines.{Timetable, arrived_of, found_in, timetable};
+    ghost use Rattle.retire_order.specs.Lines.{AreFound, Timetable, timetable};
 
     ghost Value = { Timetable };
 
     ghost view = { λ s. timetable s.lines s.given.items };
 
     ghost invariant = { λ s. (length s.given.items ≤ length s.lines)
-        × ((n : ℕ) → get nat_eq s.numbers n ≡ found_in (arrived_of s.lines s.given.items) n) };
+        × AreFound (get nat_eq s.numbers) s.lines s.given.items };
 }
 
 impl Schedule {
@@ -59,7 +58,7 @@ impl Schedule {
     /// the lines.
     pub fn from_parts(lines: Seq<Line>, given: Seq<u64>, numbers: HashMap<u32, u64>) -> Schedule
         requires within { length given ≤ length lines }
-        requires numbers { (n : ℕ) → get nat_eq numbers n ≡ found_in (arrived_of lines given) n }
+        requires numbers { AreFound (get nat_eq numbers) lines given }
         ensures { result ≡ timetable lines given }
     {
         Schedule {
@@ -73,7 +72,7 @@ impl Schedule {
     pub fn into_parts(self) -> (Seq<Line>, Seq<u64>, HashMap<u32, u64>)
         ensures timetable { timetable result.0 result.1 ≡ self }
         ensures within { length result.1 ≤ length result.0 }
-        ensures numbers { (n : ℕ) → get nat_eq result.2 n ≡ found_in (arrived_of result.0 result.1) n }
+        ensures numbers { AreFound (get nat_eq result.2) result.0 result.1 }
     {
         let Schedule {
             lines,
@@ -103,10 +102,7 @@ impl Schedule {
     /// The next line has arrived, which must be there, and got this forlopp. Where memory is refused, nothing changes.
     pub fn arrive(&mut self, forlopp: u64) -> Result<(), Memory>
         requires { 0 < length self.old.lines }
-        ensures { MatchResult result
-            (λ _. (l : Coming) × (self.old.lines ≡ l ∷ self.new.lines)
-            × (self.new.arrived ≡ self.old.arrived ++ record { line = l; forlopp = forlopp } ∷ []))
-            (λ _. self.new ≡ self.old) }
+        ensures { NextArrives self.old self.new forlopp result }
     {
         let number = line_at(&self.lines, self.given.len()).number;
         if self.given.reserve(1).is_err() {
@@ -128,8 +124,8 @@ fn line_at(lines: &Seq<Line>, place: usize) -> &Line
 
 /// Notes the forlopp of a line, unless one of its number is noted. Where memory is refused, nothing changes.
 fn note(numbers: &mut HashMap<u32, u64>, line: u32, forlopp: u64) -> Result<(), Memory>
-    ensures ok { OnOk result ((n : ℕ) → get nat_eq numbers.new n
-        ≡ option_or (get nat_eq numbers.old n) (if nat_eq line n then Some forlopp else Option.None)) }
+    ensures ok { OnOk result
+        (Notes (get nat_eq numbers.old) (get nat_eq numbers.new) line forlopp) }
     ensures err { OnErr result ((n : ℕ) → get nat_eq numbers.new n ≡ get nat_eq numbers.old n) }
 {
     if numbers.contains_key(&line) {

@@ -1,11 +1,9 @@
 // The stores of a release and of a restart: they are listed before the first change, so that none can be refused.
 ghost use Rattle.std.specs.Prelude.{◌≡◌, ℕ, ◌+◌, ◌*◌, ◌<◌, ◌^◌, ◌++◌, true, map, length, slice_get, slice_set, IfOk, OnOk};
 ghost use Rattle.std.specs.List.{AllByRecursion};
-ghost use Rattle.exchange_model.specs.Cells.{placed_files};
-ghost use Rattle.job_types.specs.declared.touch.Touch.{Touch};
 ghost use Rattle.job_types.specs.Touches.{stored};
 ghost use Rattle.machine_code.specs.Told.{told_all, told_more};
-ghost use Rattle.retire_order.specs.Stores.{all_clear_stores, all_stores, clear_of, clear_stores, field_stores, held_stores, touch_of};
+ghost use Rattle.retire_order.specs.Stores.{all_clear_stores, clear_of, clear_stores, field_stores, open_store, open_stores, touch_of};
 ghost use Rattle.store_layout.specs.Laid.{IsLayout};
 ghost use Rattle.retire_order.specs.declared.stores.Write.{Write};
 
@@ -41,7 +39,7 @@ pub fn make_stores<W: Words>(stores: &[Write], words: &mut W)
 fn make_store<W: Words>(store: Write, words: &mut W)
     requires { W.may_write words.old store.word ≡ true }
     ensures values { W.values words.new ≡ slice_set (W.values words.old) store.word store.value }
-    ensures told { W.told words.new ≡ told_more (W.told words.old) (Touch.Store store.word store.value) }
+    ensures told { W.told words.new ≡ told_more (W.told words.old) (touch_of store) }
     ensures allowed { (W.may_read words.new ≡ W.may_read words.old)
         × (W.may_write words.new ≡ W.may_write words.old) }
     ensures like { W.like words.old words.new }
@@ -57,7 +55,7 @@ pub fn list_records(
     records: &[Held],
 ) -> Result<(), Memory>
     requires { IsLayout exchange.now.blocks layout.now }
-    ensures { OnOk result (stores.new ≡ stores.old ++ all_stores (placed_files exchange.now.blocks) records.now) }
+    ensures { OnOk result (stores.new ≡ stores.old ++ open_stores exchange.now records.now) }
 {
     for held in records {
         list_record(stores, exchange, layout, *held)?;
@@ -73,7 +71,7 @@ fn list_record(
     held: Held,
 ) -> Result<(), Memory>
     requires { IsLayout exchange.now.blocks layout.now }
-    ensures { OnOk result (stores.new ≡ stores.old ++ held_stores (placed_files exchange.now.blocks) held) }
+    ensures { OnOk result (stores.new ≡ stores.old ++ open_store exchange.now held) }
 {
     let Some(place) = exchange.file(held.file) else {
         return Ok(());

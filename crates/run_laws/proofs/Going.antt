@@ -11,7 +11,7 @@ use Rattle.machine_code.specs.declared.op.Op.TheVariants.{End}
 use Rattle.source_meaning.specs.Traces.{Answers}
 use Rattle.source_meaning.proofs.Framed.{answers_split}
 use Rattle.register_machine.specs.Private.{Private}
-use Rattle.register_machine.specs.Machine.{Allowed, Goes, Machine, by_op, here, machine_step, op_at, reach}
+use Rattle.register_machine.specs.Machine.{Allowed, Goes, Machine, by_op, here, machine_step, reach}
 use Rattle.register_machine.specs.Faithful.{Ends, begun}
 use Rattle.run_laws.specs.Alone.{CanGoOn, TraceGrows, alone, goes_on, makes, makes_unless, on_words}
 use Rattle.run_laws.proofs.Framed.{step_framed}
@@ -41,18 +41,15 @@ steps_first : (code : List Op) (m end : Machine) → IsSome end.run.over → m.r
 steps_first code m end over runs here = absurd (none_is_none m.run.over runs over)
 steps_first code m end over runs (by_op op going at allowed more) = record { op = op; at = at; allowed = allowed; more = more }
 
-op_is : (code : List Op) (a : ℕ) (op : Op) → slice_get code a ≡ Some op → op_at code a ≡ op
-op_is code a op at = get_or_from_slice_get code a op End at
-
 makes_more : (code : List Op) (m end : Machine) → (s : StepsTo code m end) → Goes code (makes code m) end
-makes_more code m end s = subst (λ op. Goes code (machine_step op m) end) (sym (op_is code m.run.pc s.op s.at)) s.more
+makes_more code m end s = subst (λ op. Goes code (machine_step op m) end) (sym (get_or_from_slice_get code m.run.pc s.op End s.at)) s.more
 
 pub can_go_on : (code : List Op) (m end : Machine) → IsSome end.run.over → m.run.over ≡ None → Goes code m end → CanGoOn code m end
 can_go_on code m end over runs goes =
     let s = steps_first code m end over runs goes in
     record {
       within = slice_get_within code m.run.pc s.op s.at;
-      allowed = subst (λ op. Allowed op m.run) (sym (op_is code m.run.pc s.op s.at)) s.allowed;
+      allowed = subst (λ op. Allowed op m.run) (sym (get_or_from_slice_get code m.run.pc s.op End s.at)) s.allowed;
       grows = trace_grows code (makes code m) end (makes_more code m end s);
     }
 

@@ -15,7 +15,7 @@ use Rattle.shared_store.specs.declared.view.Hold.{Hold}
 use Rattle.shared_store.specs.declared.view.View.{View}
 use Rattle.shared_store.specs.declared.view.View.TheVariants.{Root, Loan, Spent}
 use Rattle.shared_store.specs.Loans.{Has, lent_out, without, lent, lender, borrower, current, taken_back, FitsBeside}
-use Rattle.shared_store.specs.Rule.{Holds, Listing, Seats, Words, Lending, cut_left, cut_right, both}
+use Rattle.shared_store.specs.Rule.{Holds, Listing, Seats, AreShared, Lending, cut_left, cut_right, both}
 use Rattle.job_types.proofs.Touched.{length-stored}
 use Rattle.shared_store.proofs.Touched.{written_touched, stored_agree, stored_else, stored_small}
 use Rattle.shared_store.proofs.Loaned.{lent_out_none, lent_out_all, fresh_above, kept_out, kept_in, Differ-without, Apart-sym}
@@ -29,7 +29,7 @@ pub cuts : (id : ℕ) (t : Top) (v : View) (start : JobStart) (permit : Permit) 
 cuts id t v start permit is fits s r at =
     let here : get_elem? s.views id ≡ some (Root t) = at ∙ ap (λ (v : View). some v) is in
     let top : r.top ≡ t = same_root r.top t (sym r.seats.at_root ∙ subst (λ (k : ℕ). get_elem? s.views k ≡ some (Root t)) (r.seats.one_root id t here) here) in
-    let k : Words (length s.homes) t s.views s.words = subst (λ (z : Top). Words (length s.homes) z s.views s.words) top r.words in
+    let k : AreShared (length s.homes) t s.views s.words = subst (λ (z : Top). AreShared (length s.homes) z s.views s.words) top r.words in
     let g : Listing t = subst Listing top r.listing in let q : Seats t s.views = subst (λ (z : Top). Seats z s.views) top r.seats in
     let t' : Top = lender start permit t in let l : Lent = lent t start permit in let h : Hold = borrower start permit t in
     let above : (a : Lent) → Has t.loans a → a.number < l.number = λ a s. fresh_above t.loans a s in
@@ -68,7 +68,7 @@ pub rejoins : (id : ℕ) (t : Top) (v : View) (other : ℕ) (h : Hold) (u : View
 rejoins id t v other h u is is' s r at ne at' =
     let here : get_elem? s.views id ≡ some (Root t) = at ∙ ap (λ (v : View). some v) is in
     let top : r.top ≡ t = same_root r.top t (sym r.seats.at_root ∙ subst (λ (k : ℕ). get_elem? s.views k ≡ some (Root t)) (r.seats.one_root id t here) here) in
-    let k : Words (length s.homes) t s.views s.words = subst (λ (z : Top). Words (length s.homes) z s.views s.words) top r.words in
+    let k : AreShared (length s.homes) t s.views s.words = subst (λ (z : Top). AreShared (length s.homes) z s.views s.words) top r.words in
     let g : Listing t = subst Listing top r.listing in let q : Seats t s.views = subst (λ (z : Top). Seats z s.views) top r.seats in
     let t' : Top = taken_back t h in let n : ℕ = h.lent.number in
     let goes : both v u ≡ Root t' = (λ i. both (is i) (is' i)) in

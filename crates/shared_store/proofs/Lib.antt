@@ -1,3 +1,4 @@
+pub mod Alone
 pub mod Touched
 pub mod Loaned
 pub mod Views

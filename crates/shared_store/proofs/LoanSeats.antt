@@ -16,7 +16,7 @@ use Rattle.shared_store.specs.declared.view.View.{View}
 use Rattle.shared_store.specs.declared.view.View.TheVariants.{Root, Loan}
 use Rattle.shared_store.specs.Loans.{Has, lent_out, current, touched}
 use Rattle.shared_store.specs.Seats.{hold_of}
-use Rattle.shared_store.specs.Rule.{Holds, Listing, Seats, Words}
+use Rattle.shared_store.specs.Rule.{Holds, Listing, Seats, AreShared}
 use Rattle.job_types.proofs.Touched.{length-stored}
 use Rattle.shared_store.proofs.Touched.{written_touched, set_small, stored-snoc, stored_else, Sound-snoc}
 use Rattle.shared_store.proofs.Loaned.{lent_out_none, lent_out_all}
@@ -54,7 +54,7 @@ module _ (views : List View) (id : ℕ) (h h' : Hold) (at : Holds views id h) (s
   }
 
 -- what the seat id of the loan h may rely on
-module _ (free : ℕ) (t : Top) (views : List View) (words : List ℕ) (r : Listing t) (q : Seats t views) (k : Words free t views words) (id : ℕ) (h : Hold) (at : Holds views id h) where
+module _ (free : ℕ) (t : Top) (views : List View) (words : List ℕ) (r : Listing t) (q : Seats t views) (k : AreShared free t views words) (id : ℕ) (h : Hold) (at : Holds views id h) where
   pub has : Has t.loans h.lent
   has = q.listed id h at
 
@@ -82,7 +82,7 @@ module _ (free : ℕ) (t : Top) (views : List View) (words : List ℕ) (r : List
   loaded_sound w touch lt = let wide = long in Sound-snoc h.lent.permit h.touches h.lent.base (Load w (get_or words (place free w) 0)) (q.sound id h at)
       (touch, omega arith, found w touch lt, tt)
 
-  pub loaded_words : (w n : ℕ) → Words free t (set views id (Loan (touched h (Load w n)))) words
+  pub loaded_words : (w n : ℕ) → AreShared free t (set views id (Loan (touched h (Load w n)))) words
   loaded_words w n = record {
     wide = k.wide;
     first = k.first;
@@ -97,7 +97,7 @@ module _ (free : ℕ) (t : Top) (views : List View) (words : List ℕ) (r : List
   pub stored_sound : (w x : ℕ) → may_write h.lent.permit w ≡ true → w < length t.values → x < 2 ^ 32 → Sound h.lent.permit h.lent.base (h.touches ++ Store w x ∷ [])
   stored_sound w x wr lt fits = let wide = long in Sound-snoc h.lent.permit h.touches h.lent.base (Store w x) (q.sound id h at) (wr, omega arith, fits, tt)
 
-  pub stored_words : (w x : ℕ) → may_write h.lent.permit w ≡ true → w < length t.values → x < 2 ^ 32 → Words free t (set views id (Loan (touched h (Store w x)))) (set words (place free w) x)
+  pub stored_words : (w x : ℕ) → may_write h.lent.permit w ≡ true → w < length t.values → x < 2 ^ 32 → AreShared free t (set views id (Loan (touched h (Store w x)))) (set words (place free w) x)
   stored_words w x wr lt fits = let h' : Hold = touched h (Store w x) in let inside = place_within free w (length t.values) (length words) (sym k.wide) lt in let later = place_later free w in let wide = long in record {
     wide = length-set words (place free w) x ∙ k.wide;
     first = get_or-set_other words (place free w) 0 x 0 (λ e. absurd (omega (arith, later, e))) ∙ k.first;

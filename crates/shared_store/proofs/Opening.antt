@@ -8,7 +8,7 @@ use Rattle.shared_store.specs.declared.view.Top.{Top}
 use Rattle.shared_store.specs.declared.view.Hold.{Hold}
 use Rattle.shared_store.specs.declared.view.View.TheVariants.{Root, Loan}
 use Rattle.shared_store.specs.Places.{line}
-use Rattle.shared_store.specs.Rule.{Holds, Words, Lending}
+use Rattle.shared_store.specs.Rule.{Holds, AreShared, Lending}
 use Rattle.shared_store.proofs.Places.{row_wide, row_read, row_small}
 use Rattle.shared_store.proofs.Views.{loan-not-root}
 
@@ -27,7 +27,7 @@ opens words values slots free is counted small = subst (λ (ws : List ℕ). Lend
     live = λ a s. absurd s;
     sound = λ j i e. absurd (no_loan j i e);
   };
-  words = subst (λ (n : ℕ). Words n (record { values = values; loans = [] }) (Root (record { values = values; loans = [] }) ∷ []) (flat_map (line free) (0 ∷ values))) (sym (length-map slots some ∙ counted)) record {
+  words = subst (λ (n : ℕ). AreShared n (record { values = values; loans = [] }) (Root (record { values = values; loans = [] }) ∷ []) (flat_map (line free) (0 ∷ values))) (sym (length-map slots some ∙ counted)) record {
     wide = row_wide free values;
     first = refl;
     fit = row_small free (0 ∷ values) zero_first;

@@ -14,7 +14,7 @@ use Rattle.shared_store.specs.declared.view.Top.{Top}
 use Rattle.shared_store.specs.declared.view.View.{View}
 use Rattle.shared_store.specs.declared.view.View.TheVariants.{Root}
 use Rattle.shared_store.specs.Loans.{Has, lent_out, seen_by}
-use Rattle.shared_store.specs.Rule.{Sat, Listing, Seats, Words, Lending, root_looked, root_put}
+use Rattle.shared_store.specs.Rule.{Sat, Listing, Seats, AreShared, Lending, root_looked, root_put}
 use Rattle.shared_store.proofs.Touched.{written_touched, set_small}
 use Rattle.shared_store.proofs.Loaned.{seen_by_none}
 use Rattle.shared_store.specs.Places.{place}
@@ -28,7 +28,7 @@ pub root_looks : (slots id : ℕ) (me : Sat) (t : Top) (w : ℕ) → me.0 ≡ Ro
 root_looks slots id me t w is out lt s r homes at _ =
     let n : ℕ = get_or s.words (place slots w) 0 in let here : get_elem? s.views id ≡ some (Root t) = at ∙ ap (λ (v : View). some v) is in
     let top : r.top ≡ t = same_root r.top t (sym r.seats.at_root ∙ subst (λ (k : ℕ). get_elem? s.views k ≡ some (Root t)) (r.seats.one_root id t here) here) in
-    let words : Words slots t s.views s.words = subst (λ (z : ℕ × Top). Words z.0 z.1 s.views s.words) (λ i. (homes i, top i)) r.words in (
+    let words : AreShared slots t s.views s.words = subst (λ (z : ℕ × Top). AreShared z.0 z.1 s.views s.words) (λ i. (homes i, top i)) r.words in (
       me.0,
       keeps,
       tt,
@@ -43,7 +43,7 @@ pub root_puts : (slots id : ℕ) (me : Sat) (t : Top) (w x : ℕ) → me.0 ≡ R
 root_puts slots id me t w x is out lt fits s r homes at _ =
     let here : get_elem? s.views id ≡ some (Root t) = at ∙ ap (λ (v : View). some v) is in
     let top : r.top ≡ t = same_root r.top t (sym r.seats.at_root ∙ subst (λ (k : ℕ). get_elem? s.views k ≡ some (Root t)) (r.seats.one_root id t here) here) in
-    let k : Words slots t s.views s.words = subst (λ (z : ℕ × Top). Words z.0 z.1 s.views s.words) (λ i. (homes i, top i)) r.words in
+    let k : AreShared slots t s.views s.words = subst (λ (z : ℕ × Top). AreShared z.0 z.1 s.views s.words) (λ i. (homes i, top i)) r.words in
     let g : Listing t = subst Listing top r.listing in let q : Seats t s.views = subst (λ (z : Top). Seats z s.views) top r.seats in
     let t' : Top = record t { values = set t.values w x } in let inside = place_within slots w (length t.values) (length s.words) (sym k.wide) lt in let later = place_later slots w in
     let apart : (a : Lent) (u : ℕ) → Has t.loans a → may_read a.permit u ≡ true → u ≢ w = λ a u s touch d.
@@ -63,7 +63,7 @@ root_puts slots id me t w x is out lt fits s r homes at _ =
           small_base = g.small_base;
         };
         seats = reseated s.views id t t' q here (λ a s. s) (λ a s. s);
-        words = subst (λ (m : ℕ). Words m t' (set s.views id (Root t')) (set s.words (place slots w) x)) (sym homes) record {
+        words = subst (λ (m : ℕ). AreShared m t' (set s.views id (Root t')) (set s.words (place slots w) x)) (sym homes) record {
           wide = length-set s.words (place slots w) x ∙ (k.wide ∙ ap (place slots) (sym (length-set t.values w x)));
           first = get_or-set_other s.words (place slots w) 0 x 0 (λ e. absurd (omega (arith, later, e))) ∙ k.first;
           fit = set_small s.words (place slots w) x fits k.fit;

@@ -1,32 +1,24 @@
 -- The permits that the tests lend.
-use Rattle.std.proofs.Common.{◌≡◌, ◌≢◌, ◌⊎◌, ℕ, ◌+◌, ◌*◌, true, false, ◌||◌, List, [], length, sym, ap, ◌∙◌, subst, inl, inr, ⊎_elim, arith, lit<}
-use Rattle.std.proofs.lemmas.Bool.{cases_Bool, or_cases, or_left}
+use Rattle.std.proofs.Common.{◌≡◌, ◌≢◌, ◌⊎◌, ℕ, true, false, ◌||◌, List, [], length, sym, ap, ◌∙◌, subst, inl, inr, ⊎_elim}
+use Rattle.std.proofs.lemmas.Bool.{cases_Bool, or_cases, or_left, false≢true}
 use Rattle.job_types.specs.declared.job.JobStart.{JobStart}
 use Rattle.machine_code.specs.declared.permit.Permit.{Permit}
 use Rattle.machine_code.specs.Permits.{spans, may_write, may_read, Apart}
-use Rattle.machine_code.proofs.Spanned.{spans_in, spans_out}
 use Rattle.job_types.proofs.Touched.{length-stored}
 use Rattle.shared_store.specs.declared.view.Lent.{Lent}
 use Rattle.shared_store.specs.declared.view.Top.{Top}
 use Rattle.shared_store.specs.declared.view.Hold.{Hold}
 use Rattle.shared_store.specs.Loans.{Has, lent, lender, taken_back, FitsBeside}
 use Rattle.shared_store.specs.Seats.{StoreId, RootView}
-use Rattle.shared_store.specs.TestPermits.{alone, adding, reading, AllReading}
+use Rattle.shared_store.specs.Alone.{alone}
+use Rattle.shared_store.specs.TestPermits.{adding, reading, AllReading}
 use Rattle.shared_store.proofs.Touched.{written_touched}
 use Rattle.shared_store.proofs.Loaned.{kept_out}
-
-no-false : false ≡ true → ⊥
-no-false e = cc
-
-alone_in : (w : ℕ) → spans (alone w) w ≡ true
-alone_in w = let e : w + 0 * 1 ≡ w = omega arith in subst (λ (u : ℕ). spans (alone w) u ≡ true) e (spans_in (alone w) 0 (lit< tt))
-
-alone_out : (w u : ℕ) → spans (alone w) u ≡ true → w ≡ u
-alone_out w u e = let o = spans_out (alone w) u e in omega (arith, o.1, o.2)
+use Rattle.shared_store.proofs.Alone.{alone_in, alone_out}
 
 -- the last of a list of spans
 one_out : (w u : ℕ) → (spans (alone w) u || false) ≡ true → w ≡ u
-one_out w u e = ⊎_elim (λ (h : spans (alone w) u ≡ true). alone_out w u h) (λ (h : false ≡ true). absurd (no-false h)) (or_cases (spans (alone w) u) false e)
+one_out w u e = ⊎_elim (λ (h : spans (alone w) u ≡ true). alone_out w u h) (λ (h : false ≡ true). absurd (false≢true h)) (or_cases (spans (alone w) u) false e)
 
 adding_writes : (step own u : ℕ) → may_write (adding step own) u ≡ true → own ≡ u
 adding_writes step own u e = one_out own u e
@@ -57,7 +49,7 @@ adding_apart p q step own other e f s t o =
 
 -- jobs that read alone do not meet
 pub reading_apart : (p q : Permit) (w : ℕ) → p ≡ reading w → q ≡ reading w → Apart p q
-reading_apart p q w e f = subst (λ (z : Permit × Permit). Apart z.0 z.1) (λ i. (sym e i, sym f i)) (λ u. (λ n. absurd (no-false n), λ n. absurd (no-false n)))
+reading_apart p q w e f = subst (λ (z : Permit × Permit). Apart z.0 z.1) (λ i. (sym e i, sym f i)) (λ u. (λ n. absurd (false≢true n), λ n. absurd (false≢true n)))
 
 -- a permit beside the only loan
 pub beside_one : (ls : List Lent) (t : Top) (start : JobStart) (p q : Permit) → ls ≡ (lender start p t).loans → t.loans ≡ [] → Apart p q → FitsBeside ls q

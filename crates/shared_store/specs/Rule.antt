@@ -59,7 +59,7 @@ pub record Seats (t : Top) (views : List View) : Type 0 where
 
 -- The words: the first is 0, all are below 2^32, a word that a loan may write has what that loan's seat sees,
 -- and any other has the root's value. So many words stay free behind each cell.
-pub record Words (free : ℕ) (t : Top) (views : List View) (words : List ℕ) : Type 0 where
+pub record AreShared (free : ℕ) (t : Top) (views : List View) (words : List ℕ) : Type 0 where
   pub wide : length words ≡ place free (length t.values)
   pub first : slice_index words 0 ≡ 0
   pub fit : (i : ℕ) → slice_index words i < 2 ^ 32
@@ -73,7 +73,7 @@ pub record Lending (s : St) : Type 0 where
   pub top : Top
   pub listing : Listing top
   pub seats : Seats top s.views
-  pub words : Words (length s.homes) top s.views s.words
+  pub words : AreShared (length s.homes) top s.views s.words
 
 -- a loan's load: the seat has one load more, of what it sees there
 abbrev pub looked : Step (Unit {0}) → Sat → ℕ → Sat → Type 0

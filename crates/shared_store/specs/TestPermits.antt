@@ -1,13 +1,9 @@
 -- Permits that the tests lend.
 use Rattle.std.specs.Prelude.{◌≡◌, ℕ, List, [], ◌∷◌}
-use Rattle.machine_code.specs.declared.permit.Span.{Span}
 use Rattle.machine_code.specs.declared.permit.Permit.{Permit}
 use Rattle.shared_store.specs.declared.view.Lent.{Lent}
 use Rattle.shared_store.specs.Loans.{Has}
-
--- one word
-abbrev pub alone : ℕ → Span
-alone w = record { first = w; count = 1; stride = 1 }
+use Rattle.shared_store.specs.Alone.{alone}
 
 -- one word may be read, and one may be written
 abbrev pub adding : ℕ → ℕ → Permit

@@ -1,5 +1,5 @@
 -- The form of a line of a signal file, whatever its names mean.
-use Rattle.std.specs.Prelude.{◌≡◌, ℕ, List, [], ◌∷◌, take, length, Option, Some, None, if◌then◌else◌, codes}
+use Rattle.std.specs.Prelude.{◌≡◌, ℕ, ◌+◌, List, [], ◌∷◌, ◌++◌, take, length, Option, Some, None, MatchOption, if◌then◌else◌, codes}
 use Rattle.std.specs.Str.{bytes_eq}
 use Rattle.plex_limits.specs.declared.limits.TheConstants.{MOST_VALUES}
 use Rattle.plex_num.specs.Number.{number_of}
@@ -66,10 +66,18 @@ pub record Keeps (all kept : List ℕ) (count : ℕ) : Type 0 where
   pub first : kept ≡ take MOST_VALUES all
   pub counted : count ≡ length all
 
+-- one more value is read, and kept if there is room
+abbrev pub KeepsOneMore : List ℕ → ℕ → ℕ → List ℕ → Type 0
+KeepsOneMore old count value new = (all : List ℕ) → Keeps all old count → Keeps (all ++ value ∷ []) new (count + 1)
+
 -- this is the end of a line as it is read
 abbrev pub IsTail : Option Closing → Tail → Type 0
 IsTail None t = ⊥
 IsTail (Some c) t = Keeps c.values t.values t.count × (t.kind ≡ c.kind)
+
+-- the end of a line is read, where these words are one
+abbrev pub IsTailOf : List (List ℕ) → Option Tail → Type 0
+IsTailOf ws read = MatchOption read (closing ws ≡ None) (λ t. IsTail (closing ws) t)
 
 -- this is what a line says, as it is read
 pub record IsRead (s : Saying) (said : Said) : Type 0 where
@@ -82,3 +90,7 @@ pub record IsRead (s : Saying) (said : Said) : Type 0 where
 abbrev pub IsSaid : Option Saying → Said → Type 0
 IsSaid None said = ⊥
 IsSaid (Some s) said = IsRead s said
+
+-- what these words say is read, where they say something
+abbrev pub IsSaidOf : List (List ℕ) → Option Said → Type 0
+IsSaidOf ws read = MatchOption read (said_in ws ≡ None) (λ said. IsSaid (said_in ws) said)

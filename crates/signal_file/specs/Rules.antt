@@ -1,7 +1,7 @@
 -- What a signal line means in an exchange, and its first fault.
 --
 -- A line is looked at with what counts of the lines before it. Its faults are looked for in a fixed order, and the first decides.
-use Rattle.std.specs.Prelude.{◌≡◌, ℕ, ◌+◌, ◌-◌, ◌≤◌, nat_eq, nat_le, Bool, true, false, List, length, map, fold, position, slice_get, Option, Some, None, Result, Ok, Err, if◌then◌else◌}
+use Rattle.std.specs.Prelude.{◌≡◌, ℕ, ◌+◌, ◌-◌, ◌≤◌, nat_eq, nat_le, Bool, true, false, List, [], ◌∷◌, ◌++◌, length, map, fold, position, slice_get, Option, Some, None, Result, Ok, Err, if◌then◌else◌}
 use Rattle.std.specs.Str.{bytes_eq}
 use Rattle.plex_limits.specs.declared.limits.TheConstants.{MOST_VALUES, MOST_SIGNALS, MOST_BLOCKS}
 use Rattle.exchange_model.specs.declared.exchange.Exchange.{Exchange}
@@ -65,6 +65,14 @@ is_origin line = gives_forlopp (says line)
 -- what counts of the lines before a line
 unfoldable pub before_of : List (List ℕ) → Before
 before_of lines = record { last = last_count lines; origins = map is_origin lines }
+
+-- what counts behind one more line, which is skipped
+abbrev pub behind_skipped : Before → Before
+behind_skipped b = record { last = b.last; origins = b.origins ++ false ∷ [] }
+
+-- what counts behind one more signal line
+abbrev pub behind_line : Before → Line → Before
+behind_line b l = record { last = l.after; origins = b.origins ++ gives l.kind ∷ [] }
 
 -- the number of the line that follows
 abbrev pub next_number : Before → ℕ

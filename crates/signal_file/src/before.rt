@@ -1,6 +1,6 @@
 // What counts of the lines before a line.
-ghost use Rattle.std.specs.Prelude.{◌≡◌, ◌+◌, ◌<◌, ◌^◌, ◌∷◌, ◌++◌, [], OnOk, false, length};
-ghost use Rattle.signal_file.specs.Rules.{gives, has_origin, next_number};
+ghost use Rattle.std.specs.Prelude.{◌≡◌, ◌<◌, ◌^◌, OnOk, length};
+ghost use Rattle.signal_file.specs.Rules.{behind_line, behind_skipped, gives, has_origin, next_number};
 
 use crate::line::{Line, LineKind};
 use plex_num::{Memory, Seq};
@@ -55,20 +55,14 @@ impl Before {
 
     /// Adds a line that is skipped.
     pub fn skip(&mut self) -> Result<(), Memory>
-        ensures { OnOk result (self.new ≡ record {
-          last = self.old.last;
-          origins = self.old.origins ++ false ∷ [];
-        }) }
+        ensures { OnOk result (self.new ≡ behind_skipped self.old) }
     {
         self.origins.push(false)
     }
 
     /// Adds a signal line.
     pub fn note(&mut self, line: &Line) -> Result<(), Memory>
-        ensures { OnOk result (self.new ≡ record {
-          last = line.now.after;
-          origins = self.old.origins ++ gives line.now.kind ∷ [];
-        }) }
+        ensures { OnOk result (self.new ≡ behind_line self.old line.now) }
     {
         self.last = line.after;
         self.origins.push(gives_forlopp(line.kind))

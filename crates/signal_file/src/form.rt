@@ -1,7 +1,7 @@
 // The form of a line: what its words say, whatever their names mean.
-ghost use Rattle.std.specs.Prelude.{◌≡◌, ◌+◌, ◌<◌, ◌∷◌, ◌++◌, [], List, ℕ, MatchOption, None, length};
+ghost use Rattle.std.specs.Prelude.{◌≡◌, ◌<◌, ◌∷◌, length};
 ghost use Rattle.plex_limits.specs.declared.limits.TheConstants.{MOST_VALUES};
-ghost use Rattle.signal_file.specs.Form.{IsSaid, IsTail, Keeps, bare_ending, closing, ending, said_in, same_ending};
+ghost use Rattle.signal_file.specs.Form.{IsSaidOf, IsTailOf, KeepsOneMore, bare_ending, ending, same_ending};
 ghost use Rattle.text_lines.specs.Words.{is_comment, is_skipped, words};
 
 use crate::line::LineKind;
@@ -31,9 +31,7 @@ pub struct Tail {
 /// What a line says; `None` where it is no signal line.
 #[tactic(auto, unfolding(crate::specs::Form::said_in))]
 pub fn said_of(line: &[u8]) -> Option<Said<'_>>
-    ensures { MatchOption result
-        (said_in (words line.now) ≡ None)
-        (λ said. IsSaid (said_in (words line.now)) said) }
+    ensures { IsSaidOf (words line.now) result }
 {
     let Some((first, rest)) = next_word(line) else {
         return None;
@@ -69,9 +67,7 @@ pub fn said_of(line: &[u8]) -> Option<Said<'_>>
 /// The values, and the end of the line; `None` where a word before the end is no number, or there is no end.
 #[tactic(auto, using(crate::proofs::Tails::tail_read))]
 pub fn tail_of(line: &[u8]) -> Option<Tail>
-    ensures { MatchOption result
-        (closing (words line.now) ≡ None)
-        (λ t. IsTail (closing (words line.now)) t) }
+    ensures { IsTailOf (words line.now) result }
 {
     let mut values = Values::new();
     let mut count = 0;
@@ -98,8 +94,7 @@ pub fn tail_of(line: &[u8]) -> Option<Tail>
 #[tactic(auto, using(crate::proofs::Tails::keep_pushed, crate::proofs::Tails::keep_full))]
 fn keep(values: &mut Values, count: usize, value: u32)
     requires { count < MOST_VALUES → length values.old < MOST_VALUES }
-    ensures { (all : List ℕ) → Keeps all values.old count
-        → Keeps (all ++ value ∷ []) values.new (count + 1) }
+    ensures { KeepsOneMore values.old count value values.new }
 {
     if count < MOST_VALUES {
         values.push(value);

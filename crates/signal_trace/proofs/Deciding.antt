@@ -1,5 +1,5 @@
 -- The first faulty line of a filter decides.
-use Rattle.std.proofs.Common.{◌≡◌, ℕ, ◌+◌, List, [], ◌∷◌, ◌++◌, length, Result, Ok, Err, refl, ap, ◌∙◌, arith}
+use Rattle.std.proofs.Common.{◌≡◌, ℕ, ◌+◌, List, [], ◌∷◌, ◌++◌, length, Ok, Err, ap, ◌∙◌, arith}
 use Rattle.std.specs.List.{cons_option}
 use Rattle.signal_file.specs.declared.directory.Directory.{Directory}
 use Rattle.signal_trace.specs.declared.fault.FilterFault.{FilterFault}

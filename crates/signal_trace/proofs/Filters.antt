@@ -16,7 +16,7 @@ either p None one other = refl
 either p (Some e) one other = list_any-append (p e) one other
 
 pub shows_either : (x : Exchange) (one other : List Show) (t : TracedJob) → is_shown x (one ++ other) t ≡ (is_shown x one t || is_shown x other t)
-shows_either x one other t = either (λ e l. shows l e t.start.job.forlopp t.number t.outcome) (slice_get x.entries t.start.job.entry) one other
+shows_either x one other t = either (λ e. shows e t.start.job.forlopp t.number t.outcome) (slice_get x.entries t.start.job.entry) one other
 
 pub traces_either : (x : Exchange) (limit : ℕ) (first : State) (one other : List Show) → trace x limit first (one ++ other) ≡ filter (λ t. is_shown x one t || is_shown x other t) (full_trace x limit first)
 traces_either x limit first one other = λ i. filter (λ t. shows_either x one other t i) (full_trace x limit first)
@@ -31,4 +31,4 @@ none_kept p (t ∷ ts) none = ap (λ b. cond b (t ∷ filter p ts) (filter p ts)
 
 pub shows_nothing : (x : Exchange) (limit : ℕ) (first : State) → trace x limit first [] ≡ []
 shows_nothing x limit first =
-    none_kept (is_shown x []) (full_trace x limit first) (λ t. nothing (λ e l. shows l e t.start.job.forlopp t.number t.outcome) (slice_get x.entries t.start.job.entry))
+    none_kept (is_shown x []) (full_trace x limit first) (λ t. nothing (λ e. shows e t.start.job.forlopp t.number t.outcome) (slice_get x.entries t.start.job.entry))

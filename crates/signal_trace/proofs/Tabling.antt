@@ -1,18 +1,18 @@
 -- What a table of lines tells is what its lines show.
-use Rattle.std.proofs.Common.{◌≡◌, ⊎_elim, ℕ, ◌+◌, ◌-◌, ◌^◌, ◌<◌, ◌≤◌, ◌≢◌, Bool, true, false, not, ◌&&◌, ◌||◌, List, [], ◌∷◌, ◌++◌, length, map, get_or, Option, Some, None, refl, sym, ap, ◌∙◌, subst, arith, rules}
+use Rattle.std.proofs.Common.{◌≡◌, ⊎_elim, ℕ, ◌+◌, ◌-◌, ◌^◌, ◌<◌, ◌≤◌, ◌≢◌, Bool, true, false, not, ◌&&◌, ◌||◌, List, [], ◌∷◌, ◌++◌, length, map, take, get_or, Option, Some, None, refl, sym, ap, ◌∙◌, subst, arith, rules}
 use Rattle.std.specs.declared.cmp.Ordering.{Ordering}
 use Rattle.std.specs.declared.cmp.Ordering.TheVariants.{Less, Equal, Greater}
 use Rattle.std.specs.Cmp.{IsTotalOrder}
 use Rattle.std.specs.Ordering.{is_eq, is_gt, is_le, is_lt, nat_cmp, ordering_reverse, ordering_then}
-use Rattle.std.specs.Prelude.{if◌then◌else◌, max, nat_le, slice_get, unwrap_or}
+use Rattle.std.specs.Prelude.{if◌then◌else◌, max, nat_eq, nat_le, slice_get, unwrap_or}
 use Rattle.std.specs.List.{list_any}
 use Rattle.std.specs.List.Sorted.{IsPartitionedBy}
 use Rattle.std.proofs.lemmas.Bool.{cases_lt, eqb-true, and_from, and_parts, le-leb, leb-true, both_ways}
 use Rattle.std.proofs.lemmas.Bool.Decides.{nat_tests}
 use Rattle.std.proofs.lemmas.Cmp.{tied_itself, upto}
 use Rattle.std.proofs.lemmas.Grind.{common_steps}
-use Rattle.std.proofs.lemmas.List.{get_or_push, length-append}
-use Rattle.std.proofs.lemmas.List.Folds.{Any-from_list_any, list_any_at}
+use Rattle.std.proofs.lemmas.List.{get_or-take, get_or_push, length-append, length-take-le}
+use Rattle.std.proofs.lemmas.List.Folds.{Any-from_list_any, list_any-append, list_any_at, list_any_more}
 use Rattle.std.proofs.lemmas.List.Sorted.{list_any-IsPermutation, ranks_by, sorted_far}
 use Rattle.std.proofs.lemmas.Option.{get_or_from_slice_get}
 use Rattle.std.proofs.lemmas.Map.Keys.{le_from_is_le}
@@ -26,7 +26,7 @@ use Rattle.signal_trace.specs.contracts.table.KeyEq.TheImpl.Laws as equal_laws
 use Rattle.signal_trace.specs.contracts.table.KeyOrd.TheImpl as keys
 use Rattle.signal_trace.specs.contracts.table.KeyOrd.TheImpl.Laws as key_laws
 use Rattle.signal_trace.specs.contracts.table.StartOrd.TheImpl.Laws as start_laws
-use Rattle.signal_trace.specs.Table.{AreCounted, AreLasts, AreRising, IsLast, IsTable, has_block, has_end, has_forlopp, has_key, has_signal, is_named, key_of, reaches, row_of, same_key, start_order}
+use Rattle.signal_trace.specs.Table.{AreCounted, AreLasts, AreRising, IsLast, IsTraceTable, has_key, key_of, key_with, keys_at, keys_for, keys_in, reach, reaches, row_of, same_key, some_has, start_order}
 use Rattle.signal_trace.specs.Trace.{agrees, is_fault, is_from, is_upto, shows}
 
 -- truths
@@ -126,100 +126,62 @@ parted start rows up i j d le lt passes = starts_upto (get_or rows i d).start (g
 
 -- how far the rows of a key reach
 
-pub last_first : (rows : List Row) (place : ℕ) (row : Row) → slice_get rows place ≡ Some row → place ≡ 0 → IsLast rows place row.upto
-last_first rows place row at first =
-    let here : (d : Row) → (get_or rows place d).upto ≡ row.upto = λ d. ap (λ (r : Row). r.upto) (get_or_from_slice_get rows place row d at) in
-    record {
-      found = place;
-      there = omega arith;
-      same = λ d. refl;
-      reached = here;
-      most = λ k d le same.
-          (let e : k ≡ place = omega (arith, le, first) in
-          let same_row = ap (λ j. (get_or rows j d).upto) e ∙ here d in
-          omega (arith, same_row));
-    }
+-- where no row before a place has a key, none of those reaches
+none_reach : (rows : List Row) (key : Key) (number place : ℕ) → place ≤ length rows → ((k : ℕ) (x : Row) → k < place → get_or rows k x ≡ x → x.start.key ≡ key → ⊥) → reach key number (take place rows) ≡ false
+none_reach rows key number place le none = one_truth (reach key number (take place rows)) false found (λ e. cc)
+  where
+    found : reach key number (take place rows) ≡ true → false ≡ true
+    found e =
+        let (k, x, lt, at, is) = Any-from_list_any (λ (r : Row). same_key r.start.key key && nat_le number r.upto) (take place rows) e in
+        let before : k < place = (let long = length-take-le place rows le in omega (arith, lt, long)) in
+        absurd (none k x before (sym (get_or-take place rows k x before) ∙ at) (same_is x.start.key key (and_parts (same_key x.start.key key) (nat_le number x.upto) is).0))
+
+-- one row more
+one_reaches : (rows : List Row) (place : ℕ) (row : Row) → place < length rows → slice_get rows place ≡ Some row → (d : Row) (number : ℕ) → reach (get_or rows place d).start.key number (take (place + 1) rows) ≡ (reach row.start.key number (take place rows) || nat_le number row.upto)
+one_reaches rows place row within there d number =
+    let test : Key → Row → Bool = λ key r. same_key r.start.key key && nat_le number r.upto in
+    let at = get_or_from_slice_get rows place row d there in
+    ap (λ (r : Row). reach r.start.key number (take (place + 1) rows)) at
+    ∙ list_any_more (test row.start.key) rows place d within
+    ∙ ap (λ (r : Row). reach row.start.key number (take place rows) || test row.start.key r) at
+    ∙ ap (λ b. reach row.start.key number (take place rows) || (b && nat_le number row.upto)) (same_self row.start.key)
+
+pub last_first : (rows : List Row) (place : ℕ) (row : Row) → place < length rows → slice_get rows place ≡ Some row → place ≡ 0 → IsLast rows place row.upto
+last_first rows place row within there first = record {
+  reached = λ d number. one_reaches rows place row within there d number ∙ ap (λ n. reach row.start.key number (take n rows) || nat_le number row.upto) first;
+}
+
+up_to_max : (number a b : ℕ) → (nat_le number a || nat_le number b) ≡ nat_le number (max a b)
+up_to_max number a b = grind (arith, nat_tests)
 
 module _ (rows : List Row) (lasts : List ℕ) (place last result : ℕ) (before row : Row) (up : AreRising rows) (within : place < length rows) (some : place ≢ 0) (so_far : AreLasts place rows lasts) (one : slice_get rows (place - 1) ≡ Some before) (other : slice_get rows place ≡ Some row) (is : last ≡ get_or lasts (place - 1) 0) where
-  here : (d : Row) → get_or rows place d ≡ row
-  here d = get_or_from_slice_get rows place row d other
-
-  prior : (d : Row) → get_or rows (place - 1) d ≡ before
-  prior d = get_or_from_slice_get rows (place - 1) before d one
-
-  here_upto : (d : Row) → (get_or rows place d).upto ≡ row.upto
-  here_upto d = ap (λ (r : Row). r.upto) (here d)
-
-  here_key : (d : Row) → (get_or rows place d).start.key ≡ row.start.key
-  here_key d = ap (λ (r : Row). r.start.key) (here d)
-
-  prior_key : (d : Row) → (get_or rows (place - 1) d).start.key ≡ before.start.key
-  prior_key d = ap (λ (r : Row). r.start.key) (prior d)
-
-  prior_last : IsLast rows (place - 1) (get_or lasts (place - 1) 0)
-  prior_last = so_far.each (place - 1) (omega (arith, some))
-
-  -- those before reach no further, and the row itself does not either
-  all_within : (end : ℕ) → row.upto ≤ end → ((k : ℕ) (d : Row) → k ≤ place - 1 → (get_or rows k d).start.key ≡ row.start.key → (get_or rows k d).upto ≤ end) → (k : ℕ) (d : Row) → k ≤ place → (get_or rows k d).start.key ≡ (get_or rows place d).start.key → (get_or rows k d).upto ≤ end
-  all_within end high earlier k d le same =
-      ⊎_elim
-      (λ lt. earlier k d (omega (arith, lt)) (same ∙ here_key d))
-      (λ ge. (let e : k ≡ place = omega (arith, le, ge) in
-      let same_row = ap (λ j. (get_or rows j d).upto) e ∙ here_upto d in
-      omega (arith, same_row, high)))
-      (cases_lt k place)
-
-  of_same : before.start.key ≡ row.start.key → (end : ℕ) → last ≤ end → (k : ℕ) (d : Row) → k ≤ place - 1 → (get_or rows k d).start.key ≡ row.start.key → (get_or rows k d).upto ≤ end
-  of_same keys end high k d le same =
-      let most = prior_last.most k d le (same ∙ sym keys ∙ sym (prior_key d)) in
-      omega (arith, most, is, high)
-
-  of_none : same_key before.start.key row.start.key ≡ false → (end : ℕ) → (k : ℕ) (d : Row) → k ≤ place - 1 → (get_or rows k d).start.key ≡ row.start.key → (get_or rows k d).upto ≤ end
-  of_none differs end k d le same =
-      let x = (get_or rows k d).start in
-      let y = (get_or rows (place - 1) d).start in
-      let z = (get_or rows place d).start in
-      let within_y : place - 1 < length rows = omega (arith, within) in
-      let below : place - 1 ≤ place = omega arith in
-      let y_is = squeezed x y z (rises rows up k (place - 1) d le within_y) (rises rows up (place - 1) place d below within) (same ∙ sym (here_key d)) in
-      let keys : before.start.key ≡ row.start.key = sym (prior_key d) ∙ y_is ∙ same in
-      absurd (both_ways (same_key before.start.key row.start.key) differs (ap (same_key before.start.key) (sym keys) ∙ same_self before.start.key))
-
   last_by : (b : Bool) → same_key before.start.key row.start.key ≡ b → result ≡ (if b then max last row.upto else row.upto) → IsLast rows place result
-  last_by false differs end = record {
-    found = place;
-    there = omega arith;
-    same = λ d. refl;
-    reached = λ d. here_upto d ∙ sym end;
-    most = all_within result (omega (arith, end)) (of_none differs result);
+  last_by true same end = record {
+    reached = λ d number.
+        let prior = get_or_from_slice_get rows (place - 1) before d one in
+        let there : place - 1 + 1 ≡ place = omega (arith, some) in
+        let key : (get_or rows (place - 1) d).start.key ≡ row.start.key = ap (λ (r : Row). r.start.key) prior ∙ same_is before.start.key row.start.key same in
+        let so : reach row.start.key number (take place rows) ≡ nat_le number last =
+        (λ i. reach (sym key i) number (take (sym there i) rows)) ∙ (so_far.each (place - 1) (omega (arith, some))).reached d number ∙ ap (nat_le number) (sym is) in
+        one_reaches rows place row within other d number
+        ∙ ap (λ b. b || nat_le number row.upto) so
+        ∙ up_to_max number last row.upto
+        ∙ ap (nat_le number) (sym end);
   }
-  last_by true same end = ⊎_elim further shorter (cases_lt last row.upto)
-    where
-      keys : before.start.key ≡ row.start.key
-      keys = same_is before.start.key row.start.key same
-
-      further : last < row.upto → IsLast rows place result
-      further lt =
-          let is_own : result ≡ row.upto = omega (arith, end, lt) in
-          record {
-            found = place;
-            there = omega arith;
-            same = λ d. refl;
-            reached = λ d. here_upto d ∙ sym is_own;
-            most = all_within result (omega (arith, is_own)) (of_same keys result (omega (arith, is_own, lt)));
-          }
-
-      shorter : row.upto ≤ last → IsLast rows place result
-      shorter le =
-          let is_last : result ≡ last = omega (arith, end, le) in
-          let below = prior_last.there in
-          record {
-            found = prior_last.found;
-            there = omega (arith, below);
-            same = λ d. prior_last.same d ∙ prior_key d ∙ keys ∙ sym (here_key d);
-            reached = λ d. prior_last.reached d ∙ sym is ∙ sym is_last;
-            most = all_within result (omega (arith, is_last, le)) (of_same keys result (omega (arith, is_last)));
-          }
+  last_by false differs end = record {
+    reached = λ d number.
+        one_reaches rows place row within other d number
+        ∙ ap (λ b. b || nat_le number row.upto) (none_reach rows row.start.key number place (omega (arith, within)) (λ k x lt at key.
+        let y = get_or rows (place - 1) x in
+        let z = get_or rows place x in
+        let y_is : y ≡ before = get_or_from_slice_get rows (place - 1) before x one in
+        let z_key : z.start.key ≡ row.start.key = ap (λ (r : Row). r.start.key) (get_or_from_slice_get rows place row x other) in
+        let x_key : (get_or rows k x).start.key ≡ row.start.key = ap (λ (r : Row). r.start.key) at ∙ key in
+        let y_key = squeezed (get_or rows k x).start y.start z.start (rises rows up k (place - 1) x (omega (arith, lt)) (omega (arith, within))) (rises rows up (place - 1) place x (omega arith) within) (x_key ∙ sym z_key) in
+        let keys : before.start.key ≡ row.start.key = ap (λ (r : Row). r.start.key) (sym y_is) ∙ y_key ∙ x_key in
+        both_ways (same_key before.start.key row.start.key) differs (ap (same_key before.start.key) (sym keys) ∙ same_self before.start.key)))
+        ∙ ap (nat_le number) (sym end);
+  }
 
   pub last_more : result ≡ (if same_key before.start.key row.start.key then max last row.upto else row.upto) → IsLast rows place result
   last_more end = last_by (same_key before.start.key row.start.key) refl end
@@ -245,90 +207,60 @@ lasts_more rows lasts new place last so_far here is =
 
 -- one row tells of all of its key
 
-reaches_so : (key : Key) (number : ℕ) (r : Row) → r.start.key ≡ key → r.start.from ≤ number → number ≤ r.upto → reaches key number r ≡ true
-reaches_so key number r same low high =
-    and_from (same_key r.start.key key) (nat_le r.start.from number && nat_le number r.upto)
-    (ap (same_key r.start.key) (sym same) ∙ same_self r.start.key)
-    (and_from (nat_le r.start.from number) (nat_le number r.upto) (le-leb r.start.from number low) (le-leb number r.upto high))
-
-record Reaches (key : Key) (number : ℕ) (r : Row) : Type 0 where
-  same : r.start.key ≡ key
-  low : r.start.from ≤ number
-  high : number ≤ r.upto
-
-so_reaches : (key : Key) (number : ℕ) (r : Row) → reaches key number r ≡ true → Reaches key number r
-so_reaches key number r e =
-    let parts = and_parts (same_key r.start.key key) (nat_le r.start.from number && nat_le number r.upto) e in
-    let span = and_parts (nat_le r.start.from number) (nat_le number r.upto) parts.1 in
-    record {
-      same = same_is r.start.key key parts.0;
-      low = leb-true r.start.from number span.0;
-      high = leb-true number r.upto span.1;
-    }
-
-module _ (rows : List Row) (lasts : List ℕ) (key : Key) (number count : ℕ) (up : AreRising rows) (counted : AreCounted (record { key = key; from = number }) rows count) where
+module _ (rows : List Row) (key : Key) (number count : ℕ) (up : AreRising rows) (counted : AreCounted (record { key = key; from = number }) rows count) where
   abbrev start : Start
   start = record { key = key; from = number }
 
-  -- a row that has the job in its span is one of those that are counted
-  is_counted : (k : ℕ) (x : Row) → k < length rows → get_or rows k x ≡ x → Reaches key number x → k < count
-  is_counted k x lt at r =
-      ⊎_elim
-      (λ before. before)
-      (λ past. (let behind : is_le (start_order x.start start) ≡ false = ap (λ (y : Row). is_le (start_order y.start start)) (sym at) ∙ counted.parts.1 k x past lt in
-      absurd (both_ways (is_le (start_order x.start start)) behind (begins x.start start r.same r.low))))
-      (cases_lt k count)
+  -- the rows whose spans have begun tell of all
+  begun_reach : reach key number (take count rows) ≡ list_any (reaches key number) rows
+  begun_reach = one_truth (reach key number (take count rows)) (list_any (reaches key number) rows) there here
+    where
+      long : length (take count rows) ≡ count
+      long = length-take-le count rows counted.there
+
+      there : reach key number (take count rows) ≡ true → list_any (reaches key number) rows ≡ true
+      there e =
+          let (k, x, lt, at, is) = Any-from_list_any (λ (r : Row). same_key r.start.key key && nat_le number r.upto) (take count rows) e in
+          let before : k < count = omega (arith, lt, long) in
+          let at_rows : get_or rows k x ≡ x = sym (get_or-take count rows k x before) ∙ at in
+          let parts = and_parts (same_key x.start.key key) (nat_le number x.upto) is in
+          let low : x.start.from ≤ number = begun x.start start (same_is x.start.key key parts.0) (ap (λ (r : Row). is_le (start_order r.start start)) (sym at_rows) ∙ counted.parts.0 k x (omega arith) before) in
+          let passes : reaches key number x ≡ true = and_from (nat_le x.start.from number && nat_le number x.upto) (same_key x.start.key key) (and_from (nat_le x.start.from number) (nat_le number x.upto) (le-leb x.start.from number low) parts.1) parts.0 in
+          list_any_at (reaches key number) rows k x (let most = counted.there in omega (arith, before, most)) (ap (reaches key number) at_rows ∙ passes)
+
+      here : list_any (reaches key number) rows ≡ true → reach key number (take count rows) ≡ true
+      here e =
+          let (k, x, lt, at, is) = Any-from_list_any (reaches key number) rows e in
+          let parts = and_parts (nat_le x.start.from number && nat_le number x.upto) (same_key x.start.key key) is in
+          let span = and_parts (nat_le x.start.from number) (nat_le number x.upto) parts.0 in
+          let before : k < count = ⊎_elim (λ lt. lt) (λ past. absurd (both_ways (is_le (start_order x.start start)) (ap (λ (r : Row). is_le (start_order r.start start)) (sym at) ∙ counted.parts.1 k x past lt) (begins x.start start (same_is x.start.key key parts.1) (leb-true x.start.from number span.0)))) (cases_lt k count) in
+          list_any_at (λ (r : Row). same_key r.start.key key && nat_le number r.upto) (take count rows) k x (omega (arith, before, long))
+          (ap (λ (r : Row). same_key r.start.key key && nat_le number r.upto) (get_or-take count rows k x before ∙ at) ∙ and_from (same_key x.start.key key) (nat_le number x.upto) parts.1 span.1)
 
   pub none_reaches : count ≡ 0 → false ≡ list_any (reaches key number) rows
-  none_reaches none = one_truth false (list_any (reaches key number) rows) (λ e. cc) found
-    where
-      found : list_any (reaches key number) rows ≡ true → false ≡ true
-      found e =
-          let (k, x, lt, at, is) = Any-from_list_any (reaches key number) rows e in
-          let before = is_counted k x lt at (so_reaches key number x is) in
-          absurd (omega (arith, before, none))
+  none_reaches none = ap (λ n. reach key number (take n rows)) (sym none) ∙ begun_reach
 
-  module _ (row : Row) (last : ℕ) (some : count ≢ 0) (so_far : AreLasts (length rows) rows lasts) (there : slice_get rows (count - 1) ≡ Some row) (last_is : last ≡ get_or lasts (count - 1) 0) where
+  module _ (lasts : List ℕ) (row : Row) (last : ℕ) (some : count ≢ 0) (so_far : AreLasts (length rows) rows lasts) (there : slice_get rows (count - 1) ≡ Some row) (last_is : last ≡ get_or lasts (count - 1) 0) where
     in_rows : count - 1 < length rows
     in_rows = let most = counted.there in omega (arith, most, some)
 
-    row_is : (d : Row) → get_or rows (count - 1) d ≡ row
-    row_is d = get_or_from_slice_get rows (count - 1) row d there
-
-    its_last : IsLast rows (count - 1) last
-    its_last = subst (IsLast rows (count - 1)) (sym last_is) (so_far.each (count - 1) in_rows)
-
-    tells_some : (same_key row.start.key key && nat_le number last) ≡ true → list_any (reaches key number) rows ≡ true
-    tells_some e =
-        let parts = and_parts (same_key row.start.key key) (nat_le number last) e in
-        let x = get_or rows its_last.found row in
-        let same : x.start.key ≡ key = its_last.same row ∙ ap (λ (r : Row). r.start.key) (row_is row) ∙ same_is row.start.key key parts.0 in
-        let below = its_last.there in
-        let before : its_last.found < count = omega (arith, below, some) in
-        let low : x.start.from ≤ number = begun x.start start same (counted.parts.0 its_last.found row (omega arith) before) in
-        let high : number ≤ x.upto = (let reached = its_last.reached row in let le = leb-true number last parts.1 in omega (arith, reached, le)) in
-        list_any_at (reaches key number) rows its_last.found row (omega (arith, below, in_rows)) (reaches_so key number x same low high)
-
-    tells_all : list_any (reaches key number) rows ≡ true → (same_key row.start.key key && nat_le number last) ≡ true
-    tells_all e =
-        let (k, x, lt, at, is) = Any-from_list_any (reaches key number) rows e in
-        let r = so_reaches key number x is in
-        let before = is_counted k x lt at r in
+    tells_by : (b : Bool) → same_key row.start.key key ≡ b → (b && nat_le number last) ≡ reach key number (take count rows)
+    tells_by true same =
+        let at = get_or_from_slice_get rows (count - 1) row row there in
+        let whole : count - 1 + 1 ≡ count = omega (arith, some) in
+        ap (nat_le number) last_is
+        ∙ sym ((so_far.each (count - 1) in_rows).reached row number)
+        ∙ (λ i. reach ((ap (λ (r : Row). r.start.key) at ∙ same_is row.start.key key same) i) number (take (whole i) rows))
+    tells_by false differs =
+        sym (none_reach rows key number count counted.there (λ k x lt at x_is.
         let y = get_or rows (count - 1) x in
-        let x_key : (get_or rows k x).start.key ≡ x.start.key = ap (λ (q : Row). q.start.key) at in
-        let low : is_le (start_order (get_or rows k x).start y.start) ≡ true = rises rows up k (count - 1) x (omega (arith, before)) in_rows in
-        let high : is_le (start_order y.start start) ≡ true = counted.parts.0 (count - 1) x (omega arith) (omega (arith, some)) in
-        let y_key : y.start.key ≡ (get_or rows k x).start.key = squeezed (get_or rows k x).start y.start start low high (x_key ∙ r.same) in
-        let row_key : row.start.key ≡ key = ap (λ (q : Row). q.start.key) (sym (row_is x)) ∙ y_key ∙ x_key ∙ r.same in
-        let most = its_last.most k x (omega (arith, before)) (sym y_key) in
-        let reached = ap (λ (q : Row). q.upto) at in
-        let end = r.high in
-        and_from (same_key row.start.key key) (nat_le number last)
-        (ap (same_key row.start.key) (sym row_key) ∙ same_self row.start.key)
-        (le-leb number last (omega (arith, most, reached, end)))
+        let x_key : (get_or rows k x).start.key ≡ key = ap (λ (r : Row). r.start.key) at ∙ x_is in
+        let y_key = squeezed (get_or rows k x).start y.start start (rises rows up k (count - 1) x (omega (arith, lt)) in_rows) (counted.parts.0 (count - 1) x (omega arith) (omega (arith, some))) x_key in
+        let row_key : row.start.key ≡ key = ap (λ (r : Row). r.start.key) (sym (get_or_from_slice_get rows (count - 1) row x there)) ∙ y_key ∙ x_key in
+        both_ways (same_key row.start.key key) differs (ap (same_key row.start.key) (sym row_key) ∙ same_self row.start.key)))
 
     pub one_tells : (same_key row.start.key key && nat_le number last) ≡ list_any (reaches key number) rows
-    one_tells = one_truth ((same_key row.start.key key && nat_le number last)) (list_any (reaches key number) rows) tells_some tells_all
+    one_tells = tells_by (same_key row.start.key key) refl ∙ begun_reach
 
 -- the rows tell of the lines
 
@@ -347,69 +279,20 @@ any_mapped p f (l ∷ ls) = ap (λ b. p (f l) || b) (any_mapped p f ls)
 below_most : (number most : ℕ) → number < most → number ≤ most - 1
 below_most number most lt = omega (arith, lt)
 
-pub key_told : (ls : List Show) (rows : List Row) (lasts : List ℕ) (key : Key) (number : ℕ) → IsTable ls rows lasts → number < 2 ^ 64 → list_any (reaches key number) rows ≡ list_any (has_key key number) ls
+pub key_told : (ls : List Show) (rows : List Row) (lasts : List ℕ) (key : Key) (number : ℕ) → IsTraceTable ls rows lasts → number < 2 ^ 64 → list_any (reaches key number) rows ≡ list_any (has_key key number) ls
 key_told ls rows lasts key number t small =
     sym (list_any-IsPermutation (reaches key number) (map row_of ls) rows t.same)
     ∙ any_mapped (reaches key number) row_of ls
-    ∙ (λ i. list_any (λ (l : Show). same_key (key_of l) key && (span_from l.from number i && span_upto l.upto number (2 ^ 64 - 1) (below_most number (2 ^ 64) small) i)) ls)
-
--- the lines that agree with a job, part by part
-
-exchange : (a b c d : Bool) → ((a || b) || (c || d)) ≡ ((a || c) || (b || d))
-exchange true b c d = refl
-exchange false true true d = refl
-exchange false true false d = refl
-exchange false false c d = refl
-
-any_either : (f g h : Show → Bool) → ((l : Show) → f l ≡ (g l || h l)) → (ls : List Show) → list_any f ls ≡ (list_any g ls || list_any h ls)
-any_either f g h each [] = refl
-any_either f g h each (l ∷ ls) = (λ i. each l i || any_either f g h each ls i) ∙ exchange (g l) (h l) (list_any g ls) (list_any h ls)
-
-named_either : (o : Option ℕ) (n : ℕ) (r : Bool) → (agrees o n && r) ≡ ((is_named o None && r) || (is_named o (Some n) && r))
-named_either None n true = refl
-named_either None n false = refl
-named_either (Some m) n r = refl
-
-behind_one : (a : Bool) (o : Option ℕ) (n : ℕ) (r : Bool) → (a && (agrees o n && r)) ≡ ((a && (is_named o None && r)) || (a && (is_named o (Some n) && r)))
-behind_one true o n r = named_either o n r
-behind_one false o n r = refl
-
-behind_two : (a b : Bool) (o : Option ℕ) (n : ℕ) (r : Bool) → (a && (b && (agrees o n && r))) ≡ ((a && (b && (is_named o None && r))) || (a && (b && (is_named o (Some n) && r))))
-behind_two true b o n r = behind_one b o n r
-behind_two false b o n r = refl
-
-module _ (e : Entry) (forlopp number : ℕ) (outcome : Outcome) (faulted : Bool) (ls : List Show) (is_faulted : faulted ≡ is_fault outcome) where
-  abbrev some_shows : Bool
-  some_shows = list_any (λ l. shows l e forlopp number outcome) ls
-
-  abbrev some_with : Option ℕ → Bool
-  some_with block = list_any (has_block block e.signal forlopp number faulted) ls
-
-  by_block : some_shows ≡ (some_with None || some_with (Some e.block))
-  by_block =
-      (λ i. list_any (λ l. agrees l.block e.block && (agrees l.signal e.signal && (agrees l.forlopp forlopp && has_end number (sym is_faulted i) l))) ls)
-      ∙ any_either (λ l. agrees l.block e.block && (agrees l.signal e.signal && (agrees l.forlopp forlopp && has_end number faulted l))) (has_block None e.signal forlopp number faulted) (has_block (Some e.block) e.signal forlopp number faulted)
-      (λ l. named_either l.block e.block (agrees l.signal e.signal && (agrees l.forlopp forlopp && has_end number faulted l))) ls
-
-  -- a line shows the job that names no block
-  pub shown_by_none : (none : Bool) → none ≡ some_with None → none ≡ true → none ≡ some_shows
-  shown_by_none none is so = so ∙ sym (by_block ∙ ap (λ b. b || some_with (Some e.block)) (sym is ∙ so))
-
-  -- else it shows the job if one does that names the block
-  pub shown_by_own : (none own : Bool) → none ≡ some_with None → none ≡ false → own ≡ some_with (Some e.block) → own ≡ some_shows
-  shown_by_own none own is no_line own_is = own_is ∙ sym (by_block ∙ ap (λ b. b || some_with (Some e.block)) (sym is ∙ no_line))
-
-pub by_signal : (block : Option ℕ) (signal forlopp number : ℕ) (faulted : Bool) (ls : List Show) → list_any (has_block block signal forlopp number faulted) ls ≡ (list_any (has_signal block None forlopp number faulted) ls || list_any (has_signal block (Some signal) forlopp number faulted) ls)
-by_signal block signal forlopp number faulted ls =
-    any_either (has_block block signal forlopp number faulted) (has_signal block None forlopp number faulted) (has_signal block (Some signal) forlopp number faulted)
-    (λ l. behind_one (is_named l.block block) l.signal signal (agrees l.forlopp forlopp && has_end number faulted l)) ls
-
-pub by_forlopp : (block signal : Option ℕ) (forlopp number : ℕ) (faulted : Bool) (ls : List Show) → list_any (has_signal block signal forlopp number faulted) ls ≡ (list_any (has_forlopp block signal None number faulted) ls || list_any (has_forlopp block signal (Some forlopp) number faulted) ls)
-by_forlopp block signal forlopp number faulted ls =
-    any_either (has_signal block signal forlopp number faulted) (has_forlopp block signal None number faulted) (has_forlopp block signal (Some forlopp) number faulted)
-    (λ l. behind_two (is_named l.block block) (is_named l.signal signal) l.forlopp forlopp (has_end number faulted l)) ls
+    ∙ (λ i. list_any (λ (l : Show). (span_from l.from number i && span_upto l.upto number (2 ^ 64 - 1) (below_most number (2 ^ 64) small) i) && same_key (key_of l) key) ls)
 
 -- the key of a line, part by part
+
+-- two names are the same, or there is none of both
+abbrev is_named : Option ℕ → Option ℕ → Bool
+is_named None None = true
+is_named None (Some n) = false
+is_named (Some m) None = false
+is_named (Some m) (Some n) = nat_eq m n
 
 abbrev is_flag : Bool → Bool → Bool
 is_flag b true = b
@@ -435,68 +318,130 @@ flag_self : (b : Bool) → is_flag b b ≡ true
 flag_self true = refl
 flag_self false = refl
 
-key_parts : (j k : Key) → same_key j k ≡ (is_named j.block k.block && (is_named j.signal k.signal && (is_named j.forlopp k.forlopp && is_flag j.faults k.faults)))
-key_parts j k = one_truth (same_key j k) (is_named j.block k.block && (is_named j.signal k.signal && (is_named j.forlopp k.forlopp && is_flag j.faults k.faults))) parts whole
+key_parts : (j k : Key) → same_key j k ≡ (is_named j.block k.block && (is_named j.signal k.signal && (is_flag j.faults k.faults && is_named j.forlopp k.forlopp)))
+key_parts j k = one_truth (same_key j k) (is_named j.block k.block && (is_named j.signal k.signal && (is_flag j.faults k.faults && is_named j.forlopp k.forlopp))) parts whole
   where
-    self : (i : Key) → (is_named i.block i.block && (is_named i.signal i.signal && (is_named i.forlopp i.forlopp && is_flag i.faults i.faults))) ≡ true
+    self : (i : Key) → (is_named i.block i.block && (is_named i.signal i.signal && (is_flag i.faults i.faults && is_named i.forlopp i.forlopp))) ≡ true
     self i =
-        and_from (is_named i.block i.block) (is_named i.signal i.signal && (is_named i.forlopp i.forlopp && is_flag i.faults i.faults)) (named_self i.block)
-        (and_from (is_named i.signal i.signal) (is_named i.forlopp i.forlopp && is_flag i.faults i.faults) (named_self i.signal)
-        (and_from (is_named i.forlopp i.forlopp) (is_flag i.faults i.faults) (named_self i.forlopp) (flag_self i.faults)))
+        and_from (is_named i.block i.block) (is_named i.signal i.signal && (is_flag i.faults i.faults && is_named i.forlopp i.forlopp)) (named_self i.block)
+        (and_from (is_named i.signal i.signal) (is_flag i.faults i.faults && is_named i.forlopp i.forlopp) (named_self i.signal)
+        (and_from (is_flag i.faults i.faults) (is_named i.forlopp i.forlopp) (flag_self i.faults) (named_self i.forlopp)))
 
-    parts : same_key j k ≡ true → (is_named j.block k.block && (is_named j.signal k.signal && (is_named j.forlopp k.forlopp && is_flag j.faults k.faults))) ≡ true
-    parts e = subst (λ (i : Key). (is_named j.block i.block && (is_named j.signal i.signal && (is_named j.forlopp i.forlopp && is_flag j.faults i.faults))) ≡ true) (same_is j k e) (self j)
+    parts : same_key j k ≡ true → (is_named j.block k.block && (is_named j.signal k.signal && (is_flag j.faults k.faults && is_named j.forlopp k.forlopp))) ≡ true
+    parts e = subst (λ (i : Key). (is_named j.block i.block && (is_named j.signal i.signal && (is_flag j.faults i.faults && is_named j.forlopp i.forlopp))) ≡ true) (same_is j k e) (self j)
 
-    whole : (is_named j.block k.block && (is_named j.signal k.signal && (is_named j.forlopp k.forlopp && is_flag j.faults k.faults))) ≡ true → same_key j k ≡ true
+    whole : (is_named j.block k.block && (is_named j.signal k.signal && (is_flag j.faults k.faults && is_named j.forlopp k.forlopp))) ≡ true → same_key j k ≡ true
     whole e =
-        let one = and_parts (is_named j.block k.block) (is_named j.signal k.signal && (is_named j.forlopp k.forlopp && is_flag j.faults k.faults)) e in
-        let two = and_parts (is_named j.signal k.signal) (is_named j.forlopp k.forlopp && is_flag j.faults k.faults) one.1 in
-        let three = and_parts (is_named j.forlopp k.forlopp) (is_flag j.faults k.faults) two.1 in
-        let same : j ≡ k = (λ i. record { block = named_is j.block k.block one.0 i; signal = named_is j.signal k.signal two.0 i; forlopp = named_is j.forlopp k.forlopp three.0 i; faults = flag_is j.faults k.faults three.1 i }) in
+        let one = and_parts (is_named j.block k.block) (is_named j.signal k.signal && (is_flag j.faults k.faults && is_named j.forlopp k.forlopp)) e in
+        let two = and_parts (is_named j.signal k.signal) (is_flag j.faults k.faults && is_named j.forlopp k.forlopp) one.1 in
+        let three = and_parts (is_flag j.faults k.faults) (is_named j.forlopp k.forlopp) two.1 in
+        let same : j ≡ k = (λ i. record { block = named_is j.block k.block one.0 i; signal = named_is j.signal k.signal two.0 i; forlopp = named_is j.forlopp k.forlopp three.1 i; faults = flag_is j.faults k.faults three.0 i }) in
         ap (same_key j) (sym same) ∙ same_self j
 
-with_flag : (from upto flag : Bool) → (from && (upto && (not flag || true))) ≡ ((not flag && (from && upto)) || (flag && (from && upto)))
-with_flag true true true = refl
-with_flag true true false = refl
-with_flag true false true = refl
-with_flag true false false = refl
-with_flag false upto true = refl
-with_flag false upto false = refl
+-- the keys that agree with a job, together
 
-without_flag : (from upto flag : Bool) → (from && (upto && (not flag || false))) ≡ (not flag && (from && upto))
-without_flag true true true = refl
-without_flag true true false = refl
-without_flag true false true = refl
-without_flag true false false = refl
-without_flag false upto true = refl
-without_flag false upto false = refl
+either : (a b r : Bool) → ((a && r) || (b && r)) ≡ ((a || b) && r)
+either true true true = refl
+either true true false = refl
+either true false true = refl
+either true false false = refl
+either false b r = refl
 
-flags_either : (a b c from upto flag : Bool) → (a && (b && (c && (from && (upto && (not flag || true)))))) ≡ (((a && (b && (c && not flag))) && (from && upto)) || ((a && (b && (c && flag))) && (from && upto)))
-flags_either true true true from upto flag = with_flag from upto flag
-flags_either true true false from upto flag = refl
-flags_either true false c from upto flag = refl
-flags_either false b c from upto flag = refl
+behind_one : (t a b r : Bool) → ((t && (a && r)) || (t && (b && r))) ≡ (t && ((a || b) && r))
+behind_one true a b r = either a b r
+behind_one false a b r = refl
 
-flags_none : (a b c from upto flag : Bool) → (a && (b && (c && (from && (upto && (not flag || false)))))) ≡ ((a && (b && (c && not flag))) && (from && upto))
-flags_none true true true from upto flag = without_flag from upto flag
-flags_none true true false from upto flag = refl
-flags_none true false c from upto flag = refl
-flags_none false b c from upto flag = refl
+behind_two : (t u a b r : Bool) → ((t && (u && (a && r))) || (t && (u && (b && r)))) ≡ (t && (u && ((a || b) && r)))
+behind_two true u a b r = behind_one u a b r
+behind_two false u a b r = refl
 
-module _ (block signal forlopp : Option ℕ) (number : ℕ) where
-  abbrev key_with : Bool → Key
-  key_with faults = record { block = block; signal = signal; forlopp = forlopp; faults = faults }
+behind_three : (t u v a b r : Bool) → ((t && (u && (v && (a && r)))) || (t && (u && (v && (b && r))))) ≡ (t && (u && (v && ((a || b) && r))))
+behind_three true u v a b r = behind_two u v a b r
+behind_three false u v a b r = refl
 
-  line_either : (l : Show) → has_forlopp block signal forlopp number true l ≡ (has_key (key_with false) number l || has_key (key_with true) number l)
-  line_either l =
-      flags_either (is_named l.block block) (is_named l.signal signal) (is_named l.forlopp forlopp) (is_from l.from number) (is_upto l.upto number) l.faults
-      ∙ (λ i. (sym (key_parts (key_of l) (key_with false)) i && (is_from l.from number && is_upto l.upto number)) || (sym (key_parts (key_of l) (key_with true)) i && (is_from l.from number && is_upto l.upto number)))
+last_pair : (t u v w a b : Bool) → ((t && (u && (v && (w && a)))) || ((t && (u && (v && (w && b)))) || false)) ≡ (t && (u && (v && (w && (a || b)))))
+last_pair true true true true a b = ap (λ c. a || c) (or_false b)
+last_pair true true true false a b = refl
+last_pair true true false w a b = refl
+last_pair true false v w a b = refl
+last_pair false u v w a b = refl
 
-  line_plain : (l : Show) → has_forlopp block signal forlopp number false l ≡ has_key (key_with false) number l
-  line_plain l =
-      flags_none (is_named l.block block) (is_named l.signal signal) (is_named l.forlopp forlopp) (is_from l.from number) (is_upto l.upto number) l.faults
-      ∙ (λ i. sym (key_parts (key_of l) (key_with false)) i && (is_from l.from number && is_upto l.upto number))
+named_either : (o : Option ℕ) (n : ℕ) → (is_named o None || is_named o (Some n)) ≡ agrees o n
+named_either None n = refl
+named_either (Some m) n = refl
 
-  pub by_key : (faulted : Bool) (ls : List Show) → list_any (has_forlopp block signal forlopp number faulted) ls ≡ (list_any (has_key (key_with false) number) ls || (faulted && list_any (has_key (key_with true) number) ls))
-  by_key true ls = any_either (has_forlopp block signal forlopp number true) (has_key (key_with false) number) (has_key (key_with true) number) line_either ls
-  by_key false ls = (λ i. list_any (λ l. line_plain l i) ls) ∙ sym (or_false (list_any (has_key (key_with false) number) ls))
+-- a line has the job in its span, names its flag so, and agrees with it in all else
+abbrev meets : Entry → (forlopp number : ℕ) → Bool → Show → Bool
+meets e forlopp number flag l = (is_from l.from number && is_upto l.upto number) && (agrees l.block e.block && (agrees l.signal e.signal && (flag && agrees l.forlopp forlopp)))
+
+module _ (e : Entry) (forlopp number : ℕ) (faults : Bool) (l : Show) where
+  abbrev span : Bool
+  span = is_from l.from number && is_upto l.upto number
+
+  abbrev flag : Bool
+  flag = is_flag l.faults faults
+
+  has : (block signal other : Option ℕ) → has_key (key_with block signal other faults) number l ≡ (span && (is_named l.block block && (is_named l.signal signal && (flag && is_named l.forlopp other))))
+  has block signal other = ap (λ b. span && b) (key_parts (key_of l) (key_with block signal other faults))
+
+  has_at : (block signal : Option ℕ) → list_any (λ k. has_key k number l) (keys_at block signal forlopp faults) ≡ (span && (is_named l.block block && (is_named l.signal signal && (flag && agrees l.forlopp forlopp))))
+  has_at block signal =
+      (λ i. has block signal None i || (has block signal (Some forlopp) i || false))
+      ∙ last_pair span (is_named l.block block) (is_named l.signal signal) flag (is_named l.forlopp None) (is_named l.forlopp (Some forlopp))
+      ∙ ap (λ b. span && (is_named l.block block && (is_named l.signal signal && (flag && b)))) (named_either l.forlopp forlopp)
+
+  has_in : (block : Option ℕ) → list_any (λ k. has_key k number l) (keys_in block e.signal forlopp faults) ≡ (span && (is_named l.block block && (agrees l.signal e.signal && (flag && agrees l.forlopp forlopp))))
+  has_in block =
+      list_any-append (λ k. has_key k number l) (keys_at block None forlopp faults) (keys_at block (Some e.signal) forlopp faults)
+      ∙ (λ i. has_at block None i || has_at block (Some e.signal) i)
+      ∙ behind_two span (is_named l.block block) (is_named l.signal None) (is_named l.signal (Some e.signal)) (flag && agrees l.forlopp forlopp)
+      ∙ ap (λ b. span && (is_named l.block block && (b && (flag && agrees l.forlopp forlopp)))) (named_either l.signal e.signal)
+
+  has_one : list_any (λ k. has_key k number l) (keys_for e forlopp faults) ≡ meets e forlopp number flag l
+  has_one =
+      list_any-append (λ k. has_key k number l) (keys_in None e.signal forlopp faults) (keys_in (Some e.block) e.signal forlopp faults)
+      ∙ (λ i. has_in None i || has_in (Some e.block) i)
+      ∙ behind_one span (is_named l.block None) (is_named l.block (Some e.block)) (agrees l.signal e.signal && (flag && agrees l.forlopp forlopp))
+      ∙ ap (λ b. span && (b && (agrees l.signal e.signal && (flag && agrees l.forlopp forlopp)))) (named_either l.block e.block)
+
+-- one list after the other
+
+exchange : (a b c d : Bool) → ((a || b) || (c || d)) ≡ ((a || c) || (b || d))
+exchange true b c d = refl
+exchange false true true d = refl
+exchange false true false d = refl
+exchange false false c d = refl
+
+any_either : (f g h : Show → Bool) → ((l : Show) → f l ≡ (g l || h l)) → (ls : List Show) → list_any f ls ≡ (list_any g ls || list_any h ls)
+any_either f g h each [] = refl
+any_either f g h each (l ∷ ls) = (λ i. each l i || any_either f g h each ls i) ∙ exchange (g l) (h l) (list_any g ls) (list_any h ls)
+
+never : (ls : List Show) → false ≡ list_any (λ (l : Show). false) ls
+never [] = refl
+never (l ∷ ls) = never ls
+
+turned_round : (p : Key → Show → Bool) (ks : List Key) (ls : List Show) → list_any (λ k. list_any (p k) ls) ks ≡ list_any (λ l. list_any (λ k. p k l) ks) ls
+turned_round p [] ls = never ls
+turned_round p (k ∷ ks) ls =
+    ap (λ b. list_any (p k) ls || b) (turned_round p ks ls)
+    ∙ sym (any_either (λ l. p k l || list_any (λ j. p j l) ks) (p k) (λ l. list_any (λ j. p j l) ks) (λ l. refl) ls)
+
+some_meets : (e : Entry) (forlopp number : ℕ) (faults : Bool) (ls : List Show) → some_has ls number (keys_for e forlopp faults) ≡ list_any (λ l. meets e forlopp number (is_flag l.faults faults) l) ls
+some_meets e forlopp number faults ls =
+    turned_round (λ k. has_key k number) (keys_for e forlopp faults) ls ∙ (λ i. list_any (λ l. has_one e forlopp number faults l i) ls)
+
+flag_either : (b : Bool) → (not b || true) ≡ (not b || b)
+flag_either true = refl
+flag_either false = refl
+
+pub by_keys : (e : Entry) (forlopp number : ℕ) (outcome : Outcome) (faulted : Bool) (ls : List Show) → faulted ≡ is_fault outcome → list_any (shows e forlopp number outcome) ls ≡ (some_has ls number (keys_for e forlopp false) || (faulted && some_has ls number (keys_for e forlopp true)))
+by_keys e forlopp number outcome true ls is =
+    (λ i. list_any (λ l. meets e forlopp number (not l.faults || sym is i) l) ls)
+    ∙ any_either (λ l. meets e forlopp number (not l.faults || true) l) (λ l. meets e forlopp number (not l.faults) l) (λ l. meets e forlopp number l.faults l)
+    (λ l. ap (λ b. meets e forlopp number b l) (flag_either l.faults) ∙ sym (behind_three (is_from l.from number && is_upto l.upto number) (agrees l.block e.block) (agrees l.signal e.signal) (not l.faults) l.faults (agrees l.forlopp forlopp))) ls
+    ∙ sym (λ i. some_meets e forlopp number false ls i || some_meets e forlopp number true ls i)
+by_keys e forlopp number outcome false ls is =
+    (λ i. list_any (λ l. meets e forlopp number (not l.faults || sym is i) l) ls)
+    ∙ (λ i. list_any (λ l. meets e forlopp number (or_false (not l.faults) i) l) ls)
+    ∙ sym (some_meets e forlopp number false ls)
+    ∙ sym (or_false (some_has ls number (keys_for e forlopp false)))

@@ -2,7 +2,9 @@
 --
 -- What a line names beside its span is its key. With each row stands how far the spans of its key reach, up to that row. So
 -- whether a line of a key has a job in its span is told by one row: the last one of the key whose span has begun.
-use Rattle.std.specs.Prelude.{◌≡◌, ℕ, ◌-◌, ◌^◌, ◌<◌, ◌≤◌, Bool, true, false, not, ◌&&◌, ◌||◌, nat_eq, nat_le, List, length, get_or, map, Option, Some, None, unwrap_or}
+use Rattle.std.specs.Prelude.{◌≡◌, ℕ, ◌+◌, ◌-◌, ◌^◌, ◌<◌, ◌≤◌, Bool, true, false, ◌&&◌, nat_le, List, [], ◌∷◌, ◌++◌, length, get_or, map, take, Option, Some, None, unwrap_or}
+use Rattle.std.specs.List.{list_any}
+use Rattle.exchange_model.specs.declared.entry.Entry.{Entry}
 use Rattle.std.specs.declared.cmp.Ordering.{Ordering}
 use Rattle.std.specs.Ordering.{is_le}
 use Rattle.std.specs.List.Sorted.{IsPartitionPoint, IsPermutation, IsSortedByKey}
@@ -12,7 +14,7 @@ use Rattle.signal_trace.specs.declared.table.Row.{Row}
 use Rattle.signal_trace.specs.declared.table.Start.{Start}
 use Rattle.signal_trace.specs.contracts.table.KeyPartialEq.TheImpl as keys
 use Rattle.signal_trace.specs.contracts.table.StartOrd.TheImpl as starts
-use Rattle.signal_trace.specs.Trace.{agrees, is_from, is_upto}
+use Rattle.signal_trace.specs.Trace.{is_from, is_upto}
 
 -- rows
 
@@ -36,17 +38,17 @@ AreRising rows = IsSortedByKey (λ (r : Row). r.start) start_order rows
 
 -- a row of this key has the job of this number in its span
 abbrev pub reaches : Key → ℕ → Row → Bool
-reaches key number r = same_key r.start.key key && (nat_le r.start.from number && nat_le number r.upto)
+reaches key number r = (nat_le r.start.from number && nat_le number r.upto) && same_key r.start.key key
 
 -- how far they reach
 
--- the spans of the rows up to a place with the key of the row there reach up to this job: one of them does, and none further
+-- one of these rows is of this key, with a span that reaches up to the job of this number
+abbrev pub reach : Key → ℕ → List Row → Bool
+reach key number rows = list_any (λ (r : Row). same_key r.start.key key && nat_le number r.upto) rows
+
+-- the spans of the rows up to a place with the key of the row there reach up to this job, and none further
 pub record IsLast (rows : List Row) (place last : ℕ) : Type 0 where
-  pub found : ℕ
-  pub there : found ≤ place
-  pub same : (d : Row) → (get_or rows found d).start.key ≡ (get_or rows place d).start.key
-  pub reached : (d : Row) → (get_or rows found d).upto ≡ last
-  pub most : (k : ℕ) (d : Row) → k ≤ place → (get_or rows k d).start.key ≡ (get_or rows place d).start.key → (get_or rows k d).upto ≤ last
+  pub reached : (d : Row) (number : ℕ) → reach (get_or rows place d).start.key number (take (place + 1) rows) ≡ nat_le number last
 
 -- so for each of so many rows, from the first on
 pub record AreLasts (count : ℕ) (rows : List Row) (lasts : List ℕ) : Type 0 where
@@ -59,36 +61,32 @@ pub record AreCounted (start : Start) (rows : List Row) (count : ℕ) : Type 0 w
   pub parts : IsPartitionPoint (λ (r : Row). is_le (start_order r.start start) ≡ true) (λ (r : Row). is_le (start_order r.start start) ≡ false) rows count
 
 -- the table of these lines
-pub record IsTable (lines : List Show) (rows : List Row) (lasts : List ℕ) : Type 0 where
+pub record IsTraceTable (lines : List Show) (rows : List Row) (lasts : List ℕ) : Type 0 where
   pub same : IsPermutation (map row_of lines) rows
   pub rising : AreRising rows
   pub told : AreLasts (length rows) rows lasts
 
--- the lines that show a job, part by part
+-- the keys that agree with a job
 
--- a line names this number, or none
-abbrev pub is_named : Option ℕ → Option ℕ → Bool
-is_named None None = true
-is_named None (Some n) = false
-is_named (Some m) None = false
-is_named (Some m) (Some n) = nat_eq m n
+abbrev pub key_with : (block signal forlopp : Option ℕ) → Bool → Key
+key_with block signal forlopp faults = record { block = block; signal = signal; forlopp = forlopp; faults = faults }
 
--- the job is in the span, and ended as it must
-abbrev pub has_end : ℕ → Bool → Show → Bool
-has_end number faulted l = is_from l.from number && (is_upto l.upto number && (not l.faults || faulted))
+-- those that name this block, or none, and this signal, or none
+abbrev pub keys_at : (block signal : Option ℕ) → ℕ → Bool → List Key
+keys_at block signal forlopp faults = key_with block signal None faults ∷ key_with block signal (Some forlopp) faults ∷ []
 
--- the line names this block, or none, and agrees with the job in all else
-abbrev pub has_block : Option ℕ → (signal forlopp number : ℕ) → Bool → Show → Bool
-has_block block signal forlopp number faulted l = is_named l.block block && (agrees l.signal signal && (agrees l.forlopp forlopp && has_end number faulted l))
+-- those that name this block, or none
+abbrev pub keys_in : Option ℕ → (signal forlopp : ℕ) → Bool → List Key
+keys_in block signal forlopp faults = keys_at block None forlopp faults ++ keys_at block (Some signal) forlopp faults
 
--- the same with the signal
-abbrev pub has_signal : (block signal : Option ℕ) (forlopp number : ℕ) → Bool → Show → Bool
-has_signal block signal forlopp number faulted l = is_named l.block block && (is_named l.signal signal && (agrees l.forlopp forlopp && has_end number faulted l))
-
--- the same with the forlopp
-abbrev pub has_forlopp : (block signal forlopp : Option ℕ) (number : ℕ) → Bool → Show → Bool
-has_forlopp block signal forlopp number faulted l = is_named l.block block && (is_named l.signal signal && (is_named l.forlopp forlopp && has_end number faulted l))
+-- those that agree with a job of this entry and forlopp, and name that it ended by a fault, or do not
+abbrev pub keys_for : Entry → ℕ → Bool → List Key
+keys_for e forlopp faults = keys_in None e.signal forlopp faults ++ keys_in (Some e.block) e.signal forlopp faults
 
 -- the line has this key, and the job in its span
 abbrev pub has_key : Key → ℕ → Show → Bool
-has_key key number l = same_key (key_of l) key && (is_from l.from number && is_upto l.upto number)
+has_key key number l = (is_from l.from number && is_upto l.upto number) && same_key (key_of l) key
+
+-- some line has one of these keys, and the job in its span
+abbrev pub some_has : List Show → ℕ → List Key → Bool
+some_has ls number keys = list_any (λ k. list_any (has_key k number) ls) keys

@@ -39,15 +39,15 @@ abbrev pub is_fault : Outcome → Bool
 is_fault Ended = false
 is_fault (Faulted fault point) = true
 
--- a line shows a job of this entry and forlopp, of this number, that ended so
-abbrev pub shows : Show → Entry → (forlopp number : ℕ) → Outcome → Bool
-shows l e forlopp number outcome =
-    agrees l.block e.block && (agrees l.signal e.signal && (agrees l.forlopp forlopp && (is_from l.from number && (is_upto l.upto number && (not l.faults || is_fault outcome)))))
+-- a line shows a job of this entry and forlopp, of this number, that ended so: it is in the span, and agrees with all that is named
+abbrev pub shows : Entry → (forlopp number : ℕ) → Outcome → Show → Bool
+shows e forlopp number outcome l =
+    (is_from l.from number && is_upto l.upto number) && (agrees l.block e.block && (agrees l.signal e.signal && ((not l.faults || is_fault outcome) && agrees l.forlopp forlopp)))
 
 -- some line shows a job of this number that started and ended so
 abbrev pub shows_job : Exchange → List Show → ℕ → JobStart → Outcome → Bool
 shows_job x ls number start outcome =
-    option_map_or (λ e. list_any (λ l. shows l e start.job.forlopp number outcome) ls) (slice_get x.entries start.job.entry) false
+    option_map_or (λ e. list_any (shows e start.job.forlopp number outcome) ls) (slice_get x.entries start.job.entry) false
 
 -- some line shows a job
 abbrev pub is_shown : Exchange → List Show → TracedJob → Bool

@@ -1,10 +1,7 @@
 // The single run, and the jobs of it that a filter shows.
 ghost use Rattle.std.specs.Prelude.{◌≡◌, IfOk};
 ghost use Rattle.store_layout.specs.Laid.{IsLayout};
-ghost use Rattle.source_meaning.specs.Valid.{IsValid};
-ghost use Rattle.retire_order.specs.Accounts.{with_words};
-ghost use Rattle.retire_order.specs.Events.{ending_of};
-ghost use Rattle.exchange_run.specs.Runs.{RunsTo};
+ghost use Rattle.exchange_run.specs.Runs.{IsEndOf, MayGoOn, state_of};
 ghost use Rattle.signal_trace.specs.Text.{trace_text};
 ghost use Rattle.signal_trace.specs.Trace.{trace};
 
@@ -25,8 +22,9 @@ pub struct Traced {
     pub end: Ended,
 }
 
-/// Runs the jobs of an exchange to the end of the single run, one at a time, each by the runner, and tells of those that a filter shows. No
-/// job may have ended or run in the books, and books and words must stand for a valid state. Memory is the only reason for an error.
+/// Runs the jobs of an exchange to the end of the single run, one at a time, each by the runner, and
+/// tells of those that a filter shows. No job may have ended or run in the books, and books and words
+/// must stand for a valid state. Memory is the only reason for an error.
 pub fn trace_run<R: Runner>(
     alloc: Global,
     exchange: &Exchange,
@@ -35,16 +33,14 @@ pub fn trace_run<R: Runner>(
     shows: &Seq<Show>,
     runner: &mut R,
 ) -> Result<Traced, Memory>
-    requires nobody { run.books.running ≡ 0 }
+    requires run { MayGoOn exchange.now run }
     requires none { run.books.state.ended ≡ 0 }
     requires layout { IsLayout exchange.now.blocks layout.now }
     requires runner { R.runs runner.old exchange.now }
-    requires valid { IsValid exchange.now (with_words run.books.state run.words) }
-    ensures text { IfOk result (λ t. t.text ≡ trace_text exchange.now (trace exchange.now
-        run.books.limit (with_words run.books.state run.words) shows.now)) }
-    ensures end { IfOk result (λ t. RunsTo exchange.now
-        (with_words run.books.state run.words) run.books.limit
-        t.end.books.state t.end.words (ending_of t.end.ending)) }
+    ensures text { IfOk result (λ t. t.text ≡ trace_text exchange.now
+        (trace exchange.now run.books.limit (state_of run) shows.now)) }
+    ensures end { IfOk result (λ t.
+        IsEndOf exchange.now (state_of run) run.books.limit t.end) }
 {
     let table = ShowTable::new(alloc, shows)?;
     let mut tracer = Tracer {

@@ -1,12 +1,12 @@
 // The lines of a filter as a table, which tells in a few look-ups whether some line shows a job.
 //
-// What a line names but its span is its key. At most 16 keys agree with a job: for each of them the rows are searched for the
-// last one whose span has begun.
+// What a line names but its span is its key. At most 16 keys agree with a job: for each of them the
+// rows are searched for the last one whose span has begun.
 ghost use Rattle.std.specs.Prelude.{◌≡◌, ◌<◌, ◌&&◌, Some, IfOk, if◌then◌else◌, length, map, max, nat_le, slice_get};
 ghost use Rattle.std.specs.List.{list_any};
 ghost use Rattle.std.specs.List.Sorted.{IsPermutation};
 ghost use Rattle.signal_trace.specs.Trace.{is_fault, shows};
-ghost use Rattle.signal_trace.specs.Table.{AreCounted, AreLasts, AreRising, IsLast, has_block, has_forlopp, has_key, has_signal, reaches, row_of, same_key};
+ghost use Rattle.signal_trace.specs.Table.{AreCounted, AreLasts, AreRising, IsLast, has_key, key_with, keys_for, reaches, row_of, same_key, some_has};
 
 use crate::show::Show;
 use exchange_model::Entry;
@@ -45,18 +45,25 @@ fn is_fault(outcome: Outcome) -> bool
     matches!(outcome, Outcome::Faulted { .. })
 }
 
+/// A key that names these.
+fn key_with(block: Option<u32>, signal: Option<u32>, forlopp: Option<u64>, faults: bool) -> Key
+    ensures { result ≡ key_with block signal forlopp faults }
+{
+    Key {
+        block,
+        signal,
+        forlopp,
+        faults,
+    }
+}
+
 /// A line as a row. A span has all jobs on the side on which no job is named.
 fn row_of(show: &Show) -> Row
     ensures { result ≡ row_of show.now }
 {
     Row {
         start: Start {
-            key: Key {
-                block: show.block,
-                signal: show.signal,
-                forlopp: show.forlopp,
-                faults: show.faults,
-            },
+            key: key_with(show.block, show.signal, show.forlopp, show.faults),
             from: show.from.unwrap_or(0),
         },
         upto: show.upto.unwrap_or(u64::MAX),
@@ -182,13 +189,13 @@ impl Drop for ShowTable<'_> {
 impl<'a> Model for ShowTable<'a> {
     ghost use Rattle.std.specs.Prelude.{List};
     ghost use Rattle.signal_trace.specs.declared.show.Show.{Show};
-    ghost use Rattle.signal_trace.specs.Table.{IsTable};
+    ghost use Rattle.signal_trace.specs.Table.{IsTraceTable};
 
     ghost Value = { List Show };
 
     ghost view = { λ t. t.shows.now };
 
-    ghost invariant = { λ t. IsTable t.shows.now t.rows t.lasts };
+    ghost invariant = { λ t. IsTraceTable t.shows.now t.rows t.lasts };
 }
 
 impl<'a> ShowTable<'a> {
@@ -202,69 +209,34 @@ impl<'a> ShowTable<'a> {
     }
 
     /// Whether some line shows a job of this entry and forlopp, of this number, that ended so.
+    #[tactic(auto, using(crate::proofs::Tabling::by_keys))]
     pub fn any(&self, entry: Entry, forlopp: u64, number: u64, outcome: Outcome) -> bool
-        ensures { result ≡ list_any (λ l. shows l entry forlopp number outcome) self.now }
+        ensures { result ≡ list_any (shows entry forlopp number outcome) self.now }
     {
         let faulted = is_fault(outcome);
-        self.with_block(None, entry.signal, forlopp, number, faulted)
-            || self.with_block(Some(entry.block), entry.signal, forlopp, number, faulted)
+        self.with_keys(entry, forlopp, false, number)
+            || (faulted && self.with_keys(entry, forlopp, true, number))
     }
 
-    /// The same of the lines that name this block, or none.
-    #[tactic(auto, using(crate::proofs::Tabling::by_signal))]
-    fn with_block(
-        &self,
-        block: Option<u32>,
-        signal: u32,
-        forlopp: u64,
-        number: u64,
-        faulted: bool,
-    ) -> bool
-        ensures { result ≡ list_any (has_block block signal forlopp number faulted) self.now }
+    /// Whether some line has the job of this number in its span, and a key that agrees with the job:
+    /// one that names that it ended by a fault, or one that does not.
+    fn with_keys(&self, entry: Entry, forlopp: u64, faults: bool, number: u64) -> bool
+        ensures { result ≡ some_has self.now number (keys_for entry forlopp faults) }
     {
-        self.with_signal(block, None, forlopp, number, faulted)
-            || self.with_signal(block, Some(signal), forlopp, number, faulted)
-    }
-
-    /// The same of those that name this signal, or none.
-    #[tactic(auto, using(crate::proofs::Tabling::by_forlopp))]
-    fn with_signal(
-        &self,
-        block: Option<u32>,
-        signal: Option<u32>,
-        forlopp: u64,
-        number: u64,
-        faulted: bool,
-    ) -> bool
-        ensures { result ≡ list_any (has_signal block signal forlopp number faulted) self.now }
-    {
-        self.with_forlopp(block, signal, None, number, faulted)
-            || self.with_forlopp(block, signal, Some(forlopp), number, faulted)
-    }
-
-    /// The same of those that name this forlopp, or none.
-    #[tactic(auto, using(crate::proofs::Tabling::by_key))]
-    fn with_forlopp(
-        &self,
-        block: Option<u32>,
-        signal: Option<u32>,
-        forlopp: Option<u64>,
-        number: u64,
-        faulted: bool,
-    ) -> bool
-        ensures { result ≡ list_any (has_forlopp block signal forlopp number faulted) self.now }
-    {
-        let plain = Key {
-            block,
-            signal,
-            forlopp,
-            faults: false,
-        };
-        let faults = Key {
-            faults: true,
-            ..plain
-        };
-        self.with_key(plain, number) || (faulted && self.with_key(faults, number))
+        let (block, signal, forlopp) = (Some(entry.block), Some(entry.signal), Some(forlopp));
+        let keys = [
+            key_with(None, None, None, faults),
+            key_with(None, None, forlopp, faults),
+            key_with(None, signal, None, faults),
+            key_with(None, signal, forlopp, faults),
+            key_with(block, None, None, faults),
+            key_with(block, None, forlopp, faults),
+            key_with(block, signal, None, faults),
+            key_with(block, signal, forlopp, faults),
+        ];
+        keys.as_slice()
+            .iter()
+            .any(|key| self.with_key(*key, number))
     }
 
     /// Whether some line of this key has the job of this number in its span.

@@ -11,7 +11,7 @@ use Rattle.source_meaning.specs.Config.{Config}
 use Rattle.source_meaning.specs.Step.{step}
 use Rattle.source_meaning.specs.Job.{begins, job, after_steps}
 use Rattle.source_interpreter.specs.Running.{Running, config_of, at_start}
-use Rattle.source_interpreter.specs.Leaves.{Stands, IsOver, Steps, RunsTo, IsReached}
+use Rattle.source_interpreter.specs.Leaves.{IsConfigOf, IsOver, Steps, RunsTo, IsReached}
 use Rattle.source_interpreter.specs.declared.stop.Stop.TheVariants as stop
 use Rattle.source_interpreter.proofs.Follow.{Answer}
 use Rattle.source_meaning.proofs.Budget.{IsCounted, step_counts}
@@ -27,7 +27,7 @@ one_more : (r r' : Running) (s s' : List ℕ) → Steps r s (Ok tt) r' s' → On
 one_more r r' s s' made =
     let c : Config = config_of r s [] in
     let d : Config = step r.exchange c in
-    let after : Stands r.exchange d r' s' = made.leaves [] in
+    let after : IsConfigOf r.exchange d r' s' = made.leaves [] in
     let counts : IsCounted c d = step_counts r.exchange c d (ap (λ (e : Config). e.over) after.config) (every_step r.exchange c) in
     record { one = sym (ap (λ (e : Config). e.own.count) after.config) ∙ counts.one; below = counts.below }
 
@@ -58,7 +58,7 @@ pub later_step : (r0 r r' : Running) (s0 s s' : List ℕ) (o : Answer) → o ≡
 later_step r0 r r' s0 s s' o is made later =
     let d : Config = step r.exchange (config_of r s later.trace) in
     let went : Steps r s (Ok tt) r' s' = subst (λ a. Steps r s a r' s') is made in
-    let after : Stands r.exchange d r' s' = went.leaves later.trace in
+    let after : IsConfigOf r.exchange d r' s' = went.leaves later.trace in
     record {
       steps = suc later.steps;
       trace = d.world.trace;

@@ -12,7 +12,7 @@ use Rattle.source_interpreter.specs.Checks.{unless, range_check}
 use Rattle.source_meaning.specs.Config.{Config, Item}
 use Rattle.source_meaning.specs.Changes.{on_value, on_values, unless_fault, where_fits, fails}
 use Rattle.source_interpreter.specs.Running.{Running, config_of, sight_of}
-use Rattle.source_interpreter.specs.Leaves.{Stands, IsOver, Leaves, Follows}
+use Rattle.source_interpreter.specs.Leaves.{IsConfigOf, IsOver, Leaves, Follows}
 use Rattle.source_interpreter.specs.declared.stop.Stop.{Stop}
 use Rattle.source_interpreter.specs.declared.stop.Stop.TheVariants as stop
 
@@ -111,14 +111,14 @@ pub fits_stops : (v width : ℕ) (f : Fault) (go : Config → Config) (x : Excha
 fits_stops v width f go x r s trace todo is = test_stops (nat_lt v (2 ^ width)) fault.Range f (go (start_of r s trace todo)) x r s trace todo is
 
 -- where the job goes on, it stands as it is said
-pub stands : (x : Exchange) (r r' : Running) (s : List ℕ) (t : List Touch) → r.exchange ≡ x → r' ≡ r → Stands x (config_of r s t) r' s
+pub stands : (x : Exchange) (r r' : Running) (s : List ℕ) (t : List Touch) → r.exchange ≡ x → r' ≡ r → IsConfigOf x (config_of r s t) r' s
 stands x r r' s t same is = record {
   exchange = ap (λ (q : Running). q.exchange) is ∙ same;
   config = ap (λ (q : Running). config_of q s t) (sym is);
 }
 
 -- with other stored words
-pub stands_with : (x : Exchange) (r r' : Running) (s s' : List ℕ) (t : List Touch) → r.exchange ≡ x → r' ≡ r → s' ≡ s → Stands x (config_of r s t) r' s'
+pub stands_with : (x : Exchange) (r r' : Running) (s s' : List ℕ) (t : List Touch) → r.exchange ≡ x → r' ≡ r → s' ≡ s → IsConfigOf x (config_of r s t) r' s'
 stands_with x r r' s s' t same is words = record {
   exchange = ap (λ (q : Running). q.exchange) is ∙ same;
   config = ap (λ (q : Running). config_of q s t) (sym is) ∙ ap (λ (l : List ℕ). config_of r' l t) (sym words);

@@ -1,4 +1,7 @@
 pub mod Rounds
+pub mod Known
+pub mod Gathering
+pub mod Choosing
 pub mod Todo
 pub mod Follow
 pub mod Puts

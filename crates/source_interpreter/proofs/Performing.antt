@@ -24,40 +24,64 @@ use Rattle.source_meaning.specs.Step.{does}
 use Rattle.source_meaning.specs.Changes.{ends}
 use Rattle.source_interpreter.specs.Running.{Running}
 use Rattle.source_interpreter.specs.Leaves.{Leaves, Follows, Does}
+use Rattle.source_interpreter.specs.declared.cases.Cases.{Cases}
+use Rattle.source_interpreter.specs.Cases.{FindsOwn, LayerKnown, WhenKnown}
 use Rattle.source_interpreter.specs.Kept.{IsExprOfText, AreExprsOfText, IsCondOfText, IsOfText, AreOfText, AreWhensOfText}
 use Rattle.source_interpreter.proofs.Follow.{Answer, start_of}
+use Rattle.source_interpreter.proofs.Known.{known_opened}
 use Rattle.source_interpreter.proofs.Texts.{all_of, of_scope, cond_of}
 
 -- the lists in a statement
 
-parts : (s : Stmt) (k : StmtKind) (l : StmtKind-F StmtKind Stmt When) (h : IsOfText s) → s.kind ≡ k → out-StmtKind k ≡ l → PartsFit h.scope l
-parts s k l h is outs = subst (λ m. PartsFit h.scope m) (ap out-StmtKind is ∙ outs) (stmt_fits-parts h.scope s.kind h.fits)
+module _ (cases : Cases) (s : Stmt) (k : StmtKind) (l : StmtKind-F StmtKind Stmt When) (h : IsOfText cases s) (is : s.kind ≡ k) (outs : out-StmtKind k ≡ l) where
+  parts : PartsFit h.scope l
+  parts = subst (λ m. PartsFit h.scope m) (ap out-StmtKind is ∙ outs) (stmt_fits-parts h.scope s.kind h.fits)
 
-of_whens : (s : Scope) → SignalsKept s.signals → length s.blocks ≤ MOST_BLOCKS → (ws : List When) → AllByRecursion (λ w. StmtsFit s (out-When w).body) ws → AreWhensOfText ws
-of_whens s kept few [] h = tt
-of_whens s kept few (w ∷ ws) h = (of_scope s kept few (out-When w).body h.0, of_whens s kept few ws h.1)
+  known : LayerKnown cases s.point l
+  known = subst (LayerKnown cases s.point) (ap out-StmtKind is ∙ outs) (known_opened cases s h.known)
 
-module _ (s : Stmt) (cond : Cond) (first other : List Stmt) (h : IsOfText s) (is : s.kind ≡ kind.If cond first other) where
-  pub if_first_kept : AreOfText first
-  if_first_kept = of_scope h.scope h.signals h.few first (parts s (kind.If cond first other) (stmt.If cond first other) h is (kind.outs-If cond first other)).0
+of_whens : (cases : Cases) (s : Scope) → SignalsKept s.signals → length s.blocks ≤ MOST_BLOCKS → (ws : List When) → AllByRecursion (λ w. StmtsFit s (out-When w).body) ws → AllByRecursion (WhenKnown cases) ws → AreWhensOfText cases ws
+of_whens cases s kept few [] h all = tt
+of_whens cases s kept few (w ∷ ws) h all = (of_scope cases s kept few (out-When w).body h.0 all.0, of_whens cases s kept few ws h.1 all.1)
 
-  pub if_other_kept : AreOfText other
-  if_other_kept = of_scope h.scope h.signals h.few other (parts s (kind.If cond first other) (stmt.If cond first other) h is (kind.outs-If cond first other)).1
+module _ (cases : Cases) (s : Stmt) (cond : Cond) (first other : List Stmt) (h : IsOfText cases s) (is : s.kind ≡ kind.If cond first other) where
+  if_fits : PartsFit {K = StmtKind} h.scope (stmt.If cond first other)
+  if_fits = parts cases s (kind.If cond first other) (stmt.If cond first other) h is (kind.outs-If cond first other)
 
-module _ (s : Stmt) (e : Expr) (whens : List When) (otherwise : List Stmt) (h : IsOfText s) (is : s.kind ≡ kind.Case e whens otherwise) where
-  pub whens_kept : AreWhensOfText whens
-  whens_kept = of_whens h.scope h.signals h.few whens (parts s (kind.Case e whens otherwise) (stmt.Case e whens otherwise) h is (kind.outs-Case e whens otherwise)).0
+  if_known : LayerKnown cases s.point (stmt.If cond first other)
+  if_known = known cases s (kind.If cond first other) (stmt.If cond first other) h is (kind.outs-If cond first other)
 
-  pub otherwise_kept : AreOfText otherwise
-  otherwise_kept = of_scope h.scope h.signals h.few otherwise (parts s (kind.Case e whens otherwise) (stmt.Case e whens otherwise) h is (kind.outs-Case e whens otherwise)).1
+  pub if_first_kept : AreOfText cases first
+  if_first_kept = of_scope cases h.scope h.signals h.few first if_fits.0 if_known.0
 
-pub body_kept : (s : Stmt) (temp : ℕ) (from upto : Expr) (body : List Stmt) → IsOfText s → s.kind ≡ kind.On temp from upto body → AreOfText body
-body_kept s temp from upto body h is = of_scope h.scope h.signals h.few body (parts s (kind.On temp from upto body) (stmt.On temp from upto body) h is (kind.outs-On temp from upto body))
+  pub if_other_kept : AreOfText cases other
+  if_other_kept = of_scope cases h.scope h.signals h.few other if_fits.1 if_known.1
+
+module _ (cases : Cases) (s : Stmt) (e : Expr) (whens : List When) (otherwise : List Stmt) (h : IsOfText cases s) (is : s.kind ≡ kind.Case e whens otherwise) where
+  case_fits : PartsFit {K = StmtKind} h.scope (stmt.Case e whens otherwise)
+  case_fits = parts cases s (kind.Case e whens otherwise) (stmt.Case e whens otherwise) h is (kind.outs-Case e whens otherwise)
+
+  case_known : LayerKnown cases s.point (stmt.Case e whens otherwise)
+  case_known = known cases s (kind.Case e whens otherwise) (stmt.Case e whens otherwise) h is (kind.outs-Case e whens otherwise)
+
+  pub whens_kept : AreWhensOfText cases whens
+  whens_kept = of_whens cases h.scope h.signals h.few whens case_fits.0 case_known.choices
+
+  pub otherwise_kept : AreOfText cases otherwise
+  otherwise_kept = of_scope cases h.scope h.signals h.few otherwise case_fits.1 case_known.other
+
+  pub table_kept : FindsOwn cases s.point whens
+  table_kept = case_known.own
+
+pub body_kept : (cases : Cases) (s : Stmt) (temp : ℕ) (from upto : Expr) (body : List Stmt) → IsOfText cases s → s.kind ≡ kind.On temp from upto body → AreOfText cases body
+body_kept cases s temp from upto body h is =
+    let fits = parts cases s (kind.On temp from upto body) (stmt.On temp from upto body) h is (kind.outs-On temp from upto body) in
+    of_scope cases h.scope h.signals h.few body fits (known cases s (kind.On temp from upto body) (stmt.On temp from upto body) h is (kind.outs-On temp from upto body))
 
 -- at most as many values as a signal may have
 
-own : (s : Stmt) (k : StmtKind) (l : StmtKind-F StmtKind Stmt When) (h : IsOfText s) → s.kind ≡ k → out-StmtKind k ≡ l → LayerFits h.scope l
-own s k l h is outs = subst (λ m. LayerFits h.scope m) (ap out-StmtKind is ∙ outs) (stmt_fits-out h.scope s.kind h.fits)
+own : (cases : Cases) (s : Stmt) (k : StmtKind) (l : StmtKind-F StmtKind Stmt When) (h : IsOfText cases s) → s.kind ≡ k → out-StmtKind k ≡ l → LayerFits h.scope l
+own cases s k l h is outs = subst (λ m. LayerFits h.scope m) (ap out-StmtKind is ∙ outs) (stmt_fits-out h.scope s.kind h.fits)
 
 few_sent_by : (s : Scope) (found : Option SignalKind) (signal : ℕ) (to : Option Receiver) (n : ℕ) (fresh : Bool) → ((k : SignalKind) → found ≡ Some k → signal_count k ≤ MOST_VALUES) → SendFits s found signal to n fresh → n ≤ MOST_VALUES
 few_sent_by s None signal to n fresh few fits = absurd fits
@@ -67,57 +91,57 @@ few_sent_by s (Some (Combined name count answer)) signal to n fresh few fits = l
 few_sent_by s (Some (Answers name count combined)) signal to n fresh few fits = absurd fits
 few_sent_by s (Some (Outside name count)) signal to n fresh few fits = let k = few (Outside name count) refl in omega (arith, k, fits.0)
 
-pub few_sent : (s : Stmt) (signal : ℕ) (to : Option Receiver) (es : List Expr) (fresh : Bool) → IsOfText s → s.kind ≡ kind.Send signal to es fresh → length es ≤ MOST_VALUES
-few_sent s signal to es fresh h is =
+pub few_sent : (cases : Cases) (s : Stmt) (signal : ℕ) (to : Option Receiver) (es : List Expr) (fresh : Bool) → IsOfText cases s → s.kind ≡ kind.Send signal to es fresh → length es ≤ MOST_VALUES
+few_sent cases s signal to es fresh h is =
     few_sent_by h.scope (slice_get h.scope.signals signal) signal to (length es) fresh (λ k there. all_at (λ s. signal_count s ≤ MOST_VALUES) h.scope.signals signal k h.signals.values there)
-    (own s (kind.Send signal to es fresh) (stmt.Send signal to es fresh) h is (kind.outs-Send signal to es fresh)).names
+    (own cases s (kind.Send signal to es fresh) (stmt.Send signal to es fresh) h is (kind.outs-Send signal to es fresh)).names
 
 few_answered : (found : Option SignalKind) (n : ℕ) → ((k : SignalKind) → found ≡ Some k → signal_count k ≤ MOST_VALUES) → AnswerFits found n → n ≤ MOST_VALUES
 few_answered (Some (Answers name count combined)) n few fits = let k = few (Answers name count combined) refl in omega (arith, k, fits)
 few_answered _ n few fits = absurd fits
 
-pub few_returned : (s : Stmt) (answer : ℕ) (es : List Expr) → IsOfText s → s.kind ≡ kind.Return answer es → length es ≤ MOST_VALUES
-few_returned s answer es h is =
+pub few_returned : (cases : Cases) (s : Stmt) (answer : ℕ) (es : List Expr) → IsOfText cases s → s.kind ≡ kind.Return answer es → length es ≤ MOST_VALUES
+few_returned cases s answer es h is =
     few_answered (slice_get h.scope.signals answer) (length es) (λ k there. all_at (λ s. signal_count s ≤ MOST_VALUES) h.scope.signals answer k h.signals.values there)
-    (own s (kind.Return answer es) (stmt.Return answer es) h is (kind.outs-Return answer es)).names
+    (own cases s (kind.Return answer es) (stmt.Return answer es) h is (kind.outs-Return answer es)).names
 
 -- its expressions
 
-exprs : (s : Stmt) (k : StmtKind) (l : StmtKind-F StmtKind Stmt When) (h : IsOfText s) → s.kind ≡ k → out-StmtKind k ≡ l → AreExprsOfText (own_exprs l)
-exprs s k l h is outs = all_of ExprFits h.scope h.signals h.few (own_exprs l) (own s k l h is outs).exprs.each
+exprs : (cases : Cases) (s : Stmt) (k : StmtKind) (l : StmtKind-F StmtKind Stmt When) (h : IsOfText cases s) → s.kind ≡ k → out-StmtKind k ≡ l → AreExprsOfText (own_exprs l)
+exprs cases s k l h is outs = all_of ExprFits h.scope h.signals h.few (own_exprs l) (own cases s k l h is outs).exprs.each
 
-pub of_temp : (s : Stmt) (temp : ℕ) (e : Expr) → IsOfText s → s.kind ≡ kind.SetTemp temp e → IsExprOfText e
-of_temp s temp e h is = (exprs s (kind.SetTemp temp e) (stmt.SetTemp temp e) h is (kind.outs-SetTemp temp e)).0
+pub of_temp : (cases : Cases) (s : Stmt) (temp : ℕ) (e : Expr) → IsOfText cases s → s.kind ≡ kind.SetTemp temp e → IsExprOfText e
+of_temp cases s temp e h is = (exprs cases s (kind.SetTemp temp e) (stmt.SetTemp temp e) h is (kind.outs-SetTemp temp e)).0
 
-pub of_variable : (s : Stmt) (variable : ℕ) (e : Expr) → IsOfText s → s.kind ≡ kind.SetVariable variable e → IsExprOfText e
-of_variable s variable e h is = (exprs s (kind.SetVariable variable e) (stmt.SetVariable variable e) h is (kind.outs-SetVariable variable e)).0
+pub of_variable : (cases : Cases) (s : Stmt) (variable : ℕ) (e : Expr) → IsOfText cases s → s.kind ≡ kind.SetVariable variable e → IsExprOfText e
+of_variable cases s variable e h is = (exprs cases s (kind.SetVariable variable e) (stmt.SetVariable variable e) h is (kind.outs-SetVariable variable e)).0
 
-pub of_field : (s : Stmt) (file field pointer : ℕ) (e : Expr) → IsOfText s → s.kind ≡ kind.SetField file field pointer e → IsExprOfText e
-of_field s file field pointer e h is = (exprs s (kind.SetField file field pointer e) (stmt.SetField file field pointer e) h is (kind.outs-SetField file field pointer e)).0
+pub of_field : (cases : Cases) (s : Stmt) (file field pointer : ℕ) (e : Expr) → IsOfText cases s → s.kind ≡ kind.SetField file field pointer e → IsExprOfText e
+of_field cases s file field pointer e h is = (exprs cases s (kind.SetField file field pointer e) (stmt.SetField file field pointer e) h is (kind.outs-SetField file field pointer e)).0
 
-pub of_if_goto : (s : Stmt) (cond : Cond) (label : ℕ) → IsOfText s → s.kind ≡ kind.IfGoto cond label → IsCondOfText cond
-of_if_goto s cond label h is = cond_of cond (exprs s (kind.IfGoto cond label) (stmt.IfGoto cond label) h is (kind.outs-IfGoto cond label))
+pub of_if_goto : (cases : Cases) (s : Stmt) (cond : Cond) (label : ℕ) → IsOfText cases s → s.kind ≡ kind.IfGoto cond label → IsCondOfText cond
+of_if_goto cases s cond label h is = cond_of cond (exprs cases s (kind.IfGoto cond label) (stmt.IfGoto cond label) h is (kind.outs-IfGoto cond label))
 
-pub of_if : (s : Stmt) (cond : Cond) (first other : List Stmt) → IsOfText s → s.kind ≡ kind.If cond first other → IsCondOfText cond
-of_if s cond first other h is = cond_of cond (exprs s (kind.If cond first other) (stmt.If cond first other) h is (kind.outs-If cond first other))
+pub of_if : (cases : Cases) (s : Stmt) (cond : Cond) (first other : List Stmt) → IsOfText cases s → s.kind ≡ kind.If cond first other → IsCondOfText cond
+of_if cases s cond first other h is = cond_of cond (exprs cases s (kind.If cond first other) (stmt.If cond first other) h is (kind.outs-If cond first other))
 
-pub of_case : (s : Stmt) (e : Expr) (whens : List When) (otherwise : List Stmt) → IsOfText s → s.kind ≡ kind.Case e whens otherwise → IsExprOfText e
-of_case s e whens otherwise h is = (exprs s (kind.Case e whens otherwise) (stmt.Case e whens otherwise) h is (kind.outs-Case e whens otherwise)).0
+pub of_case : (cases : Cases) (s : Stmt) (e : Expr) (whens : List When) (otherwise : List Stmt) → IsOfText cases s → s.kind ≡ kind.Case e whens otherwise → IsExprOfText e
+of_case cases s e whens otherwise h is = (exprs cases s (kind.Case e whens otherwise) (stmt.Case e whens otherwise) h is (kind.outs-Case e whens otherwise)).0
 
-pub of_from : (s : Stmt) (temp : ℕ) (from upto : Expr) (body : List Stmt) → IsOfText s → s.kind ≡ kind.On temp from upto body → IsExprOfText from
-of_from s temp from upto body h is = (exprs s (kind.On temp from upto body) (stmt.On temp from upto body) h is (kind.outs-On temp from upto body)).0
+pub of_from : (cases : Cases) (s : Stmt) (temp : ℕ) (from upto : Expr) (body : List Stmt) → IsOfText cases s → s.kind ≡ kind.On temp from upto body → IsExprOfText from
+of_from cases s temp from upto body h is = (exprs cases s (kind.On temp from upto body) (stmt.On temp from upto body) h is (kind.outs-On temp from upto body)).0
 
-pub of_upto : (s : Stmt) (temp : ℕ) (from upto : Expr) (body : List Stmt) → IsOfText s → s.kind ≡ kind.On temp from upto body → IsExprOfText upto
-of_upto s temp from upto body h is = (exprs s (kind.On temp from upto body) (stmt.On temp from upto body) h is (kind.outs-On temp from upto body)).1.0
+pub of_upto : (cases : Cases) (s : Stmt) (temp : ℕ) (from upto : Expr) (body : List Stmt) → IsOfText cases s → s.kind ≡ kind.On temp from upto body → IsExprOfText upto
+of_upto cases s temp from upto body h is = (exprs cases s (kind.On temp from upto body) (stmt.On temp from upto body) h is (kind.outs-On temp from upto body)).1.0
 
-pub of_first : (s : Stmt) (temp file field : ℕ) (rel : Rel) (e : Expr) (label : ℕ) → IsOfText s → s.kind ≡ kind.ForFirst temp file field rel e label → IsExprOfText e
-of_first s temp file field rel e label h is = (exprs s (kind.ForFirst temp file field rel e label) (stmt.ForFirst temp file field rel e label) h is (kind.outs-ForFirst temp file field rel e label)).0
+pub of_first : (cases : Cases) (s : Stmt) (temp file field : ℕ) (rel : Rel) (e : Expr) (label : ℕ) → IsOfText cases s → s.kind ≡ kind.ForFirst temp file field rel e label → IsExprOfText e
+of_first cases s temp file field rel e label h is = (exprs cases s (kind.ForFirst temp file field rel e label) (stmt.ForFirst temp file field rel e label) h is (kind.outs-ForFirst temp file field rel e label)).0
 
-pub of_send : (s : Stmt) (signal : ℕ) (to : Option Receiver) (es : List Expr) (fresh : Bool) → IsOfText s → s.kind ≡ kind.Send signal to es fresh → AreExprsOfText es
-of_send s signal to es fresh h is = exprs s (kind.Send signal to es fresh) (stmt.Send signal to es fresh) h is (kind.outs-Send signal to es fresh)
+pub of_send : (cases : Cases) (s : Stmt) (signal : ℕ) (to : Option Receiver) (es : List Expr) (fresh : Bool) → IsOfText cases s → s.kind ≡ kind.Send signal to es fresh → AreExprsOfText es
+of_send cases s signal to es fresh h is = exprs cases s (kind.Send signal to es fresh) (stmt.Send signal to es fresh) h is (kind.outs-Send signal to es fresh)
 
-pub of_return : (s : Stmt) (answer : ℕ) (es : List Expr) → IsOfText s → s.kind ≡ kind.Return answer es → AreExprsOfText es
-of_return s answer es h is = exprs s (kind.Return answer es) (stmt.Return answer es) h is (kind.outs-Return answer es)
+pub of_return : (cases : Cases) (s : Stmt) (answer : ℕ) (es : List Expr) → IsOfText cases s → s.kind ≡ kind.Return answer es → AreExprsOfText es
+of_return cases s answer es h is = exprs cases s (kind.Return answer es) (stmt.Return answer es) h is (kind.outs-Return answer es)
 
 -- a statement is done by its kind
 
@@ -141,4 +165,4 @@ exits s r w o (inl is) follows = ended s kind.Exit stmt.Exit r w o is kind.outs-
 exits s r w o (inr is) follows = ended s kind.Finish stmt.Finish r w o is kind.outs-Finish (λ c. refl) follows
 
 -- what a statement has inside it
-pub ruleset inside = (if_first_kept, if_other_kept, whens_kept, otherwise_kept, body_kept, few_sent, few_returned, of_temp, of_variable, of_field, of_if_goto, of_if, of_case, of_from, of_upto, of_first, of_send, of_return)
+pub ruleset inside = (if_first_kept, if_other_kept, whens_kept, otherwise_kept, table_kept, body_kept, few_sent, few_returned, of_temp, of_variable, of_field, of_if_goto, of_if, of_case, of_from, of_upto, of_first, of_send, of_return)

@@ -1,5 +1,5 @@
 -- One more term or factor, and one more relation.
-use Rattle.std.proofs.Common.{◌≡◌, ℕ, suc, ◌+◌, ◌<◌, List, [], ◌∷◌, length, drop, map, get_or, Result, Ok, Err, Bool, true, false, refl, sym, ap, ◌∙◌, add-one, drop-cons}
+use Rattle.std.proofs.Common.{◌≡◌, ℕ, ◌+◌, ◌<◌, List, [], length, drop, map, get_or, Result, Ok, Err, Bool, true, false, refl, sym, ap, ◌∙◌}
 use Rattle.job_types.specs.declared.fault.Fault.{Fault}
 use Rattle.source_meaning.specs.Value.{Got, Gives, Fails, Sight, Eval, after_loads, with_value, summed, joined, expr_value, term_value, factor_value, sum_value, product_value, summand_of, multiplier_of, answer_of, field_value, relation_value, all_value, any_value, stands}
 use Rattle.job_types.specs.Truth.{one_if, is_set}
@@ -11,10 +11,7 @@ use Rattle.exchange_model.specs.declared.expr.Factor.TheVariants as factor
 use Rattle.source_meaning.proofs.Layers.{expr_value-out, term_value-out, factor_value-Number, factor_value-Variable, factor_value-Temporary, factor_value-Field, factor_value-Bracket, factor_value-Reference}
 use Rattle.std.specs.Prelude.{slice_get, slice_index, ◌&&◌, ◌||◌}
 use Rattle.exchange_model.specs.declared.expr.Relation.{Relation}
-
--- what is left of a list begins with the item at this place
-pub opens : {X : Type 0} (xs : List X) (i : ℕ) (x : X) → i < length xs → x ≡ get_or xs i x → drop i xs ≡ x ∷ drop (i + 1) xs
-opens xs i x lt is = drop-cons xs i x lt ∙ ap (λ y. y ∷ drop (suc i) xs) (sym is) ∙ ap (λ n. x ∷ drop n xs) (sym (add-one i))
+use Rattle.plex_num.proofs.Lists.{opens}
 
 -- loads made before do not change what is answered
 after_answers : (loads : _) (got : Got) → answer_of (after_loads loads got) ≡ answer_of got

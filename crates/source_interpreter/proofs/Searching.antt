@@ -26,8 +26,8 @@ use Rattle.source_interpreter.specs.Running.{Running, sight_of, with_temp, at_la
 use Rattle.source_interpreter.specs.Leaves.{Leaves, Does}
 use Rattle.source_interpreter.specs.declared.stop.Stop.{Stop}
 use Rattle.source_interpreter.specs.declared.stop.Stop.TheVariants as stop
-use Rattle.source_interpreter.proofs.Rounds.{opens}
 use Rattle.source_interpreter.proofs.Follow.{Answer, start_of, value_goes, value_stops, unless_goes, unless_stops, checked, test_goes, test_stops, fails_is_over, stands, stands_with, as_fault, as_memory}
+use Rattle.plex_num.proofs.Lists.{opens}
 
 -- the least number at which a test holds, looked for from 0 on
 

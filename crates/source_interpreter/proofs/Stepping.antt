@@ -14,7 +14,8 @@ use Rattle.source_meaning.specs.Step.{does, starts, count, does_first, step}
 use Rattle.source_meaning.specs.Changes.{ends, fails}
 use Rattle.source_interpreter.specs.Running.{Running, config_of, with_count, with_point}
 use Rattle.source_interpreter.specs.Leaves.{Leaves, IsOver, Follows, Does, Steps, turn}
-use Rattle.source_interpreter.specs.Kept.{IsKept, IsOfText, AreOfText}
+use Rattle.source_interpreter.specs.declared.cases.Cases.{Cases}
+use Rattle.source_interpreter.specs.Kept.{IsNextKept, IsOfText, AreOfText}
 use Rattle.source_interpreter.specs.Taken.{item_of, before, is_counted}
 use Rattle.source_interpreter.specs.declared.stop.Stop.TheVariants as stop
 use Rattle.source_interpreter.specs.declared.work.Next.{Next}
@@ -23,16 +24,17 @@ use Rattle.source_interpreter.proofs.Follow.{Answer, start_of, fault_in, checked
 
 -- what was taken
 
-pub taken_statement : (found : Option Next) (s : Bor Stmt) → found ≡ Some (next.Do s) → IfSome found (λ n. IsKept (item_of n)) → IsOfText s.now
-taken_statement found s is h = subst (λ o. IfSome o (λ n. IsKept (item_of n))) is h
+pub taken_statement : (found : Option Next) (s : Bor Stmt) (cases : Bor Cases) → found ≡ Some (next.Do s cases) → IfSome found IsNextKept → IsOfText cases.now s.now
+taken_statement found s cases is h = subst (λ o. IfSome o IsNextKept) is h
 
-pub taken_body : (found : Option Next) (point temp this last : ℕ) (body : Bor (List Stmt)) → found ≡ Some (next.Turn point temp this last body) → IfSome found (λ n. IsKept (item_of n)) → AreOfText body.now
-taken_body found point temp this last body is h = subst (λ o. IfSome o (λ n. IsKept (item_of n))) is h
+module _ (found : Option Next) (point temp this last : ℕ) (body : Bor (List Stmt)) (cases : Bor Cases) (is : found ≡ Some (next.Turn point temp this last body cases)) where
+  pub taken_body : IfSome found IsNextKept → AreOfText cases.now body.now
+  taken_body h = subst (λ o. IfSome o IsNextKept) is h
 
-pub taken_within : (found : Option Next) (point temp this last : ℕ) (body : Bor (List Stmt)) → found ≡ Some (next.Turn point temp this last body) → IfSome found (λ n. is_counted n ≡ true) → this ≤ last
-taken_within found point temp this last body is h =
-    let e : nat_le this last ≡ true = subst (λ o. IfSome o (λ n. is_counted n ≡ true)) is h in
-    grind (arith, nat_tests)
+  pub taken_within : IfSome found (λ n. is_counted n ≡ true) → this ≤ last
+  taken_within h =
+      let e : nat_le this last ≡ true = subst (λ o. IfSome o (λ n. is_counted n ≡ true)) is h in
+      grind (arith, nat_tests)
 
 -- it is counted, and then done; what is done is told by the job as it stands then
 
@@ -80,12 +82,12 @@ nothing_left r r1 s o found settled took none follows = steps r r1 r1 s s o foun
     subst (λ (q : Running). Leaves q.exchange s (ends q.callers (start_of q s trace r.todo)) o r1 s) took ((follows s).leaves trace r.todo))
 
 module _ (r r1 : Running) (s : List ℕ) (found : Option Next) (settled : next_counted r.todo ≡ before found r1.todo) (took : r1 ≡ record r { todo = r1.todo }) where
-  pub statement_done : (st : Bor Stmt) (r2 r' : Running) (s' : List ℕ) (o : Answer) → found ≡ Some (next.Do st) → Ok tt ≡ checked (nat_lt r1.own.count budget) fault.Budget → r2 ≡ with_count st.now.point r1 → Does (out-StmtKind st.now.kind) r2 s o r' s' → Steps r s o r' s'
-  statement_done st r2 r' s' o is room counted_is follows = steps r r1 r' s s' o found (Some (next.Do st)) settled is (λ trace.
+  pub statement_done : (st : Bor Stmt) (cases : Bor Cases) (r2 r' : Running) (s' : List ℕ) (o : Answer) → found ≡ Some (next.Do st cases) → Ok tt ≡ checked (nat_lt r1.own.count budget) fault.Budget → r2 ≡ with_count st.now.point r1 → Does (out-StmtKind st.now.kind) r2 s o r' s' → Steps r s o r' s'
+  statement_done st cases r2 r' s' o is room counted_is follows = steps r r1 r' s s' o found (Some (next.Do st cases)) settled is (λ trace.
       goes_on (λ q. does q.exchange q.own.point (out-StmtKind st.now.kind) q.todo) st.now.point r r1 r2 r' s s' o trace took room counted_is follows)
 
-  pub statement_full : (st : Bor Stmt) (r2 : Running) (f : Fault) (o : Answer) → found ≡ Some (next.Do st) → Err f ≡ checked (nat_lt r1.own.count budget) fault.Budget → r2 ≡ with_point st.now.point r1 → o ≡ Err (stop.Fault f) → Steps r s o r2 s
-  statement_full st r2 f o is full point_is answers = steps r r1 r2 s s o found (Some (next.Do st)) settled is (λ trace.
+  pub statement_full : (st : Bor Stmt) (cases : Bor Cases) (r2 : Running) (f : Fault) (o : Answer) → found ≡ Some (next.Do st cases) → Err f ≡ checked (nat_lt r1.own.count budget) fault.Budget → r2 ≡ with_point st.now.point r1 → o ≡ Err (stop.Fault f) → Steps r s o r2 s
+  statement_full st cases r2 f o is full point_is answers = steps r r1 r2 s s o found (Some (next.Do st cases)) settled is (λ trace.
       let c : Config = config_of r s trace in
       subst (λ a. Leaves r.exchange s (does_first r.exchange (Do st.now ∷ r1.todo) c) a r2 s) (sym answers)
       (stops f (does r.exchange st.now.point (out-StmtKind st.now.kind) r1.todo) st.now.point r r1 r2 s trace took full point_is))
@@ -100,12 +102,12 @@ module _ (r r1 : Running) (s : List ℕ) (found : Option Next) (settled : next_c
       subst (λ a. Leaves r.exchange s (does_first r.exchange (Start st.now ∷ r1.todo) c) a r2 s) (sym answers)
       (stops f (starts (out-StmtKind st.now.kind) r1.todo) st.now.point r r1 r2 s trace took full point_is))
 
-  pub turn_done : (p temp this last : ℕ) (body : Bor (List Stmt)) (r2 r' : Running) (o : Answer) → found ≡ Some (next.Turn p temp this last body) → Ok tt ≡ checked (nat_lt r1.own.count budget) fault.Budget → r2 ≡ with_count p r1 → ((w : List ℕ) → Follows (turn r2.own.point temp this last body.now r2.todo) r2 w o r' w) → Steps r s o r' s
-  turn_done p temp this last body r2 r' o is room counted_is follows = steps r r1 r' s s o found (Some (next.Turn p temp this last body)) settled is (λ trace.
+  pub turn_done : (p temp this last : ℕ) (body : Bor (List Stmt)) (cases : Bor Cases) (r2 r' : Running) (o : Answer) → found ≡ Some (next.Turn p temp this last body cases) → Ok tt ≡ checked (nat_lt r1.own.count budget) fault.Budget → r2 ≡ with_count p r1 → ((w : List ℕ) → Follows (turn r2.own.point temp this last body.now r2.todo) r2 w o r' w) → Steps r s o r' s
+  turn_done p temp this last body cases r2 r' o is room counted_is follows = steps r r1 r' s s o found (Some (next.Turn p temp this last body cases)) settled is (λ trace.
       goes_on (λ q. turn q.own.point temp this last body.now q.todo) p r r1 r2 r' s s o trace took room counted_is (follows s))
 
-  pub turn_full : (p temp this last : ℕ) (body : Bor (List Stmt)) (r2 : Running) (f : Fault) (o : Answer) → found ≡ Some (next.Turn p temp this last body) → Err f ≡ checked (nat_lt r1.own.count budget) fault.Budget → r2 ≡ with_point p r1 → o ≡ Err (stop.Fault f) → Steps r s o r2 s
-  turn_full p temp this last body r2 f o is full point_is answers = steps r r1 r2 s s o found (Some (next.Turn p temp this last body)) settled is (λ trace.
+  pub turn_full : (p temp this last : ℕ) (body : Bor (List Stmt)) (cases : Bor Cases) (r2 : Running) (f : Fault) (o : Answer) → found ≡ Some (next.Turn p temp this last body cases) → Err f ≡ checked (nat_lt r1.own.count budget) fault.Budget → r2 ≡ with_point p r1 → o ≡ Err (stop.Fault f) → Steps r s o r2 s
+  turn_full p temp this last body cases r2 f o is full point_is answers = steps r r1 r2 s s o found (Some (next.Turn p temp this last body cases)) settled is (λ trace.
       let c : Config = config_of r s trace in
       subst (λ a. Leaves r.exchange s (does_first r.exchange (Turns p temp this last body.now ∷ r1.todo) c) a r2 s) (sym answers)
       (stops f (turn p temp this last body.now r1.todo) p r r1 r2 s trace took full point_is))

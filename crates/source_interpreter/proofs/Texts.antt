@@ -4,7 +4,7 @@ use Rattle.std.specs.Prelude.{nat_eq, ◌||◌, is_some, unwrap_or, if◌then◌
 use Rattle.std.specs.List.{AllByRecursion, find, list_any}
 use Rattle.std.specs.Option.{option_map, option_map_or}
 use Rattle.plex_limits.specs.declared.limits.TheConstants.{MOST_BLOCKS}
-use Rattle.plex_num.proofs.Lists.{all_left, all_right}
+use Rattle.plex_num.proofs.Lists.{all_at, all_left, all_right}
 use Rattle.exchange_model.specs.declared.block.Block.{Block}
 use Rattle.exchange_model.specs.declared.block.Enter.{Enter as Row}
 use Rattle.exchange_model.specs.declared.expr.Cond.{Cond}
@@ -23,7 +23,10 @@ use Rattle.exchange_model.specs.PartFits.{TermFits, JoinedFits, InsideFits}
 use Rattle.exchange_model.proofs.Layers.{expr_fits-out, term_fits-out, joined_fits-out, factor_fits-out}
 use Rattle.exchange_model.specs.Parts.{Parts}
 use Rattle.source_meaning.specs.Config.{body_of, row_place, enter_place, is_receiver}
+use Rattle.source_interpreter.specs.declared.cases.Cases.{Cases}
+use Rattle.source_interpreter.specs.Cases.{AreKnown, AreTablesOf, BlockKnown}
 use Rattle.source_interpreter.specs.Kept.{IsOf, IsExprOfText, AreExprsOfText, AreTermsOfText, IsFactorOfText, AreFactorsOfText, AreRelationsOfText, IsCondOfText, AreOfText}
+use Rattle.source_meaning.proofs.Entering.{row_place_is}
 
 -- all of a list that fit one scope
 
@@ -31,25 +34,19 @@ pub all_of : {X : Type 0} (Fits : Scope → X → Type 0) (s : Scope) → Signal
 all_of Fits s signals few [] h = tt
 all_of Fits s signals few (x ∷ xs) h = (record { scope = s; signals = signals; few = few; fits = h.0 }, all_of Fits s signals few xs h.1)
 
-pub of_scope : (s : Scope) → SignalsKept s.signals → length s.blocks ≤ MOST_BLOCKS → (ss : List Stmt) → AllByRecursion (λ (one : Stmt). StmtFits s one.kind) ss → AreOfText ss
-of_scope s signals few ss h = all_of (λ scope (one : Stmt). StmtFits scope one.kind) s signals few ss h
+pub of_scope : (cases : Cases) (s : Scope) → SignalsKept s.signals → length s.blocks ≤ MOST_BLOCKS → (ss : List Stmt) → AllByRecursion (λ (one : Stmt). StmtFits s one.kind) ss → AreKnown cases ss → AreOfText cases ss
+of_scope cases s signals few [] h known = tt
+of_scope cases s signals few (one ∷ ss) h known = (record { scope = s; signals = signals; few = few; fits = h.0; known = known.0 }, of_scope cases s signals few ss h.1 known.1)
 
 -- the statements of a block are of its text
-pub text_of : (x : Parts) (b : ℕ) (k : Block) → IsExchange x → slice_get x.blocks b ≡ Some k → AreOfText k.body
-text_of x b k kept is = of_scope (scope_of x b k) kept.signals kept.blocks.few k.body (kept.blocks.each b k is).statements
+pub text_of : (x : Parts) (b : ℕ) (k : Block) → IsExchange x → slice_get x.blocks b ≡ Some k → (cases : Cases) → AreTablesOf cases x.blocks → AreOfText cases k.body
+unfolding AreTablesOf
+text_of x b k kept is cases tables = of_scope cases (scope_of x b k) kept.signals kept.blocks.few k.body (kept.blocks.each b k is).statements (all_at (BlockKnown cases) x.blocks b k tables is)
 
 pub no_text : (x : Parts) (b : ℕ) → slice_get x.blocks b ≡ None → [] ≡ body_of x b
 no_text x b is = sym (ap (λ (o : Option Block). option_map_or (λ k. k.body) o []) is)
 
 -- the ENTER of a signal
-
-place_row : (rows : List Row) (signal : ℕ) → unwrap_or (place_in rows signal) 0 ≡ row_place rows signal
-place_row [] signal = refl
-place_row (r ∷ rest) signal = by (nat_eq r.signal signal) (place_row rest signal)
-  where
-    by : (b : Bool) → unwrap_or (place_in rest signal) 0 ≡ row_place rest signal → unwrap_or (option_map (λ (q : Row). q.place) (if b then Some r else find (λ (q : Row). nat_eq q.signal signal) rest)) 0 ≡ (if b then r.place else row_place rest signal)
-    by true h = refl
-    by false h = h
 
 any_row : (rows : List Row) (signal : ℕ) → is_some (place_in rows signal) ≡ list_any (λ (q : Row). nat_eq q.signal signal) rows
 any_row [] signal = refl
@@ -64,7 +61,7 @@ enter_is x b signal n found is at = at ∙ ap (λ o. unwrap_or o 0) is ∙ by (s
   where
     by : (o : Option Block) → unwrap_or (place_in (rows_of o) signal) 0 ≡ option_map_or (λ (k : Block). row_place k.enters signal) o 0
     by None = refl
-    by (Some k) = place_row k.enters signal
+    by (Some k) = row_place_is k.enters signal
 
 pub receives_is : (x : Parts) (b signal : ℕ) (found : Option ℕ) (yes_is : Bool) → found ≡ enter_of x.blocks b signal → yes_is ≡ is_some found → yes_is ≡ option_map_or (is_receiver signal) (slice_get x.blocks b) false
 receives_is x b signal found yes_is is at = at ∙ ap is_some is ∙ by (slice_get x.blocks b)

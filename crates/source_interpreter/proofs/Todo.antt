@@ -1,16 +1,17 @@
 -- What taking the first item, part by part, does to what remains.
 use Rattle.std.proofs.Common.{◌≡◌, Bool, true, false, List, [], ◌∷◌, ◌++◌, Option, Some, None, map, refl, subst, sym, ap, ◌∙◌, append_assoc, arith}
-use Rattle.std.specs.Prelude.{nat_lt, not, if◌then◌else◌}
+use Rattle.std.specs.Prelude.{IfSome, nat_lt, not, if◌then◌else◌}
 use Rattle.std.proofs.lemmas.List.{append-nil}
 use Rattle.std.proofs.lemmas.Bool.Decides.{nat_tests}
-use Rattle.plex_num.proofs.Lists.{all_append, all_left, all_right}
+use Rattle.plex_num.proofs.Lists.{all_last, all_left, all_push}
 use Rattle.exchange_model.specs.declared.stmt.StmtKind.{out-StmtKind}
 use Rattle.source_meaning.specs.Config.{Item, Do, Turns, next_counted}
 use Rattle.exchange_model.specs.Kept.{is_enter}
 use Rattle.std.specs.Option.{option_to_list}
 use Rattle.exchange_model.specs.declared.stmt.Stmt.{Stmt}
 use Rattle.source_interpreter.specs.Work.{items_of, taken_items, todo_of}
-use Rattle.source_interpreter.specs.Kept.{AreKept, AreOfText, IsKept}
+use Rattle.source_interpreter.specs.declared.cases.Cases.{Cases}
+use Rattle.source_interpreter.specs.Kept.{AreKept, AreOfText, IsKept, IsOfText}
 use Rattle.source_interpreter.specs.Taken.{item_of, before, is_counted}
 use Rattle.source_interpreter.specs.declared.work.Part.{Part}
 use Rattle.source_interpreter.specs.declared.work.Next.{Next}
@@ -29,23 +30,23 @@ todo_pop all ps (Some p) is = ap todo_of is ∙ todo_push ps p
 pub todo_none : (all ps : List Part) (o : Option Part) → all ≡ ps ++ option_to_list o → o ≡ None → ps ≡ [] → todo_of all ≡ []
 todo_none all ps o is none gone = ap todo_of (is ∙ ap (λ p. ps ++ option_to_list p) none ∙ append-nil ps ∙ gone)
 
-pub kept_push : (ps : List Part) (p : Part) → AreKept (items_of p) → AreKept (todo_of ps) → AreKept (todo_of (ps ++ p ∷ []))
-kept_push ps p h k = subst AreKept (sym (todo_push ps p)) (all_append IsKept (items_of p) (todo_of ps) h k)
+pub kept_push : (ps : List Part) (p : Part) → IsKept p → AreKept ps → AreKept (ps ++ p ∷ [])
+kept_push ps p h k = all_push IsKept ps p k h
 
-pub kept_pop : (all ps : List Part) (o : Option Part) → all ≡ ps ++ option_to_list o → AreKept (todo_of all) → AreKept (todo_of ps)
-kept_pop all ps o is h = all_right IsKept (taken_items o) (todo_of ps) (subst AreKept (todo_pop all ps o is) h)
+pub kept_pop : (all ps : List Part) (o : Option Part) → all ≡ ps ++ option_to_list o → AreKept all → AreKept ps
+kept_pop all ps o is h = all_left IsKept ps (option_to_list o) (subst AreKept is h)
 
-pub kept_part : (all ps : List Part) (o : Option Part) → all ≡ ps ++ option_to_list o → AreKept (todo_of all) → AreKept (taken_items o)
-kept_part all ps o is h = all_left IsKept (taken_items o) (todo_of ps) (subst AreKept (todo_pop all ps o is) h)
+pub kept_part : (all ps : List Part) (o : Option Part) → all ≡ ps ++ option_to_list o → AreKept all → IfSome o IsKept
+kept_part all ps None is h = tt
+kept_part all ps (Some p) is h = all_last IsKept ps p (subst AreKept is h)
 
--- statements of a text are items of it
-pub kept_statements : (ss : List Stmt) → AreOfText ss → AreKept (map Do ss)
-kept_statements [] h = tt
-kept_statements (s ∷ ss) h = (h.0, kept_statements ss h.1)
+-- the first of the statements of a text, and the others
+module _ (cases : Cases) (s : Stmt) (all rest : List Stmt) (is : all ≡ s ∷ rest) (kept : AreOfText cases all) where
+  pub kept_first : IsOfText cases s
+  kept_first = (subst (AreOfText cases) is kept).0
 
-pub statements_kept : (ss : List Stmt) → AreKept (map Do ss) → AreOfText ss
-statements_kept [] h = tt
-statements_kept (s ∷ ss) h = (h.0, statements_kept ss h.1)
+  pub kept_others : AreOfText cases rest
+  kept_others = (subst (AreOfText cases) is kept).1
 
 not_true : (b : Bool) → not b ≡ true → b ≡ false
 not_true true e = sym e
@@ -58,18 +59,18 @@ not_false false e = sym e
 -- an item that counts stays
 stays : (n : Next) (rest : List Item) → is_counted n ≡ true → next_counted (item_of n ∷ rest) ≡ item_of n ∷ rest
 unfolding next_counted
-stays (next.Do s) rest e = ap (λ b. if b then next_counted rest else (Do s.now ∷ rest)) (not_true (is_enter (out-StmtKind s.now.kind)) e)
+stays (next.Do s cases) rest e = ap (λ b. if b then next_counted rest else (Do s.now ∷ rest)) (not_true (is_enter (out-StmtKind s.now.kind)) e)
 stays (next.Start s) rest e = refl
-stays (next.Turn p t this end body) rest e =
+stays (next.Turn p t this end body cases) rest e =
     let past : nat_lt end this ≡ false = grind (arith, nat_tests) in
     ap (λ b. if b then next_counted rest else (Turns p t this end body.now ∷ rest)) past
 
 -- another is passed over
 goes : (n : Next) (rest : List Item) → is_counted n ≡ false → next_counted (item_of n ∷ rest) ≡ next_counted rest
 unfolding next_counted
-goes (next.Do s) rest e = ap (λ b. if b then next_counted rest else (Do s.now ∷ rest)) (not_false (is_enter (out-StmtKind s.now.kind)) e)
+goes (next.Do s cases) rest e = ap (λ b. if b then next_counted rest else (Do s.now ∷ rest)) (not_false (is_enter (out-StmtKind s.now.kind)) e)
 goes (next.Start s) rest e = cc
-goes (next.Turn p t this end body) rest e =
+goes (next.Turn p t this end body cases) rest e =
     let past : nat_lt end this ≡ true = grind (arith, nat_tests) in
     ap (λ b. if b then next_counted rest else (Turns p t this end body.now ∷ rest)) past
 

@@ -1,4 +1,4 @@
--- What is done and evaluated is of the texts of an exchange.
+-- What is done and evaluated is of the texts of an exchange, whose CASEs find their own tables.
 use Rattle.std.specs.Prelude.{◌≤◌, List, length}
 use Rattle.std.specs.List.{AllByRecursion}
 use Rattle.plex_limits.specs.declared.limits.TheConstants.{MOST_BLOCKS}
@@ -13,7 +13,12 @@ use Rattle.exchange_model.specs.declared.stmt.When.{When, out-When}
 use Rattle.exchange_model.specs.Fits.{Scope, ExprFits, StmtFits}
 use Rattle.exchange_model.specs.Kept.{SignalsKept}
 use Rattle.exchange_model.specs.PartFits.{TermFits, FactorOwnFits}
-use Rattle.source_meaning.specs.Config.{Item, Do, Start, Turns}
+use Rattle.source_interpreter.specs.declared.cases.Cases.{Cases}
+use Rattle.source_interpreter.specs.declared.work.Part.{Part}
+use Rattle.source_interpreter.specs.declared.work.Part.TheVariants as part
+use Rattle.source_interpreter.specs.declared.work.Next.{Next}
+use Rattle.source_interpreter.specs.declared.work.Next.TheVariants as next
+use Rattle.source_interpreter.specs.Cases.{IsKnown}
 
 -- it fits some scope of an exchange
 pub record IsOf {X : Type 0} (Fits : Scope → X → Type 0) (x : X) : Type 0 where
@@ -48,22 +53,32 @@ AreRelationsOfText rs = AllByRecursion IsRelationOfText rs
 abbrev pub IsCondOfText : Cond → Type 0
 IsCondOfText c = AllByRecursion AreRelationsOfText c.any
 
--- a statement, with those in it
-abbrev pub IsOfText : Stmt → Type 0
-IsOfText s = IsOf (λ scope (one : Stmt). StmtFits scope one.kind) s
+-- a statement, with those in it, which find their own tables
+pub record IsOfText (cases : Cases) (s : Stmt) : Type 0 where
+  pub scope : Scope
+  pub signals : SignalsKept scope.signals
+  pub few : length scope.blocks ≤ MOST_BLOCKS
+  pub fits : StmtFits scope s.kind
+  pub known : IsKnown cases s
 
-abbrev pub AreOfText : List Stmt → Type 0
-AreOfText statements = AllByRecursion IsOfText statements
+abbrev pub AreOfText : Cases → List Stmt → Type 0
+AreOfText cases statements = AllByRecursion (IsOfText cases) statements
 
 -- so is each choice of a CASE
-abbrev pub AreWhensOfText : List When → Type 0
-AreWhensOfText whens = AllByRecursion (λ w. AreOfText (out-When w).body) whens
+abbrev pub AreWhensOfText : Cases → List When → Type 0
+AreWhensOfText cases whens = AllByRecursion (λ w. AreOfText cases (out-When w).body) whens
 
--- an item is made of statements of an exchange
-abbrev pub IsKept : Item → Type 0
-IsKept (Do s) = IsOfText s
-IsKept (Start s) = Unit {0}
-IsKept (Turns point temp this last body) = AreOfText body
+-- a part of what remains is made of statements of an exchange, beside the tables of that
+abbrev pub IsKept : Part → Type 0
+IsKept (part.Rest first others cases) = IsOfText cases.now first.now × AreOfText cases.now others.now
+IsKept (part.Start statement) = Unit {0}
+IsKept (part.Turns point temp this end body cases) = AreOfText cases.now body.now
 
-abbrev pub AreKept : List Item → Type 0
-AreKept todo = AllByRecursion IsKept todo
+abbrev pub AreKept : List Part → Type 0
+AreKept parts = AllByRecursion IsKept parts
+
+-- so is what comes next
+abbrev pub IsNextKept : Next → Type 0
+IsNextKept (next.Do statement cases) = IsOfText cases.now statement.now
+IsNextKept (next.Start statement) = Unit {0}
+IsNextKept (next.Turn point temp this end body cases) = AreOfText cases.now body.now

@@ -16,7 +16,7 @@ use Rattle.source_interpreter.specs.declared.stop.Stop.{Stop}
 use Rattle.source_interpreter.specs.declared.stop.Stop.TheVariants as stop
 
 -- the configuration is this one, whatever was touched
-pub record Stands (x : Exchange) (d : Config) (r : Running) (store : List ℕ) : Type 0 where
+pub record IsConfigOf (x : Exchange) (d : Config) (r : Running) (store : List ℕ) : Type 0 where
   pub exchange : r.exchange ≡ x
   pub config : d ≡ config_of r store d.world.trace
 
@@ -29,7 +29,7 @@ pub record IsOver (d : Config) (o : Outcome) (r : Running) (words : List ℕ) : 
 
 -- the configuration, by what was answered; where memory was wanted, the words are those from before
 abbrev pub Leaves : Exchange → List ℕ → Config → Result (Unit {0}) Stop → Running → List ℕ → Type 0
-Leaves x before d (Ok u) r store = Stands x d r store
+Leaves x before d (Ok u) r store = IsConfigOf x d r store
 Leaves x before d (Err (stop.Fault f)) r store = IsOver d (Faulted f r.own.point) r store
 Leaves x before d (Err stop.Ended) r store = IsOver d Ended r store
 Leaves x before d (Err stop.Memory) r store = store ≡ before

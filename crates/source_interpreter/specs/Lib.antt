@@ -1,3 +1,5 @@
+pub mod Cases
+pub mod Found
 pub mod Checks
 pub mod Kept
 pub mod Opened

@@ -7,9 +7,9 @@ use Rattle.source_interpreter.specs.declared.work.Next.{Next}
 use Rattle.source_interpreter.specs.declared.work.Next.TheVariants as next
 
 abbrev pub item_of : Next → Item
-item_of (next.Do statement) = Do statement.now
+item_of (next.Do statement cases) = Do statement.now
 item_of (next.Start statement) = Start statement.now
-item_of (next.Turn point temp this end body) = Turns point temp this end body.now
+item_of (next.Turn point temp this end body cases) = Turns point temp this end body.now
 
 -- what remained before it was taken
 abbrev pub before : Option Next → List Item → List Item
@@ -18,6 +18,6 @@ before (Some n) rest = item_of n ∷ rest
 
 -- an ENTER that is reached from above is not counted, and neither is a loop with no turn left
 abbrev pub is_counted : Next → Bool
-is_counted (next.Do statement) = not (is_enter (out-StmtKind statement.now.kind))
+is_counted (next.Do statement cases) = not (is_enter (out-StmtKind statement.now.kind))
 is_counted (next.Start statement) = true
-is_counted (next.Turn point temp this end body) = nat_le this end
+is_counted (next.Turn point temp this end body cases) = nat_le this end

@@ -6,9 +6,9 @@ use Rattle.source_interpreter.specs.declared.work.Part.TheVariants as part
 
 -- the items of a part
 abbrev pub items_of : Part → List Item
-items_of (part.Rest first others) = Do first.now ∷ map Do others.now
+items_of (part.Rest first others cases) = Do first.now ∷ map Do others.now
 items_of (part.Start statement) = Start statement.now ∷ []
-items_of (part.Turns point temp this end body) = Turns point temp this end body.now ∷ []
+items_of (part.Turns point temp this end body cases) = Turns point temp this end body.now ∷ []
 
 -- the items of all parts
 abbrev pub todo_of : List Part → List Item

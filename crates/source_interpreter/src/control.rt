@@ -1,16 +1,20 @@
 // Statements that choose what comes next.
-ghost use Rattle.std.specs.Prelude.{◌≡◌, ◌≤◌};
+ghost use Rattle.std.specs.Prelude.{◌≡◌, ◌≤◌, length, slice_get, MatchOption, Some};
 ghost use Rattle.exchange_model.specs.declared.stmt.StmtKind.{out-StmtKind};
 ghost use Rattle.exchange_model.specs.declared.stmt.StmtKind.TheOpen as stmt;
 ghost use Rattle.source_meaning.specs.Step.{starts};
 ghost use Rattle.source_meaning.specs.Changes.{ends, chosen as statements_chosen};
+ghost use Rattle.number_table.specs.Tables.{IsTable};
+ghost use Rattle.source_interpreter.specs.Cases.{FindsOwn, numbers_of};
 ghost use Rattle.source_interpreter.specs.Leaves.{Does, Leads, turn};
 ghost use Rattle.source_interpreter.specs.Kept.{AreOfText, AreWhensOfText, IsCondOfText, IsExprOfText};
 
+use crate::cases::Cases;
 use crate::run::Run;
 use crate::stop::Stop;
 use exchange_model::{Cond, Expr, Stmt, StmtKind, When};
 use job_types::Fault;
+use number_table::first_place;
 use plex_num::Seq;
 
 impl<'a> Run<'a> {
@@ -45,39 +49,44 @@ impl<'a> Run<'a> {
         cond: &Cond,
         first: &'a [Stmt],
         other: &'a [Stmt],
+        cases: &'a Cases,
     ) -> Result<(), Stop>
         requires cond { IsCondOfText cond.now }
-        requires first { AreOfText first.now }
-        requires other { AreOfText other.now }
+        requires first { AreOfText cases.now first.now }
+        requires other { AreOfText cases.now other.now }
         ensures { Does (stmt.If cond.now first.now other.now)
             self.old store.now result self.new store.now }
     {
         if self.holds(cond, store)? {
-            self.push_statements(first)?;
+            self.push_statements(first, cases)?;
             Ok(())
         } else {
-            self.push_statements(other)?;
+            self.push_statements(other, cases)?;
             Ok(())
         }
     }
 
-    /// The choice of a CASE that has the number of a value.
-    #[tactic(auto, using(crate::proofs::Turning::case_goes, crate::proofs::Turning::case_stops, crate::proofs::Follow::as_memory))]
+    /// The choice of a CASE at a point that has the number of a value.
+    #[tactic(auto, using(crate::proofs::Turning::case_goes, crate::proofs::Turning::case_stops, crate::proofs::Follow::as_memory, crate::proofs::Choosing::of_chosen))]
     pub fn choose_case(
         &mut self,
         store: &Seq<u32>,
         value: &Expr,
         whens: &'a [When],
         otherwise: &'a [Stmt],
+        point: u32,
+        cases: &'a Cases,
     ) -> Result<(), Stop>
         requires value { IsExprOfText value.now }
-        requires whens { AreWhensOfText whens.now }
-        requires otherwise { AreOfText otherwise.now }
+        requires whens { AreWhensOfText cases.now whens.now }
+        requires otherwise { AreOfText cases.now otherwise.now }
+        requires table { FindsOwn cases.now point whens.now }
         ensures { Does (stmt.Case value.now whens.now otherwise.now)
             self.old store.now result self.new store.now }
     {
         let number = self.value(value, store)?;
-        self.push_statements(chosen(whens, number, otherwise))?;
+        let statements = chosen(cases, point, whens, number, otherwise);
+        self.push_statements(statements, cases)?;
         Ok(())
     }
 
@@ -90,16 +99,17 @@ impl<'a> Run<'a> {
         from: &Expr,
         upto: &Expr,
         body: &'a [Stmt],
+        cases: &'a Cases,
     ) -> Result<(), Stop>
         requires from { IsExprOfText from.now }
         requires upto { IsExprOfText upto.now }
-        requires body { AreOfText body.now }
+        requires body { AreOfText cases.now body.now }
         ensures { Does (stmt.On temp from.now upto.now body.now)
             self.old store.now result self.new store.now }
     {
         let first = self.value(from, store)?;
         let last = self.value(upto, store)?;
-        self.push_turns(temp, u64::from(first), last, body)?;
+        self.push_turns(temp, u64::from(first), last, body, cases)?;
         Ok(())
     }
 
@@ -112,15 +122,16 @@ impl<'a> Run<'a> {
         this: u64,
         last: u32,
         body: &'a [Stmt],
+        cases: &'a Cases,
     ) -> Result<(), Stop>
         requires within { this ≤ last }
-        requires body { AreOfText body.now }
+        requires body { AreOfText cases.now body.now }
         ensures { Leads (turn self.old.own.point temp this last body.now self.old.todo)
             self.old result self.new }
     {
         self.set_temp(temp, this as u32);
-        self.push_turns(temp, this + 1, last, body)?;
-        self.push_statements(body)?;
+        self.push_turns(temp, this + 1, last, body, cases)?;
+        self.push_statements(body, cases)?;
         Ok(())
     }
 
@@ -151,12 +162,47 @@ impl<'a> Run<'a> {
     }
 }
 
-// The choice of the number, or else the other one.
-fn chosen<'a>(whens: &'a [When], number: u32, otherwise: &'a [Stmt]) -> &'a [Stmt]
-    requires whens { AreWhensOfText whens.now }
-    requires otherwise { AreOfText otherwise.now }
-    ensures statements { result.now ≡ statements_chosen whens.now number otherwise.now }
-    ensures of_text { AreOfText result.now }
+// The choice of the number, or else the other one: by the table of the CASE, where it has one.
+#[tactic(auto, using(crate::proofs::Choosing::table_own))]
+fn chosen<'a>(
+    cases: &Cases,
+    point: u32,
+    whens: &'a [When],
+    number: u32,
+    otherwise: &'a [Stmt],
+) -> &'a [Stmt]
+    requires { FindsOwn cases.now point whens.now }
+    ensures { result.now ≡ statements_chosen whens.now number otherwise.now }
+{
+    match cases.table(point) {
+        Some(keys) => chosen_by(keys, whens, number, otherwise),
+        None => chosen_among(whens, number, otherwise),
+    }
+}
+
+// The same by a table.
+fn chosen_by<'a>(keys: &[u64], whens: &'a [When], number: u32, otherwise: &'a [Stmt]) -> &'a [Stmt]
+    requires { IsTable (numbers_of whens.now) keys.now }
+    ensures { result.now ≡ statements_chosen whens.now number otherwise.now }
+{
+    match when_at(whens, first_place(keys, number)) {
+        Some(when) => when.body.as_slice(),
+        None => otherwise,
+    }
+}
+
+// The choice at a place.
+fn when_at(whens: &[When], place: usize) -> Option<&When>
+    ensures { MatchOption result
+        (length whens.now ≤ place)
+        (λ w. slice_get whens.now place ≡ Some w.now) }
+{
+    whens.get(place)
+}
+
+// The same, choice by choice.
+fn chosen_among<'a>(whens: &'a [When], number: u32, otherwise: &'a [Stmt]) -> &'a [Stmt]
+    ensures { result.now ≡ statements_chosen whens.now number otherwise.now }
 {
     for when in whens {
         if when.number == number {

@@ -1,9 +1,11 @@
 // A job, from its start to its end.
 ghost use Rattle.std.specs.Prelude.{◌≡◌, [], OnOk, OnErr, IfOk, Some};
 ghost use Rattle.source_meaning.specs.Job.{begins, job};
+ghost use Rattle.source_interpreter.specs.Cases.{AreTablesOf};
 ghost use Rattle.source_interpreter.specs.Leaves.{IsReached, RunsTo};
 ghost use Rattle.source_interpreter.specs.Running.{config_of};
 
+use crate::cases::Cases;
 use crate::run::Run;
 use crate::stop::Stop;
 use exchange_model::Exchange;
@@ -11,7 +13,8 @@ use job_types::{JobDone, JobStart, Outcome};
 use plex_num::{Memory, Seq};
 use std::alloc::Global;
 
-/// Runs one job of an exchange by what its statements mean, over stored words.
+/// Runs one job of an exchange by what its statements mean, over stored words. The tables are those
+/// of the exchange.
 ///
 /// It takes every exchange, start and store; the words of the store and what the job leaves are
 /// those of the definition. `Memory` comes where there is no room for what remains to be done. The
@@ -20,9 +23,11 @@ use std::alloc::Global;
 pub fn plain_job(
     alloc: Global,
     exchange: &Exchange,
+    cases: &Cases,
     store: &mut Seq<u32>,
     start: &JobStart,
 ) -> Result<JobDone, Memory>
+    requires { AreTablesOf cases.now exchange.now.blocks }
     ensures outcome { IfOk result (λ done.
         (job exchange.now start.now store.old).over ≡ Some done.outcome) }
     ensures sends { IfOk result (λ done.
@@ -33,7 +38,7 @@ pub fn plain_job(
     ensures memory { OnErr result
         (IsReached exchange.now (begins exchange.now start.now store.old) store.new) }
 {
-    let mut run = Run::begin(alloc, exchange, start)?;
+    let mut run = Run::begin(alloc, exchange, cases, start)?;
     let outcome = run.finish(store)?;
     Ok(run.into_done(outcome))
 }

@@ -6,6 +6,7 @@
 // no address and no instruction.
 #![tactic(auto)]
 
+mod cases;
 mod control;
 mod data;
 mod frame;
@@ -22,4 +23,5 @@ mod view;
 mod words;
 mod work;
 
+pub use cases::Cases;
 pub use job::plain_job;

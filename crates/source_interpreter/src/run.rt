@@ -11,9 +11,11 @@ ghost use Rattle.source_meaning.specs.Changes.{takes, variable_width as width_of
 ghost use Rattle.job_types.specs.Chain.{without as chain_without};
 ghost use Rattle.source_interpreter.specs.Reached.{reached};
 ghost use Rattle.source_interpreter.specs.Running.{Running, sight_of, at_start, with_count, with_point, with_temp, with_temps, with_turns, before_rest, at_label, activated, waiting, resumed, posted, holding, left};
-ghost use Rattle.source_interpreter.specs.Kept.{AreExprsOfText, AreOfText, IsCondOfText, IsExprOfText, IsKept};
-ghost use Rattle.source_interpreter.specs.Taken.{before, item_of, is_counted};
+ghost use Rattle.source_interpreter.specs.Cases.{AreTablesOf};
+ghost use Rattle.source_interpreter.specs.Kept.{AreExprsOfText, AreOfText, IsCondOfText, IsExprOfText, IsNextKept};
+ghost use Rattle.source_interpreter.specs.Taken.{before, is_counted};
 
+use crate::cases::Cases;
 use crate::frame::{Callers, Frame};
 use crate::place::{Place, check_pointer};
 use crate::text::{body, enter_place, first_cell, from, label_place, receiver_of, variable_width};
@@ -34,6 +36,7 @@ use std::mem;
 pub struct Run<'a> {
     alloc: Global,
     exchange: &'a Exchange,
+    cases: &'a Cases,
     block: u32,
     // the cell of the block's first variable
     first: u32,
@@ -53,6 +56,7 @@ pub struct Run<'a> {
 impl<'a> Model for Run<'a> {
     ghost use Rattle.std.specs.Prelude.{◌≡◌};
     ghost use Rattle.source_interpreter.specs.Running.{Running};
+    ghost use Rattle.source_interpreter.specs.Cases.{AreTablesOf};
     ghost use Rattle.source_meaning.specs.Config.{base_of};
     ghost use Rattle.std.specs.Coded.{codes};
     ghost use Rattle.exchange_model.specs.contracts.stmt.StmtKind as kind;
@@ -78,18 +82,26 @@ impl<'a> Model for Run<'a> {
       };
     } };
 
-    ghost invariant = { λ r. r.first ≡ base_of r.exchange.now r.block };
+    ghost invariant = { λ r. (r.first ≡ base_of r.exchange.now r.block)
+        × AreTablesOf r.cases.now r.exchange.now.blocks };
 }
 
 impl<'a> Run<'a> {
     /// A job at its start; past the last entry nothing remains to be done.
-    pub fn begin(alloc: Global, exchange: &'a Exchange, start: &JobStart) -> Result<Run<'a>, Memory>
+    pub fn begin(
+        alloc: Global,
+        exchange: &'a Exchange,
+        cases: &'a Cases,
+        start: &JobStart,
+    ) -> Result<Run<'a>, Memory>
+        requires { AreTablesOf cases.now exchange.now.blocks }
         ensures { IfOk result (λ run. run ≡ at_start exchange.now start.now) }
     {
         let values = start.job.values.as_slice();
         let mut run = Run {
             alloc,
             exchange,
+            cases,
             block: 0,
             first: first_cell(exchange, 0),
             work: Work::new(alloc),
@@ -295,17 +307,21 @@ impl<'a> Run<'a> {
             next_counted self.old.todo ≡ before next self.new.todo) }
         ensures others { OnOk result (self.new ≡ record self.old { todo = self.new.todo }) }
         ensures counts { IfOk result (λ next. IfSome next (λ n. is_counted n ≡ true)) }
-        ensures kept { IfOk result (λ next. IfSome next (λ n. IsKept (item_of n))) }
+        ensures kept { IfOk result (λ next. IfSome next IsNextKept) }
     {
         self.work.take_next()
     }
 
     /// Puts statements before what remains.
-    pub fn push_statements(&mut self, statements: &'a [Stmt]) -> Result<(), Memory>
-        requires { AreOfText statements.now }
+    pub fn push_statements(
+        &mut self,
+        statements: &'a [Stmt],
+        cases: &'a Cases,
+    ) -> Result<(), Memory>
+        requires { AreOfText cases.now statements.now }
         ensures { OnOk result (self.new ≡ before_rest statements.now self.old) }
     {
-        self.work.push_statements(statements)
+        self.work.push_statements(statements, cases)
     }
 
     /// Puts the turns of a loop before what remains.
@@ -315,11 +331,13 @@ impl<'a> Run<'a> {
         this: u64,
         last: u32,
         body: &'a [Stmt],
+        cases: &'a Cases,
     ) -> Result<(), Memory>
-        requires { AreOfText body.now }
+        requires { AreOfText cases.now body.now }
         ensures { OnOk result (self.new ≡ with_turns temp this last body.now self.old) }
     {
-        self.work.push_turns(self.point, temp, this, last, body)
+        self.work
+            .push_turns(self.point, temp, this, last, body, cases)
     }
 
     /// Goes on at a label.
@@ -329,7 +347,7 @@ impl<'a> Run<'a> {
         let place = label_place(self.exchange, self.block, label);
         self.work.clear();
         self.work
-            .push_statements(from(body(self.exchange, self.block), place))
+            .push_statements(from(body(self.exchange, self.block), place), self.cases)
     }
 
     /// Begins an activation in a block, with these entry values.
@@ -342,7 +360,8 @@ impl<'a> Run<'a> {
         self.temps = [0; MOST_TEMPORARIES];
         self.given = eight(values);
         let place = enter_place(self.exchange, block, signal);
-        self.work.start(from(body(self.exchange, block), place))
+        self.work
+            .start(from(body(self.exchange, block), place), self.cases)
     }
 
     /// Begins an activation in a block, with the first so many of its own entry values.

@@ -4,6 +4,7 @@ ghost use Rattle.exchange_model.specs.declared.stmt.StmtKind.{out-StmtKind};
 ghost use Rattle.source_interpreter.specs.Leaves.{Does, Steps};
 ghost use Rattle.source_interpreter.specs.Kept.{IsOfText};
 
+use crate::cases::Cases;
 use crate::run::Run;
 use crate::stop::Stop;
 use crate::work::Next;
@@ -19,9 +20,9 @@ impl<'a> Run<'a> {
     {
         match self.take_next()? {
             None => self.end(),
-            Some(Next::Do(statement)) => {
+            Some(Next::Do { statement, cases }) => {
                 self.count(statement.point)?;
-                self.perform(store, statement)
+                self.perform(store, statement, cases)
             }
             Some(Next::Start(statement)) => {
                 self.count(statement.point)?;
@@ -34,18 +35,25 @@ impl<'a> Run<'a> {
                     this,
                     last,
                     body,
+                    cases,
                 },
             ) => {
                 self.count(point)?;
-                self.take_turn(temp, this, last, body)
+                self.take_turn(temp, this, last, body, cases)
             }
         }
     }
 
-    // What a statement does, once it was counted and taken from what remains.
+    // What a statement does, once it was counted and taken from what remains; the tables are those
+    // of its exchange.
     #[tactic(auto, using(crate::proofs::Performing::inside))]
-    fn perform(&mut self, store: &mut Seq<u32>, statement: &'a Stmt) -> Result<(), Stop>
-        requires { IsOfText statement.now }
+    fn perform(
+        &mut self,
+        store: &mut Seq<u32>,
+        statement: &'a Stmt,
+        cases: &'a Cases,
+    ) -> Result<(), Stop>
+        requires { IsOfText cases.now statement.now }
         ensures { Does (out-StmtKind statement.now.kind)
             self.old store.old result self.new store.new }
     {
@@ -64,19 +72,26 @@ impl<'a> Run<'a> {
             StmtKind::Goto { label } => self.jump(store, *label),
             StmtKind::IfGoto { cond, label } => self.jump_if(store, cond, *label),
             StmtKind::If { cond, yes, no } => {
-                self.choose(store, cond, yes.as_slice(), no.as_slice())
+                self.choose(store, cond, yes.as_slice(), no.as_slice(), cases)
             }
             StmtKind::Case {
                 value,
                 whens,
                 otherwise,
-            } => self.choose_case(store, value, whens.as_slice(), otherwise.as_slice()),
+            } => self.choose_case(
+                store,
+                value,
+                whens.as_slice(),
+                otherwise.as_slice(),
+                statement.point,
+                cases,
+            ),
             StmtKind::On {
                 temp,
                 from,
                 upto,
                 body,
-            } => self.begin_turns(store, *temp, from, upto, body.as_slice()),
+            } => self.begin_turns(store, *temp, from, upto, body.as_slice(), cases),
             StmtKind::ForFirst {
                 temp,
                 file,

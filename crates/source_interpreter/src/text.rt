@@ -4,6 +4,8 @@ ghost use Rattle.std.specs.Prelude.{◌≡◌, false, drop, slice_get};
 ghost use Rattle.std.specs.Option.{option_map_or};
 ghost use Rattle.source_meaning.specs.Config.{base_of, body_of, label_of, is_receiver, receiver_of, enter_place as place_of_enter, entry_number as number_of_entry};
 ghost use Rattle.source_meaning.specs.Changes.{variable_width as width_of_variable, value_count as count_of_values};
+ghost use Rattle.source_interpreter.specs.declared.cases.Cases.{Cases};
+ghost use Rattle.source_interpreter.specs.Cases.{AreTablesOf};
 ghost use Rattle.source_interpreter.specs.Kept.{AreOfText};
 
 use exchange_model::{Exchange, Stmt};
@@ -12,7 +14,8 @@ use exchange_model::{Exchange, Stmt};
 #[tactic(auto, using(crate::proofs::Texts::text_of, crate::proofs::Texts::no_text))]
 pub fn body(exchange: &Exchange, block: u32) -> &[Stmt]
     ensures body { result.now ≡ body_of exchange.now block }
-    ensures of_text { AreOfText result.now }
+    ensures of_text { (cases : Cases) → AreTablesOf cases exchange.now.blocks
+        → AreOfText cases result.now }
 {
     exchange.kept();
     match exchange.blocks.get(block as usize) {
@@ -23,9 +26,9 @@ pub fn body(exchange: &Exchange, block: u32) -> &[Stmt]
 
 /// The statements from a place on.
 pub fn from(statements: &[Stmt], place: u32) -> &[Stmt]
-    requires { AreOfText statements.now }
     ensures rest { result.now ≡ drop place statements.now }
-    ensures of_text { AreOfText result.now }
+    ensures of_text { (cases : Cases) → AreOfText cases statements.now
+        → AreOfText cases result.now }
 {
     let place = place as usize;
     if place < statements.len() {

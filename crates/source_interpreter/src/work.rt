@@ -4,21 +4,23 @@ ghost use Rattle.exchange_model.specs.declared.stmt.StmtKind.{out-StmtKind};
 ghost use Rattle.source_meaning.specs.Config.{Item, Do, Start, Turns, starting, next_counted};
 ghost use Rattle.exchange_model.specs.Kept.{is_enter as enters};
 ghost use Rattle.source_interpreter.specs.Work.{items_of, taken_items, todo_of};
-ghost use Rattle.source_interpreter.specs.Kept.{AreOfText, AreKept, IsKept};
-ghost use Rattle.source_interpreter.specs.Taken.{item_of, before, is_counted};
+ghost use Rattle.source_interpreter.specs.Kept.{AreKept, AreOfText, IsKept, IsNextKept};
+ghost use Rattle.source_interpreter.specs.Taken.{before, is_counted};
 
+use crate::cases::Cases;
 use exchange_model::{Stmt, StmtKind};
 use plex_num::Memory;
 use std::alloc::Global;
 use std::marker::Model;
 
 /// One part of what remains: statements, the ENTER of the signal that began the activation, or the
-/// turns of a loop from a number on.
+/// turns of a loop from a number on. Beside statements stand the tables of their exchange.
 #[derive(Clone, Copy, Drop)]
 pub enum Part<'a> {
     Rest {
         first: &'a Stmt,
         others: &'a [Stmt],
+        cases: &'a Cases,
     },
     Start(&'a Stmt),
     Turns {
@@ -27,13 +29,17 @@ pub enum Part<'a> {
         this: u64,
         last: u32,
         body: &'a [Stmt],
+        cases: &'a Cases,
     },
 }
 
-/// The item that comes next.
+/// The item that comes next, with the tables of its exchange.
 #[derive(Clone, Copy, Drop)]
 pub enum Next<'a> {
-    Do(&'a Stmt),
+    Do {
+        statement: &'a Stmt,
+        cases: &'a Cases,
+    },
     Start(&'a Stmt),
     Turn {
         point: u32,
@@ -41,6 +47,7 @@ pub enum Next<'a> {
         this: u64,
         last: u32,
         body: &'a [Stmt],
+        cases: &'a Cases,
     },
 }
 
@@ -64,7 +71,7 @@ impl<'a> Model for Work<'a> {
 
     ghost view = { λ w. todo_of w.parts.items };
 
-    ghost invariant = { λ w. AreKept (todo_of w.parts.items) };
+    ghost invariant = { λ w. AreKept w.parts.items };
 }
 
 impl<'a> Work<'a> {
@@ -85,14 +92,25 @@ impl<'a> Work<'a> {
     }
 
     /// Puts statements before what remains.
-    #[tactic(auto, using(crate::proofs::Todo::kept_statements))]
-    pub fn push_statements(&mut self, statements: &'a [Stmt]) -> Result<(), Memory>
-        requires { AreOfText statements.now }
+    #[tactic(auto, using(crate::proofs::Todo::kept_first, crate::proofs::Todo::kept_others))]
+    pub fn push_statements(
+        &mut self,
+        statements: &'a [Stmt],
+        cases: &'a Cases,
+    ) -> Result<(), Memory>
+        requires { AreOfText cases.now statements.now }
         ensures { OnOk result (self.new ≡ map Do statements.now ++ self.old) }
     {
         match statements.split_first() {
             None => Ok(()),
-            Some((first, others)) => push(&mut self.parts, Part::Rest { first, others }),
+            Some((first, others)) => push(
+                &mut self.parts,
+                Part::Rest {
+                    first,
+                    others,
+                    cases,
+                },
+            ),
         }
     }
 
@@ -111,8 +129,9 @@ impl<'a> Work<'a> {
         this: u64,
         last: u32,
         body: &'a [Stmt],
+        cases: &'a Cases,
     ) -> Result<(), Memory>
-        requires { AreOfText body.now }
+        requires { AreOfText cases.now body.now }
         ensures { OnOk result (self.new ≡ Turns point temp this last body.now ∷ self.old) }
     {
         push(
@@ -123,21 +142,22 @@ impl<'a> Work<'a> {
                 this,
                 last,
                 body,
+                cases,
             },
         )
     }
 
     /// What an activation does that begins with these statements: the ENTER of its signal, and what
     /// follows it.
-    #[tactic(auto, using(crate::proofs::Todo::kept_statements))]
-    pub fn start(&mut self, statements: &'a [Stmt]) -> Result<(), Memory>
-        requires { AreOfText statements.now }
+    #[tactic(auto, using(crate::proofs::Todo::kept_others))]
+    pub fn start(&mut self, statements: &'a [Stmt], cases: &'a Cases) -> Result<(), Memory>
+        requires { AreOfText cases.now statements.now }
         ensures { OnOk result (self.new ≡ starting statements.now) }
     {
         self.clear();
         match statements.split_first() {
             Some((enter, others)) if is_enter(&enter.kind) => {
-                self.push_statements(others)?;
+                self.push_statements(others, cases)?;
                 self.push_start(enter)
             }
             _ => Ok(()),
@@ -148,7 +168,7 @@ impl<'a> Work<'a> {
     pub fn take_next(&mut self) -> Result<Option<Next<'a>>, Memory>
         ensures item { IfOk result (λ next. next_counted self.old ≡ before next self.new) }
         ensures counts { IfOk result (λ next. IfSome next (λ n. is_counted n ≡ true)) }
-        ensures kept { IfOk result (λ next. IfSome next (λ n. IsKept (item_of n))) }
+        ensures kept { IfOk result (λ next. IfSome next IsNextKept) }
     {
         while let Some(next) = self.take()? {
             if counts(&next) {
@@ -159,10 +179,9 @@ impl<'a> Work<'a> {
     }
 
     // Takes the first item.
-    #[tactic(auto, using(crate::proofs::Todo::statements_kept))]
     fn take(&mut self) -> Result<Option<Next<'a>>, Memory>
         ensures item { IfOk result (λ next. self.old ≡ before next self.new) }
-        ensures kept { IfOk result (λ next. IfSome next (λ n. IsKept (item_of n))) }
+        ensures kept { IfOk result (λ next. IfSome next IsNextKept) }
     {
         match pop(&mut self.parts) {
             None => Ok(None),
@@ -174,6 +193,7 @@ impl<'a> Work<'a> {
                     this,
                     last,
                     body,
+                    cases,
                 },
             ) => Ok(Some(Next::Turn {
                 point,
@@ -181,10 +201,20 @@ impl<'a> Work<'a> {
                 this,
                 last,
                 body,
+                cases,
             })),
-            Some(Part::Rest { first, others }) => {
-                self.push_statements(others)?;
-                Ok(Some(Next::Do(first)))
+            Some(
+                Part::Rest {
+                    first,
+                    others,
+                    cases,
+                },
+            ) => {
+                self.push_statements(others, cases)?;
+                Ok(Some(Next::Do {
+                    statement: first,
+                    cases,
+                }))
             }
         }
     }
@@ -193,11 +223,11 @@ impl<'a> Work<'a> {
 // Puts a part before the others.
 #[tactic(auto, using(crate::proofs::Todo::todo_push, crate::proofs::Todo::kept_push))]
 fn push<'a>(parts: &mut Vec<Part<'a>>, part: Part<'a>) -> Result<(), Memory>
-    requires part { AreKept (items_of part) }
-    requires kept { AreKept (todo_of parts.old.items) }
+    requires part { IsKept part }
+    requires kept { AreKept parts.old.items }
     ensures todo { OnOk result
         (todo_of parts.new.items ≡ items_of part.entry ++ todo_of parts.old.items) }
-    ensures kept { AreKept (todo_of parts.new.items) }
+    ensures kept { AreKept parts.new.items }
 {
     match parts.push(part) {
         Ok(()) => Ok(()),
@@ -208,11 +238,11 @@ fn push<'a>(parts: &mut Vec<Part<'a>>, part: Part<'a>) -> Result<(), Memory>
 // Takes out the part that comes first.
 #[tactic(auto, using(crate::proofs::Todo::todo_pop, crate::proofs::Todo::kept_pop, crate::proofs::Todo::kept_part, crate::proofs::Todo::todo_none))]
 fn pop<'a>(parts: &mut Vec<Part<'a>>) -> Option<Part<'a>>
-    requires { AreKept (todo_of parts.old.items) }
+    requires { AreKept parts.old.items }
     ensures todo { todo_of parts.old.items ≡ taken_items result ++ todo_of parts.new.items }
     ensures none { IfNone result (todo_of parts.old.items ≡ []) }
-    ensures part { AreKept (taken_items result) }
-    ensures kept { AreKept (todo_of parts.new.items) }
+    ensures part { IfSome result IsKept }
+    ensures kept { AreKept parts.new.items }
 {
     parts.pop()
 }
@@ -221,7 +251,7 @@ fn counts(next: &Next) -> bool
     ensures { result ≡ is_counted next.now }
 {
     match next {
-        Next::Do(statement) => !is_enter(&statement.kind),
+        Next::Do { statement, .. } => !is_enter(&statement.kind),
         Next::Start(_) => true,
         Next::Turn { this, last, .. } => *this <= u64::from(*last),
     }

@@ -23,7 +23,7 @@ use Rattle.source_meaning.specs.Config.{Do, Start, body_of, row_place, enter_pla
 use Rattle.exchange_model.specs.Kept.{is_enter}
 use Rattle.source_meaning.specs.Named.{Layer}
 use Rattle.source_meaning.specs.Rests.{IsRow, whole, BeginsAt, BeginsAs}
-use Rattle.source_meaning.proofs.Booleans.{true_not_false, or_left, or_right}
+use Rattle.plex_num.proofs.Booleans.{true_not_false, or_left, or_right}
 use Rattle.source_meaning.proofs.Rests.{rows_drop}
 
 -- the first ENTER of a signal in a body, the first statement of which stands at `from`

@@ -11,8 +11,7 @@ use Rattle.source_meaning.specs.Arrivals.{given_to, forlopp_for, next_after, arr
 use Rattle.exchange_model.specs.Names.{level_of}
 use Rattle.source_meaning.specs.State.{State, Coming, Origin, Fresh, Bare, Same, Arrived, Lost, has_stopped}
 use Rattle.source_meaning.specs.Valid.{MayBe, IsJob, LineFits, LinesFit, EventFits, IsValid}
-use Rattle.plex_num.proofs.Lists.{all_append}
-use Rattle.source_meaning.proofs.Lists.{all_weaker}
+use Rattle.plex_num.proofs.Lists.{all_append, all_weaker}
 use Rattle.source_meaning.proofs.States.{books_of, books_as, IsLater, Orderly, valid_of, lists_of, lists_later, lists_join, waiting_of}
 
 -- a line among others

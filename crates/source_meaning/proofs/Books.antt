@@ -10,7 +10,7 @@ use Rattle.job_types.specs.Chain.{is_record, holds}
 use Rattle.exchange_model.specs.declared.exchange.Exchange.{Exchange}
 use Rattle.exchange_model.specs.Cells.{Placed, mark_cell}
 use Rattle.exchange_model.specs.Kept.{IsExchange}
-use Rattle.source_meaning.proofs.Booleans.{bool_cases, true_not_false}
+use Rattle.plex_num.proofs.Booleans.{bool_cases, true_not_false}
 use Rattle.source_meaning.specs.Config.{files_of}
 use Rattle.source_meaning.specs.Valid.{HasRecords, IsOnce, IsRecord, IsRecordAt}
 use Rattle.source_meaning.proofs.Chains.{record_is, record_itself, holds_more, holds_still, holds_last, holds_all, once_more}

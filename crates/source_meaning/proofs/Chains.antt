@@ -1,16 +1,12 @@
 -- Chains: which records one has when a record joins it or leaves it, and what a map of chains tells of a number.
-use Rattle.std.proofs.Common.{◌≡◌, ◌⊎◌, inl, inr, ⊎_elim, ℕ, ◌≤◌, Bool, true, false, List, [], ◌∷◌, ◌++◌, length, Some, None, refl, sym, ap, ◌∙◌, subst, arith}
+use Rattle.std.proofs.Common.{◌≡◌, ◌⊎◌, inl, inr, ⊎_elim, ℕ, ◌≤◌, Bool, true, false, List, [], ◌∷◌, ◌++◌, length, refl, sym, ap, ◌∙◌, subst, arith}
 use Rattle.std.proofs.lemmas.Bool.{eqb-true, eq-eqb}
-use Rattle.std.proofs.lemmas.Cmp.{nat_cmp_total}
-use Rattle.std.specs.Prelude.{nat_eq, ◌&&◌, ◌||◌, ◌≢◌, unwrap_or, if◌then◌else◌}
+use Rattle.std.specs.Prelude.{nat_eq, ◌&&◌, ◌||◌, if◌then◌else◌}
 use Rattle.std.specs.List.{AllByRecursion}
-use Rattle.std.specs.Cmp.{unsigned_tied}
-use Rattle.std.specs.Ordering.{nat_cmp, eq_by_cmp}
 use Rattle.std.specs.FinMap as fin
 use Rattle.job_types.specs.declared.chain.Held.{Held}
 use Rattle.job_types.specs.Chain.{is_record, holds, without}
-use Rattle.job_types.specs.Forlopps.{ChainMap, chain_at, with_chain}
-use Rattle.source_meaning.proofs.Booleans.{bool_cases, true_not_false, and_true, or_false, or_right}
+use Rattle.plex_num.proofs.Booleans.{bool_cases, true_not_false, and_true, or_false, or_right}
 use Rattle.source_meaning.specs.Valid.{IsOnce}
 
 -- one record
@@ -142,19 +138,3 @@ holds_all P (g ∷ chain) file number all h = by (is_record file number g) refl 
     by : (b : Bool) → is_record file number g ≡ b → (b || holds chain file number) ≡ true → (holds chain file number ≡ true → P (record { file = file; number = number })) → P (record { file = file; number = number })
     by true is h more = let same = record_is file number g is in subst (λ f. P (record { file = f; number = number })) same.0 (subst (λ n. P (record { file = g.file; number = n })) same.1 all.0)
     by false is h more = more h
-
--- a map of chains
-
-tied : (q k : ℕ) → q ≡ k → eq_by_cmp nat_cmp q k ≡ true
-tied q k same = unsigned_tied q k ∙ eq-eqb q k same
-
-apart_eq : (q k : ℕ) → q ≢ k → eq_by_cmp nat_cmp q k ≡ false
-apart_eq q k other = ⊎_elim (λ t. absurd (other (eqb-true q k (sym (unsigned_tied q k) ∙ t)))) (λ f. f) (bool_cases (eq_by_cmp nat_cmp q k))
-
-pub chain_same : (m : ChainMap) (n : ℕ) (chain : List Held) → chain_at (with_chain m n chain) n ≡ chain
-chain_same m n [] = ap (λ o. unwrap_or o []) (fin.get-remove nat_cmp_total m n n ∙ ap (λ b. if b then None else fin.get m n) (tied n n refl))
-chain_same m n (h ∷ chain) = ap (λ o. unwrap_or o []) (fin.get-insert nat_cmp_total m n (h ∷ chain) n ∙ ap (λ b. if b then Some (h ∷ chain) else fin.get m n) (tied n n refl))
-
-pub chain_other : (m : ChainMap) (n k : ℕ) (chain : List Held) → k ≢ n → chain_at (with_chain m n chain) k ≡ chain_at m k
-chain_other m n k [] other = ap (λ o. unwrap_or o []) (fin.get-remove nat_cmp_total m n k ∙ ap (λ b. if b then None else fin.get m k) (apart_eq k n other))
-chain_other m n k (h ∷ chain) other = ap (λ o. unwrap_or o []) (fin.get-insert nat_cmp_total m n (h ∷ chain) k ∙ ap (λ b. if b then Some (h ∷ chain) else fin.get m k) (apart_eq k n other))

@@ -12,9 +12,8 @@ use Rattle.source_meaning.specs.Ranges.{SentFits}
 use Rattle.source_meaning.specs.Retirement.{delivered_to, delivered, all_delivered}
 use Rattle.source_meaning.specs.State.{State, Arrived, Out}
 use Rattle.source_meaning.specs.Valid.{IsJob, IsLive, MayBe, EventFits}
-use Rattle.source_meaning.proofs.Booleans.{bool_cases}
-use Rattle.plex_num.proofs.Lists.{all_append}
-use Rattle.source_meaning.proofs.Lists.{all_weaker}
+use Rattle.plex_num.proofs.Booleans.{bool_cases}
+use Rattle.plex_num.proofs.Lists.{all_append, all_weaker}
 use Rattle.source_meaning.proofs.States.{IsLater, may_later, may_of, Orderly, lists_of, lists_later, lists_join, waiting_of}
 
 -- a later state with the same words and chains

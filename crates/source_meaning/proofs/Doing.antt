@@ -21,8 +21,9 @@ use Rattle.source_meaning.specs.Config.{Item, Config, receiver_of, base_of, file
 use Rattle.source_meaning.specs.Changes.{fails, on_value, on_values, unless_fault, where_fits, goes, to_label, at_record, at_receiver, to_receiver}
 use Rattle.source_meaning.specs.Deeds.{Deed, Doing, IsExprOf, IsFileAt, MayUse, GoesTo, out, named, held, receiver_in, signal_in, at_variable, at_field, at_holder, IsLook, GoesOn, Why, in_value, no_receiver}
 use Rattle.source_meaning.specs.Effects.{Effect, Leave, Looks, Goes, Faults, Effects, Done, Then, Last}
-use Rattle.source_meaning.proofs.Lists.{all_weaker, first_is, later_is}
-use Rattle.source_meaning.proofs.Loads.{loads_in, IsLoadOf, of_variable, of_field, Tells, FaultIs, expr_loads}
+use Rattle.source_meaning.proofs.Loads.{loads_in, IsLoadOf, of_variable, of_field, TellsLoads, FaultIs, expr_loads}
+use Rattle.plex_num.proofs.Lists.{all_weaker}
+use Rattle.plex_num.proofs.Members.{first_is, later_is}
 
 -- the same job after other touches
 abbrev pub traced : List Touch → Config → Config
@@ -43,7 +44,7 @@ module _ (x : Exchange) (deed : Deed) (rest : List Item) where
 
   -- a value is read off cells that the statement names, and if it fails the statement does
   abbrev pub Reads : Config → Got → Type 0
-  Reads c got = Tells (IsLook x c deed) (λ f. (t : List Touch) → Why x (traced t c) deed f) got
+  Reads c got = TellsLoads (IsLook x c deed) (λ f. (t : List Touch) → Why x (traced t c) deed f) got
 
   pub value_effects : (got : Got) (c : Config) (go : ℕ → Config → Config) → Reads c got
       → ((t loads : List Touch) (v : ℕ) → got ≡ Gives loads v → Makes x deed rest (traced t c) (go v (traced t c))) → Makes x deed rest c (on_value got c go)

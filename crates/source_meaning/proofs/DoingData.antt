@@ -18,9 +18,9 @@ use Rattle.source_meaning.specs.Step.{does}
 use Rattle.source_meaning.specs.Effects
 use Rattle.source_meaning.specs.Deeds.{Doing, IsValueOf, IsFileAt, IsRecordOf, at_searched, at_mark, IsLook, to_label as at_label, to_next, with_value, with_found, with_seized, wide_value, wide_field, bad_field, bad_free, no_forlopp, full_chain}
 use Rattle.source_meaning.specs.Effects.{Effect, Leave, Looks, PutsVariable, PutsField, Seizes, Frees, Goes, Posts, Begins, Asks, Returns, Ends, Faults, Done, Then}
-use Rattle.source_meaning.proofs.Lists.{first_is}
 use Rattle.source_meaning.proofs.Doing.{traced, Makes, one, last, value_effects, expr_reads, branch, fits_effects, record_effects, next, jump}
 use Rattle.source_meaning.proofs.Searched.{found_within, search_loads}
+use Rattle.plex_num.proofs.Members.{first_is}
 
 module _ (x : Exchange) (rest : List Item) (p : ℕ) where
   pub set_temp : (temp : ℕ) (e : Expr) (c : Config) → Makes x (Doing p (stmt.SetTemp temp e)) rest c (does x p (stmt.SetTemp temp e) rest c)

@@ -28,9 +28,10 @@ use Rattle.source_meaning.specs.Step.{does}
 use Rattle.source_meaning.specs.Effects
 use Rattle.source_meaning.specs.Deeds.{GoesOnAfter, Doing, IsExprOf, GoesTo, out, named, held, IsSending, IsPosting, to_queue, to_outside, by_send, by_transfer, by_combined, IsLook, to_label as at_label, to_next, to_branch, to_loop, IsBranch, IsEnd, AwaitsOther, SomeWait, Why, too_deep, too_many, no_caller, has_caller}
 use Rattle.source_meaning.specs.Effects.{Effect, Leave, Looks, PutsVariable, PutsField, Seizes, Frees, Goes, Posts, Begins, Asks, Returns, Ends, Faults, Then}
-use Rattle.source_meaning.proofs.Lists.{all_members, first_is, later_is}
+use Rattle.source_meaning.proofs.Lists.{all_members}
 use Rattle.source_meaning.proofs.Loads.{cond_tells}
 use Rattle.source_meaning.proofs.Doing.{traced, Makes, one, last, Reads, value_effects, expr_reads, values_effects, branch, zero_branch, receiver_effects, next, jump}
+use Rattle.plex_num.proofs.Members.{first_is, later_is}
 
 -- the choice of a CASE is one of its branches
 pub chosen_is : (whens : List When) (v : ℕ) (otherwise : List Stmt) → (chosen whens v otherwise ≡ otherwise) ⊎ ((w : When) × Contains whens w × (chosen whens v otherwise ≡ (out-When w).body))

@@ -15,7 +15,7 @@ use Rattle.exchange_model.specs.declared.signal.SignalKind.TheVariants.{Buffered
 use Rattle.exchange_model.specs.declared.stmt.Stmt.{Stmt}
 use Rattle.exchange_model.specs.declared.stmt.StmtKind.{out-StmtKind}
 use Rattle.exchange_model.specs.Kept.{IsExchange, entered, row_at, enters_from, entry_of, entry_at, entries_in, entries_from}
-use Rattle.source_meaning.proofs.Booleans.{and_true, or_cases, or_left, or_right}
+use Rattle.plex_num.proofs.Booleans.{and_true, or_cases, or_left, or_right}
 use Rattle.source_meaning.specs.Config.{is_receiver, is_entry, entry_number}
 
 -- the first that passes

@@ -21,11 +21,11 @@ use Rattle.exchange_model.proofs.Layers.{stmt_fits-out, stmt_fits-parts, expr_fi
 use Rattle.exchange_model.specs.PartFits.{StmtsFit, PartsFit, TermFits, JoinedFits, FactorOwnFits, InsideFits}
 use Rattle.source_meaning.specs.Config.{Item}
 use Rattle.source_meaning.specs.Deeds.{IsBranch}
-use Rattle.source_meaning.specs.Named.{Layer, Named, NamedVariable, NamedField, named_in}
-use Rattle.source_meaning.specs.Rests.{IsRow, whole, later, branch, turn, Stands, StandsAs, IsLoop, IsOfBlock}
+use Rattle.source_meaning.specs.Named.{Layer, Named, NamedVariable, NamedField, named_in, named_in_term, named_in_factor, named_in_joined}
+use Rattle.source_meaning.specs.Rests.{IsRow, whole, later, branch, turn, StandsInText, StandsAs, IsLoop, IsOfBlock}
 use Rattle.plex_num.proofs.Lists.{all_append}
 use Rattle.source_meaning.proofs.Lists.{all_contained}
-use Rattle.source_meaning.proofs.Naming.{named_in_term, named_in_factor, named_in_joined, named_in-out, named_in_term-out, named-Variable, named-Field, named-Bracket, named-Number, named-Temporary, named-Reference}
+use Rattle.source_meaning.proofs.Naming.{named_in-out, named_in_term-out, named-Variable, named-Field, named-Bracket, named-Number, named-Temporary, named-Reference}
 use Rattle.source_meaning.proofs.Parts.{Parts, every_expr}
 
 -- rows
@@ -58,7 +58,7 @@ module _ (x : Exchange) (kept : IsExchange x) (b : ℕ) where
   abbrev pub FitsIn : Layer → Type 0
   FitsIn l = IsOfBlock x b l
 
-  pub stmt_fits_in : (s : Stmt) (rest : List Item) → Stands x b s rest → FitsIn (out-StmtKind s.kind)
+  pub stmt_fits_in : (s : Stmt) (rest : List Item) → StandsInText x b s rest → FitsIn (out-StmtKind s.kind)
   stmt_fits_in s rest h =
       let r = row_fits (s ∷ h.list) h.end h.row in
       record { block = r.block; there = r.there; fits = stmt_fits-out (scope_of x b r.block) s.kind r.fits.0 }

@@ -27,10 +27,11 @@ use Rattle.source_meaning.specs.Effects.{answered}
 use Rattle.source_meaning.specs.Step.{count}
 use Rattle.source_meaning.specs.Traces.{with_store}
 use Rattle.source_meaning.proofs.Growing.{IsLoad}
-use Rattle.source_meaning.proofs.Lists.{all_weaker, all_members}
-use Rattle.source_meaning.proofs.Loads.{loads_in, LoadsAre, IsLoadOf, of_variable, of_field, Tells, FaultIs, expr_loads, cond_tells}
+use Rattle.source_meaning.proofs.Lists.{all_members}
+use Rattle.source_meaning.proofs.Loads.{loads_in, LoadsAre, IsLoadOf, of_variable, of_field, TellsLoads, FaultIs, expr_loads, cond_tells}
 use Rattle.source_meaning.proofs.Reading.{expr_reads, cond_reads, holder_reads}
 use Rattle.source_meaning.proofs.Framed.{Framed, framed_stores, framed_pure, looked, framed_value, framed_if, framed_unless, framed_search}
+use Rattle.plex_num.proofs.Lists.{all_weaker}
 
 is_load : (s : Sight) (all : List Named) (t : Touch) → IsLoadOf s all t → IsLoad s.store t
 is_load s all t (of_variable v at is) = record { cell = s.first + v; is = is }
@@ -46,7 +47,7 @@ no_fault (Fails loads f) = tt
 cond_load : (cond : Cond) (s : Sight) → LoadsAre (IsLoad s.store) (cond_value cond s)
 cond_load cond s =
     (cond_tells (IsLoad s.store) (λ f. Unit {0}) s cond
-    (all_members (λ e. Tells (IsLoad s.store) (λ f. Unit {0}) (expr_value e s)) (cond_exprs cond) (λ e at. record { loads = expr_load e s; fault = no_fault (expr_value e s) }))).loads
+    (all_members (λ e. TellsLoads (IsLoad s.store) (λ f. Unit {0}) (expr_value e s)) (cond_exprs cond) (λ e at. record { loads = expr_load e s; fault = no_fault (expr_value e s) }))).loads
 
 holder_load : (h : Holder) (s : Sight) → LoadsAre (IsLoad s.store) (holder_value h s)
 holder_load (holder.Temporary t) s = tt

@@ -18,7 +18,7 @@ use Rattle.source_meaning.specs.Retirement.{opened, all_opened}
 use Rattle.source_meaning.specs.Valid.{HasRecords, IsOnce, IsRecord, StoreFits}
 use Rattle.source_meaning.proofs.Stores.{opens_fit}
 use Rattle.source_meaning.proofs.Books.{Books, IsChanged, each_chain, held_mark}
-use Rattle.source_meaning.proofs.Booleans.{bool_cases, true_not_false}
+use Rattle.plex_num.proofs.Booleans.{bool_cases, true_not_false}
 use Rattle.source_meaning.proofs.Chains.{record_is, record_itself, holds_before, holds_other, once_without, gone, without_few, all_without}
 use Rattle.source_meaning.proofs.Marks.{HasMark, opened_long, opened_mark, opened_other}
 

@@ -17,7 +17,7 @@ use Rattle.source_meaning.specs.Ranges.{IsInRange}
 use Rattle.source_meaning.specs.Rests.{AreRests, DeedStands}
 use Rattle.source_meaning.specs.Value.{may_use}
 use Rattle.source_meaning.proofs.Books.{Books, IsChanged, books_on, books_seize}
-use Rattle.source_meaning.proofs.Booleans.{true_not_false}
+use Rattle.plex_num.proofs.Booleans.{true_not_false}
 use Rattle.source_meaning.proofs.Fitting.{deed_fits_in}
 use Rattle.source_meaning.proofs.Freeing.{put_chain, put_same, put_other, books_free}
 use Rattle.source_meaning.proofs.Keeping.{Kept, KeptWith, kept_both}

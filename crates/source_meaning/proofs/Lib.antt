@@ -3,7 +3,6 @@ pub mod Parts
 pub mod Naming
 pub mod Lists
 pub mod Lookups
-pub mod Booleans
 pub mod Loads
 pub mod Searched
 pub mod Doing

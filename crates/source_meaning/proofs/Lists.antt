@@ -1,11 +1,8 @@
 -- What holds of each of a list.
-use Rattle.std.proofs.Common.{zero, suc, List, [], ◌∷◌, ◌++◌, refl, subst, arith}
+use Rattle.std.proofs.Common.{zero, suc, List, [], ◌∷◌, ◌++◌, subst, arith}
 use Rattle.std.specs.List.{AllByRecursion, Contains}
 use Rattle.std.proofs.lemmas.List.Elements.{Contains-append_left, Contains-append_right}
-
-pub all_weaker : {A : Type 0} (P Q : A → Type 0) (xs : List A) → ((x : A) → P x → Q x) → AllByRecursion P xs → AllByRecursion Q xs
-all_weaker P Q [] f all = tt
-all_weaker P Q (x ∷ xs) f all = (f x all.0, all_weaker P Q xs f all.1)
+use Rattle.plex_num.proofs.Members.{first_is, later_is}
 
 pub all_contained : {A : Type 0} (P : A → Type 0) (xs : List A) (x : A) → AllByRecursion P xs → Contains xs x → P x
 all_contained P [] x all h = absurd (let lt = h.1 in omega arith)
@@ -21,12 +18,6 @@ within_left xs ys all h x at = h x (Contains-append_left xs ys x at)
 
 pub within_right : {A : Type 0} (xs ys all : List A) → Within (xs ++ ys) all → Within ys all
 within_right xs ys all h x at = h x (Contains-append_right xs ys x at)
-
-pub first_is : {A : Type 0} (x : A) (xs : List A) → Contains (x ∷ xs) x
-first_is x xs = (0, omega arith, refl)
-
-pub later_is : {A : Type 0} (y x : A) (xs : List A) → Contains xs x → Contains (y ∷ xs) x
-later_is y x xs h = let lt = h.1 in (suc h.0, omega arith, h.2)
 
 pub all_members : {A : Type 0} (P : A → Type 0) (xs : List A) → ((x : A) → Contains xs x → P x) → AllByRecursion P xs
 all_members P [] f = tt

@@ -15,13 +15,14 @@ use Rattle.exchange_model.specs.declared.expr.Cond.{Cond}
 use Rattle.exchange_model.specs.Cells.{Placed, field_cell}
 use Rattle.exchange_model.specs.Inside.{joined as all_of, cond_exprs, relation_exprs}
 use Rattle.job_types.specs.Truth.{one_if, is_set}
-use Rattle.source_meaning.specs.Named.{Named, NamedVariable, NamedField, named_in}
+use Rattle.source_meaning.specs.Named.{Named, NamedVariable, NamedField, named_in, named_in_term, named_in_factor, named_in_joined}
 use Rattle.source_meaning.specs.Value.{Got, Gives, Fails, Eval, Sight, load_of, with_value, after_loads, joined, summed, sum_value, product_value, summand_of, multiplier_of, field_value, load_or_fault, pointer_fault, expr_value, term_value, factor_value, stands, relation_value, all_value, any_value, cond_value}
 use Rattle.source_meaning.proofs.Layers.{expr_value-out, term_value-out, factor_value-Number, factor_value-Variable, factor_value-Temporary, factor_value-Field, factor_value-Bracket, factor_value-Reference}
 use Rattle.plex_num.proofs.Lists.{all_append, all_left, all_right}
-use Rattle.source_meaning.proofs.Lists.{Within, within_left, within_right, first_is}
-use Rattle.source_meaning.proofs.Naming.{named_in_term, named_in_factor, named_in_joined, named_in-out, named_in_term-out, named-Variable, named-Field, named-Bracket}
+use Rattle.source_meaning.proofs.Lists.{Within, within_left, within_right}
+use Rattle.source_meaning.proofs.Naming.{named_in-out, named_in_term-out, named-Variable, named-Field, named-Bracket}
 use Rattle.source_meaning.proofs.Parts.{Parts, every_expr}
+use Rattle.plex_num.proofs.Members.{first_is}
 
 abbrev pub loads_in : Got → List Touch
 loads_in (Gives loads v) = loads
@@ -113,7 +114,7 @@ abbrev pub FaultIs : (Fault → Type 0) → Got → Type 0
 FaultIs F (Gives loads v) = Unit {0}
 FaultIs F (Fails loads f) = F f
 
-pub record Tells (Q : Touch → Type 0) (F : Fault → Type 0) (got : Got) : Type 0 where
+pub record TellsLoads (Q : Touch → Type 0) (F : Fault → Type 0) (got : Got) : Type 0 where
   pub loads : LoadsAre Q got
   pub fault : FaultIs F got
 
@@ -126,32 +127,32 @@ module _ (Q : Touch → Type 0) (F : Fault → Type 0) where
       after (Fails ls f) rest = rest
   fault_with (Fails loads f) go here more = here
 
-  tells_with : (got : Got) (go : ℕ → Got) → Tells Q F got → ((v : ℕ) → Tells Q F (go v)) → Tells Q F (with_value got go)
+  tells_with : (got : Got) (go : ℕ → Got) → TellsLoads Q F got → ((v : ℕ) → TellsLoads Q F (go v)) → TellsLoads Q F (with_value got go)
   tells_with got go here more = record { loads = loads_with Q got go here.loads (λ v. (more v).loads); fault = fault_with got go here.fault (λ v. (more v).fault) }
 
-  pub tells_number : (v : ℕ) → Tells Q F (Gives [] v)
+  pub tells_number : (v : ℕ) → TellsLoads Q F (Gives [] v)
   tells_number v = record { loads = tt; fault = tt }
 
   -- a condition tells what its expressions tell
   module _ (s : Sight) where
     abbrev Side : Expr → Type 0
-    Side e = Tells Q F (expr_value e s)
+    Side e = TellsLoads Q F (expr_value e s)
 
-    relation_tells : (r : Relation) → Side r.left → Side r.right → Tells Q F (relation_value r s)
+    relation_tells : (r : Relation) → Side r.left → Side r.right → TellsLoads Q F (relation_value r s)
     relation_tells r left right =
         tells_with (expr_value r.left s) (λ a. with_value (expr_value r.right s) (λ b. Gives [] (one_if (stands r.rel a b)))) left
         (λ a. tells_with (expr_value r.right s) (λ b. Gives [] (one_if (stands r.rel a b))) right (λ b. tells_number (one_if (stands r.rel a b))))
 
-    all_tell : (rs : List Relation) (before : ℕ) → AllByRecursion Side (relation_exprs rs) → Tells Q F (all_value rs before s)
+    all_tell : (rs : List Relation) (before : ℕ) → AllByRecursion Side (relation_exprs rs) → TellsLoads Q F (all_value rs before s)
     all_tell [] before each = tells_number before
     all_tell (r ∷ rs) before each =
         tells_with (relation_value r s) (λ v. all_value rs (one_if (is_set before && is_set v)) s) (relation_tells r each.0 each.1.0) (λ v. all_tell rs (one_if (is_set before && is_set v)) each.1.1)
 
-    any_tell : (rss : List (List Relation)) (before : ℕ) → AllByRecursion Side (all_of (map relation_exprs rss)) → Tells Q F (any_value rss before s)
+    any_tell : (rss : List (List Relation)) (before : ℕ) → AllByRecursion Side (all_of (map relation_exprs rss)) → TellsLoads Q F (any_value rss before s)
     any_tell [] before each = tells_number before
     any_tell (rs ∷ rss) before each =
         tells_with (all_value rs 1 s) (λ v. any_value rss (one_if (is_set before || is_set v)) s) (all_tell rs 1 (all_left Side (relation_exprs rs) (all_of (map relation_exprs rss)) each))
         (λ v. any_tell rss (one_if (is_set before || is_set v)) (all_right Side (relation_exprs rs) (all_of (map relation_exprs rss)) each))
 
-    pub cond_tells : (c : Cond) → AllByRecursion Side (cond_exprs c) → Tells Q F (cond_value c s)
+    pub cond_tells : (c : Cond) → AllByRecursion Side (cond_exprs c) → TellsLoads Q F (cond_value c s)
     cond_tells c each = any_tell c.any 0 each

@@ -13,7 +13,7 @@ use Rattle.std.specs.FinMap.Entries.{below_all, is_sorted, find}
 use Rattle.job_types.specs.declared.chain.Held.{Held}
 use Rattle.job_types.specs.Chain.{holds}
 use Rattle.job_types.specs.Forlopps.{ChainMap, all_records, chain_at}
-use Rattle.source_meaning.proofs.Booleans.{bool_cases}
+use Rattle.plex_num.proofs.Booleans.{bool_cases}
 use Rattle.plex_num.proofs.Lists.{all_append}
 use Rattle.plex_num.proofs.Options.{split}
 

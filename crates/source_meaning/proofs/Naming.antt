@@ -8,16 +8,7 @@ use Rattle.exchange_model.specs.declared.expr.Factor.{Factor, Factor-F, out-Fact
 use Rattle.exchange_model.specs.declared.expr.Factor.TheVariants as factor
 use Rattle.exchange_model.specs.declared.expr.Factor.TheOpen.{Variable, Field, Bracket}
 use Rattle.exchange_model.specs.Inside.{joined}
-use Rattle.source_meaning.specs.Named.{Named, NamedVariable, NamedField, factor_named, named_in}
-
-unfoldable pub named_in_term : Term → List Named
-named_in_term = fold-Term (List Named) (List Named) (List Named) (List Named) factor_named (λ e. joined e.terms) (λ j. j.factor) (λ t. joined t.factors)
-
-unfoldable pub named_in_factor : Factor → List Named
-named_in_factor = fold-Factor (List Named) (List Named) (List Named) (List Named) factor_named (λ e. joined e.terms) (λ j. j.factor) (λ t. joined t.factors)
-
-abbrev pub named_in_joined : Joined → List Named
-named_in_joined j = named_in_factor j.factor
+use Rattle.source_meaning.specs.Named.{Named, NamedVariable, NamedField, factor_named, named_in, named_in_term, named_in_factor, named_in_joined}
 
 abbrev folded : Joined → List Named
 folded = fold-Joined (List Named) (List Named) (List Named) (List Named) factor_named (λ e. joined e.terms) (λ j. j.factor) (λ t. joined t.factors)

@@ -13,7 +13,7 @@ use Rattle.exchange_model.specs.Kept.{IsExchange}
 use Rattle.exchange_model.specs.Opening.{opening_store}
 use Rattle.exchange_model.proofs.Facts.{variable_kept, field_kept}
 use Rattle.exchange_model.proofs.Openings.{length-opening_store, opening_store-variable, opening_store-field, opening_store-mark}
-use Rattle.source_meaning.proofs.Booleans.{true_not_false}
+use Rattle.plex_num.proofs.Booleans.{true_not_false}
 use Rattle.source_meaning.specs.Config.{files_of}
 use Rattle.source_meaning.specs.SingleRun.{opening}
 use Rattle.source_meaning.specs.State.{Coming}

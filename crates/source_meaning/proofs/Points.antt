@@ -5,7 +5,7 @@ use Rattle.std.proofs.lemmas.List.Elements.{Contains-append_left, Contains-appen
 use Rattle.std.proofs.lemmas.List.FromFn.{length-range_with_len, get_or-range_with_len}
 use Rattle.std.proofs.lemmas.Option.{none-some, same_Some}
 use Rattle.std.specs.List.{Contains, range_with_len}
-use Rattle.plex_num.proofs.Members.{in_map}
+use Rattle.plex_num.proofs.Members.{in_map, first_is, later_is}
 use Rattle.exchange_model.specs.declared.exchange.Exchange.{Exchange}
 use Rattle.exchange_model.specs.declared.block.Block.{Block}
 use Rattle.exchange_model.specs.declared.entry.PointInfo.{PointInfo}
@@ -20,8 +20,8 @@ use Rattle.exchange_model.specs.Kept.{IsExchange, all_spots, points_from, entrie
 use Rattle.source_meaning.specs.Config.{Item}
 use Rattle.source_meaning.specs.Deeds.{Deed, Doing, Starting, Turning, deed_point, IsBranch}
 use Rattle.source_meaning.specs.Named.{Layer}
-use Rattle.source_meaning.specs.Rests.{IsRow, whole, later, branch, turn, Stands, DeedStands}
-use Rattle.source_meaning.proofs.Lists.{Within, first_is, later_is}
+use Rattle.source_meaning.specs.Rests.{IsRow, whole, later, branch, turn, StandsInText, DeedStands}
+use Rattle.source_meaning.proofs.Lists.{Within}
 
 within_joined : {A B : Type 0} (f : A → List B) (xs : List A) (i : ℕ) (x : A) → slice_get xs i ≡ Some x → Within (f x) (joined (map f xs))
 within_joined f [] i x there = absurd (none-some x there)
@@ -88,7 +88,7 @@ module _ (x : Exchange) (kept : IsExchange x) where
       let many : length x.points ≡ length (all_spots x.blocks) = ap length kept.numbered.points ∙ points_many 0 x.blocks in
       omega arith
 
-  pub stands_point : (b : ℕ) (s : Stmt) (rest : List Item) → Stands x b s rest → s.point < length x.points
+  pub stands_point : (b : ℕ) (s : Stmt) (rest : List Item) → StandsInText x b s rest → s.point < length x.points
   stands_point b s rest h = spot_below s.point s.line (row_spot x b s h.list h.end h.row)
 
   pub deed_below : (b : ℕ) (deed : Deed) (rest : List Item) → DeedStands x b deed rest → deed_point deed < length x.points

@@ -29,8 +29,7 @@ use Rattle.source_meaning.specs.Retirement.{all_opened, releases, cleared, all_c
 use Rattle.source_meaning.specs.State.{State}
 use Rattle.source_meaning.specs.Valid.{HasRecords, IsRecord, IsLive, MayBe, StoreFits, WaitsAt, EventFits, IsValid}
 use Rattle.source_meaning.proofs.Books.{Books}
-use Rattle.source_meaning.proofs.Booleans.{and_true, or_cases, or_right, bool_cases, true_not_false}
-use Rattle.source_meaning.proofs.Chains.{chain_same, chain_other}
+use Rattle.plex_num.proofs.Booleans.{and_true, or_cases, or_right, bool_cases, true_not_false}
 use Rattle.source_meaning.proofs.Freeing.{put_chain, put_same, put_other, books_release, openings_fit, openings_clear}
 use Rattle.plex_num.proofs.Lists.{all_append}
 use Rattle.job_types.proofs.Died.{dead_cases, alive_still}
@@ -38,6 +37,7 @@ use Rattle.source_meaning.proofs.Maps.{all_records_fit, held_among_all}
 use Rattle.source_meaning.proofs.Marks.{HasMark, variable_put}
 use Rattle.source_meaning.proofs.States.{books_as, books_still, Orderly, valid_of}
 use Rattle.source_meaning.proofs.Stores.{put_variable}
+use Rattle.job_types.proofs.ChainMaps.{chain_same, chain_other}
 
 -- the numbers below a bound are dead too
 below_cases : (d : Dead) (next k : ℕ) → is_dead (dead_below d next) k ≡ true → ((1 ≤ k) × (k < next)) ⊎ (is_dead d k ≡ true)

@@ -18,7 +18,7 @@ use Rattle.source_meaning.specs.Changes.{ends}
 use Rattle.source_meaning.specs.Deeds.{Deed, deed_of, IsBranch, GoesOn, to_next, with_value, to_label, to_branch, to_loop, to_turn, with_found, with_seized, with_answers, with_given, from_no_enter}
 use Rattle.source_meaning.specs.Effects.{Effect, Looks, Goes, Leave, Begins, Asks, Returns, Ends, Faults}
 use Rattle.source_meaning.specs.Job.{todo_of, place_of, begins, after_steps}
-use Rattle.source_meaning.specs.Rests.{point_of, point_of_first, Past, here, beyond, first_point, head_point, IsRow, whole, later, branch, turn, Stands, IsRest, AreRests, DeedStands}
+use Rattle.source_meaning.specs.Rests.{point_of, point_of_first, Past, here, beyond, first_point, head_point, IsRow, whole, later, branch, turn, StandsInText, IsRest, AreRests, DeedStands}
 use Rattle.source_meaning.proofs.Keeping.{Kept, steps_keep}
 
 pub cons_head : (i j : Item) (is js : List Item) → i ∷ is ≡ j ∷ js → i ≡ j
@@ -30,7 +30,7 @@ head_text [] rest = refl
 head_text (s ∷ list) rest = ap (λ o. if is_enter (out-StmtKind s.kind) then o else Some s.point) (head_text list rest)
 
 -- the next of a statement that stands before this
-pub stands_next : {x : Exchange} {b : ℕ} {s : Stmt} {rest : List Item} (h : Stands x b s rest) → head_point rest ≡ first_point h.list h.end
+pub stands_next : {x : Exchange} {b : ℕ} {s : Stmt} {rest : List Item} (h : StandsInText x b s rest) → head_point rest ≡ first_point h.list h.end
 stands_next h = ap head_point h.is ∙ head_text h.list h.more ∙ ap (first_point h.list) h.ends
 
 module _ (x : Exchange) (b : ℕ) where
@@ -63,7 +63,7 @@ module _ (x : Exchange) (b : ℕ) where
   start_rest [] row = tt
   start_rest (s ∷ list) row = by (is_enter (out-StmtKind s.kind)) refl
     where
-      stands : Stands x b s (map Do list)
+      stands : StandsInText x b s (map Do list)
       stands = record { list = list; end = None; more = []; row = row; is = sym (append-nil (map Do list)); ends = refl }
 
       by : (e : Bool) → is_enter (out-StmtKind s.kind) ≡ e → IsRest x b (if e then Start s ∷ map Do list else [])

@@ -26,7 +26,6 @@ use Rattle.source_meaning.specs.Arrivals.{arrivals}
 use Rattle.source_meaning.specs.State.{State, chain_in, has_stopped}
 use Rattle.source_meaning.specs.Valid.{HasRecords, IsLive, MayBe, StoreFits, WaitsAt, IsJob, IsFitting, IsValid}
 use Rattle.source_meaning.proofs.Books.{Books}
-use Rattle.source_meaning.proofs.Chains.{chain_same, chain_other}
 use Rattle.source_meaning.proofs.Freeing.{put_chain, put_same, put_other}
 use Rattle.source_meaning.proofs.Holding.{HoldsOn, all_kept}
 use Rattle.source_meaning.proofs.Keeping.{steps_keep}
@@ -36,6 +35,7 @@ use Rattle.source_meaning.proofs.Rests.{start_rests}
 use Rattle.source_meaning.proofs.States.{chains_of, marks_of, books_of, books_as, IsLater, live_later, may_later, live_of, Orderly, orderly_of, valid_of, Lists, lists_of, lists_later, waiting_of}
 use Rattle.source_meaning.proofs.Delivering.{IsDelivered, sends_orderly}
 use Rattle.source_meaning.proofs.Arriving.{arrivals_valid}
+use Rattle.job_types.proofs.ChainMaps.{chain_same, chain_other}
 
 -- a number without records: 0, and each that is no forlopp
 no_records : (chain : List Held) → (HasRecords chain → ⊥) → chain ≡ []
@@ -69,16 +69,16 @@ module _ (x : Exchange) (kept : IsExchange x) (s : State) (v : IsValid x s) (sta
   }
 
   -- what is so at the end of the job
-  record IsEnd (end : Config) : Type 0 where
-    range : IsInRange x end
-    holds : HoldsOn x (IsLive s) (chain_at s.chains) f end
+  pub record IsEnd (end : Config) : Type 0 where
+    pub range : IsInRange x end
+    pub holds : HoldsOn x (IsLive s) (chain_at s.chains) f end
 
   steps_so : (n : ℕ) → IsEnd (after_steps n x (begins x start s.store))
   steps_so n =
       let all = steps_keep (all_kept x kept (IsLive s) (chain_at s.chains) f alive) n (begins x start s.store) ((start_rests x start s.store, start_ranges x kept start s.store fits.job v.store), start_holds) in
       record { range = all.0.1; holds = all.1 }
 
-  job_ends_so : IsEnd (job x start s.store)
+  pub job_ends_so : IsEnd (job x start s.store)
   unfolding job
   job_ends_so = steps_so (budget + 1)
 

@@ -27,8 +27,8 @@ use Rattle.source_meaning.proofs.Entries.{entry_found, receives_test}
 use Rattle.source_meaning.proofs.Fitting.{deed_fits_in}
 use Rattle.plex_num.proofs.Lists.{all_append}
 use Rattle.plex_num.proofs.Options.{same_Ok}
-use Rattle.source_meaning.proofs.Lists.{first_is, later_is}
 use Rattle.source_meaning.proofs.WordValues.{GotWord}
+use Rattle.plex_num.proofs.Members.{first_is, later_is}
 
 -- values
 

@@ -14,8 +14,7 @@ use Rattle.exchange_model.specs.declared.exchange.Exchange.{Exchange}
 use Rattle.source_meaning.specs.State.{State, Arrived}
 use Rattle.source_meaning.specs.Valid.{HasRecords, IsLive, MayBe, ChainsFit, MarksFit, StoreFits, IsJob, WaitsAt, WaitingFits, IsPastNumber, LinesFit, EventFits, IsValid}
 use Rattle.source_meaning.proofs.Books.{Books}
-use Rattle.plex_num.proofs.Lists.{all_append}
-use Rattle.source_meaning.proofs.Lists.{all_weaker}
+use Rattle.plex_num.proofs.Lists.{all_append, all_weaker}
 
 -- chains and marks
 

@@ -47,7 +47,7 @@ pub data IsRow (x : Exchange) (b : ℕ) : List Stmt → Option ℕ → Type 0 wh
       → IsRow x b body (Some s.point)
 
 -- a statement of the text of a block, before what follows it there
-pub record Stands (x : Exchange) (b : ℕ) (s : Stmt) (rest : List Item) : Type 0 where
+pub record StandsInText (x : Exchange) (b : ℕ) (s : Stmt) (rest : List Item) : Type 0 where
   pub list : List Stmt
   pub end : Option ℕ
   pub more : List Item
@@ -62,13 +62,13 @@ pub record IsLoop (x : Exchange) (b : ℕ) (p temp : ℕ) (body : List Stmt) (re
   pub from : Expr
   pub upto : Expr
   pub is : out-StmtKind stmt.kind ≡ On temp from upto body
-  pub stands : Stands x b stmt rest
+  pub stands : StandsInText x b stmt rest
 
 -- what remains in a block is of its text
 abbrev pub IsRest : Exchange → ℕ → List Item → Type 0
 IsRest x b [] = Unit {0}
-IsRest x b (Do s ∷ rest) = Stands x b s rest × IsRest x b rest
-IsRest x b (Start s ∷ rest) = Stands x b s rest × (is_enter (out-StmtKind s.kind) ≡ true) × IsRest x b rest
+IsRest x b (Do s ∷ rest) = StandsInText x b s rest × IsRest x b rest
+IsRest x b (Start s ∷ rest) = StandsInText x b s rest × (is_enter (out-StmtKind s.kind) ≡ true) × IsRest x b rest
 IsRest x b (Turns p temp this end body ∷ rest) = IsLoop x b p temp body rest × IsRest x b rest
 
 -- so it is of a job, and of each caller that waits
@@ -81,7 +81,7 @@ pub record StandsAs (x : Exchange) (b p : ℕ) (l : Layer) (rest : List Item) : 
   pub stmt : Stmt
   pub point : stmt.point ≡ p
   pub is : out-StmtKind stmt.kind ≡ l
-  pub stands : Stands x b stmt rest
+  pub stands : StandsInText x b stmt rest
 
 -- what is counted is of the text of the block, and of a loop a turn is left
 abbrev pub DeedStands : Exchange → ℕ → Deed → List Item → Type 0

@@ -20,7 +20,7 @@ ghost use Rattle.source_meaning.specs.Holdings.{AnyFile, HoldsFrom, RunningFits,
 ghost use Rattle.source_meaning.specs.Job.{after_steps, begins, job};
 ghost use Rattle.source_meaning.specs.Ranges.{HasTemporaries, IsInRange};
 ghost use Rattle.source_meaning.specs.Rests.{AllWaitAtRetrieve, AreRests, BeginsAs, BeginsAt};
-ghost use Rattle.source_meaning.specs.Rests.{IsRest, IsRow, Past, Stands, first_point, head_point};
+ghost use Rattle.source_meaning.specs.Rests.{IsRest, IsRow, Past, StandsInText, first_point, head_point};
 ghost use Rattle.source_meaning.specs.Rests.{AllEndText, DeedStands, EndsText, IsOfBlock, JumpsTo, point_of};
 ghost use Rattle.source_meaning.specs.SingleRun.{after, begun, ended_as, next_start, opening};
 ghost use Rattle.source_meaning.specs.State.{Coming, State};
@@ -87,7 +87,7 @@ pub fn rests_are_of_the_text()
     ensures counted { (x : Exchange) (b : ℕ) (todo : List Item) (i : Item) (rest : List Item)
         → IsRest x b todo → next_counted todo ≡ i ∷ rest
         → DeedStands x b (deed_of i) rest × IsRest x b rest }
-    ensures next { (x : Exchange) (b : ℕ) (s : Stmt) (rest : List Item) (h : Stands x b s rest)
+    ensures next { (x : Exchange) (b : ℕ) (s : Stmt) (rest : List Item) (h : StandsInText x b s rest)
         → head_point rest ≡ first_point h.list h.end }
     ensures point { (x : Exchange) (b : ℕ) (todo : List Item)
         → IsRest x b todo → Past x b (head_point todo) (point_of todo) }
@@ -99,7 +99,7 @@ pub fn rests_are_of_the_text()
 /// and a RETRIEVE nowhere else.
 pub fn texts_are_kept()
     ensures fits { (x : Exchange) (b : ℕ) (s : Stmt) (rest : List Item)
-        → IsExchange x → Stands x b s rest → IsOfBlock x b (out-StmtKind s.kind) }
+        → IsExchange x → StandsInText x b s rest → IsOfBlock x b (out-StmtKind s.kind) }
     ensures paired { (x : Exchange) (b : ℕ) (s : Stmt) (rest : List Stmt) (end : Option ℕ)
         → IsExchange x → IsRow x b (s ∷ rest) end
         → ArePaired x.signals (awaited x.signals (out-StmtKind s.kind)) rest }

@@ -3,10 +3,7 @@ use Rattle.std.proofs.Common.{◌≡◌, ℕ, ◌+◌, ◌<◌, ◌≤◌, List,
 use Rattle.std.proofs.lemmas.List.{append_assoc, append-nil, take_all}
 use Rattle.first_fault.proofs.First.{more_events}
 use Rattle.exchange_model.specs.Inside.{joined}
-
-pub joined_push : {T : Type 0} (xs : List (List T)) (x : List T) → joined (xs ++ x ∷ []) ≡ joined xs ++ x
-joined_push [] x = append-nil x
-joined_push (y ∷ xs) x = ap (λ l. y ++ l) (joined_push xs x) ∙ sym (append_assoc y (joined xs) x)
+use Rattle.exchange_model.proofs.Lists.{joined_push}
 
 module _ {T : Type 0} where
   pub so_far_begin : (done : List (List T)) (own : List T) → joined done ≡ joined done ++ take 0 own

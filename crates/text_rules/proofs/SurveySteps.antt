@@ -2,7 +2,6 @@
 use Rattle.std.proofs.Common.{◌≡◌, ℕ, ◌+◌, ◌<◌, ◌≤◌, Bool, true, false, cond, not, ◌||◌, ◌&&◌, List, [], ◌∷◌, ◌++◌, length, take, get_or, Option, Some, None, refl, sym, ◌∙◌, ap, arith, suc, zero}
 use Rattle.std.specs.Prelude.{if◌then◌else◌, nat_eq}
 use Rattle.std.specs.Str.{bytes_eq}
-use Rattle.std.proofs.lemmas.Slice.Eq.{bytes_eq-Decides}
 use Rattle.std.proofs.lemmas.List.{take_all, length-take-le}
 use Rattle.std.proofs.lemmas.Option.{slice_get_past}
 use Rattle.first_fault.specs.First.{any, count, or_else}
@@ -16,9 +15,7 @@ use Rattle.text_rules.specs.Surveys.{line_receives, receives, has_name, block_na
 use Rattle.text_rules.specs.declared.surveys.Receiving.{Receiving}
 use Rattle.text_rules.specs.declared.surveys.Received.{Received}
 use Rattle.text_rules.specs.Received.{count_of, first_of, chosen, has_pair, counted_in, first_in}
-
-same_bytes : (a b : List ℕ) → bytes_eq a b ≡ true → a ≡ b
-same_bytes a b e = (bytes_eq-Decides a b).0 e
+use Rattle.plex_num.proofs.Names.{same_bytes}
 
 -- what a map finds after one insertion: `found` before, `now` then
 

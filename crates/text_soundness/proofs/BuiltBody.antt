@@ -57,7 +57,7 @@ use Rattle.text_soundness.specs.Shares.{PartsStand}
 use Rattle.text_soundness.specs.Blocks.{IsBuilt}
 use Rattle.text_soundness.proofs.BuiltText.{statement_in, statements_in, begin_total, Begin, begin_all, begin_then, begin_add, Sound, sound_front, sound_last, sound_whole}
 use Rattle.text_events.proofs.Layers.{opened as opened_walk, kind_walk-out, stmt_walk-out}
-use Rattle.text_soundness.proofs.TypedLayers.{typed_kind-out}
+use Rattle.resolved_block.proofs.Turns.{typed_kind-out}
 use Rattle.text_soundness.proofs.BuiltLists.{text, KindMade, StmtSound, StmtMade, ListSound, IsMade, AreMade, list_made, is_made}
 use Rattle.text_soundness.proofs.BuiltKinds.{env, layer_made, begin_names}
 use Rattle.text_soundness.proofs.Operands.{all_from}

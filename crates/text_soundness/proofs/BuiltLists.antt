@@ -22,7 +22,7 @@ use Rattle.exchange_model.proofs.Everywhere.{everywhere-built}
 use Rattle.text_soundness.specs.Shares.{PartsStand, ChoosesOnce}
 use Rattle.text_soundness.proofs.BuiltText.{statement_in, statements_in, Begin, begin_all, begin_then, begin_add, Sound, sound_front, sound_last}
 use Rattle.text_events.proofs.Layers.{stmt_walk-out}
-use Rattle.text_soundness.proofs.TypedLayers.{typed_stmt-out}
+use Rattle.resolved_block.proofs.Turns.{typed_stmt-at}
 use Rattle.text_soundness.proofs.Operands.{gives_few}
 use Rattle.text_soundness.proofs.OperandsLists.{ExprsGood}
 use Rattle.text_soundness.proofs.Pairs.{asked, retrieved_by, Meet, Together, meets_next, retrieves_asked, asks_nothing}
@@ -141,5 +141,5 @@ module _ (s : Scope) (whole : List Event) (blocks : List TreeBlock) where
         let k = typed_kind env x.kind (p + 1) in
         let m : MStmt = record { point = p; line = x.line; kind = k.0 } in
         subst (λ w. StmtMade n w (typed_stmt env x p).0) (sym (stmt_walk-out x))
-        (subst (λ (t : MStmt × ℕ). StmtMade n (record { head = (kind_walk x.kind).head; walk = λ before after out. (kind_walk x.kind).walk (length out) (add x.line (Begins (kind_walk x.kind).head before after) out) }) t.0) (sym (typed_stmt-out env x p))
+        (subst (λ (t : MStmt × ℕ). StmtMade n (record { head = (kind_walk x.kind).head; walk = λ before after out. (kind_walk x.kind).walk (length out) (add x.line (Begins (kind_walk x.kind).head before after) out) }) t.0) (sym (typed_stmt-at env x p))
         (stmt_made n x.line (kind_walk x.kind).head (kind_walk x.kind).walk m (made (p + 1))))

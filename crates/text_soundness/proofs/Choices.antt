@@ -23,8 +23,9 @@ use Rattle.exchange_model.specs.Everywhere.{AllIn}
 use Rattle.text_soundness.specs.Shares.{PartsStand}
 use Rattle.text_soundness.proofs.BuiltText.{statement_in, statements_in, begin_total, Begin, begin_all, begin_then, begin_add, Sound, sound_front, sound_last}
 use Rattle.text_events.proofs.Layers.{when_walk-out}
-use Rattle.text_soundness.proofs.TypedLayers.{typed_when-out}
+use Rattle.resolved_block.proofs.Turns.{typed_when-at}
 use Rattle.text_soundness.proofs.BuiltLists.{text, AreMade}
+use Rattle.plex_num.proofs.Booleans.{or_false}
 
 pub any_append : {A : Type 0} (test : A → Bool) (xs ys : List A) → any test (xs ++ ys) ≡ (any test xs || any test ys)
 any_append test [] ys = refl
@@ -34,16 +35,12 @@ any_append test (x ∷ xs) ys = rw (any_append test xs ys) (regroup (test x) (an
     regroup true b c = refl
     regroup false b c = refl
 
-neither : (a b : Bool) → (a || b) ≡ false → (a ≡ false) × (b ≡ false)
-neither false b h = (refl, h)
-neither true b h = cc
-
 pub any_front : (test : Event → Bool) (a b : List Event) → Begin a b → any test b ≡ false → any test a ≡ false
-any_front test a b x h = (neither (any test a) (any test x.more) (sym (ap (any test) x.same ∙ any_append test a x.more) ∙ h)).0
+any_front test a b x h = (or_false (any test a) (any test x.more) (sym (ap (any test) x.same ∙ any_append test a x.more) ∙ h)).0
 
 -- what no event before says, the last one does not say
 last_says : (test : Event → Bool) (out : List Event) (e : Event) → any test (out ++ e ∷ []) ≡ false → test e ≡ false
-last_says test out e h = (neither (test e) false (neither (any test out) (test e || false) (sym (any_append test out (e ∷ [])) ∙ h)).1).0
+last_says test out e h = (or_false (test e) false (or_false (any test out) (test e || false) (sym (any_append test out (e ∷ [])) ∙ h)).1).0
 
 -- another number of the same CASE
 other_number : (o n m : ℕ) → (nat_eq o o && nat_eq n m) ≡ false → nat_eq m n ≡ false
@@ -110,7 +107,7 @@ module _ (s : Scope) (whole : List Event) (blocks : List TreeBlock) where
         let rolled = roll-When (record { number = number.value; body = list.0 }) in
         let is = out-roll-When (record { number = number.value; body = list.0 }) in
         let begun = λ (o : ℕ) (out : List Event). add number.line (Chooses o number.value) out in
-        subst (λ (t : MWhen × ℕ). WhenMade n (when_walk w) t.0) (sym (typed_when-out env w p)) (record {
+        subst (λ (t : MWhen × ℕ). WhenMade n (when_walk w) t.0) (sym (typed_when-at env w p)) (record {
           depth = subst (λ l. text_depth l.body ≤ n) (sym is) made.depth;
           begins = λ o out. subst (Begin out) (sym (when_walk-out w o out)) (begin_then out (begun o out) _ (begin_add out out number.line (Chooses o number.value) (begin_all out)) (made.begins Nothing (begun o out)));
           told = λ o out. subst (λ l. statements_in out + length (spots l.body) ≤ statements_in (when_walk w o out)) (sym is) (subst (λ e. statements_in out + length (spots list.0) ≤ statements_in e) (sym (when_walk-out w o out))

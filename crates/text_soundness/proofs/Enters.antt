@@ -21,7 +21,7 @@ use Rattle.exchange_model.specs.declared.signal.SignalKind.TheVariants as signal
 use Rattle.exchange_model.specs.Fits.{Scope}
 use Rattle.exchange_model.specs.Kept.{signal_name}
 use Rattle.signal_types.specs.Found.{number_in, kind_in, kind_at}
-use Rattle.text_events.specs.Note.{Event, Note, Head}
+use Rattle.text_events.specs.Note.{Event, Head}
 use Rattle.text_events.specs.Note as note
 use Rattle.text_events.specs.declared.role.Role.TheVariants as role
 use Rattle.text_events.specs.Walk.{add, in_turn, names_of}
@@ -46,6 +46,7 @@ use Rattle.text_soundness.proofs.FineParts.{found_here, before_here}
 use Rattle.text_soundness.proofs.MeaningsBlocks.{item_adds, items_add, surveys_quiet}
 use Rattle.text_soundness.proofs.ServedSaid.{said_of}
 use Rattle.text_soundness.proofs.SignalsOnce.{none_of}
+use Rattle.plex_num.proofs.Booleans.{or_false}
 
 -- numbers of signals
 
@@ -167,13 +168,9 @@ module _ (text : Text) (own : Block) (done : List Event) where
             let next : Begin begun_here (item_walk_at (items.Enter n ns) x.line k before (first_item xs) out) = begin_then begun_here standing _ (begin_add begun_here begun_here n.line (note.Names n.name role.Received) (begin_all begun_here)) (begin_names (names_of ns) standing) in
             let once : any (enters_here m) (item_walk_at (items.Enter n ns) x.line k before (first_item xs) out) ≡ false = subst (λ i. any (enters_here m) (item_walk_at i x.line k before (first_item xs) out) ≡ false) is f.once in
             let last = (none_of (enters_here m) out (e ∷ []) (any_front (enters_here m) begun_here _ next once)).1 in
-            (none_of_two (bytes_eq n.name m) false last).0) fresh,
+            (or_false (bytes_eq n.name m) false last).0) fresh,
         more,
       )
-        where
-          none_of_two : (a b : Bool) → (a || b) ≡ false → (a ≡ false) × (b ≡ false)
-          none_of_two false b h = (refl, h)
-          none_of_two true b h = cc
 
 -- the numbers of the signals that items enter
 

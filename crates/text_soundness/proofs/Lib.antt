@@ -42,5 +42,4 @@ pub mod SignalsOnce
 pub mod SignalsTexts
 pub mod SpelledChoices
 pub mod SpelledTexts
-pub mod TypedLayers
 pub mod Whole

@@ -26,13 +26,10 @@ use Rattle.resolved_block.specs.Blocks.{field_of, kind_variable, variable_in, ki
 use Rattle.text_soundness.specs.Meanings.{Suits}
 use Rattle.text_soundness.proofs.MeaningsSaid.{Said, meant_by, said_of, naming_said}
 use Rattle.text_soundness.proofs.MeaningsBlocks.{fields_said, kind_said, decls_said, item_said, labels_said, block_said, block_adds}
+use Rattle.plex_num.proofs.Lists.{all_append}
 
 abbrev pub SaidSuits : Block → Said → Type 0
 SaidSuits k s = Suits k s.meaning
-
-all_append : {X : Type 0} (P : X → Type 0) (xs ys : List X) → AllByRecursion P xs → AllByRecursion P ys → AllByRecursion P (xs ++ ys)
-all_append P [] ys g h = h
-all_append P (x ∷ rest) ys g h = (g.0, all_append P rest ys g.1 h)
 
 -- where all that is said suits a block, the last that is said does
 last_suits : (k : Block) (n : List ℕ) (saids : List Said) (m : Meaning) → AllByRecursion (SaidSuits k) saids → last_of (meant_by n) saids ≡ Some m → Suits k m

@@ -17,9 +17,9 @@ use Rattle.text_soundness.specs.Blocks.{IsNamed}
 use Rattle.exchange_model.specs.Everywhere.{Everywhere, AllIn}
 use Rattle.text_soundness.specs.Shares.{NamesStand}
 use Rattle.text_soundness.proofs.ServedSaid.{said_whole}
-use Rattle.text_soundness.proofs.NamedLists.{all_append}
 use Rattle.text_soundness.proofs.NamedKinds.{Standing, made_fine, env, So}
 use Rattle.text_soundness.proofs.NamedBodies.{items_tell}
+use Rattle.plex_num.proofs.Lists.{all_append}
 
 -- among the signals of the exchange and the blocks of the text
 module _ (s : Scope) (blocks : List Block) (first : First) (b : Block) (fine : IsFineBlock s.signals blocks b) (kept : KeepsBlock 6 12 b) (st : Standing s first.file (block_events b) blocks b) where

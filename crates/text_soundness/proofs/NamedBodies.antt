@@ -30,7 +30,7 @@ use Rattle.exchange_model.specs.Everywhere.{AllIn}
 use Rattle.text_soundness.specs.Shares.{NamesStand}
 use Rattle.text_soundness.proofs.ServedWalks.{Tells, tells_none, tells_add, tells_then, tells_so, tells_same}
 use Rattle.text_events.proofs.Layers.{opened, kind_walk-out, stmt_walk-out}
-use Rattle.text_soundness.proofs.TypedLayers.{typed_kind-out, typed_stmt-out}
+use Rattle.resolved_block.proofs.Turns.{typed_kind-out, typed_stmt-at}
 use Rattle.text_soundness.proofs.NamedLists.{temps_count, names_tell}
 use Rattle.text_soundness.proofs.NamedMeant.{kind_of_number, enter_fits}
 use Rattle.text_soundness.proofs.NamedKinds.{Standing, made_fine, env, So, Fine, temporary_so, kind_tells}
@@ -49,7 +49,7 @@ module _ (s : Scope) (first : ℕ) (events : List Event) (blocks : List TreeBloc
 
     laid_tells : (x : Stmt) → KeepsStmtWith b B x → (before after : Head) (p : ℕ) → Tells Is (laid x before after) (Fine s (typed_stmt around x p).0.kind)
     laid_tells x kept before after p =
-        let made = ap (λ m. m.0.kind) (typed_stmt-out around x p) ∙ ap (λ g. (g (p + 1)).0) (typed_kind-out around x.kind) in
+        let made = ap (λ m. m.0.kind) (typed_stmt-at around x p) ∙ ap (λ g. (g (p + 1)).0) (typed_kind-out around x.kind) in
         subst (λ k. Tells Is (laid x before after) (Fine s k)) (sym made) (record {
           sound = λ out all.
               let note = Begins (kind_head (opened (out-StmtKind x.kind))) before after in

@@ -53,7 +53,7 @@ use Rattle.text_soundness.specs.Shares.{NamesStand}
 use Rattle.text_soundness.specs.Served.{Said, HeadSaid, IsSending, IsSent, WayLeads}
 use Rattle.text_soundness.proofs.ServedWalks.{Tells, tells_none, tells_add, tells_then, tells_so, tells_same}
 use Rattle.text_events.proofs.Layers.{opened as walked, when_walk-out}
-use Rattle.text_soundness.proofs.TypedLayers.{typed_when-out}
+use Rattle.resolved_block.proofs.Turns.{typed_when-at}
 use Rattle.text_soundness.proofs.NamedExprs.{expr_tells}
 use Rattle.text_soundness.proofs.NamedLists.{cond_stands, values_count, temps_count, cond_tells, values_tell, name_tells, names_tell}
 use Rattle.text_soundness.proofs.NamedMeant.{Suited, temporary_fits, field_fits, value_own, field_own, label_fits, plain_fits, forlopp_fits, searched_fits, kind_of_number, answer_fits, transfer_fits, send_fits, holder_fits}
@@ -166,7 +166,7 @@ module _ (s : Scope) (first : ℕ) (events : List Event) (blocks : List TreeBloc
   module _ (b : ℕ) (B : List Stmt → Type 0) (body : (xs : List Stmt) → B xs → (p : ℕ) → Tells So (body_walk (map stmt_walk xs)) (AllIn (NamesStand s) (typed_list env xs p).0)) where
     when_tells : (w : When) → KeepsWhen B w → (owner p : ℕ) → Tells So (when_walk w owner) (AllIn (NamesStand s) (mout-When (typed_when env w p).0).body)
     when_tells w kept owner p =
-        let made : (mout-When (typed_when env w p).0).body ≡ (typed_list env (out-When w).body p).0 = ap (λ m. (mout-When m.0).body) (typed_when-out env w p) ∙ ap (λ l. l.body) (out-roll-When (record { number = (out-When w).number.value; body = (typed_list env (out-When w).body p).0 })) in
+        let made : (mout-When (typed_when env w p).0).body ≡ (typed_list env (out-When w).body p).0 = ap (λ m. (mout-When m.0).body) (typed_when-at env w p) ∙ ap (λ l. l.body) (out-roll-When (record { number = (out-When w).number.value; body = (typed_list env (out-When w).body p).0 })) in
         subst (λ list. Tells So (when_walk w owner) (AllIn (NamesStand s) list)) (sym made)
         (tells_same So _ _ _ (λ out. when_walk-out w owner out)
         (tells_so So _ _ _ (λ x. x.1) (tells_then So _ _ _ _ (tells_add So (out-When w).number.line (Chooses owner (out-When w).number.value)) (body (out-When w).body kept.1 p))))

@@ -1,5 +1,5 @@
 -- Conditions, and what stands after WITH.
-use Rattle.std.proofs.Common.{◌≡◌, ℕ, List, [], ◌∷◌, ◌++◌, length, map, Option, Some, None, refl, sym, ap, suc}
+use Rattle.std.proofs.Common.{◌≡◌, ℕ, List, [], ◌∷◌, length, map, Option, Some, None, refl, sym, ap, suc}
 use Rattle.std.specs.Prelude.{IfSome}
 use Rattle.std.specs.List.{AllByRecursion}
 use Rattle.std.proofs.lemmas.List.{length-map}
@@ -23,10 +23,7 @@ use Rattle.resolved_block.specs.Expressions.{typed_expr, typed_relation, typed_c
 use Rattle.resolved_block.specs.Meant.{temporary_of}
 use Rattle.text_soundness.proofs.ServedWalks.{Tells, tells_none, tells_add, tells_then, tells_so, tells_each, tells_in_turn}
 use Rattle.text_soundness.proofs.NamedExprs.{all_made}
-
-pub all_append : {A : Type 0} (P : A → Type 0) (xs ys : List A) → AllByRecursion P xs → AllByRecursion P ys → AllByRecursion P (xs ++ ys)
-all_append P [] ys all more = more
-all_append P (x ∷ xs) ys all more = (all.0, all_append P xs ys all.1 more)
+use Rattle.plex_num.proofs.Lists.{all_append}
 
 -- no list of a condition is empty
 conjs_filled : (env : Env) (cs : List Conj) → AllByRecursion IsFilled (map (typed_conj env) cs)

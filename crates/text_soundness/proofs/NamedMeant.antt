@@ -20,7 +20,7 @@ use Rattle.signal_types.specs.Found.{kind_at}
 use Rattle.text_rules.specs.Links.{is_outside}
 use Rattle.resolved_block.specs.Names.{counted_on}
 use Rattle.resolved_block.specs.Meant.{byte_of, value_in, temporary_in, file_in, field_file_in, field_place_in, label_in, holder_in}
-use Rattle.text_soundness.specs.Blocks.{Stands, IsPlaced}
+use Rattle.text_soundness.specs.Blocks.{IsFileOf, IsPlaced}
 use Rattle.text_soundness.specs.Meanings.{Suits}
 use Rattle.exchange_model.specs.declared.stmt.Receiver.{Receiver}
 
@@ -39,12 +39,12 @@ module _ (s : Scope) (first : ℕ) (placed : IsPlaced s first) where
 
   file_range : (f : ℕ) (forlopp : Bool) → Suits s.block (File f forlopp) → IsFile s (first + f) forlopp
   file_range f forlopp suits =
-      let at : Stands s (first + f) suits.0 = placed.files f suits.0 suits.1 in
+      let at : IsFileOf s (first + f) suits.0 = placed.files f suits.0 suits.1 in
       record { placed = record { block = s.number; file = suits.0; first = at.first }; there = at.there; own = refl; kind = suits.2 }
 
   field_range : (f place : ℕ) → Suits s.block (Field f place) → IsField s (first + f) place
   field_range f place suits =
-      let at : Stands s (first + f) suits.0 = placed.files f suits.0 suits.1 in
+      let at : IsFileOf s (first + f) suits.0 = placed.files f suits.0 suits.1 in
       record { placed = record { block = s.number; file = suits.0; first = at.first }; there = at.there; own = refl; within = suits.2 }
 
   pub temporary_fits : (o : Option Meaning) → Suited s o → serves need.Temporary o ≡ true → IsTemporary s (temporary_in (counted_on first o))

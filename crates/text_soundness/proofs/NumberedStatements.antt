@@ -21,7 +21,7 @@ use Rattle.resolved_block.specs.Meant.{temporary_of}
 use Rattle.resolved_block.specs.Statements.{in_turn, kind_layer, typed_kind, typed_stmt, typed_when, typed_list}
 use Rattle.resolved_block.proofs.Turns.{opened}
 use Rattle.text_soundness.proofs.Ranges.{Follows, follows_none, follows_first, follows_join}
-use Rattle.text_soundness.proofs.TypedLayers.{typed_kind-out, typed_stmt-out, typed_when-out}
+use Rattle.resolved_block.proofs.Turns.{typed_kind-out, typed_stmt-at, typed_when-at}
 
 set_temp_alone : (t : ℕ) (e : MExpr) → inner_spots (stmt.SetTemp t e) ≡ []
 set_temp_alone t e = inner_spots-out (stmt.SetTemp t e) ∙ ap parts_spots (stmt.outs-SetTemp t e)
@@ -104,13 +104,13 @@ module _ (env : Env) where
   stmt_step : (s : Stmt) → KindFollows s.kind → StmtFollows s
   stmt_step s h p =
       let k = typed_kind env s.kind (p + 1) in
-      rw (typed_stmt-out env s p) (follows_first (record { point = p; line = s.line }) (inner_spots k.0) k.1 (h (p + 1)))
+      rw (typed_stmt-at env s p) (follows_first (record { point = p; line = s.line }) (inner_spots k.0) k.1 (h (p + 1)))
 
   when_step : (w : When) (body : List ((s : Stmt) × StmtFollows s)) → (out-When w).body ≡ map (λ e. e.0) body → WhenFollows w
   when_step w body is p =
       let b = typed_list env (out-When w).body p in
       let held : Follows (spots b.0) p b.1 = rw is (stmts_follow body p) in
-      rw (typed_when-out env w p, ap (λ (l : MWhen-F MKind MStmt MWhen). spots l.body) (out-roll-MWhen (record { number = (out-When w).number.value; body = b.0 }))) held
+      rw (typed_when-at env w p, ap (λ (l : MWhen-F MKind MStmt MWhen). spots l.body) (out-roll-MWhen (record { number = (out-When w).number.value; body = b.0 }))) held
 
   pub kind_follows : (k : StmtKind) → KindFollows k
   kind_follows = ind-StmtKind KindFollows StmtFollows WhenFollows

@@ -1,6 +1,5 @@
 -- All events of a block that breaks no rule, as the whole block has it.
-use Rattle.std.proofs.Common.{◌≡◌, ℕ, ◌<◌, true, false, Bool, not, ◌&&◌, nat_eq, is_some, List, [], ◌∷◌, length, take, Some, None, Option, refl, sym, ◌∙◌, ap, arith, suc, slice_get}
-use Rattle.std.specs.List.{AllByRecursion}
+use Rattle.std.proofs.Common.{◌≡◌, ℕ, ◌<◌, true, false, Bool, not, ◌&&◌, nat_eq, is_some, List, length, take, Some, None, Option, refl, sym, ◌∙◌, ap, arith, slice_get}
 use Rattle.std.proofs.lemmas.Option.{slice_get_within}
 use Rattle.first_fault.specs.First.{any}
 use Rattle.exchange_model.specs.declared.signal.SignalKind.{SignalKind}
@@ -22,6 +21,7 @@ use Rattle.text_rules.specs.declared.rule.BlockRule.TheVariants as rule
 use Rattle.text_rules.specs.Blocks.{labels, serves, is_plain_file, is_field_of, is_forlopp_file, stands}
 use Rattle.text_soundness.proofs.ServedWalks.{AllSo}
 use Rattle.text_soundness.proofs.ServedWhole.{labelled_whole, stays_whole, opposite, passes}
+use Rattle.plex_num.proofs.Lists.{all_from}
 
 serves_none : (n : Need) → serves n None ≡ false
 serves_none need.Value = refl
@@ -106,13 +106,9 @@ module _ (text : Text) (own : Block) (done : List Event) (f : IsFineText text) (
   said_at place line (Chooses a b) inside at = tt
   said_at place line Ends inside at = tt
 
-all_at : {A : Type 0} (P : A → Type 0) (xs : List A) → ((i : ℕ) (x : A) → slice_get xs i ≡ Some x → P x) → AllByRecursion P xs
-all_at P [] each = tt
-all_at P (x ∷ xs) each = (each 0 x refl, all_at P xs (λ i y at. each (suc i) y at))
-
 pub said_whole : (text : Text) (own : Block) (done : List Event) → IsFineText text → AreFineLinks text own done → AllSo (Said text.signals text.blocks own (naming_of text.whole)) text.whole
 unfolding AllSo
-said_whole text own done f g = all_at (λ (e : Event). Said text.signals text.blocks own (naming_of text.whole) e.note) text.whole (λ i e at. said_at text own done f g i e.line e.note (slice_get_within text.whole i e at) at)
+said_whole text own done f g = all_from (λ (e : Event). Said text.signals text.blocks own (naming_of text.whole) e.note) text.whole (λ i e at. said_at text own done f g i e.line e.note (slice_get_within text.whole i e at) at)
 
 pub said_of : (signals : List SignalKind) (blocks : List Block) (b : Block) → IsFineBlock signals blocks b → SaidOf signals blocks b
 unfolding AllSo

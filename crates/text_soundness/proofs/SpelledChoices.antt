@@ -22,7 +22,7 @@ use Rattle.resolved_block.specs.Meant.{target_in}
 use Rattle.resolved_block.specs.Names.{Env}
 use Rattle.resolved_block.specs.Statements.{in_turn, kind_layer, typed_stmt, typed_when, typed_list}
 use Rattle.resolved_block.proofs.Turns.{opened}
-use Rattle.text_soundness.proofs.TypedLayers.{typed_kind-out, typed_stmt-out, typed_when-out}
+use Rattle.resolved_block.proofs.Turns.{typed_kind-out, typed_stmt-at, typed_when-at}
 
 -- what these tokens spell takes so many of them
 pub record AtLeast (n : ℕ) (L : Lang) : Type 0 where
@@ -87,7 +87,7 @@ module _ (env : Env) where
   module _ (b : ℕ) (B : List Stmt → Lang) (inside : (xs : List Stmt) (p : ℕ) → AtLeast (when_count (typed_list env xs p).0) (B xs)) where
     when_least : (w : When) (p : ℕ) → AtLeast (1 + when_whens (typed_when env w p).0) (when_with true B w)
     when_least w p =
-        let made : (mout-When (typed_when env w p).0).body ≡ (typed_list env (out-When w).body p).0 = ap (λ m. (mout-When m.0).body) (typed_when-out env w p) ∙ ap (λ l. l.body) (out-roll-When (record { number = (out-When w).number.value; body = (typed_list env (out-When w).body p).0 })) in
+        let made : (mout-When (typed_when env w p).0).body ≡ (typed_list env (out-When w).body p).0 = ap (λ m. (mout-When m.0).body) (typed_when-at env w p) ∙ ap (λ l. l.body) (out-roll-When (record { number = (out-When w).number.value; body = (typed_list env (out-When w).body p).0 })) in
         least_same (ap (λ list. 1 + when_count list) made) (least_on (least_then (least_word WHEN) (least_after (least_after (inside (out-When w).body p)))))
 
     whens_least : (ws : List When) (p : ℕ) → AtLeast (length (in_turn (map (typed_when env) ws) p).0 + total (map when_whens (in_turn (map (typed_when env) ws) p).0)) (each (when_with true B) ws)
@@ -124,7 +124,7 @@ module _ (env : Env) where
 
     pub stmt_least : (x : Stmt) (p : ℕ) → AtLeast (inner_whens (typed_stmt env x p).0.kind) (stmt_with true b B x)
     stmt_least x p =
-        least_same (ap (λ m. inner_whens m.0.kind) (typed_stmt-out env x p) ∙ ap (λ g. inner_whens (g (p + 1)).0) (typed_kind-out env x.kind))
+        least_same (ap (λ m. inner_whens m.0.kind) (typed_stmt-at env x p) ∙ ap (λ g. inner_whens (g (p + 1)).0) (typed_kind-out env x.kind))
         (least_on (kind_least (out-StmtKind x.kind) (p + 1)))
 
     pub list_least : (xs : List Stmt) (p : ℕ) → AtLeast (when_count (typed_list env xs p).0) (each (stmt_with true b B) xs)

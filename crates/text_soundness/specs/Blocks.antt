@@ -13,13 +13,13 @@ use Rattle.exchange_model.specs.Everywhere.{AllIn}
 use Rattle.text_soundness.specs.Shares.{NamesStand, PartsStand}
 
 -- a file of the block stands in the exchange, from the number of the block's first file on
-pub record Stands (s : Scope) (file : ℕ) (f : File) : Type 0 where
+pub record IsFileOf (s : Scope) (file : ℕ) (f : File) : Type 0 where
   pub first : ℕ
   pub there : slice_get s.files file ≡ Some (record { block = s.number; file = f; first = first })
 
 -- a block in its exchange
 pub record IsPlaced (s : Scope) (first_file : ℕ) : Type 0 where
-  pub files : (i : ℕ) (f : File) → slice_get s.block.files i ≡ Some f → Stands s (first_file + i) f
+  pub files : (i : ℕ) (f : File) → slice_get s.block.files i ≡ Some f → IsFileOf s (first_file + i) f
 
 -- its declarations and its survey
 pub record IsDeclared (signals : List SignalKind) (k : Block) : Type 0 where

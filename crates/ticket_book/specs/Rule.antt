@@ -21,14 +21,14 @@ abbrev pub Sat : Type 0
 Sat = Me (Unit {0}) Page
 
 -- the loan that is claimed stands at the number that is claimed
-abbrev pub Stands : List Lent → Claim → Type 0
-Stands loans c = get_elem? loans c.number ≡ some c.loan
+abbrev pub IsLentAs : List Lent → Claim → Type 0
+IsLentAs loans c = get_elem? loans c.number ≡ some c.loan
 
 -- what a page says is so
 abbrev pub IsSo : List Lent → Page → Type 0
 IsSo loans (Writes n) = n ≡ length loans
-IsSo loans (Claims c) = Stands loans c
-IsSo loans (Meets c d) = Stands loans c × Stands loans d
+IsSo loans (Claims c) = IsLentAs loans c
+IsSo loans (Meets c d) = IsLentAs loans c × IsLentAs loans d
 IsSo loans Spent = Unit {0}
 
 abbrev pub is_pen : Page → Bool

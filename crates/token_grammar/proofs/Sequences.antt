@@ -4,6 +4,7 @@ use Rattle.std.proofs.lemmas.Bool.{false≢true}
 use Rattle.plex_lexer.specs.declared.token.Token.{Token}
 use Rattle.token_grammar.specs.Language.{class, mem, Lang, ◌·◌, line_at}
 use Rattle.token_grammar.specs.Reading.{Stuck, Reader, ◌>>=◌, at, word_of, both, lined}
+use Rattle.plex_num.proofs.Booleans.{or_cases, or_false, or_left, or_right}
 
 abbrev pub SameHead : List Token → List Token → Type 0
 SameHead [] [] = Unit {0}
@@ -105,22 +106,6 @@ pub either : (b : Bool) → (b ≡ true) ⊎ (b ≡ false)
 either true = inl refl
 either false = inr refl
 
-or_true : (a b : Bool) → (a || b) ≡ true → (a ≡ true) ⊎ (b ≡ true)
-or_true true b h = inl refl
-or_true false b h = inr h
-
-or_false : (a b : Bool) → (a || b) ≡ false → (a ≡ false) × (b ≡ false)
-or_false true b h = cc
-or_false false b h = (refl, h)
-
-or_left : (a b : Bool) → a ≡ true → (a || b) ≡ true
-or_left true b h = refl
-or_left false b h = cc
-
-or_right : (a b : Bool) → b ≡ true → (a || b) ≡ true
-or_right true b h = refl
-or_right false b h = h
-
 mem_append : (c : ℕ) (xs ys : List ℕ) → mem c (xs ++ ys) ≡ (mem c xs || mem c ys)
 mem_append c [] ys = refl
 mem_append c (x ∷ xs) ys = ap (λ b. eqb c x || b) (mem_append c xs ys) ∙ or_assoc (eqb c x) (mem c xs) (mem c ys)
@@ -136,7 +121,7 @@ pub mem_right : (c : ℕ) (xs ys : List ℕ) → mem c ys ≡ true → mem c (xs
 mem_right c xs ys h = mem_append c xs ys ∙ or_right (mem c xs) (mem c ys) h
 
 pub mem_split : (c : ℕ) (xs ys : List ℕ) → mem c (xs ++ ys) ≡ true → (mem c xs ≡ true) ⊎ (mem c ys ≡ true)
-mem_split c xs ys h = or_true (mem c xs) (mem c ys) (sym (mem_append c xs ys) ∙ h)
+mem_split c xs ys h = or_cases (mem c xs) (mem c ys) (sym (mem_append c xs ys) ∙ h)
 
 pub at_both : (xs ys : List ℕ) (w : List Token) → at (xs ++ ys) w ≡ (at xs w || at ys w)
 at_both xs ys [] = refl
@@ -149,13 +134,13 @@ pub apart_mem : (xs ys : List ℕ) (c : ℕ) → apart xs ys ≡ true → mem c 
 apart_mem [] ys c h m = cc
 apart_mem (x ∷ xs) ys c h m =
     let k = cond_false (mem x ys) (apart xs ys) h in
-    elim (or_true (eqb c x) (mem c xs) m) [ inl e ↦ ap (λ z. mem z ys) (eqb-true c x e) ∙ k.0 | inr e ↦ apart_mem xs ys c k.1 e ]
+    elim (or_cases (eqb c x) (mem c xs) m) [ inl e ↦ ap (λ z. mem z ys) (eqb-true c x e) ∙ k.0 | inr e ↦ apart_mem xs ys c k.1 e ]
 
 pub within_mem : (xs ys : List ℕ) (c : ℕ) → within xs ys ≡ true → mem c xs ≡ true → mem c ys ≡ true
 within_mem [] ys c h m = cc
 within_mem (x ∷ xs) ys c h m =
     let k = cond_true (mem x ys) (within xs ys) h in
-    elim (or_true (eqb c x) (mem c xs) m) [ inl e ↦ ap (λ z. mem z ys) (eqb-true c x e) ∙ k.0 | inr e ↦ within_mem xs ys c k.1 e ]
+    elim (or_cases (eqb c x) (mem c xs) m) [ inl e ↦ ap (λ z. mem z ys) (eqb-true c x e) ∙ k.0 | inr e ↦ within_mem xs ys c k.1 e ]
 
 -- one token
 

@@ -1,20 +1,23 @@
 use Rattle.std.proofs.Common.{◌∙◌, ap, length}
 use Rattle.exchange_model.specs.Parts.{Parts}
-use Rattle.access_summary.proofs.Summed.{some_has, summaries_begin, summaries_more, summaries_end}
+use Rattle.least_facts.specs.Least.{HasLearned}
+use Rattle.access_summary.proofs.Summed.{all_found, passed_one, summaries_begin, summaries_more, summaries_end}
 use Rattle.access_summary.proofs.least.summaries_within.Goals as goal
 
 pub loop-entry-init : goal.loop-entry-init
-loop-entry-init c = (summaries_begin c.args.exchange.now c.new-summaries.result c.new-summaries.ensures, c.in_ok-analyser.ensures, λ none. none)
+loop-entry-init c = (summaries_begin c.args.exchange.now c.new-summaries.result c.new-summaries.ensures, c.in_ok-analyser.ensures)
+
+pub excess_of-requires : goal.excess_of-requires
+excess_of-requires c = passed_one (HasLearned c.args.exchange.now c.loop-entry.entry c.learn.new.self) c.args.most c.most_of_entry-bound.result c.loop-entry.before c.in_ok-looked.looked c.in-Over.looks c.most_of_entry-bound.ensures c.in-Over.is c.in_ok-looked.ensures.learned
 
 pub summarise-requires-clause-learned : goal.summarise-requires-clause-learned
-summarise-requires-clause-learned c = some_has c.in_ok-told.told c.in-Some.looked c.in-Some.is c.in_ok-told.ensures.learned
+summarise-requires-clause-learned c = all_found c.most_of_entry-bound.result c.in_ok-looked.looked c.in-Whole.looks c.in-Whole.is c.in_ok-looked.ensures.learned
 
 pub loop-entry-preserved : goal.loop-entry-preserved
 loop-entry-preserved c = (
   summaries_more c.args.exchange.now c.loop-entry.entry c.in_ok-summarise.field-0 c.loop-entry.summaries c.push.new.self c.in_ok-summarise.ensures c.in_ok-push.ensures c.loop-entry.invariant.0,
-  c.in_ok-told.ensures.own,
-  λ none. c.less-left.ensures (c.loop-entry.invariant.2 none),
+  c.in_ok-looked.ensures.own,
 )
 
-pub returns-clause-told : goal.returns-clause-told
-returns-clause-told c = summaries_end c.args.exchange.now c.loop-entry.entry c.len-entry-end.result c.loop-entry.summaries (c.len-entry-end.ensures ∙ ap (λ (v : Parts). length v.entries) c.exchange.view_is) c.loop-entry.auto.entry-end c.loop-entry-test.false c.loop-entry.invariant.0
+pub returns : goal.returns
+returns c = summaries_end c.args.exchange.now c.loop-entry.entry c.len-entry-end.result c.loop-entry.summaries (c.len-entry-end.ensures ∙ ap (λ (v : Parts). length v.entries) c.exchange.view_is) c.loop-entry.auto.entry-end c.loop-entry-test.false c.loop-entry.invariant.0

@@ -1,6 +1,6 @@
 use Rattle.std.specs.List.{Contains}
 use Rattle.checked.proofs.Checking.{accepted, known_own, missing_told, wrong_shape}
-use Rattle.checked.proofs.Summing.{can_be_kept}
+use Rattle.checked.proofs.Summing.{few_summaries}
 use Rattle.checked.proofs.deciding.check.Goals as goal
 
 pub returns-then-not-is_same : goal.returns-then-not-is_same
@@ -14,8 +14,8 @@ returns-in-Some-2 c =
     missing_told c.args.exchange.now c.args.certificate c.shape_of-own.result c.is_same.result c.as_slice.result.now c.new-known.result c.in_order.result c.in_ok-fact.field-0 c.shape_of-own.ensures c.is_same.ensures c.if-not-is_same.false c.as_slice.ensures c.in_default.ensures c.new-known.ensures c.in_order.ensures.same c.in_ok-fact.ensures c.in-Some-2.fact c.in-Some-2.is
 
 pub new-requires : goal.new-requires
-new-requires c = can_be_kept c.args.exchange.now (Contains c.new-known.result) c.in_ok-summaries.summaries c.kept.ensures.limited.entries c.in_ok-summaries.ensures
+new-requires c = few_summaries c.args.exchange.now (Contains c.new-known.result) c.in_ok-summaries.summaries c.kept.ensures.limited.entries c.in_ok-summaries.ensures
 
 pub returns : goal.returns
 returns c =
-    accepted c.args.exchange.now c.args.certificate c.shape_of-own.result c.is_same.result c.as_slice.result.now c.new-known.result c.in_order.result c.in_ok-fact.field-0 c.shape_of-own.ensures c.is_same.ensures c.if-not-is_same.false c.as_slice.ensures c.in_default.ensures c.new-known.ensures c.in_order.ensures.same c.in_ok-fact.ensures c.new.result c.in_ok-summaries.summaries c.in_default-2.is c.in_order.ensures.rising c.in_ok-summaries.ensures c.new.ensures.facts c.new.ensures.summaries
+    accepted c.args.exchange.now c.args.certificate c.shape_of-own.result c.is_same.result c.as_slice.result.now c.new-known.result c.in_order.result c.in_ok-fact.field-0 c.shape_of-own.ensures c.is_same.ensures c.if-not-is_same.false c.as_slice.ensures c.in_default.ensures c.new-known.ensures c.in_order.ensures.same c.in_ok-fact.ensures c.new.result c.in_ok-summaries.summaries c.in_default-2.is c.in_ok-summaries.ensures c.new.ensures

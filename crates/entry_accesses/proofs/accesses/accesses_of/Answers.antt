@@ -8,7 +8,7 @@ use Rattle.entry_summary.specs.Accesses.{IsAccess}
 use Rattle.entry_summary.specs.Orders.{access_order}
 use Rattle.entry_accesses.specs.Adding.{HasAccess}
 use Rattle.entry_accesses.proofs.Adding.{go_new, go_more, go_end}
-use Rattle.entry_accesses.proofs.Placing.{found_exact, same_then}
+use Rattle.entry_accesses.proofs.Placing.{found_exact}
 use Rattle.entry_accesses.proofs.accesses.accesses_of.Goals as goal
 
 pub loop-at-init : goal.loop-at-init
@@ -27,10 +27,9 @@ returns-clause-exact g c =
     let x = c.args.exchange.now in
     let P = g.K.KnownFacts.knows c.args.known.now in
     let e = c.args.entry in
-    let found = found_exact x P e c.args.places.now [] c.loop-at.found.accesses c.requires.places refl
-    (go_end (λ (at : PlaceAt). HasAccess x P e (seen at)) c.args.places.now c.loop-at.at-index [] c.loop-at.found.accesses c.loop-at-test.false c.loop-at.invariant) in
-    let each = same_then x P e c.loop-at.found.accesses c.in_order-each.result found c.in_order-each.ensures.same in
+    let each = found_exact x P e c.args.places.now c.requires.places [] c.loop-at.found.accesses c.in_ok-all.all refl
+    (go_end (λ (at : PlaceAt). HasAccess x P e (seen at)) c.args.places.now c.loop-at.at-index [] c.loop-at.found.accesses c.loop-at-test.false c.loop-at.invariant) c.in_ok-all.ensures.whole in
     λ a. subst (λ l. Contains l a ↔ IsAccess x P e a) (sym (c.in_ok-copy.ensures ∙ c.as_slice.ensures)) (each a)
 
 pub returns-clause-rising : goal.returns-clause-rising
-returns-clause-rising g c = subst (IsStrictlySortedBy access_order) (sym (c.in_ok-copy.ensures ∙ c.as_slice.ensures)) c.in_order-each.ensures.rising
+returns-clause-rising g c = subst (IsStrictlySortedBy access_order) (sym (c.in_ok-copy.ensures ∙ c.as_slice.ensures)) c.in_ok-all.ensures.rising

@@ -1,21 +1,20 @@
 use Rattle.std.proofs.Common.{[], ◌∷◌}
-use Rattle.source_meaning.specs.Named.{NamedVariable, NamedField, named_in}
+use Rattle.source_meaning.specs.Named.{NamedVariable, NamedField, named_in, named_in_term, named_in_joined}
 use Rattle.entry_accesses.specs.declared.operands.Operand.TheVariants as operand
-use Rattle.entry_accesses.specs.Operands.{term_names, joined_names}
 use Rattle.entry_accesses.proofs.Naming.{names_more, names_end, one_name, no_names, factor_as, variable_named, field_named, bracket_named, number_named, temporary_named, reference_named}
 use Rattle.entry_accesses.proofs.operands.+names.Goals as goal
 
 pub push_terms-loop-term-preserved : goal.push_terms-loop-term-preserved
-push_terms-loop-term-preserved t c = names_more term_names c.args.terms.now c.loop-term.term-index c.term-item.result c.args.names.now c.loop-term.names c.push_term.new.names c.loop-term-test.true c.term-item.is c.in_ok-push_term.ensures c.loop-term.invariant
+push_terms-loop-term-preserved t c = names_more named_in_term c.args.terms.now c.loop-term.term-index c.term-item.result c.args.names.now c.loop-term.names c.push_term.new.names c.loop-term-test.true c.term-item.is c.in_ok-push_term.ensures c.loop-term.invariant
 
 pub push_terms-returns : goal.push_terms-returns
-push_terms-returns t c = names_end term_names c.args.terms.now c.loop-term.term-index c.args.names.now c.loop-term.names c.loop-term-test.false c.loop-term.invariant
+push_terms-returns t c = names_end named_in_term c.args.terms.now c.loop-term.term-index c.args.names.now c.loop-term.names c.loop-term-test.false c.loop-term.invariant
 
 pub push_factors-loop-joined-preserved : goal.push_factors-loop-joined-preserved
-push_factors-loop-joined-preserved t c = names_more joined_names c.args.factors.now c.loop-joined.joined-index c.joined-item.result c.args.names.now c.loop-joined.names c.push_factor.new.names c.loop-joined-test.true c.joined-item.is c.in_ok-push_factor.ensures c.loop-joined.invariant
+push_factors-loop-joined-preserved t c = names_more named_in_joined c.args.factors.now c.loop-joined.joined-index c.joined-item.result c.args.names.now c.loop-joined.names c.push_factor.new.names c.loop-joined-test.true c.joined-item.is c.in_ok-push_factor.ensures c.loop-joined.invariant
 
 pub push_factors-returns : goal.push_factors-returns
-push_factors-returns t c = names_end joined_names c.args.factors.now c.loop-joined.joined-index c.args.names.now c.loop-joined.names c.loop-joined-test.false c.loop-joined.invariant
+push_factors-returns t c = names_end named_in_joined c.args.factors.now c.loop-joined.joined-index c.args.names.now c.loop-joined.names c.loop-joined-test.false c.loop-joined.invariant
 
 pub push_factor-returns-in_ok-push-in-Variable : goal.push_factor-returns-in_ok-push-in-Variable
 push_factor-returns-in_ok-push-in-Variable t c =

@@ -6,7 +6,7 @@ use Rattle.flow_points.specs.declared.fact.Value.TheVariants.{Any}
 use Rattle.flow_points.specs.declared.flow.Source.TheVariants.{Is}
 use Rattle.entry_accesses.specs.declared.uses.Use.TheVariants as use_of
 use Rattle.entry_accesses.proofs.Numbering.{field_has}
-use Rattle.entry_accesses.proofs.Using.{set_variable_numbered, set_field_numbered, search_numbered, free_numbered, free_few, done_as, done_none, freed}
+use Rattle.entry_accesses.proofs.Using.{set_variable_numbered, set_field_numbered, search_numbered, done_as, done_none}
 use Rattle.entry_accesses.proofs.uses.push_done.Goals as goal
 
 pub push_operand-requires-clause-numbered : goal.push_operand-requires-clause-numbered
@@ -21,14 +21,6 @@ pub field-number-requires : goal.field-number-requires
 field-number-requires c =
     field_has c.args.here.now.exchange.now c.args.here.now.numbers.now c.args.here.now.block c.in-ForFirst.file c.in-ForFirst.field c.in-ForFirst.temp c.requires.numbers
     (search_numbered c.args.here.now.exchange.now c.args.here.now.block c.in-ForFirst.temp c.in-ForFirst.file c.in-ForFirst.field c.in-ForFirst.rel c.in-ForFirst.value c.in-ForFirst.label (out-StmtKind c.args.kind.now) c.kept.ensures c.requires.of_block (ap out-StmtKind c.in-ForFirst.is ∙ kind.outs-ForFirst c.in-ForFirst.temp c.in-ForFirst.file c.in-ForFirst.field c.in-ForFirst.rel c.in-ForFirst.value c.in-ForFirst.label))
-
-pub field-first-requires : goal.field-first-requires
-field-first-requires c =
-    field_has c.args.here.now.exchange.now c.args.here.now.numbers.now c.args.here.now.block c.in-Free.file 0 c.in-Free.temp c.requires.numbers
-    (free_numbered c.args.here.now.exchange.now c.args.here.now.block c.in-Free.temp c.in-Free.file (out-StmtKind c.args.kind.now) c.kept.ensures c.requires.of_block (ap out-StmtKind c.in-Free.is ∙ kind.outs-Free c.in-Free.temp c.in-Free.file))
-
-pub push_opened-requires : goal.push_opened-requires
-push_opened-requires c = free_few c.args.here.now.exchange.now c.in-Free.file c.field-first.result c.kept.ensures (c.field-first.ensures c.args.here.now.exchange.now c.requires.numbers)
 
 pub returns-in_ok-push_operand-in-SetVariable : goal.returns-in_ok-push_operand-in-SetVariable
 returns-in_ok-push_operand-in-SetVariable c =
@@ -49,7 +41,7 @@ returns-in_ok-push-in-Seize c =
 
 pub returns-in_ok-push-in-Free : goal.returns-in_ok-push-in-Free
 returns-in_ok-push-in-Free c =
-    freed c.args.here.now.exchange.now c.args.here.now.block c.in-Free.temp c.in-Free.file c.field-first.result c.args.kind.now c.args.uses.now c.push_opened.new.uses c.push-in-Free.new.self (ap out-StmtKind c.in-Free.is ∙ kind.outs-Free c.in-Free.temp c.in-Free.file) (c.field-first.ensures c.args.here.now.exchange.now c.requires.numbers) c.in_ok-push_opened-in-Free.ensures c.in_ok-push-in-Free.ensures
+    done_as c.args.here.now.exchange.now c.args.here.now.block c.args.kind.now (layer.Free c.in-Free.temp c.in-Free.file) c.args.uses.now c.push-in-Free.new.self (ap out-StmtKind c.in-Free.is ∙ kind.outs-Free c.in-Free.temp c.in-Free.file) c.in_ok-push-in-Free.ensures
 
 pub returns-in_default : goal.returns-in_default
 returns-in_default c = done_none c.args.here.now.exchange.now c.args.here.now.block c.args.kind.now c.args.uses.now c.in_default.not-SetVariable c.in_default.not-SetField c.in_default.not-ForFirst c.in_default.not-Seize c.in_default.not-Free

@@ -32,8 +32,8 @@ loop-point-smaller c =
     visit_less c.args.exchange.now c.args.table.now c.args.answers.now c.args.entry (search_of c.loop-point.rows c.take.new.marked) (search_of c.visit.new.rows c.visit.new.marked) c.in-Some.point (marks_of c.loop-point.marked)
     (taken c.take.result c.in-Some.point (marks_of c.loop-point.marked) (marks_of c.take.new.marked) c.in-Some.is c.take.ensures.takes) c.in_ok-more.ensures
 
-pub returns-then-is_over-clause-all : goal.returns-then-is_over-clause-all
-returns-then-is_over-clause-all c = λ none. absurd (c.is_over.ensures c.if-is_over.true none)
+pub returns-then-is_over-clause-found : goal.returns-then-is_over-clause-found
+returns-then-is_over-clause-found c = c.is_over.ensures c.if-is_over.true
 
 pub returns-then-is_over-clause-slots : goal.returns-then-is_over-clause-slots
 returns-then-is_over-clause-slots c = c.loop-point.invariant.stands.of_slots

@@ -1,6 +1,6 @@
 use Rattle.std.proofs.Common.{rules, sym, ◌∙◌}
 use Rattle.std.proofs.lemmas.Grind.{common_steps}
-use Rattle.plex_program.proofs.Signals.{lines_are_read}
+use Rattle.plex_program.proofs.Tables.{lines_are_read}
 use Rattle.plex_program.proofs.perform.lines_of_file.Goals as goal
 
 pub returns-in-Ok-clause-read : goal.returns-in-Ok-clause-read

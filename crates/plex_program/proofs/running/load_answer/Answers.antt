@@ -5,8 +5,7 @@ use Rattle.plex_program.proofs.running.load_answer.Goals as goal
 
 pub returns-clause-answer : goal.returns-clause-answer
 returns-clause-answer g c =
-    let end = c.in_ok-end.end in
-    summed_is c.args.calls USUAL_JOBS c.args.exchange.now c.args.lines end.books.state end.words (ending_of end.ending) (record { status = c.status_of.result; text = c.in_ok-text.text }) c.in_ok-end.ensures.end c.status_of.ensures c.in_ok-text.ensures
+    summed_is c.args.calls USUAL_JOBS c.args.exchange.now c.args.lines c.in_ok-end.end (record { status = c.status_of.result; text = c.in_ok-text.text }) c.in_ok-end.ensures c.status_of.ensures c.in_ok-text.ensures
 
 pub returns-clause-ending : goal.returns-clause-ending
 returns-clause-ending g c = status_ends (ending_of c.in_ok-end.end.ending) c.status_of.result c.status_of.ensures

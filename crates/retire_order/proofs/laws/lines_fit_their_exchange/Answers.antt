@@ -8,7 +8,7 @@ pub returns-clause-lines : goal.returns-clause-lines
 returns-clause-lines c x text lines is = signal_lines_fit x text lines is
 
 pub returns-clause-few : goal.returns-clause-few
-returns-clause-few c x text lines short is = signal_lines_few x text lines short is
+returns-clause-few c x text lines is short = signal_lines_few x text lines short is
 
 pub returns-clause-opening : goal.returns-clause-opening
-returns-clause-opening c x text lines kept is = opening_valid x kept (map coming_of lines) (signal_lines_fit x text lines is)
+returns-clause-opening c x text lines is kept = opening_valid x kept (map coming_of lines) (signal_lines_fit x text lines is)

@@ -1,5 +1,5 @@
-use Rattle.least_facts.proofs.Growing.{learned_some}
+use Rattle.least_facts.proofs.Growing.{learned_or_over}
 use Rattle.least_facts.proofs.analyser.Analyser.learn.Goals as goal
 
 pub returns-clause-learned : goal.returns-clause-learned
-returns-clause-learned c = learned_some c.args.exchange.now c.args.table.now c.args.entry _ c.in_ok-looked.looked c.in_ok-looked.ensures.found
+returns-clause-learned c = learned_or_over c.args.exchange.now c.args.table.now c.args.entry _ c.args.most c.in_ok-looked.looked c.in_ok-looked.ensures.found

@@ -1,0 +1,23 @@
+// How many looks at facts the summaries of an exchange may take, and whether they take more.
+use kept_summaries::Summaries;
+
+/// The part of all looks that may be spent on one entry: what they find takes memory, some 100 bytes for each.
+pub const PART_OF_ENTRY: usize = 16;
+
+/// The summaries of an exchange, for which there may be so many looks at facts.
+#[derive(Drop)]
+pub enum FewOrMany {
+    /// The summary of each entry, by the least facts.
+    Few(Summaries),
+    /// More looks were made, and no summary is told.
+    Many(Excess),
+}
+
+/// The looks that are more than there may be.
+#[derive(Clone, Copy)]
+pub enum Excess {
+    /// In all: so many for the entries before one, with the time that its table takes, and so many for that one.
+    InAll { before: usize, looks: usize },
+    /// For one entry, for which there may be a sixteenth of them: so many.
+    ForOne { looks: usize },
+}

@@ -1,8 +1,0 @@
-use Rattle.entry_accesses.proofs.Using.{written_more, written_end}
-use Rattle.entry_accesses.proofs.uses.push_written.Goals as goal
-
-pub loop-number-preserved : goal.loop-number-preserved
-loop-number-preserved c = written_more c.args.first c.args.end c.loop-number.number c.args.uses.now c.loop-number.uses c.push.new.self c.loop-number-test.true c.in_ok-push.ensures c.loop-number.invariant
-
-pub returns : goal.returns
-returns c = written_end c.args.first c.args.end c.loop-number.number c.args.uses.now c.loop-number.uses c.loop-number-test.false c.loop-number.invariant

@@ -1,5 +1,0 @@
-use Rattle.entry_accesses.proofs.Using.{WrittenGo}
-use Rattle.entry_accesses.proofs.uses.push_written.Given as goal
-
-abbrev pub invariant-loop-number : goal.invariant-loop-number
-invariant-loop-number l = WrittenGo l.first l.end l.number l.fn.uses l.uses

@@ -1,0 +1,10 @@
+use Rattle.plex_program.proofs.Endings.{answers_command, answers_usage}
+use Rattle.plex_program.proofs.program.answered.Goals as goal
+
+pub returns-in-Ok-Some-clause-answers : goal.returns-in-Ok-Some-clause-answers
+returns-in-Ok-Some-clause-answers g c =
+    answers_command _ c.args.words.now c.in-Ok-Some.command _ _ c.perform.result (rw c.in-Ok-Some.field-0-is at c.in-Ok-Some.ensures.command) c.perform.ensures.comes
+
+pub returns-in-Ok-None-clause-answers : goal.returns-in-Ok-None-clause-answers
+returns-in-Ok-None-clause-answers g c =
+    answers_usage _ c.args.words.now _ c.usage_answer.result (rw c.in-Ok-None.field-0-is at c.in-Ok-None.ensures.command) c.usage_answer.ensures
