@@ -11,12 +11,15 @@ its jobs are made for:
   pure   computes, asks and sends, and touches nothing that is stored
   wild   any statements in any order
   grab, shout, spin, deep   goes for the limit of a chain, of the signals sent, of the statements, of the callers
+  form   statements that a machine makes at once, as made_forms writes them; only where it is named
 
 Jobs of the first four pass as pairs where their forlopps and their values differ, so that many run at once. The
 others conflict, and fault in each way.
 """
 import copy
 import re
+
+import made_forms
 
 LEVELS = "ABCD"
 RELATIONS = ["=", "<>", "<", "<=", ">", ">="]
@@ -99,7 +102,8 @@ class Block:
             for place in range(chance.randint(1, 2))
         ]
         own_size = 70 if "grab" in families else chance.choice([1, 2, 3, 5, 8])
-        self.own = [File(chance, "G0", own_size, "Z", chance.randint(1, 2), widths)]
+        count = chance.choice([1, 6, 7, 8, 14, 17]) if "form" in families else chance.randint(1, 2)
+        self.own = [File(chance, "G0", own_size, "Z", count, widths)]
         if chance.random() < 0.3:
             self.own.append(File(chance, "G1", chance.choice([1, 2, 4]), "O", 1, widths))
         self.receives, self.sends, self.items, self.labels = [], {}, [], 0
@@ -537,6 +541,10 @@ class Body:
         loops = [f"{name}) GOTO {name};", f"{name}) T = T + 1; GOTO {name};", "ON I FROM 0 UPTO 4294967295 DO NO;"]
         self.put(self.chance.choice(loops))
 
+    def make_form(self):
+        for line in made_forms.lines_of(self):
+            self.put(line)
+
     def make_deep(self):
         """A call that calls itself as often as its first value says."""
         for signal in self.maker.combined:
@@ -605,6 +613,8 @@ class Maker:
                 level = self.chance.choice(LEVELS)
             least = 0 if role in ("wild", "pure", "shout", "grab", "spin") else 1
             count = 8 if self.chance.random() < 0.03 else self.chance.randint(least, 3)
+            if role == "form":
+                count = self.chance.choice([3, 4, 4, 5])
             place = len(self.buffered)
             signal = Signal(f"B{place}", "buffered", count, rank=place, level=level, role=role)
             self.buffered.append(signal)
@@ -662,6 +672,8 @@ class Lines:
         return self.chance.choice([0, 1, 1, 2, 2, 3, 4, 5, 7, 9, 11, 255, 70000] if usual else [4294967295, 256, 65536])
 
     def values(self, signal, block):
+        if signal.role == "form":
+            return made_forms.values_of(self.chance, signal.count)
         given = [self.value() for _ in range(signal.count)]
         if not given:
             return given

@@ -173,6 +173,7 @@ def one_call(size):
 
 PRODUCTS = [
     Product("FREEs of many fields", lambda size: frees(size, size), (2500, 10000), once),
+    Product("more FREEs than fields", lambda size: frees(size // 2, size), (500, 2000), once),
     Product("sends by a held reference", lambda size: held_sends(size, RECEIVERS), (5000, 19700), once),
     Product("choices of many facts", lambda size: choices(size, 1, 250), (25000, 100000)),
     Product("choices of many entries", lambda size: choices(size, ENTRIES, 1), (25000, 100000)),
@@ -180,6 +181,7 @@ PRODUCTS = [
     Product("choices in a GOTO loop", lambda size: case_loop(size, 24), (1500, 10000)),
     Product("fields that many entries read", lambda size: accesses(size, 30), (500, 2000), lambda size: calls(100)),
     Product("fields that many jobs read", lambda size: accesses(size, 1), (2000, 9900), lambda size: calls(size // 10)),
+    Product("fields that few jobs read", lambda size: accesses(size, 1), (2000, 9900), lambda size: calls(100)),
     Product("fields that many entries free", lambda size: entries_that_free(size, ENTRIES), (1200, 20000)),
     Product("variables that many entries read", lambda size: entries_that_read(size, ENTRIES), (1500, 6000)),
     Product("values of many constants", lambda size: values(size, 250), (1500, 9000)),
