@@ -14,7 +14,7 @@ use Rattle.entry_summary.specs.declared.summary.Access.{Access}
 use Rattle.entry_summary.specs.declared.summary.Summary.{Summary}
 use Rattle.entry_summary.specs.Accesses.{Accesses, IsAccess, reads, reads_holder, writes, reads_field, writes_field, searches, reads_own, writes_own, opens_own, seizes, frees}
 use Rattle.entry_summary.specs.Faults as faults
-use Rattle.entry_summary.specs.Faults.{FaultsAt, GoesTo, MayFault, Once, PostsAt, SomeFaults, SourceMayBe, Then, TooManySends, Walk, no_record, no_receiver, too_wide, divides_by_zero, not_own, has_caller, no_caller, other_caller, too_deep}
+use Rattle.entry_summary.specs.Faults.{FaultsAt, FlowLeads, MayFault, Once, PostsAt, SomeFaults, SourceMayBe, Then, TooManySends, Walk, no_record, no_receiver, too_wide, divides_by_zero, not_own, has_caller, no_caller, other_caller, too_deep}
 use Rattle.entry_summary.specs.Summaries.{IsSummary, MaySendTo}
 
 -- what is known of the entry is known here as well
@@ -77,7 +77,7 @@ module _ (x : Exchange) (P Q : Facts) (e : ℕ) (on : OnEntry P Q e) where
   many_on : TooManySends x P e → TooManySends x Q e
   many_on t = record { points = t.points; once = t.once; each = λ p there. posts_on p (t.each p there); many = t.many }
 
-  goes_on : {p q : ℕ} → GoesTo x P e p q → GoesTo x Q e p q
+  goes_on : {p q : ℕ} → FlowLeads x P e p q → FlowLeads x Q e p q
   goes_on {p = p} g = record { at = g.at; stands = g.stands; reached = reached_on p g.reached; how = g.how; leads = g.leads }
 
   walk_on : {p q : ℕ} → Walk x P e p q → Walk x Q e p q

@@ -16,7 +16,7 @@ use Rattle.flow_points.proofs.Least.{least_in}
 use Rattle.flow_points.specs.Orders.{fact_order}
 use Rattle.flow_table.specs.declared.place.PlaceAt.{PlaceAt}
 use Rattle.flow_table.specs.Texts.{ArePlaces, AreReachedAmong, seen}
-use Rattle.fact_rows.specs.Known.{Rows, Knows}
+use Rattle.fact_rows.specs.Known.{BitRows, Knows}
 use Rattle.fact_rows.proofs.Listing.{nat_less, sorted_append, sorted_none}
 use Rattle.least_facts.specs.declared.looks.Looked.{Looked}
 use Rattle.least_facts.specs.declared.looks.Looked.TheVariants.{Whole, Over}
@@ -36,7 +36,7 @@ pub reached_in : (x : Exchange) (P : Facts) (e : ℕ) (places there given : List
 reached_in x P e places there given are told same = subst (λ l. AreReachedAmong x P e (map seen l)) (sym same) (told x are)
 
 -- a summary by what rows know of the entry is one by the least facts
-pub summary_of_least : (x : Exchange) (e : ℕ) (k : Rows) (s : Summary) → KnowLeast x e k → IsSummary x (Knows k) e s → IsSummary x (IsLeast x) e s
+pub summary_of_least : (x : Exchange) (e : ℕ) (k : BitRows) (s : Summary) → KnowLeast x e k → IsSummary x (Knows k) e s → IsSummary x (IsLeast x) e s
 summary_of_least x e k s know is = summary_alike x (Knows k) (IsLeast x) e s (record { each = λ f own there. ((know.exact f).0 there).1 }) (record { each = λ f own least. (know.exact f).1 (own, least) }) is
 
 -- summaries

@@ -15,12 +15,12 @@ use Rattle.flow_points.specs.declared.flow.Passing.{Passing}
 use Rattle.flow_points.specs.Facts.{Facts, Reached}
 use Rattle.flow_points.specs.Flows.{LeadsTo}
 use Rattle.flow_points.specs.Places.{IsPlace, Place}
-use Rattle.entry_summary.specs.Faults.{GoesRound, GoesTo, JoinsOutbox, MayFault, Once, Posts, PostsAt, Then, TooManySends, Walk}
+use Rattle.entry_summary.specs.Faults.{GoesRound, FlowLeads, JoinsOutbox, MayFault, Once, Posts, PostsAt, Then, TooManySends, Walk}
 use Rattle.finite_facts.proofs.Closing.{Closed, IsBuilt, Without, closing, without}
 use Rattle.analysis_comes.proofs.Faulting.{some_faults}
 use Rattle.finite_facts.proofs.Finite.{Decided, Listed, both, certain, decided_as, either, impossible, is_in, less, listed_as, listed_in, listed_map, listed_one, listed_or, listed_then, listed_when, no, same_number, some_case, yes}
 use Rattle.finite_facts.proofs.Giving.{is_reached}
-use Rattle.finite_facts.proofs.Leading.{Way, leads}
+use Rattle.finite_facts.proofs.Leading.{WayOn, leads}
 use Rattle.finite_facts.proofs.Places.{places}
 
 -- numbers of a list, each once
@@ -115,7 +115,7 @@ module _ (x : Exchange) (known : List Fact) (e : ℕ) where
   -- rounds
 
   abbrev Starts : ℕ → ℕ → Type 0
-  Starts q p = GoesTo x P e p q
+  Starts q p = FlowLeads x P e p q
 
   -- a statement leads to a point
   abbrev Leading : ℕ → Place → Type 0
@@ -124,7 +124,7 @@ module _ (x : Exchange) (known : List Fact) (e : ℕ) where
   leading : (q : ℕ) (at : Place) → Decided (Leading q at)
   leading q at =
       decided_as (λ h. (h.0.1, subst (λ n. LeadsTo x at n h.0.1) h.2 h.1)) (λ h. ((q, h.0), h.1, refl))
-      (some_case (λ (w : Way). LeadsTo x at w.0 w.1) (λ w. w.0 ≡ q) (leads x at) (λ w to. same_number w.0 q))
+      (some_case (λ (w : WayOn). LeadsTo x at w.0 w.1) (λ w. w.0 ≡ q) (leads x at) (λ w to. same_number w.0 q))
 
   -- the points from which a flow leads to a point
   starts : (q : ℕ) → Listed (Starts q)

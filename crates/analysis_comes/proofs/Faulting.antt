@@ -24,7 +24,7 @@ use Rattle.flow_points.specs.Facts.{Facts, Reached, SourceGives}
 use Rattle.flow_points.specs.Places.{IsPlace}
 use Rattle.flow_points.specs.Sources.{expr_source}
 use Rattle.entry_summary.specs.Accesses.{IsForlopp}
-use Rattle.entry_summary.specs.Faults.{FaultsAt, MayBe, PointsAt, PutsIn, SomeFaults, SourceMayBe, divides_by_zero, has_caller, holder_source, in_field, in_variable, may_divide_by_zero, no_caller, no_receiver, no_record, not_own, other_caller, seizes, too_deep, too_wide}
+use Rattle.entry_summary.specs.Faults.{FaultsAt, ValueMayBe, PointsAt, PutsIn, SomeFaults, SourceMayBe, divides_by_zero, has_caller, holder_source, in_field, in_variable, may_divide_by_zero, no_caller, no_receiver, no_record, not_own, other_caller, seizes, too_deep, too_wide}
 use Rattle.finite_facts.proofs.Finite.{Decided, at_most, below, both, certain, decided_as, either, impossible, less, listed_in, listed_one, no, refuted, same_number, some_case, truth, yes}
 use Rattle.finite_facts.proofs.Giving.{is_reached, source_values}
 use Rattle.analysis_comes.proofs.Naming.{Pointer, file_at, holder_in, is_forlopp, pointers}
@@ -35,7 +35,7 @@ is_none None = yes refl
 is_none (Some a) = no (λ e. cc)
 
 -- a value that may be such a number
-number_of : (T : ℕ → Type 0) → ((n : ℕ) → Decided (T n)) → (v : Value) → Decided ((n : ℕ) × MayBe v n × T n)
+number_of : (T : ℕ → Type 0) → ((n : ℕ) → Decided (T n)) → (v : Value) → Decided ((n : ℕ) × ValueMayBe v n × T n)
 number_of T decided (Const c) = some_case (λ n. n ≡ c) T (listed_one c) (λ n is. decided n)
 number_of T decided (Arg k) = some_case (λ n. n < 2 ^ 32) T (below (2 ^ 32)) (λ n lt. decided n)
 number_of T decided Any = some_case (λ n. n < 2 ^ 32) T (below (2 ^ 32)) (λ n lt. decided n)
@@ -51,7 +51,7 @@ module _ (x : Exchange) (known : List Fact) (e : ℕ) where
   number : (p : ℕ) (s : Source) (T : ℕ → Type 0) → ((n : ℕ) → Decided (T n)) → Decided (Number p s T)
   number p s T decided =
       decided_as (λ h. (h.2.0, record { value = h.0; comes = h.1; is = h.2.1 }, h.2.2)) (λ h. (h.1.value, h.1.comes, (h.0, h.1.is, h.2)))
-      (some_case (SourceGives P e p s) (λ v. (n : ℕ) × MayBe v n × T n) (source_values known e p s) (λ v g. number_of T decided v))
+      (some_case (SourceGives P e p s) (λ v. (n : ℕ) × ValueMayBe v n × T n) (source_values known e p s) (λ v g. number_of T decided v))
 
   -- by a pointer
   abbrev Past : ℕ → Pointer → Type 0

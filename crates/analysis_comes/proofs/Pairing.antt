@@ -12,7 +12,7 @@ use Rattle.pair_tests.specs.declared.pair.Test.TheVariants as test
 use Rattle.pair_tests.specs.contracts.pair.TestPartialEq.TheImpl as equal
 use Rattle.pair_tests.specs.contracts.pair.TestOrd.TheImpl.Laws as order_laws
 use Rattle.pair_tests.specs.Asked.{Asked, AskedRelease, AskedSeizing, asked_of, release_test}
-use Rattle.pair_tests.specs.Clashes.{Clashes, ClashesAbove, IsLeast, IsSooner, above_of, clash_of}
+use Rattle.pair_tests.specs.Clashes.{Clashes, ClashesAbove, IsLeastConflict, IsSooner, above_of, clash_of}
 use Rattle.pair_tests.specs.Orders.{Precedes, test_order}
 use Rattle.pair_tests.specs.Pairs.{IsConflict, IsTest}
 use Rattle.pair_tests.proofs.Conflicting.{conflict_cases, of_accesses, of_level}
@@ -23,7 +23,7 @@ use Rattle.analysis_text.specs.declared.names.Names.{Names}
 use Rattle.analysis_text.specs.Analysis.{IsAnalysis}
 use Rattle.analysis_text.specs.Lines.{entries_text, if_line, never_line, text_of, written}
 use Rattle.analysis_text.specs.Names.{names_of}
-use Rattle.analysis_text.specs.Pairs.{ArePairs, AreTests, Grows, InTurn, IsPairText, IsTextOf, IsTextWith, never, tested}
+use Rattle.analysis_text.specs.Pairs.{ArePairs, AreTests, GainsText, InTurn, IsPairText, IsTextOfFirst, IsTextWith, never, tested}
 use Rattle.analysis_text.proofs.Turns.{turns_begin, turns_more}
 use Rattle.finite_facts.proofs.Finite.{Listed, listed_as, listed_in, listed_one, listed_or, listed_some, listed_then, listed_when, truth}
 use Rattle.finite_facts.proofs.Rising.{in_order}
@@ -41,7 +41,7 @@ sooner (Some c) (Some d) = by (ranked c d)
     by (After h) = (Some d, inl (refl, h))
 
 abbrev Least : (Conflict → Type 0) → Type 0
-Least P = (r : Option Conflict) × IsLeast P r
+Least P = (r : Option Conflict) × IsLeastConflict P r
 
 least_of : (cs : List Conflict) → Least (λ c. Contains cs c)
 least_of [] = (None, least_none (λ c. Contains [] c) (λ c h. none_in c h))
@@ -134,10 +134,10 @@ module _ (first later : Summary) where
 
   -- the text of the two
   pair_text : (names : Names) (i j : ℕ) → (text : List ℕ) × IsPairText names i j first later text
-  unfolding IsLeast
+  unfolding IsLeastConflict
   pair_text names i j = by first_conflict.0 first_conflict.1
     where
-      by : (r : Option Conflict) → IsLeast (IsConflict first later) r → (text : List ℕ) × IsPairText names i j first later text
+      by : (r : Option Conflict) → IsLeastConflict (IsConflict first later) r → (text : List ℕ) × IsPairText names i j first later text
       by None none = (text_of (map (if_line names i j) tests.0), tested tests.0 none tests.1)
       by (Some c) least = (written (never_line names i j c), never c (record { conflict = least.0; none_before = least.1 }))
 
@@ -145,14 +145,14 @@ module _ (first later : Summary) where
 in_turn : (P : ℕ → List ℕ → Type 0) (n : ℕ) → ((k : ℕ) → k < n → (text : List ℕ) × P k text) → (text : List ℕ) × InTurn P n text
 in_turn P n each = (let t = upto n (λ k lt. each k lt) in (t.1.added, t.1.tells))
   where
-    upto : (m : ℕ) → ((k : ℕ) → k < m → (text : List ℕ) × P k text) → (text : List ℕ) × Grows (InTurn P m) [] text
+    upto : (m : ℕ) → ((k : ℕ) → k < m → (text : List ℕ) × P k text) → (text : List ℕ) × GainsText (InTurn P m) [] text
     upto zero each = ([], turns_begin P [])
     upto (suc m) each = by (upto m (λ k lt. each k (let h = lt in omega (arith, h)))) (each m (omega arith))
       where
-        by : (text : List ℕ) × Grows (InTurn P m) [] text → (text : List ℕ) × P m text → (text : List ℕ) × Grows (InTurn P (suc m)) [] text
+        by : (text : List ℕ) × GainsText (InTurn P m) [] text → (text : List ℕ) × P m text → (text : List ℕ) × GainsText (InTurn P (suc m)) [] text
         by before here =
             let next : m + 1 ≡ suc m = omega arith in
-            (before.0 ++ here.0, subst (λ n. Grows (InTurn P n) [] (before.0 ++ here.0)) next (turns_more P m [] before.0 (before.0 ++ here.0) before.1 (record { added = here.0; is = refl; tells = here.1 })))
+            (before.0 ++ here.0, subst (λ n. GainsText (InTurn P n) [] (before.0 ++ here.0)) next (turns_more P m [] before.0 (before.0 ++ here.0) before.1 (record { added = here.0; is = refl; tells = here.1 })))
 
 -- what stands at a place
 item : (ss : List Summary) (i : ℕ) → i < length ss → (s : Summary) × (slice_get ss i ≡ Some s)
@@ -162,12 +162,12 @@ item (s ∷ ss) (suc i) lt = item ss i (let h = lt in omega (arith, h))
 
 -- the text of the pairs
 pairs_text : (names : Names) (ss : List Summary) → (text : List ℕ) × ArePairs names ss text
-pairs_text names ss = in_turn (IsTextOf names ss) (length ss) (λ i lt. of_first i (item ss i lt))
+pairs_text names ss = in_turn (IsTextOfFirst names ss) (length ss) (λ i lt. of_first i (item ss i lt))
   where
     with_later : (i j : ℕ) (one : Summary) → (s : Summary) × (slice_get ss j ≡ Some s) → (text : List ℕ) × IsTextWith names ss i one j text
     with_later i j one other = (let t = pair_text one other.0 names i j in (t.0, record { later = other.0; there = other.1; tells = t.1 }))
 
-    of_first : (i : ℕ) → (s : Summary) × (slice_get ss i ≡ Some s) → (text : List ℕ) × IsTextOf names ss i text
+    of_first : (i : ℕ) → (s : Summary) × (slice_get ss i ≡ Some s) → (text : List ℕ) × IsTextOfFirst names ss i text
     of_first i one = (let t = in_turn (IsTextWith names ss i one.0) (length ss) (λ j lt. with_later i j one.0 (item ss j lt)) in (t.0, record { first = one.0; there = one.1; tells = t.1 }))
 
 -- the text of the analysis

@@ -14,7 +14,7 @@ use Rattle.analysis_text.specs.declared.names.Names.{Names}
 use Rattle.analysis_text.specs.Analysis.{IsAnalysis}
 use Rattle.analysis_text.specs.Lines.{entries_text, if_line, never_line, text_of, written}
 use Rattle.analysis_text.specs.Names.{names_of}
-use Rattle.analysis_text.specs.Pairs.{AreTests, InTurn, IsPairText, IsTextOf, IsTextWith, never, tested}
+use Rattle.analysis_text.specs.Pairs.{AreTests, InTurn, IsPairText, IsTextOfFirst, IsTextWith, never, tested}
 use Rattle.analysis_laws.proofs.Rising.{rising_once, same_sides}
 
 -- texts of which each is told in one way stand in turn in one way
@@ -40,7 +40,7 @@ with_once names summaries i first j t u one other =
     let later : one.later ≡ other.later = same_Some one.later other.later (sym one.there ∙ other.there) in
     pair_once names i j first other.later t u (subst (λ l. IsPairText names i j first l t) later one.tells) other.tells
 
-of_once : (names : Names) (summaries : List Summary) (i : ℕ) (t u : List ℕ) → IsTextOf names summaries i t → IsTextOf names summaries i u → t ≡ u
+of_once : (names : Names) (summaries : List Summary) (i : ℕ) (t u : List ℕ) → IsTextOfFirst names summaries i t → IsTextOfFirst names summaries i u → t ≡ u
 of_once names summaries i t u one other =
     let first : one.first ≡ other.first = same_Some one.first other.first (sym one.there ∙ other.there) in
     turn_once (IsTextWith names summaries i other.first) (length summaries) t u (with_once names summaries i other.first)
@@ -49,5 +49,5 @@ of_once names summaries i t u one other =
 pub analysis_once : (x : Exchange) (summaries : List Summary) (t u : List ℕ) → IsAnalysis x summaries t → IsAnalysis x summaries u → t ≡ u
 analysis_once x summaries t u one other =
     let names : Names = names_of x.blocks in
-    let pairs : one.pairs ≡ other.pairs = turn_once (IsTextOf names summaries) (length summaries) one.pairs other.pairs (of_once names summaries) one.tells other.tells in
+    let pairs : one.pairs ≡ other.pairs = turn_once (IsTextOfFirst names summaries) (length summaries) one.pairs other.pairs (of_once names summaries) one.tells other.tells in
     one.is ∙ ap (λ p. entries_text x names summaries ++ p ++ written (codes "END PAIRS")) pairs ∙ sym other.is

@@ -7,10 +7,10 @@ use Rattle.analysis_text.specs.declared.names.Names.{Names}
 use Rattle.analysis_text.specs.Analysis.{IsAnalysis}
 use Rattle.analysis_text.specs.Lines.{entries_text, written}
 use Rattle.analysis_text.specs.Names.{names_of}
-use Rattle.analysis_text.specs.Pairs.{ArePairs, Grows}
+use Rattle.analysis_text.specs.Pairs.{ArePairs, GainsText}
 
 joined : (x : Exchange) (summaries : List Summary) (empty entries pairs all : List ℕ) → empty ≡ [] → entries ≡ empty ++ entries_text x (names_of x.blocks) summaries
-    → Grows (ArePairs (names_of x.blocks) summaries) entries pairs → all ≡ pairs ++ written (codes "END PAIRS") → IsAnalysis x summaries all
+    → GainsText (ArePairs (names_of x.blocks) summaries) entries pairs → all ≡ pairs ++ written (codes "END PAIRS") → IsAnalysis x summaries all
 joined x summaries empty entries pairs all none first grown last =
     let told = entries_text x (names_of x.blocks) summaries in
     let begun : entries ≡ told = first ∙ ap (λ t. t ++ told) none in
@@ -22,8 +22,8 @@ joined x summaries empty entries pairs all none first grown last =
 
 -- the texts after each part
 pub whole : (x : Exchange) (summaries : List Summary) (names : Names) (empty entries : List (List ℕ)) (front pairs all : List ℕ) → names ≡ names_of x.blocks → empty ≡ []
-    → concat entries ≡ concat empty ++ entries_text x names summaries → front ≡ concat entries → Grows (ArePairs names summaries) front pairs
+    → concat entries ≡ concat empty ++ entries_text x names summaries → front ≡ concat entries → GainsText (ArePairs names summaries) front pairs
     → all ≡ pairs ++ written (codes "END PAIRS") → IsAnalysis x summaries all
 whole x summaries names empty entries front pairs all named none first same grown last =
     joined x summaries (concat empty) front pairs all (ap concat none) (same ∙ subst (λ n. concat entries ≡ concat empty ++ entries_text x n summaries) named first)
-    (subst (λ n. Grows (ArePairs n summaries) front pairs) named grown) last
+    (subst (λ n. GainsText (ArePairs n summaries) front pairs) named grown) last

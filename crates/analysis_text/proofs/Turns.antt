@@ -16,7 +16,7 @@ use Rattle.analysis_text.specs.declared.told.Told.TheVariants.{Never, Asks}
 use Rattle.analysis_text.specs.declared.told.ToldPair.{ToldPair}
 use Rattle.analysis_text.specs.Telling.{IsToldOf, TellsPair}
 use Rattle.text_parts.proofs.Joined.{put_back}
-use Rattle.analysis_text.specs.Pairs.{IsPairText, never, tested, InTurn, IsTextWith, IsTextOf, Grows}
+use Rattle.analysis_text.specs.Pairs.{IsPairText, never, tested, InTurn, IsTextWith, IsTextOfFirst, GainsText}
 
 module _ (P : ℕ → List ℕ → Type 0) where
   turn_none : InTurn P 0 []
@@ -40,21 +40,21 @@ module _ (P : ℕ → List ℕ → Type 0) where
     is = ap (λ l. l ++ part) t.is ∙ ap (λ l. concat t.parts ++ l) (sym (append-nil part)) ∙ sym (concat-append t.parts (part ∷ []));
   }
 
-  pub turns_begin : (old : List ℕ) → Grows (InTurn P 0) old old
+  pub turns_begin : (old : List ℕ) → GainsText (InTurn P 0) old old
   turns_begin old = record { added = []; is = sym (append-nil old); tells = turn_none }
 
-  pub turns_more : (n : ℕ) (old now new : List ℕ) → Grows (InTurn P n) old now → Grows (P n) now new → Grows (InTurn P (n + 1)) old new
+  pub turns_more : (n : ℕ) (old now new : List ℕ) → GainsText (InTurn P n) old now → GainsText (P n) now new → GainsText (InTurn P (n + 1)) old new
   turns_more n old now new before here = record {
     added = before.added ++ here.added;
     is = here.is ∙ ap (λ t. t ++ here.added) before.is ∙ append_assoc old before.added here.added;
     tells = turn_more n before.added here.added before.tells here.tells;
   }
 
-  pub turns_end : (n m count : ℕ) (old new : List ℕ) → m ≡ count → n ≤ m → m ≤ n → Grows (InTurn P n) old new → Grows (InTurn P count) old new
-  turns_end n m count old new is most least h = (let same : n ≡ count = omega (arith, is, most, least) in subst (λ k. Grows (InTurn P k) old new) same h)
+  pub turns_end : (n m count : ℕ) (old new : List ℕ) → m ≡ count → n ≤ m → m ≤ n → GainsText (InTurn P n) old new → GainsText (InTurn P count) old new
+  turns_end n m count old new is most least h = (let same : n ≡ count = omega (arith, is, most, least) in subst (λ k. GainsText (InTurn P k) old new) same h)
 
 -- an end that was taken, and is longer when it is put back
-pub grown_end : (P : List ℕ → Type 0) (old rest end longer new : List ℕ) → old ≡ rest ++ end → Grows P end longer → new ≡ rest ++ longer → Grows P old new
+pub grown_end : (P : List ℕ → Type 0) (old rest end longer new : List ℕ) → old ≡ rest ++ end → GainsText P end longer → new ≡ rest ++ longer → GainsText P old new
 grown_end P old rest end longer new taken grown put = record {
   added = grown.added;
   is = put_back old rest end longer grown.added new taken grown.is put;
@@ -65,13 +65,13 @@ grown_end P old rest end longer new taken grown put = record {
 pub record RowGoes (names : Names) (summaries : List Summary) (i n : ℕ) (old new : List ℕ) : Type 0 where
   pub first : Summary
   pub there : slice_get summaries i ≡ Some first
-  pub grown : Grows (InTurn (IsTextWith names summaries i first) n) old new
+  pub grown : GainsText (InTurn (IsTextWith names summaries i first) n) old new
 
 pub row_begin : (names : Names) (summaries : List Summary) (i : ℕ) (old : List ℕ) → i < length summaries → RowGoes names summaries i 0 old old
 row_begin names summaries i old lt = (let s = some_at summaries i lt in record { first = s.0; there = s.1; grown = turns_begin (IsTextWith names summaries i s.0) old })
 
 pub row_more : (names : Names) (summaries : List Summary) (i j : ℕ) (pair : ToldPair) (old now new : List ℕ) → IsToldOf summaries i j pair
-    → ((first later : Summary) → TellsPair first later pair.told → Grows (IsPairText names i j first later) now new) → RowGoes names summaries i j old now → RowGoes names summaries i (j + 1) old new
+    → ((first later : Summary) → TellsPair first later pair.told → GainsText (IsPairText names i j first later) now new) → RowGoes names summaries i j old now → RowGoes names summaries i (j + 1) old new
 row_more names summaries i j pair old now new of written_so before =
     let same : of.told.first ≡ before.first = same_Some of.told.first before.first (sym of.told.of_first ∙ of.like_first ∙ before.there) in
     let tells : TellsPair before.first of.told.later pair.told = subst (λ (s : Summary). TellsPair s of.told.later pair.told) same of.told.tells in
@@ -86,7 +86,7 @@ row_more names summaries i j pair old now new of written_so before =
       });
     }
 
-pub row_end : (names : Names) (summaries : List Summary) (i n m : ℕ) (old new : List ℕ) → m ≡ length summaries → n ≤ m → m ≤ n → RowGoes names summaries i n old new → Grows (IsTextOf names summaries i) old new
+pub row_end : (names : Names) (summaries : List Summary) (i n m : ℕ) (old new : List ℕ) → m ≡ length summaries → n ≤ m → m ≤ n → RowGoes names summaries i n old new → GainsText (IsTextOfFirst names summaries i) old new
 row_end names summaries i n m old new is most least h =
     let all = turns_end (IsTextWith names summaries i h.first) n m (length summaries) old new is most least h.grown in
     record { added = all.added; is = all.is; tells = record { first = h.first; there = h.there; tells = all.tells } }
@@ -94,12 +94,12 @@ row_end names summaries i n m old new is most least h =
 -- what is told of a pair
 
 pub never_told : (names : Names) (i j : ℕ) (told : Told) (c : Conflict) (old new : List ℕ) → told ≡ Never c → new ≡ old ++ written (never_line names i j c)
-    → (first later : Summary) → TellsPair first later told → Grows (IsPairText names i j first later) old new
+    → (first later : Summary) → TellsPair first later told → GainsText (IsPairText names i j first later) old new
 never_told names i j told c old new is wrote first later tells =
     record { added = written (never_line names i j c); is = wrote; tells = never c (subst (TellsPair first later) is tells) }
 
 pub tests_told : (names : Names) (i j : ℕ) (told : Told) (tests listed : List Test) (old new : List ℕ) → told ≡ Asks tests → listed ≡ tests → new ≡ old ++ text_of (map (if_line names i j) listed)
-    → (first later : Summary) → TellsPair first later told → Grows (IsPairText names i j first later) old new
+    → (first later : Summary) → TellsPair first later told → GainsText (IsPairText names i j first later) old new
 tests_told names i j told tests listed old new is same wrote first later tells =
     let both : TellsPair first later (Asks tests) = subst (TellsPair first later) is tells in
     record {

@@ -34,17 +34,17 @@ pub record IsTextWith (names : Names) (summaries : List Summary) (i : ℕ) (firs
   pub tells : IsPairText names i j first later text
 
 -- of the first of this number with each
-pub record IsTextOf (names : Names) (summaries : List Summary) (i : ℕ) (text : List ℕ) : Type 0 where
+pub record IsTextOfFirst (names : Names) (summaries : List Summary) (i : ℕ) (text : List ℕ) : Type 0 where
   pub first : Summary
   pub there : slice_get summaries i ≡ Some first
   pub tells : InTurn (IsTextWith names summaries i first) (length summaries) text
 
 -- of each with each
 abbrev pub ArePairs : Names → List Summary → List ℕ → Type 0
-ArePairs names summaries text = InTurn (IsTextOf names summaries) (length summaries) text
+ArePairs names summaries text = InTurn (IsTextOfFirst names summaries) (length summaries) text
 
 -- a text that has one of these texts more
-pub record Grows (P : List ℕ → Type 0) (old new : List ℕ) : Type 0 where
+pub record GainsText (P : List ℕ → Type 0) (old new : List ℕ) : Type 0 where
   pub added : List ℕ
   pub is : new ≡ old ++ added
   pub tells : P added

@@ -2,7 +2,7 @@
 ghost use Rattle.std.specs.Prelude.{◌≡◌, ◌<◌, ◌++◌, OnOk, map, length};
 ghost use Rattle.entry_summary.specs.declared.summary.Summary.{Summary};
 ghost use Rattle.analysis_text.specs.Lines.{conflict_words, if_line, never_line, pair_words, test_words, text_of, written};
-ghost use Rattle.analysis_text.specs.Pairs.{ArePairs, Grows, IsPairText, IsTextOf};
+ghost use Rattle.analysis_text.specs.Pairs.{ArePairs, GainsText, IsPairText, IsTextOfFirst};
 ghost use Rattle.analysis_text.specs.Telling.{AreTold, TellsPair};
 
 use crate::names::{Names, add_value, level_word, name_at};
@@ -20,7 +20,7 @@ pub fn add_pairs(
     names: &Names,
     summaries: &Summaries,
 ) -> Result<(), Memory>
-    ensures { OnOk result (Grows (ArePairs names.now summaries.now) text.old text.new) }
+    ensures { OnOk result (GainsText (ArePairs names.now summaries.now) text.old text.new) }
 {
     let mut told = ToldPairs::new(alloc, summaries.len())?;
     for number in 0..summaries.len() {
@@ -43,7 +43,7 @@ fn add_row(
     requires number { number < length summaries.now }
     requires told { AreTold summaries.now told.old.pairs.items }
     ensures row { OnOk result
-        (Grows (IsTextOf names.now summaries.now number) text.old text.new) }
+        (GainsText (IsTextOfFirst names.now summaries.now number) text.old text.new) }
     ensures told { OnOk result (AreTold summaries.now told.new.pairs.items) }
 {
     for other in 0..summaries.len() {
@@ -64,7 +64,7 @@ fn add_told(
     told: &Told,
 ) -> Result<(), Memory>
     ensures { OnOk result ((first later : Summary) → TellsPair first later told.now
-        → Grows (IsPairText names.now number other first later) text.old text.new) }
+        → GainsText (IsPairText names.now number other first later) text.old text.new) }
 {
     match told {
         Told::Never(conflict) => {

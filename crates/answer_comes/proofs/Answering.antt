@@ -12,7 +12,7 @@ use Rattle.command_words.specs.declared.command.Command.{Command}
 use Rattle.command_words.specs.declared.command.Command.TheVariants.{Run, Single, Analyse, Certify, List as Listing, Load, Timed, Change, Trace}
 use Rattle.command_words.specs.declared.command.ChangeWords.{ChangeWords}
 use Rattle.command_words.specs.declared.command.RunWords.{RunWords}
-use Rattle.plex_program.specs.Outcome.{GoesOn, Out}
+use Rattle.plex_program.specs.Outcome.{ComesOf, Out}
 use Rattle.plex_program.specs.declared.fault.Which.TheVariants.{First, New}
 use Rattle.plex_program.specs.Given.{exchange_as, exchange_at, lines_at, text_at}
 use Rattle.plex_program.specs.RunAnswer.{IsCertifiedRun, RunComes, end_of, or_certificate_fault, run_answer, run_of}
@@ -36,7 +36,7 @@ use Rattle.analysis_comes.proofs.Summaries.{all_summaries}
 abbrev Comes : (Out Answer → Type 0) → Type 0
 Comes Is = (o : Out Answer) × Is o
 
-goes_on : {A : Type 0} (s : Out A) (Go : A → Out Answer → Type 0) → ((a : A) → s ≡ Ok a → Comes (Go a)) → Comes (GoesOn s Go)
+goes_on : {A : Type 0} (s : Out A) (Go : A → Out Answer → Type 0) → ((a : A) → s ≡ Ok a → Comes (Go a)) → Comes (ComesOf s Go)
 goes_on (Ok a) Go each = each a refl
 goes_on (Err r) Go each = (Err r, refl)
 

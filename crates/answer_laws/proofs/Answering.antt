@@ -17,7 +17,7 @@ use Rattle.command_words.specs.declared.command.RunWords.{RunWords}
 use Rattle.analysis_laws.proofs.Certifying.{certificate_once}
 use Rattle.analysis_laws.proofs.Summing.{all_summaries_once}
 use Rattle.analysis_laws.proofs.Telling.{analysis_once}
-use Rattle.plex_program.specs.Outcome.{GoesOn, IsAnAnswer, Out}
+use Rattle.plex_program.specs.Outcome.{ComesOf, IsAnAnswer, Out}
 use Rattle.plex_program.specs.declared.fault.Which.TheVariants.{New}
 use Rattle.plex_program.specs.Given.{exchange_as, exchange_at, lines_at, text_at}
 use Rattle.plex_program.specs.RunAnswer.{IsCertifiedRun, RunComes, end_of, or_certificate_fault, run_answer}
@@ -29,7 +29,7 @@ use Rattle.plex_program.proofs.Accepted.{accepted}
 use Rattle.answer_laws.proofs.Judging.{judged_once}
 
 -- a stage that is followed by one that comes to one outcome comes to one
-goes_once : {A : Type 0} (s : Out A) (Go : A → Out Answer → Type 0) (o p : Out Answer) → ((a : A) → s ≡ Ok a → Go a o → Go a p → o ≡ p) → GoesOn s Go o → GoesOn s Go p → o ≡ p
+goes_once : {A : Type 0} (s : Out A) (Go : A → Out Answer → Type 0) (o p : Out Answer) → ((a : A) → s ≡ Ok a → Go a o → Go a p → o ≡ p) → ComesOf s Go o → ComesOf s Go p → o ≡ p
 goes_once (Ok a) Go o p once one other = once a refl one other
 goes_once (Err r) Go o p once one other = sym one ∙ other
 

@@ -13,7 +13,7 @@ use Rattle.flow_points.specs.declared.fact.Fact.{Fact}
 use Rattle.flow_points.specs.declared.fact.Slot.TheVariants.{Temp}
 use Rattle.flow_points.specs.declared.fact.Value.TheVariants.{Arg}
 use Rattle.flow_points.specs.Slots.{HasSlot}
-use Rattle.certificate.specs.Strange.{IsFirstStrange, IsOfExchange, IsValueOf}
+use Rattle.certificate.specs.Strange.{IsFirstStrange, IsOfExchange, IsValueOfEntry}
 
 -- what stands past the end of a list of facts
 abbrev pub no_fact : Fact
@@ -47,7 +47,7 @@ pub first_end : (x : Exchange) (facts : List Fact) (i : ℕ) → length facts �
 first_end x facts i past none = subst (All (IsOfExchange x)) (take_all i facts past) none.all
 
 -- three tests together
-pub tests_told : (x : Exchange) (f : Fact) (a b c r : Bool) → (IsTrue a ↔ (f.entry < length x.entries)) → (IsTrue b ↔ HasSlot x f.point f.slot) → (IsTrue c ↔ IsValueOf x f.entry f.value) → r ≡ (a && b && c) → IsTrue r ↔ IsOfExchange x f
+pub tests_told : (x : Exchange) (f : Fact) (a b c r : Bool) → (IsTrue a ↔ (f.entry < length x.entries)) → (IsTrue b ↔ HasSlot x f.point f.slot) → (IsTrue c ↔ IsValueOfEntry x f.entry f.value) → r ≡ (a && b && c) → IsTrue r ↔ IsOfExchange x f
 tests_told x f a b c r entry slot value is = (
   (λ e. (let outer = and_parts (a && b) c (sym is ∙ e) in let inner = and_parts a b outer.0 in record { entry = entry.0 inner.0; slot = slot.0 inner.1; value = value.0 outer.1 })),
   (λ of_it. is ∙ and_from (a && b) c (and_from a b (entry.1 of_it.entry) (slot.1 of_it.slot)) (value.1 of_it.value)),

@@ -24,7 +24,7 @@ use Rattle.flow_points.specs.Sources.{source_of, start_source}
 use Rattle.flow_points.proofs.Least.{least_in}
 use Rattle.flow_table.proofs.Rowing.{place_fits}
 use Rattle.fact_rows.specs.Values.{HasNumber, IsAwaited, IsNumbered}
-use Rattle.least_facts.specs.Fit.{Awaited, Numbered, SourceFits}
+use Rattle.least_facts.specs.Fit.{Awaited, NumberedSource, SourceFits}
 use Rattle.least_facts.proofs.Numbering.{leads_fit, start_fits}
 use Rattle.certificate_text.specs.Text.{FactFits, SlotFits, ValueFits}
 use Rattle.certificate.proofs.Reaching.{least_slot}
@@ -32,7 +32,7 @@ use Rattle.flow_points.proofs.Few.{count_few, temps_few}
 
 -- values
 
-numbered_given : (P : Facts) → ((f : Fact) → P f → HasNumber f.slot f.value) → (e p : ℕ) (source : Source) (v : Value) → Numbered source → SourceGives P e p source v → IsNumbered v
+numbered_given : (P : Facts) → ((f : Fact) → P f → HasNumber f.slot f.value) → (e p : ℕ) (source : Source) (v : Value) → NumberedSource source → SourceGives P e p source v → IsNumbered v
 numbered_given P has e p (Of s) v h g = h v (has _ g)
 numbered_given P has e p (Is w) v h g = subst IsNumbered (sym g) h
 numbered_given P has e p Deeper v h g = subst IsNumbered (sym g.2) (let lt = g.1 in omega (arith, lt))

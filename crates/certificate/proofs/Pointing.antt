@@ -24,7 +24,7 @@ use Rattle.flow_table.specs.declared.row.FlowTable.{FlowTable}
 use Rattle.flow_table.specs.Rows.{IsFlowTable}
 use Rattle.flow_table.proofs.Reaching.{of_map}
 use Rattle.fact_flows.specs.Slots.{AreSlots}
-use Rattle.fact_rows.specs.Known.{Rows, Knows}
+use Rattle.fact_rows.specs.Known.{BitRows, Knows}
 use Rattle.fact_rows.proofs.Listing.{nat_less, sorted_append, sorted_none}
 use Rattle.least_facts.specs.Least.{KnowLeast}
 use Rattle.access_summary.proofs.Summed.{below_or_last}
@@ -113,7 +113,7 @@ both_added A B C old mid new first second either order a b = record {
 
 -- those of a point
 
-pub point_left : (x : Exchange) (e p : ℕ) (k : Rows) (b : Bool) (text : List ℕ) → KnowLeast x e k → (IsTrue b ↔ Reached (Knows k) e p) → b ≡ false → AddsLines (LeastAt x e p) text text
+pub point_left : (x : Exchange) (e p : ℕ) (k : BitRows) (b : Bool) (text : List ℕ) → KnowLeast x e k → (IsTrue b ↔ Reached (Knows k) e p) → b ≡ false → AddsLines (LeastAt x e p) text text
 point_left x e p k b text know tells down = none_added (LeastAt x e p) text none
   where
     none : (f : Fact) → LeastAt x e p f → ⊥
@@ -122,7 +122,7 @@ point_left x e p k b text know tells down = none_added (LeastAt x e p) text none
         let there : IsLeast x (fact e p Depth r.0) = subst (λ (q : ℕ). IsLeast x (fact e q Depth r.0)) l.0 (subst (λ (d : ℕ). IsLeast x (fact d f.point Depth r.0)) l.1.0 r.1) in
         true≢false (sym (tells.1 (r.0, (know.exact (fact e p Depth r.0)).1 (refl, there))) ∙ down)
 
-pub point_added : (x : Exchange) (e p : ℕ) (k : Rows) (facts given : List Fact) (text new : List ℕ) → KnowLeast x e k → ((f : Fact) → Contains facts f ↔ IsKnownIn (Knows k) e p (HasSlot x p) f) → IsStrictlySortedBy fact_order facts → given ≡ facts → new ≡ text ++ facts_text given → AddsLines (LeastAt x e p) text new
+pub point_added : (x : Exchange) (e p : ℕ) (k : BitRows) (facts given : List Fact) (text new : List ℕ) → KnowLeast x e k → ((f : Fact) → Contains facts f ↔ IsKnownIn (Knows k) e p (HasSlot x p) f) → IsStrictlySortedBy fact_order facts → given ≡ facts → new ≡ text ++ facts_text given → AddsLines (LeastAt x e p) text new
 point_added x e p k facts given text new know tells up same grown = record {
   facts = facts;
   exact = λ f. (

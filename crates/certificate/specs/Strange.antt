@@ -10,17 +10,17 @@ use Rattle.flow_points.specs.Slots.{HasSlot}
 use Rattle.flow_table.specs.Texts.{ArePlaces}
 
 -- a value that a job of the entry may start with, or a number, or any number
-abbrev pub IsValueOf : Exchange → ℕ → Value → Type 0
-IsValueOf x e (Arg k) = k < entry_count x e
-IsValueOf x e (Const c) = Unit {0}
-IsValueOf x e Any = Unit {0}
+abbrev pub IsValueOfEntry : Exchange → ℕ → Value → Type 0
+IsValueOfEntry x e (Arg k) = k < entry_count x e
+IsValueOfEntry x e (Const c) = Unit {0}
+IsValueOfEntry x e Any = Unit {0}
 
 -- a fact is of the exchange where its entry, its point and its slot are there, and its value is one of the entry; any other is
 -- strange
 pub record IsOfExchange (x : Exchange) (f : Fact) : Type 0 where
   pub entry : f.entry < length x.entries
   pub slot : HasSlot x f.point f.slot
-  pub value : IsValueOf x f.entry f.value
+  pub value : IsValueOfEntry x f.entry f.value
 
 -- the first strange fact of a list
 pub record IsFirstStrange (x : Exchange) (facts : List Fact) (f : Fact) : Type 0 where

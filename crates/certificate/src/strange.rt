@@ -3,7 +3,7 @@ ghost use Rattle.std.specs.Prelude.{◌≡◌, ◌<◌, ◌↔◌, All, IsTrue, 
 ghost use Rattle.source_meaning.specs.Valid.{entry_count};
 ghost use Rattle.flow_points.specs.Slots.{HasSlot};
 ghost use Rattle.flow_table.specs.Rows.{IsFlowTable, RowHas};
-ghost use Rattle.certificate.specs.Strange.{AreListed, IsFirstStrange, IsOfExchange, IsValueOf};
+ghost use Rattle.certificate.specs.Strange.{AreListed, IsFirstStrange, IsOfExchange, IsValueOfEntry};
 
 use exchange_model::Exchange;
 use flow_points::{Fact, Slot, Value};
@@ -70,7 +70,7 @@ fn row_has(row: &Row, slot: Slot) -> bool
 
 /// Whether a job of the entry may have the value.
 fn is_value_of(exchange: &Exchange, entry: u32, value: Value) -> bool
-    ensures { IsTrue result ↔ IsValueOf exchange.now entry value }
+    ensures { IsTrue result ↔ IsValueOfEntry exchange.now entry value }
 {
     match value {
         Value::Arg(place) => place < entry_values(exchange, entry),

@@ -25,7 +25,7 @@ use Rattle.certificate_text.specs.declared.certificate.Shape.{Shape}
 use Rattle.certificate.specs.Certified.{IsCertificate}
 use Rattle.certificate.specs.Missing.{IsLeastIn}
 use Rattle.certificate.specs.Shapes.{IsShapeOf, refers}
-use Rattle.certificate.specs.Strange.{IsFirstStrange, IsOfExchange, IsValueOf}
+use Rattle.certificate.specs.Strange.{IsFirstStrange, IsOfExchange, IsValueOfEntry}
 use Rattle.certificate.proofs.Fitting.{facts_fit}
 use Rattle.checked.proofs.Checking.{same_shape as one_shape}
 use Rattle.checked.specs.declared.fault.CertFault.{CertFault}
@@ -75,7 +75,7 @@ same_shape s t =
 module _ (x : Exchange) where
   -- facts that are of the exchange
 
-  has_value : (e : ℕ) (v : Value) → Decided (IsValueOf x e v)
+  has_value : (e : ℕ) (v : Value) → Decided (IsValueOfEntry x e v)
   has_value e (Arg k) = less k (entry_count x e)
   has_value e (Const c) = certain tt
   has_value e Any = certain tt

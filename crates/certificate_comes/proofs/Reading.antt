@@ -19,10 +19,10 @@ use Rattle.certificate_text.specs.declared.version.Version.{Version}
 use Rattle.certificate_text.specs.declared.version.Version.TheVariants.{One, Two}
 use Rattle.certificate_text.specs.Lines.{HasBadLine, IsTextOf}
 use Rattle.certificate_text.specs.Parts.{IsFactAt, IsShapeAt, IsVersionAt}
-use Rattle.certificate_text.specs.Text.{CanTell, FactFits, FactNumbers, HasNumber, IsNumber, ShapeNumbers, SlotFits, ValueFits, fact_line, last_line, shape_line, version_line}
+use Rattle.certificate_text.specs.Text.{CanTell, FactFits, FactNumbers, HasTextNumber, IsNumber, ShapeNumbers, SlotFits, ValueFits, fact_line, last_line, shape_line, version_line}
 use Rattle.certificate_text.proofs.Orders.{Rise}
 use Rattle.certificate_text.proofs.Stated.{Read, certificate, line_shorter, no_first_line, no_second_line, read_begin, read_fall, read_last, read_more, read_past, read_strange, two_lines}
-use Rattle.finite_facts.proofs.Finite.{Decided, Listed, Made, below, both, certain, decided_as, either, listed_as, listed_map, listed_one, listed_or, listed_pair, made, no, same_number, some_case, yes}
+use Rattle.finite_facts.proofs.Finite.{Decided, Listed, IsMadeBelow, below, both, certain, decided_as, either, listed_as, listed_map, listed_one, listed_or, listed_pair, made, no, same_number, some_case, yes}
 use Rattle.finite_facts.proofs.Slots.{AreFirst, as_first, first_slots}
 
 -- what stands behind the front of a text
@@ -88,10 +88,10 @@ slots =
     back Awaits h = h
 
 abbrev IsSmall : Value → Type 0
-IsSmall v = ValueFits v × HasNumber v
+IsSmall v = ValueFits v × HasTextNumber v
 
 abbrev AValue : Value → Type 0
-AValue v = Made (λ k. Arg k) MOST_VALUES v ⊎ (Made (λ c. Const c) (2 ^ 32) v ⊎ (v ≡ Any))
+AValue v = IsMadeBelow (λ k. Arg k) MOST_VALUES v ⊎ (IsMadeBelow (λ c. Const c) (2 ^ 32) v ⊎ (v ≡ Any))
 
 value_to : (v : Value) → AValue v → IsSmall v
 value_to v (inl h) = subst IsSmall (sym h.2) (h.1, tt)
@@ -106,7 +106,7 @@ value_from Any h = inr (inr refl)
 values : Listed IsSmall
 values =
     listed_as AValue IsSmall value_to value_from
-    (listed_or (Made (λ k. Arg k) MOST_VALUES) (λ v. Made (λ c. Const c) (2 ^ 32) v ⊎ (v ≡ Any)) (made (λ k. Arg k) MOST_VALUES) (listed_or (Made (λ c. Const c) (2 ^ 32)) (λ v. v ≡ Any) (made (λ c. Const c) (2 ^ 32)) (listed_one Any)))
+    (listed_or (IsMadeBelow (λ k. Arg k) MOST_VALUES) (λ v. IsMadeBelow (λ c. Const c) (2 ^ 32) v ⊎ (v ≡ Any)) (made (λ k. Arg k) MOST_VALUES) (listed_or (IsMadeBelow (λ c. Const c) (2 ^ 32)) (λ v. v ≡ Any) (made (λ c. Const c) (2 ^ 32)) (listed_one Any)))
 
 abbrev Parts : Type 0
 Parts = (ℕ × ℕ) × (Slot × Value)

@@ -9,7 +9,7 @@ use Rattle.flow_points.specs.declared.fact.Slot.TheVariants.{Temp, Given, Answer
 use Rattle.flow_points.specs.declared.fact.Value.{Value}
 use Rattle.flow_points.specs.declared.fact.Value.TheVariants.{Arg, Const, Any}
 use Rattle.certificate_text.specs.Parts.{IsFactAt, IsNumbered, IsSlotAt, IsValueAt}
-use Rattle.certificate_text.specs.Text.{FactFits, FactNumbers, HasNumber, SlotFits, ValueFits, fact_line, last_line, slot_word, value_word}
+use Rattle.certificate_text.specs.Text.{FactFits, FactNumbers, HasTextNumber, SlotFits, ValueFits, fact_line, last_line, slot_word, value_word}
 use Rattle.certificate_text.proofs.Numbers.{NoNumber, none_here, numbered_once, numbered_same}
 use Rattle.text_lines.proofs.Cuts.{HasNo-append, HasNo-cons, cut_once}
 use Rattle.text_lines.proofs.Numerals.{HasNo-decimal, decimal_no_letter}
@@ -64,7 +64,7 @@ slot_word_once Awaits (Answered u) fits too e =
 slot_word_once Awaits Depth fits too e = absurd (apart 65 68 (87 ∷ codes "AITS") (codes "EPTH") (λ e. omega (arith, e)) e)
 slot_word_once Awaits Awaits fits too e = refl
 
-value_word_once : (v w : Value) → ValueFits v → ValueFits w → HasNumber v → HasNumber w → value_word v ≡ value_word w → v ≡ w
+value_word_once : (v w : Value) → ValueFits v → ValueFits w → HasTextNumber v → HasTextNumber w → value_word v ≡ value_word w → v ≡ w
 value_word_once (Arg k) (Arg m) fits too small low e =
     let tail : decimal k ≡ decimal m = append_cancel_left (codes "ARG ") (decimal k) (decimal m) e in
     ap (λ (n : ℕ). Arg n) (decimal_injective k m (omega (arith, fits)) (omega (arith, too)) tail)
@@ -102,7 +102,7 @@ any_word : HasNo 10 (codes "ANY")
 unfolding HasNo
 any_word = refl
 
-pub HasNo-value : (v : Value) → ValueFits v → HasNumber v → HasNo 10 (value_word v)
+pub HasNo-value : (v : Value) → ValueFits v → HasTextNumber v → HasNo 10 (value_word v)
 HasNo-value (Arg k) fits small = HasNo-append 10 (codes "ARG ") (decimal k) arg_word (HasNo-decimal 10 k (omega arith) (omega (arith, fits)))
 HasNo-value (Const c) fits small = HasNo-append 10 (codes "CONST ") (decimal c) const_word (HasNo-decimal 10 c (omega arith) small)
 HasNo-value Any fits small = any_word

@@ -6,7 +6,7 @@ use Rattle.flow_points.specs.declared.fact.Slot.{Slot}
 use Rattle.flow_points.specs.declared.fact.Value.{Value}
 use Rattle.certificate_text.specs.declared.certificate.Shape.{Shape}
 use Rattle.certificate_text.specs.declared.version.Version.{Version}
-use Rattle.certificate_text.specs.Text.{CanTell, FactFits, FactNumbers, HasNumber, IsNumber, ShapeNumbers, SlotFits, ValueFits, fact_line, reference_words, shape_line, slot_word, value_word, version_line}
+use Rattle.certificate_text.specs.Text.{CanTell, FactFits, FactNumbers, HasTextNumber, IsNumber, ShapeNumbers, SlotFits, ValueFits, fact_line, reference_words, shape_line, slot_word, value_word, version_line}
 use Rattle.text_lines.specs.Lines.{ended}
 
 -- the text begins with a label, a number and a byte
@@ -39,7 +39,7 @@ pub record IsSlotAt (text : List ℕ) (s : Slot) (rest : List ℕ) : Type 0 wher
 -- it begins with a value and the end of its line
 pub record IsValueAt (text : List ℕ) (v : Value) (rest : List ℕ) : Type 0 where
   pub fits : ValueFits v
-  pub number : HasNumber v
+  pub number : HasTextNumber v
   pub so : text ≡ value_word v ++ 10 ∷ rest
 
 -- it begins with the line of a fact

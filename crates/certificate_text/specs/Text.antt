@@ -99,16 +99,16 @@ pub record FactFits (f : Fact) : Type 0 where
 abbrev pub IsNumber : ℕ → Type 0
 IsNumber n = n < 2 ^ 32
 
-abbrev pub HasNumber : Value → Type 0
-HasNumber (Const c) = IsNumber c
-HasNumber (Arg k) = Unit {0}
-HasNumber Any = Unit {0}
+abbrev pub HasTextNumber : Value → Type 0
+HasTextNumber (Const c) = IsNumber c
+HasTextNumber (Arg k) = Unit {0}
+HasTextNumber Any = Unit {0}
 
 -- its numbers are those of 32 bits
 pub record FactNumbers (f : Fact) : Type 0 where
   pub entry : IsNumber f.entry
   pub point : IsNumber f.point
-  pub value : HasNumber f.value
+  pub value : HasTextNumber f.value
 
 pub record ShapeNumbers (s : Shape) : Type 0 where
   pub signals : IsNumber s.signals

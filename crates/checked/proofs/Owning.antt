@@ -15,7 +15,7 @@ use Rattle.exchange_model.specs.declared.expr.Factor.TheVariants as factor
 use Rattle.source_meaning.specs.Changes.{value_count}
 use Rattle.source_meaning.specs.Named.{Layer}
 use Rattle.source_meaning.specs.Valid.{entry_count}
-use Rattle.source_meaning.proofs.Parts.{Parts, every_expr}
+use Rattle.source_meaning.proofs.Parts.{NodeParts, every_expr}
 use Rattle.flow_points.specs.declared.limits.TheConstants.{SMALL_NUMBERS}
 use Rattle.flow_points.specs.declared.fact.Fact.{Fact}
 use Rattle.flow_points.specs.declared.fact.Slot.{Slot}
@@ -38,7 +38,7 @@ use Rattle.flow_table.proofs.Shaping.{led_by}
 use Rattle.flow_table.proofs.Sourcing.{expr_source-out, term_source-out, joined_source-out, factor_as}
 use Rattle.entry_summary.specs.declared.summary.Summary.{Summary}
 use Rattle.access_summary.specs.Least.{AreSummaries}
-use Rattle.certificate.specs.Strange.{IsOfExchange, IsValueOf}
+use Rattle.certificate.specs.Strange.{IsOfExchange, IsValueOfEntry}
 use Rattle.certificate.proofs.Firsts.{count_some}
 use Rattle.finite_facts.proofs.Facts.{least_facts}
 use Rattle.checked.specs.declared.own.Own.{Own}
@@ -76,7 +76,7 @@ small_number : (n : ℕ) (t : Bool) → Carries (if t then Is (Const n) else Is 
 small_number n true = tt
 small_number n false = tt
 
-carrying : Parts (λ e. Carries (expr_source e)) (λ t. Carries (term_source t)) (λ f. Carries (own_source f))
+carrying : NodeParts (λ e. Carries (expr_source e)) (λ t. Carries (term_source t)) (λ f. Carries (own_source f))
 carrying = record {
   expr = λ e each. subst Carries (sym (expr_source-out e)) (alone_term (out-Expr e).terms each);
   term = λ t each. subst Carries (sym (term_source-out t)) (alone_factor (out-Term t).factors each);
@@ -192,27 +192,27 @@ leads_carry x at q how g = (let led = led_by x at q how g in as_made how led.way
 -- values that are given are of the entry
 
 module _ (x : Exchange) where
-  number_of_entry : (e : ℕ) (v : Value) → IsNumber v → IsValueOf x e v
+  number_of_entry : (e : ℕ) (v : Value) → IsNumber v → IsValueOfEntry x e v
   number_of_entry e (Arg k) h = absurd h
   number_of_entry e (Const c) h = tt
   number_of_entry e Any h = tt
 
-  carried : (P : Facts) → ((f : Fact) → P f → IsValueOf x f.entry f.value) → (e p : ℕ) (source : Source) (v : Value) → Carries source → SourceGives P e p source v → IsValueOf x e v
+  carried : (P : Facts) → ((f : Fact) → P f → IsValueOfEntry x f.entry f.value) → (e p : ℕ) (source : Source) (v : Value) → Carries source → SourceGives P e p source v → IsValueOfEntry x e v
   carried P each e p (Of s) v h g = each (fact e p s v) g
-  carried P each e p (Is w) v h g = subst (IsValueOf x e) (sym g) (number_of_entry e w h)
-  carried P each e p Deeper v h g = subst (IsValueOf x e) (sym g.2) tt
+  carried P each e p (Is w) v h g = subst (IsValueOfEntry x e) (sym g) (number_of_entry e w h)
+  carried P each e p Deeper v h g = subst (IsValueOfEntry x e) (sym g.2) tt
   carried P each e p Nothing v h g = absurd g
 
-  begun : (e count k : ℕ) (t : Bool) (v : Value) (P : Facts) (p : ℕ) → count ≡ entry_count x e → nat_lt k count ≡ t → SourceGives P e p (if t then Is (Arg k) else Is (Const 0)) v → IsValueOf x e v
-  begun e count k true v P p is below g = subst (IsValueOf x e) (sym g) (subst (λ n. k < n) is (ltb-true k count below))
-  begun e count k false v P p is below g = subst (IsValueOf x e) (sym g) tt
+  begun : (e count k : ℕ) (t : Bool) (v : Value) (P : Facts) (p : ℕ) → count ≡ entry_count x e → nat_lt k count ≡ t → SourceGives P e p (if t then Is (Arg k) else Is (Const 0)) v → IsValueOfEntry x e v
+  begun e count k true v P p is below g = subst (IsValueOfEntry x e) (sym g) (subst (λ n. k < n) is (ltb-true k count below))
+  begun e count k false v P p is below g = subst (IsValueOfEntry x e) (sym g) tt
 
-  started : (e count : ℕ) (s : Slot) (v : Value) (P : Facts) (p : ℕ) → count ≡ entry_count x e → SourceGives P e p (start_source count s) v → IsValueOf x e v
-  started e count (Temp t) v P p is g = subst (IsValueOf x e) (sym g) tt
+  started : (e count : ℕ) (s : Slot) (v : Value) (P : Facts) (p : ℕ) → count ≡ entry_count x e → SourceGives P e p (start_source count s) v → IsValueOfEntry x e v
+  started e count (Temp t) v P p is g = subst (IsValueOfEntry x e) (sym g) tt
   started e count (Given k) v P p is g = begun e count k (nat_lt k count) v P p is refl g
   started e count (Answered k) v P p is g = absurd g
-  started e count Depth v P p is g = subst (IsValueOf x e) (sym g) tt
-  started e count Awaits v P p is g = subst (IsValueOf x e) (sym g) tt
+  started e count Depth v P p is g = subst (IsValueOfEntry x e) (sym g) tt
+  started e count Awaits v P p is g = subst (IsValueOfEntry x e) (sym g) tt
 
   all_of_exchange : IsClosed x (IsOfExchange x)
   all_of_exchange f (inl g) = record {

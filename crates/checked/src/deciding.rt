@@ -48,7 +48,7 @@ pub fn check(
     if let Some(fact) = first_strange(exchange, &table, facts.as_slice()) {
         return Err(CertFault::StrangeFact { fact });
     }
-    let known = FactList::new(in_order(facts));
+    let known = FactList::new(alloc, in_order(facts))?;
     if let Some(fact) = missing_from(alloc, exchange, &table, &known)? {
         return Err(CertFault::MissingFact { fact });
     }

@@ -6,7 +6,7 @@ use Rattle.std.proofs.lemmas.Option.{slice_get_past}
 use Rattle.exchange_model.specs.declared.signal.SignalKind.{SignalKind}
 use Rattle.exchange_model.specs.declared.block.Block.{Block}
 use Rattle.exchange_model.specs.declared.block.FilePlace.{FilePlace}
-use Rattle.exchange_model.specs.Index.{IsFileAt}
+use Rattle.exchange_model.specs.Index.{FindsFile}
 use Rattle.exchange_model.specs.Cells.{Placed, first_cell, file_cells, placed_files, record_cells}
 use Rattle.exchange_model.proofs.Facts.{cells_few, file_kept}
 use Rattle.exchange_model.proofs.Places.{file_below}
@@ -29,7 +29,7 @@ module _ (s : Setting) (h : IsSetting s) where
   site_files = refl
 
   -- what the exchange finds of a file
-  pub file_in : (n : ℕ) (found : Option FilePlace) → IsFileAt s.exchange.now.blocks n found → MatchOption found (slice_get (places_in s).site.files n ≡ None) (λ p. IsFileIn s n (placed_of p))
+  pub file_in : (n : ℕ) (found : Option FilePlace) → FindsFile s.exchange.now.blocks n found → MatchOption found (slice_get (places_in s).site.files n ≡ None) (λ p. IsFileIn s n (placed_of p))
   file_in n None e = ap (λ ps. slice_get ps n) site_files ∙ e
   file_in n (Some f) e =
       let p = placed_of f in

@@ -28,7 +28,7 @@ use Rattle.store_layout.specs.Laid.{HasCell, IsLayout}
 use Rattle.source_meaning.specs.Config.{base_of}
 use Rattle.plex_num.proofs.Lists.{all_at}
 use Rattle.expr_code.specs.Code.{expr_code, cond_code}
-use Rattle.expr_code.specs.Sites.{IsScopeOf, IsExprOf, IsCondOf, Grows}
+use Rattle.expr_code.specs.Sites.{IsScopeOf, IsExprOfBlock, IsCondOf, GrowsByCode}
 use Rattle.stmt_code.proofs.NarrowKinds.{enter_few}
 use Rattle.stmt_code.proofs.Signals.{answer_few}
 use Rattle.code_gen.specs.declared.setting.Setting.{Setting}
@@ -45,7 +45,7 @@ scope_in s block h there = record {
   filled = λ n p is. (file_kept s.exchange.now h.kept n p is).some;
 }
 
-pub expr_of : (s : Setting) (e : Expr) → IsValueIn s e → IsExprOf s.layout.now s.block e
+pub expr_of : (s : Setting) (e : Expr) → IsValueIn s e → IsExprOfBlock s.layout.now s.block e
 expr_of s e h = record { scope = scope_of s.exchange.now s.block h.block; is_scope = scope_in s h.block h.setting h.there; fits = h.fits }
 
 pub cond_of : (s : Setting) (c : Cond) → IsTestIn s c → IsCondOf s.layout.now s.block c
@@ -54,10 +54,10 @@ cond_of s c h = record { scope = scope_of s.exchange.now s.block h.block; is_sco
 pub value_registers : (s : Setting) (e : Expr) (first : ℕ) → IsValueIn s e → first ≤ 1 → first + (2 * bracket_depth e + 2) < 16
 value_registers s e first h le = omega (arith, h.shallow)
 
-pub value_grows : (s : Setting) (e : Expr) (first : ℕ) (old new : List Op) → IsValueIn s e → Grows s.layout.now s.block old new (λ site. expr_code e site first) → new ≡ old ++ expr_code e (places_in s).site first
+pub value_grows : (s : Setting) (e : Expr) (first : ℕ) (old new : List Op) → IsValueIn s e → GrowsByCode s.layout.now s.block old new (λ site. expr_code e site first) → new ≡ old ++ expr_code e (places_in s).site first
 value_grows s e first old new h g = g.is (places_in s).site (site_in s h.setting h.block h.there)
 
-pub test_grows : (s : Setting) (c : Cond) (old new : List Op) → IsTestIn s c → Grows s.layout.now s.block old new (λ site. cond_code c site) → new ≡ old ++ cond_code c (places_in s).site
+pub test_grows : (s : Setting) (c : Cond) (old new : List Op) → IsTestIn s c → GrowsByCode s.layout.now s.block old new (λ site. cond_code c site) → new ≡ old ++ cond_code c (places_in s).site
 test_grows s c old new h g = g.is (places_in s).site (site_in s h.setting h.block h.there)
 
 -- values

@@ -12,7 +12,7 @@ use Rattle.flow_points.specs.declared.fact.Value.{Value}
 use Rattle.flow_points.specs.declared.fact.Value.TheVariants.{Arg, Const, Any}
 use Rattle.flow_points.specs.Facts.{Facts, SourceGives}
 use Rattle.flow_table.specs.Giving.{AreValues}
-use Rattle.entry_summary.specs.Faults.{MayBe}
+use Rattle.entry_summary.specs.Faults.{ValueMayBe}
 use Rattle.entry_faults.specs.declared.question.Asked.{Asked}
 use Rattle.entry_faults.specs.declared.question.Asked.TheVariants.{AtLeast, TooWide, Equal, OtherAnswer, NoReceiver}
 use Rattle.entry_faults.specs.declared.question.Question.{Question}
@@ -69,7 +69,7 @@ some_is x (NoReceiver signal) = (λ _. record { number = 0; word = omega arith; 
 
 pub record MayValue (x : Exchange) (asked : Asked) (v : Value) : Type 0 where
   pub number : ℕ
-  pub may : MayBe v number
+  pub may : ValueMayBe v number
   pub meets : Meets x asked number
 
 pub value_is : (x : Exchange) (asked : Asked) (v : Value) → (value_meets x asked v ≡ true) ↔ MayValue x asked v

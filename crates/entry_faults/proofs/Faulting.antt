@@ -18,7 +18,7 @@ use Rattle.exchange_model.specs.declared.stmt.Receiver.TheVariants as receiver
 use Rattle.exchange_model.specs.declared.stmt.StmtKind.{out-StmtKind}
 use Rattle.exchange_model.specs.declared.stmt.StmtKind.TheOpen as stmt
 use Rattle.exchange_model.specs.Cells.{Placed}
-use Rattle.exchange_model.specs.Index.{IsFileAt as IsFoundAt}
+use Rattle.exchange_model.specs.Index.{FindsFile as IsFoundAt}
 use Rattle.exchange_model.specs.Inside.{own_exprs}
 use Rattle.source_meaning.specs.Changes.{variable_width, field_width}
 use Rattle.source_meaning.specs.Config.{files_of}

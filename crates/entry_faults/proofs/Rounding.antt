@@ -3,7 +3,7 @@ use Rattle.std.proofs.Common.{◌≡◌, ⊎_elim, ℕ, zero, suc, ◌+◌, ◌<
 use Rattle.std.specs.Prelude.{◌↔◌, unwrap_or}
 use Rattle.std.specs.List.{Contains}
 use Rattle.std.proofs.lemmas.Bool.{cases_lt}
-use Rattle.std.proofs.lemmas.List.{length-map}
+use Rattle.std.proofs.lemmas.List.{length-map, length_push}
 use Rattle.std.proofs.lemmas.Option.{slice_get_within, none-some, same_Some}
 use Rattle.plex_num.specs.declared.seq.Memory.{Memory}
 use Rattle.plex_num.proofs.Lists.{slice_get-append_left, slice_get-append_seam, some_at}
@@ -22,9 +22,9 @@ use Rattle.flow_table.specs.declared.way.Ends.{Ends}
 use Rattle.flow_table.specs.declared.way.Ends.TheVariants as ends
 use Rattle.flow_table.specs.Rows.{IsFlowTable}
 use Rattle.flow_table.specs.Texts.{ArePlaces, seen}
-use Rattle.flow_table.specs.Ways.{IsEnd}
+use Rattle.flow_table.specs.Ways.{IsWayEnd}
 use Rattle.flow_table.proofs.Rowing.{place_fits}
-use Rattle.entry_summary.specs.Faults.{GoesTo, Walk, Once, Then, GoesRound}
+use Rattle.entry_summary.specs.Faults.{FlowLeads, Walk, Once, Then, GoesRound}
 use Rattle.entry_faults.specs.Marks.{is_in}
 use Rattle.entry_faults.specs.Circles.{ends_of, ways_in, ways_at, LeadTo, Leads, Route, One, More, Circles}
 use Rattle.entry_faults.specs.Reaching.{AreReached}
@@ -46,14 +46,10 @@ get_at (a ∷ places) (suc i) at lt is = get_at places i at (omega arith) is
 
 pub reached_more : (P : Facts) (e : ℕ) (places : List PlaceAt) (i : ℕ) (at : PlaceAt) (b : Bool) (now new : List Bool) → i < length places → at ≡ get_or places i at → ((b ≡ true) ↔ Reached P e at.point) → new ≡ now ++ b ∷ [] → ReachedGo P e places i now → ReachedGo P e places (i + 1) new
 reached_more P e places i at b now new lt is exact made g = record {
-  long = (let l = ap length made ∙ length-push now b in let h = g.long in omega (arith, l, h));
+  long = (let l = ap length made ∙ length_push now b in let h = g.long in omega (arith, l, h));
   exact = λ p a below there. ⊎_elim (λ before. old p a before there) (λ from. last p a (let e : p ≡ i = omega (arith, below, from) in e) there) (cases_lt p i);
 }
   where
-    length-push : (xs : List Bool) (x : Bool) → length (xs ++ x ∷ []) ≡ length xs + 1
-    length-push [] x = refl
-    length-push (y ∷ xs) x = (let h = length-push xs x in omega (arith, h))
-
     old : (p : ℕ) (a : PlaceAt) → p < i → slice_get places p ≡ Some a → (is_in new p ≡ true) ↔ Reached P e a.point
     old p a before there =
         let same : is_in new p ≡ is_in now p = ap (λ l. is_in l p) made ∙ ap (λ o. unwrap_or o false) (slice_get-append_left now (b ∷ []) p (let h = g.long in omega (arith, h, before))) in
@@ -111,11 +107,11 @@ module _ (x : Exchange) (P : Facts) (e : ℕ) (t : FlowTable) (places : List Pla
   end_by answer q None none c = absurd (none_in q c)
   end_by answer q (Some points) some c = ((table.retrieves.exact answer points some).exact q).0 c
 
-  end_is : (w : Ends) (q : ℕ) → Contains (ends_of t w) q → IsEnd x w q
+  end_is : (w : Ends) (q : ℕ) → Contains (ends_of t w) q → IsWayEnd x w q
   end_is (ends.Points points) q c = c
   end_is (ends.Retrieves answer) q c = end_by answer q (slice_get t.retrieves answer) refl c
 
-  is_end : (w : Ends) (q : ℕ) → IsEnd x w q → Contains (ends_of t w) q
+  is_end : (w : Ends) (q : ℕ) → IsWayEnd x w q → Contains (ends_of t w) q
   is_end (ends.Points points) q c = c
   is_end (ends.Retrieves answer) q h =
       let fits = place_fits x h.place kept h.stands.place in
@@ -124,7 +120,7 @@ module _ (x : Exchange) (P : Facts) (e : ℕ) (t : FlowTable) (places : List Pla
       let found = some_at t.retrieves answer (omega (arith, below, long)) in
       subst (λ o. Contains (unwrap_or o []) q) (sym found.1) (((table.retrieves.exact answer found.0 found.1).exact q).1 h)
 
-  goes : (p q : ℕ) → Leads t r p q → GoesTo x P e p q
+  goes : (p q : ℕ) → Leads t r p q → FlowLeads x P e p q
   goes p q l =
       let found = stands_at p l.from in
       let row = table.rows.each p found.0 found.1 in
@@ -137,7 +133,7 @@ module _ (x : Exchange) (P : Facts) (e : ℕ) (t : FlowTable) (places : List Pla
         leads = (row.is.ways.exact q lead.way.how).0 (record { way = lead.way; one = lead.one; leads = record { end = end_is lead.way.ends q lead.end; is = refl } });
       }
 
-  leads : (p q : ℕ) → GoesTo x P e p q → Leads t r p q
+  leads : (p q : ℕ) → FlowLeads x P e p q → Leads t r p q
   leads p q g =
       let row = table.rows.each p g.at g.stands in
       let lead = (row.is.ways.exact q g.how).1 g.leads in

@@ -7,7 +7,7 @@ use Rattle.std.proofs.lemmas.Cmp.{nat_eq_equiv}
 use Rattle.std.proofs.lemmas.List.Elements.{Contains-push, Contains-push_cases, Contains-append_left}
 use Rattle.std.proofs.lemmas.Map.Keys.{IsDistinct-push}
 use Rattle.plex_limits.specs.declared.limits.TheConstants.{MOST_SENT}
-use Rattle.std.proofs.lemmas.List.{length-map}
+use Rattle.std.proofs.lemmas.List.{length-map, length_push}
 use Rattle.std.proofs.Math.ListN.{drop_of_length-le}
 use Rattle.plex_num.proofs.Members.{first_or_later, none_in, first_is, later_is}
 use Rattle.plex_num.proofs.Lists.{opens}
@@ -127,10 +127,6 @@ module _ (x : Exchange) (P : Facts) (e : ℕ) (places : List PlaceAt) (i : ℕ) 
   posts_there : PostsHere x P e at → PostsAt x P e at.point
   posts_there h = record { at = seen at; stands = record { place = are.each i (seen at) (seen_at places i at lt is); here = refl }; reached = h.reached; posts = (posts_is x (out-StmtKind at.kind.now)).0 h.posting }
 
-  length-push : (xs : List ℕ) (y : ℕ) → length (xs ++ y ∷ []) ≡ length xs + 1
-  length-push [] y = refl
-  length-push (z ∷ xs) y = (let h = length-push xs y in omega (arith, h))
-
   later : {p : ℕ} → IsBefore places i p → IsBefore places (i + 1) p
   later b = record { index = b.index; low = (let l = b.low in omega (arith, l)); at = b.at; there = b.there; point = b.point }
 
@@ -144,7 +140,7 @@ module _ (x : Exchange) (P : Facts) (e : ℕ) (places : List PlaceAt) (i : ℕ) 
   sends_yes sends h g = record {
     few = (let f = g.few in omega (arith, f));
     points = g.points ++ at.point ∷ [];
-    many = (let l = length-push g.points at.point in let m = g.many in omega (arith, l, m));
+    many = (let l = length_push g.points at.point in let m = g.many in omega (arith, l, m));
     once = IsDistinct-push nat_eq_equiv g.points at.point g.once (not_in g.points at.point (λ p c. below (g.from p c)));
     from = λ p c. ⊎_elim (λ old. later (g.from p old)) (λ (f : at.point ≡ p). record { index = i; low = omega arith; at = at; there = seen_at places i at lt is; point = f }) (Contains-push_cases g.points at.point p c);
     each = λ p c. ⊎_elim (g.each p) (λ (f : at.point ≡ p). subst (PostsAt x P e) f (posts_there h)) (Contains-push_cases g.points at.point p c);

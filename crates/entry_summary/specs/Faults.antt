@@ -34,15 +34,15 @@ use Rattle.flow_points.specs.Facts.{Facts, Reached, SourceGives}
 use Rattle.entry_summary.specs.Accesses.{IsForlopp, NamesField}
 
 -- the value may be the number, of 32 bits
-abbrev pub MayBe : Value → ℕ → Type 0
-MayBe (Const c) n = n ≡ c
-MayBe _ n = n < 2 ^ 32
+abbrev pub ValueMayBe : Value → ℕ → Type 0
+ValueMayBe (Const c) n = n ≡ c
+ValueMayBe _ n = n < 2 ^ 32
 
 -- a value that comes from the source before the point may be the number
 pub record SourceMayBe (P : Facts) (e p : ℕ) (s : Source) (n : ℕ) : Type 0 where
   pub value : Value
   pub comes : SourceGives P e p s value
-  pub is : MayBe value n
+  pub is : ValueMayBe value n
 
 -- divisions
 
@@ -146,7 +146,7 @@ pub record TooManySends (x : Exchange) (P : Facts) (e : ℕ) : Type 0 where
 -- too many statements
 
 -- a flow leads from a reached point to another one
-pub record GoesTo (x : Exchange) (P : Facts) (e p q : ℕ) : Type 0 where
+pub record FlowLeads (x : Exchange) (P : Facts) (e p q : ℕ) : Type 0 where
   pub at : Place
   pub stands : StandsAt x p at
   pub reached : Reached P e p
@@ -155,8 +155,8 @@ pub record GoesTo (x : Exchange) (P : Facts) (e p q : ℕ) : Type 0 where
 
 -- one or more flows, each from a reached point, lead there
 pub data Walk (x : Exchange) (P : Facts) (e : ℕ) : ℕ → ℕ → Type 0 where
-  Once : {p q : ℕ} → GoesTo x P e p q → Walk x P e p q
-  Then : {p q r : ℕ} → GoesTo x P e p q → Walk x P e q r → Walk x P e p r
+  Once : {p q : ℕ} → FlowLeads x P e p q → Walk x P e p q
+  Then : {p q r : ℕ} → FlowLeads x P e p q → Walk x P e q r → Walk x P e p r
 
 -- a reached point leads back to itself
 pub record GoesRound (x : Exchange) (P : Facts) (e : ℕ) : Type 0 where

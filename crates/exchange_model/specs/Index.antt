@@ -16,8 +16,8 @@ use Rattle.exchange_model.specs.Cells.{file_cells, block_cells, placed_files}
 use Rattle.exchange_model.specs.Parts.{Parts}
 
 -- what is found of the file of a number: nothing exactly where there is none, else the file, its block and its first cell
-abbrev pub IsFileAt : List Block → ℕ → Option FilePlace → Type 0
-IsFileAt blocks number found =
+abbrev pub FindsFile : List Block → ℕ → Option FilePlace → Type 0
+FindsFile blocks number found =
     MatchOption found
     (slice_get (placed_files blocks) number ≡ None)
     (λ p. slice_get (placed_files blocks) number ≡ Some (record { block = p.block; file = p.file.now; first = p.first }))

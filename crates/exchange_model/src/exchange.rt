@@ -1,7 +1,7 @@
 ghost use Rattle.std.specs.Prelude.{◌≡◌, ◌≤◌, [], length, IfOk, position};
 ghost use Rattle.exchange_model.specs.Parts.{parts};
 ghost use Rattle.exchange_model.specs.Cells.{first_cell};
-ghost use Rattle.exchange_model.specs.Index.{IsFileAt, enter_of, is_entry};
+ghost use Rattle.exchange_model.specs.Index.{FindsFile, enter_of, is_entry};
 ghost use Rattle.exchange_model.specs.Kept.{IsExchange};
 ghost use Rattle.exchange_model.specs.Names.{level_of, name_of_block, name_of_signal};
 
@@ -123,7 +123,7 @@ impl Exchange {
     /// The file of this number; `None` exactly where there is none.
     #[tactic(auto, using(crate::proofs::Indexed::file_found))]
     pub fn file(&self, number: u32) -> Option<FilePlace<'_>>
-        ensures { IsFileAt self.now.blocks number result }
+        ensures { FindsFile self.now.blocks number result }
     {
         let Some(position) = self.index.position(number) else {
             return None;

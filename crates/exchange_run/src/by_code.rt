@@ -6,7 +6,7 @@ use crate::runner::Runner;
 use exchange_model::Exchange;
 use job_types::{JobDone, JobStart};
 use machine_code::Code;
-use plex_io::{Gate, Place};
+use plex_io::{Gate, Moment};
 use plex_num::{Memory, Seq};
 use register_machine::{JobRun, run_to_end};
 
@@ -54,12 +54,12 @@ impl<'a, G: Gate> Runner for ByCode<'a, G> {
     ) -> Result<(), Memory> {
         exchange.kept();
         self.begun = self.begun.wrapping_add(1);
-        self.gate.at(self.begun, Place::Before);
+        self.gate.at(self.begun, Moment::Before);
         self.run.begin(self.code, start);
         run_to_end(exchange, &mut self.run, self.code, words);
         let steps = self.run.steps();
         self.lengths.add(steps);
-        self.gate.at(self.begun, Place::After { steps });
+        self.gate.at(self.begun, Moment::After { steps });
         Ok(())
     }
 

@@ -6,7 +6,7 @@ use crate::lengths::Rest;
 use crate::runner::Runner;
 use exchange_model::Exchange;
 use job_types::{Chain, JobDone, JobStart, Outbox, Outcome};
-use plex_io::{Gate, Place};
+use plex_io::{Gate, Moment};
 use plex_num::{Memory, Seq};
 use source_interpreter::{Cases, plain_job};
 use std::alloc::Global;
@@ -58,9 +58,9 @@ impl<'a, G: Gate> Runner for BySource<'a, G> {
         words: &mut Seq<u32>,
     ) -> Result<(), Memory> {
         self.begun = self.begun.wrapping_add(1);
-        self.gate.at(self.begun, Place::Before);
+        self.gate.at(self.begun, Moment::Before);
         self.done = plain_job(self.alloc, exchange, &self.cases, words, start)?;
-        self.gate.at(self.begun, Place::After { steps: 0 });
+        self.gate.at(self.begun, Moment::After { steps: 0 });
         Ok(())
     }
 

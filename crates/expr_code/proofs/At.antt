@@ -27,7 +27,7 @@ use Rattle.store_layout.specs.Laid.{HasCell, IsLayout, file_row}
 use Rattle.store_layout.specs.Rows.{Rows}
 use Rattle.expr_code.specs.Code.{Site}
 use Rattle.expr_code.proofs.Rows.{first_of}
-use Rattle.expr_code.specs.Sites.{IsSiteOf, IsExprOf, IsTermOf, IsFactorOf, IsCondOf, IsSide, IsRelationOf, AreRelationsOf}
+use Rattle.expr_code.specs.Sites.{IsSiteOf, IsExprOfBlock, IsTermOf, IsFactorOf, IsCondOf, IsSide, IsRelationOf, AreRelationsOf}
 use Rattle.plex_num.proofs.Lists.{all_left, all_right, all_here}
 use Rattle.store_layout.proofs.Looking.{file_row_at}
 use Rattle.expr_code.proofs.Fitted.{variable_fits, field_fits, bracket_fits, reference_fits, factors_fit, term_is_deep, bracket_is_deep}
@@ -37,18 +37,18 @@ most_at f [] i x lt is = absurd (omega arith)
 most_at f (y ∷ xs) zero x lt is = omega (arith, ap f is)
 most_at f (y ∷ xs) (suc i) x lt is = omega (arith, most_at f xs i x (omega arith) is)
 
-pub term_at : (e : Expr) (l : Rows) (b : ℕ) (ts : List Term) (i : ℕ) (t : Term) (r : ℕ) → IsExprOf l b e → r + (2 * bracket_depth e + 2) < 16 → ts ≡ (out-Expr e).terms → i < length ts → t ≡ get_or ts i t → IsTermOf l b t × (r + 1 + (2 * term_depth t + 1) < 16)
+pub term_at : (e : Expr) (l : Rows) (b : ℕ) (ts : List Term) (i : ℕ) (t : Term) (r : ℕ) → IsExprOfBlock l b e → r + (2 * bracket_depth e + 2) < 16 → ts ≡ (out-Expr e).terms → i < length ts → t ≡ get_or ts i t → IsTermOf l b t × (r + 1 + (2 * term_depth t + 1) < 16)
 term_at e l b ts i t r h room is lt item =
     let all : AllByRecursion (TermFits h.scope) ts = subst (AllByRecursion (TermFits h.scope)) (sym is) (expr_fits-out h.scope e h.fits).1 in
     let deep : bracket_depth e ≡ most (map term_depth ts) = bracket_depth-out e ∙ ap (λ l. most (map term_depth l)) (sym is) in
     (record { scope = h.scope; is_scope = h.is_scope; fits = all_here (TermFits h.scope) ts i t all lt item }, omega (arith, deep, most_at term_depth ts i t lt item))
 
-pub first_term_at : (e : Expr) (l : Rows) (b : ℕ) (ts : List Term) (t : Term) (rest : List Term) (r : ℕ) → IsExprOf l b e → r + (2 * bracket_depth e + 2) < 16 → ts ≡ (out-Expr e).terms → ts ≡ t ∷ rest → IsTermOf l b t × (r + (2 * term_depth t + 1) < 16)
+pub first_term_at : (e : Expr) (l : Rows) (b : ℕ) (ts : List Term) (t : Term) (rest : List Term) (r : ℕ) → IsExprOfBlock l b e → r + (2 * bracket_depth e + 2) < 16 → ts ≡ (out-Expr e).terms → ts ≡ t ∷ rest → IsTermOf l b t × (r + (2 * term_depth t + 1) < 16)
 first_term_at e l b ts t rest r h room same is =
     let here = term_at e l b (t ∷ rest) 0 t r h room (sym is ∙ same) (omega arith) refl in
     (here.0, omega (arith, here.1))
 
-pub next_term_at : (e : Expr) (l : Rows) (b : ℕ) (ts : List Term) (first : Term) (rest : List Term) (i : ℕ) (t : Term) (r : ℕ) → IsExprOf l b e → r + (2 * bracket_depth e + 2) < 16 → ts ≡ (out-Expr e).terms → ts ≡ first ∷ rest → i < length rest → t ≡ get_or rest i t → IsTermOf l b t × (r + 1 + (2 * term_depth t + 1) < 16)
+pub next_term_at : (e : Expr) (l : Rows) (b : ℕ) (ts : List Term) (first : Term) (rest : List Term) (i : ℕ) (t : Term) (r : ℕ) → IsExprOfBlock l b e → r + (2 * bracket_depth e + 2) < 16 → ts ≡ (out-Expr e).terms → ts ≡ first ∷ rest → i < length rest → t ≡ get_or rest i t → IsTermOf l b t × (r + 1 + (2 * term_depth t + 1) < 16)
 next_term_at e l b ts first rest i t r h room same is lt item = term_at e l b (first ∷ rest) (suc i) t r h room (sym is ∙ same) (omega arith) item
 
 pub factor_at : (t : Term) (l : Rows) (b : ℕ) (js : List Joined) (i : ℕ) (j : Joined) (r : ℕ) → IsTermOf l b t → r + (2 * term_depth t + 1) < 16 → js ≡ (out-Term t).factors → i < length js → j ≡ get_or js i j → IsFactorOf l b j.factor × (r + 1 + 2 * factor_own_depth j.factor < 16)
@@ -92,7 +92,7 @@ field_at f file field pointer l b h is row there =
     let one : 1 * record_cells fits.placed.file ≤ file_cells fits.placed.file = mul-le 1 (record_cells fits.placed.file) fits.placed.file.size (record_cells fits.placed.file) some (omega arith) in
     omega (arith, fits.within, below, few, one, ap (λ (r : FileRow). r.first) same)
 
-pub bracket_at : (f : Factor) (e : Expr) (l : Rows) (b : ℕ) (r : ℕ) → IsFactorOf l b f → r + 2 * factor_own_depth f < 16 → f ≡ Bracket e → IsExprOf l b e × (r + (2 * bracket_depth e + 2) < 16)
+pub bracket_at : (f : Factor) (e : Expr) (l : Rows) (b : ℕ) (r : ℕ) → IsFactorOf l b f → r + 2 * factor_own_depth f < 16 → f ≡ Bracket e → IsExprOfBlock l b e × (r + (2 * bracket_depth e + 2) < 16)
 bracket_at f e l b r h room is =
     let deep : factor_own_depth f ≡ bracket_depth e + 1 = ap factor_own_depth is ∙ bracket_is_deep e in
     (record { scope = h.scope; is_scope = h.is_scope; fits = bracket_fits h.scope e (subst (FactorOwnFits h.scope) is h.fits) }, omega arith)

@@ -31,7 +31,7 @@ use Rattle.expr_code.specs.Sites.{IsLimited}
 use Rattle.expr_code.proofs.Each.{all_fit}
 use Rattle.expr_code.proofs.Places.{has_front, has_back}
 use Rattle.expr_code.proofs.Runs.{agrees_on, after_none, bind_runs, then_runs, check_runs, nothing, StandsAt, op_sets, op_sets_plain, op_fails, op_checks}
-use Rattle.source_meaning.proofs.Parts.{Parts, every_expr}
+use Rattle.source_meaning.proofs.Parts.{NodeParts, every_expr}
 use Rattle.expr_code.proofs.Opened.{expr_code-out, term_code-out, factor_code-Number, factor_code-Variable, factor_code-Temporary, factor_code-Field, factor_code-Bracket, factor_code-Reference}
 use Rattle.expr_code.proofs.Fitted.{number_fits, temporary_fits, field_fits, bracket_fits, reference_fits, factors_fit, term_is_deep, bracket_is_deep}
 
@@ -248,7 +248,7 @@ module _ (code : List Op) (s : Sight) where
 
   -- those of a block within its limits
   module _ (scope : Scope) (few : IsLimited scope) where
-    expr_steps : Parts (λ e. ExprFits scope e → RunsWithin (2 * bracket_depth e + 2) (expr_code e) (expr_value e s)) (λ t. TermFits scope t → TermRuns t) (λ f. FactorOwnFits scope f → FactorRuns f)
+    expr_steps : NodeParts (λ e. ExprFits scope e → RunsWithin (2 * bracket_depth e + 2) (expr_code e) (expr_value e s)) (λ t. TermFits scope t → TermRuns t) (λ f. FactorOwnFits scope f → FactorRuns f)
     expr_steps = record {
       expr = λ e all fits. expr_layer_runs e (expr_fits-out scope e fits).0 (all_fit (TermFits scope) TermRuns (out-Expr e).terms all (expr_fits-out scope e fits).1);
       term = λ t all fits. term_layer_runs t (term_fits-out scope t fits).0 (all_fit (λ (j : Joined). FactorOwnFits scope j.factor) (λ (j : Joined). FactorRuns j.factor) (out-Term t).factors all (factors_fit scope t fits));

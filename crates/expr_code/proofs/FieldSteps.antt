@@ -11,7 +11,7 @@ use Rattle.store_layout.specs.declared.row.FileRow.{FileRow}
 use Rattle.store_layout.specs.Laid.{IsLayout}
 use Rattle.store_layout.specs.Rows.{Rows}
 use Rattle.expr_code.specs.Code.{factor_code, own_code, pointer_code, field_code}
-use Rattle.expr_code.specs.Sites.{Begins, IsFactorOf, Grows, GrowsByRow}
+use Rattle.expr_code.specs.Sites.{Begins, IsFactorOf, GrowsByCode, GrowsByRow}
 use Rattle.expr_code.proofs.At.{variable_word}
 use Rattle.expr_code.proofs.Emits.{begins_is, begins_on}
 use Rattle.expr_code.proofs.Opened.{factor_code-Variable}
@@ -50,7 +50,7 @@ pointer_plain row file r old new le e = record {
 
 -- a field
 
-pub field_grows : (l : Rows) (b file field pointer r : ℕ) (row : FileRow) (old n1 n2 new : List Op) → slice_get l.files file ≡ Some row → n1 ≡ old ++ Ldt r pointer ∷ [] → GrowsByRow row n1 n2 (λ p. pointer_code p file r) → new ≡ n2 ++ Ldx r (row.first + field) row.stride r ∷ [] → Grows l b old new (λ site. field_code (slice_get site.files file) file field pointer r)
+pub field_grows : (l : Rows) (b file field pointer r : ℕ) (row : FileRow) (old n1 n2 new : List Op) → slice_get l.files file ≡ Some row → n1 ≡ old ++ Ldt r pointer ∷ [] → GrowsByRow row n1 n2 (λ p. pointer_code p file r) → new ≡ n2 ++ Ldx r (row.first + field) row.stride r ∷ [] → GrowsByCode l b old new (λ site. field_code (slice_get site.files file) file field pointer r)
 field_grows l b file field pointer r row old n1 n2 new there e1 g e3 =
     let load : List Op = Ldx r (row.first + field) row.stride r ∷ [] in
     record {
@@ -65,7 +65,7 @@ field_grows l b file field pointer r row old n1 n2 new there e1 g e3 =
           ∙ ap (λ o. old ++ field_code o file field pointer r) (sym f.there);
     }
 
-pub no_field_grows : (l : Rows) (b file field pointer r : ℕ) (old new : List Op) → slice_get l.files file ≡ None → new ≡ old ++ Ldi r 0 ∷ [] → Grows l b old new (λ site. field_code (slice_get site.files file) file field pointer r)
+pub no_field_grows : (l : Rows) (b file field pointer r : ℕ) (old new : List Op) → slice_get l.files file ≡ None → new ≡ old ++ Ldi r 0 ∷ [] → GrowsByCode l b old new (λ site. field_code (slice_get site.files file) file field pointer r)
 no_field_grows l b file field pointer r old new there e = record {
   begins = begins_is old new (Ldi r 0 ∷ []) e;
   is = λ site is_site. e ∙ ap (λ o. old ++ field_code o file field pointer r) (sym (site_no_file l b site file is_site there));
@@ -73,7 +73,7 @@ no_field_grows l b file field pointer r old new there e = record {
 
 -- a variable
 
-pub variable_grows : (f : Factor) (v r : ℕ) (l : Rows) (b word : ℕ) (old new : List Op) → IsFactorOf l b f → f ≡ Variable v → ((bs : List Block) → IsLayout bs l → IsCell bs (cell.Variable b v) → word ≡ cell_number bs (cell.Variable b v)) → new ≡ old ++ Ldw r word ∷ [] → Grows l b old new (λ site. factor_code f site r)
+pub variable_grows : (f : Factor) (v r : ℕ) (l : Rows) (b word : ℕ) (old new : List Op) → IsFactorOf l b f → f ≡ Variable v → ((bs : List Block) → IsLayout bs l → IsCell bs (cell.Variable b v) → word ≡ cell_number bs (cell.Variable b v)) → new ≡ old ++ Ldw r word ∷ [] → GrowsByCode l b old new (λ site. factor_code f site r)
 variable_grows f v r l b word old new h is tells e = record {
   begins = begins_is old new (Ldw r word ∷ []) e;
   is = λ site is_site. e ∙ ap (λ n. old ++ Ldw r n ∷ []) (variable_word f v l b word h is tells site is_site) ∙ ap (λ c. old ++ c site r) (sym (ap factor_code is ∙ factor_code-Variable v));

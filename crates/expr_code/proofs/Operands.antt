@@ -23,8 +23,8 @@ use Rattle.exchange_model.proofs.Layers.{expr_fits-out}
 use Rattle.exchange_model.specs.PartCounts.{term_depth, factor_own_depth}
 use Rattle.exchange_model.proofs.Counted.{bracket_depth-out}
 use Rattle.expr_code.specs.Code.{Site, Code, term_op, factor_op, rel_op, own_code, field_code, sum_code, product_code, whole_sum, whole_product, expr_code, term_code, factor_code, joined_code, summand_code, relation_code, and_code, all_code, or_code, any_code, cond_code}
-use Rattle.expr_code.specs.Sites.{IsPlace, IsSite}
-use Rattle.source_meaning.proofs.Parts.{Parts, every_expr}
+use Rattle.expr_code.specs.Sites.{IsPlacedFile, IsSite}
+use Rattle.source_meaning.proofs.Parts.{NodeParts, every_expr}
 use Rattle.expr_code.proofs.Opened.{expr_code-out, term_code-out, factor_code-Number, factor_code-Variable, factor_code-Temporary, factor_code-Field, factor_code-Bracket, factor_code-Reference}
 use Rattle.expr_code.proofs.Fitted.{number_fits, variable_fits, temporary_fits, field_fits, bracket_fits, reference_fits, factors_fit, term_is_deep, bracket_is_deep}
 use Rattle.expr_code.proofs.Each.{all_fit}
@@ -93,7 +93,7 @@ module _ (scope : Scope) (site : Site) (is_site : IsSite scope site) where
   leaf_fits : (f : Factor) {c : Code} → factor_code f ≡ c → FitsWithin 0 c → FactorOps f
   leaf_fits f ec h r lt = fits_as {j = 0} refl ec h r (omega arith)
 
-  field_ops : (o : Option Placed) (file field pointer : ℕ) → ((p : Placed) → o ≡ Some p → IsPlace p × (field < length p.file.fields) × (file < 2 ^ 32)) → pointer < 24 → FitsWithin 0 (λ site r. field_code o file field pointer r)
+  field_ops : (o : Option Placed) (file field pointer : ℕ) → ((p : Placed) → o ≡ Some p → IsPlacedFile p × (field < length p.file.fields) × (file < 2 ^ 32)) → pointer < 24 → FitsWithin 0 (λ site r. field_code o file field pointer r)
   field_ops None file field pointer place small r lt = ((omega arith, omega arith), tt)
   field_ops (Some p) file field pointer place small r lt =
       let h = place p refl in
@@ -101,7 +101,7 @@ module _ (scope : Scope) (site : Site) (is_site : IsSite scope site) where
       let load : AllByRecursion OpFits (Ldx r (p.first + field) (record_cells p.file) r ∷ []) = ((omega arith, omega (arith, h.1, fits.cells), omega (arith, fits.cells), omega arith), tt) in
       ((omega arith, omega arith), ((omega arith, fits.size), all_append OpFits (own_code p.file.forlopp file r) _ (own_fits p.file.forlopp file r h.2 (omega arith)) load))
 
-  expr_ops : Parts (λ e. ExprFits scope e → FitsWithin (2 * bracket_depth e + 2) (expr_code e)) (λ t. TermFits scope t → TermOps t) (λ f. FactorOwnFits scope f → FactorOps f)
+  expr_ops : NodeParts (λ e. ExprFits scope e → FitsWithin (2 * bracket_depth e + 2) (expr_code e)) (λ t. TermFits scope t → TermOps t) (λ f. FactorOwnFits scope f → FactorOps f)
   expr_ops = record {
     expr = λ e all fits. expr_layer_fits e (all_fit (TermFits scope) TermOps (out-Expr e).terms all (expr_fits-out scope e fits).1);
     term = λ t all fits. term_layer_fits t (all_fit (λ (j : Joined). FactorOwnFits scope j.factor) (λ (j : Joined). FactorOps j.factor) (out-Term t).factors all (factors_fit scope t fits));

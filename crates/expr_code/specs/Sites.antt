@@ -22,7 +22,7 @@ use Rattle.store_layout.specs.Rows.{Rows}
 use Rattle.expr_code.specs.Code.{Site}
 
 -- the cells of a file's first record, and how many records it has, are numbers of 32 bits
-pub record IsPlace (p : Placed) : Type 0 where
+pub record IsPlacedFile (p : Placed) : Type 0 where
   pub cells : p.first + record_cells p.file < 2 ^ 32
   pub size : p.file.size < 2 ^ 32
 
@@ -37,7 +37,7 @@ pub record IsSite (scope : Scope) (site : Site) : Type 0 where
   pub variables : site.first + length scope.block.variables < 2 ^ 32
   pub limited : IsLimited scope
   pub few : length site.files ≤ 2 ^ 32
-  pub each : (i : ℕ) (p : Placed) → slice_get site.files i ≡ Some p → IsPlace p
+  pub each : (i : ℕ) (p : Placed) → slice_get site.files i ≡ Some p → IsPlacedFile p
 
 -- the site is that of the block in the layout
 pub record IsSiteOf (l : Rows) (block : ℕ) (site : Site) : Type 0 where
@@ -52,7 +52,7 @@ pub record Begins (old new : List Op) : Type 0 where
   pub is : new ≡ old ++ rest
 
 -- the list grows by the code for the site of the block
-pub record Grows (l : Rows) (block : ℕ) (old new : List Op) (code : Site → List Op) : Type 0 where
+pub record GrowsByCode (l : Rows) (block : ℕ) (old new : List Op) (code : Site → List Op) : Type 0 where
   pub begins : Begins old new
   pub is : (site : Site) → IsSiteOf l block site → new ≡ old ++ code site
 
@@ -69,7 +69,7 @@ pub record IsScopeOf (l : Rows) (block : ℕ) (scope : Scope) : Type 0 where
   pub filled : (n : ℕ) (p : Placed) → slice_get scope.files n ≡ Some p → 1 ≤ p.file.size
 
 -- an expression of the block in the layout's exchange
-pub record IsExprOf (l : Rows) (block : ℕ) (e : Expr) : Type 0 where
+pub record IsExprOfBlock (l : Rows) (block : ℕ) (e : Expr) : Type 0 where
   pub scope : Scope
   pub is_scope : IsScopeOf l block scope
   pub fits : ExprFits scope e

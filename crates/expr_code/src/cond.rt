@@ -1,7 +1,7 @@
 // The code of a condition.
 ghost use Rattle.std.specs.Prelude.{◌≡◌, ◌≤◌, ◌++◌, OnOk, OnErr};
 ghost use Rattle.expr_code.specs.Code.{cond_code, all_code, relation_code, rel_op as op_of_rel};
-ghost use Rattle.expr_code.specs.Sites.{IsCondOf, AreRelationsOf, IsRelationOf, Begins, Grows};
+ghost use Rattle.expr_code.specs.Sites.{IsCondOf, AreRelationsOf, IsRelationOf, Begins, GrowsByCode};
 
 use crate::expr::expr_code;
 use crate::push::push_all;
@@ -20,7 +20,7 @@ const AND_LOCAL: u8 = 49;
 #[tactic(auto, using(crate::proofs::CondSteps::each_list, crate::proofs::Emits::growing))]
 pub fn cond_code(cond: &Cond, layout: &Layout, block: u32, ops: &mut Seq<Op>) -> Result<(), Memory>
     requires of_block { IsCondOf layout.now block cond.now }
-    ensures code { OnOk result (Grows layout.now block ops.old ops.new
+    ensures code { OnOk result (GrowsByCode layout.now block ops.old ops.new
         (λ site. cond_code cond.now site)) }
     ensures begins { OnErr result (Begins ops.old ops.new) }
 {
@@ -45,7 +45,7 @@ fn push_relations(
     ops: &mut Seq<Op>,
 ) -> Result<(), Memory>
     requires of_block { AreRelationsOf layout.now block relations.now }
-    ensures code { OnOk result (Grows layout.now block ops.old ops.new
+    ensures code { OnOk result (GrowsByCode layout.now block ops.old ops.new
         (λ site. all_code relations.now site)) }
     ensures begins { OnErr result (Begins ops.old ops.new) }
 {
@@ -73,7 +73,7 @@ fn push_relation(
     ops: &mut Seq<Op>,
 ) -> Result<(), Memory>
     requires of_block { IsRelationOf layout.now block relation.now }
-    ensures code { OnOk result (Grows layout.now block ops.old ops.new
+    ensures code { OnOk result (GrowsByCode layout.now block ops.old ops.new
         (λ site. relation_code relation.now site)) }
     ensures begins { OnErr result (Begins ops.old ops.new) }
 {

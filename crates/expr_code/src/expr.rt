@@ -3,7 +3,7 @@ ghost use Rattle.std.specs.Prelude.{◌≡◌, ◌+◌, ◌*◌, ◌<◌, ◌++�
 ghost use Rattle.exchange_model.specs.Inside.{bracket_depth};
 ghost use Rattle.exchange_model.specs.PartCounts.{term_depth, factor_own_depth};
 ghost use Rattle.expr_code.specs.Code.{expr_code, term_code, factor_code, term_op as op_of_term, factor_op as op_of_factor};
-ghost use Rattle.expr_code.specs.Sites.{IsExprOf, IsTermOf, IsFactorOf, Begins, Grows};
+ghost use Rattle.expr_code.specs.Sites.{IsExprOfBlock, IsTermOf, IsFactorOf, Begins, GrowsByCode};
 
 use crate::field::push_field;
 use crate::push::push_all;
@@ -23,9 +23,9 @@ pub fn expr_code(
     first: u8,
     ops: &mut Seq<Op>,
 ) -> Result<(), Memory>
-    requires of_block { IsExprOf layout.now block e.now }
+    requires of_block { IsExprOfBlock layout.now block e.now }
     requires registers { first + (2 * bracket_depth e.now + 2) < 16 }
-    ensures code { OnOk result (Grows layout.now block ops.old ops.new
+    ensures code { OnOk result (GrowsByCode layout.now block ops.old ops.new
         (λ site. expr_code e.now site first)) }
     ensures begins { OnErr result (Begins ops.old ops.new) }
 {
@@ -52,7 +52,7 @@ fn push_term(
 ) -> Result<(), Memory>
     requires of_block { IsTermOf layout.now block term.now }
     requires registers { r + (2 * term_depth term.now + 1) < 16 }
-    ensures code { OnOk result (Grows layout.now block ops.old ops.new
+    ensures code { OnOk result (GrowsByCode layout.now block ops.old ops.new
         (λ site. term_code term.now site r)) }
     ensures begins { OnErr result (Begins ops.old ops.new) }
 {
@@ -78,7 +78,7 @@ fn push_factor(
 ) -> Result<(), Memory>
     requires of_block { IsFactorOf layout.now block factor.now }
     requires registers { r + 2 * factor_own_depth factor.now < 16 }
-    ensures code { OnOk result (Grows layout.now block ops.old ops.new
+    ensures code { OnOk result (GrowsByCode layout.now block ops.old ops.new
         (λ site. factor_code factor.now site r)) }
     ensures begins { OnErr result (Begins ops.old ops.new) }
 {

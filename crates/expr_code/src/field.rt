@@ -2,7 +2,7 @@
 ghost use Rattle.std.specs.Prelude.{◌≡◌, ◌+◌, ◌<◌, ◌^◌, ◌++◌, slice_get, Some, OnOk, OnErr};
 ghost use Rattle.store_layout.specs.declared.row.FileRow.{FileRow as Row};
 ghost use Rattle.expr_code.specs.Code.{field_code, pointer_code};
-ghost use Rattle.expr_code.specs.Sites.{Begins, Grows, GrowsByRow};
+ghost use Rattle.expr_code.specs.Sites.{Begins, GrowsByCode, GrowsByRow};
 
 use crate::push::push_all;
 use machine_code::Op;
@@ -36,7 +36,7 @@ pub fn push_field(
 ) -> Result<(), Memory>
     requires inside { (row : Row) → slice_get layout.now.files file ≡ Some row
         → row.first + field < 2 ^ 32 }
-    ensures code { OnOk result (Grows layout.now block ops.old ops.new
+    ensures code { OnOk result (GrowsByCode layout.now block ops.old ops.new
         (λ site. field_code (slice_get site.files file) file field pointer r)) }
     ensures begins { OnErr result (Begins ops.old ops.new) }
 {

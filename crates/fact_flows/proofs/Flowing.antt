@@ -25,7 +25,7 @@ use Rattle.flow_table.specs.declared.way.Way.{Way}
 use Rattle.flow_table.specs.Giving.{HasGiven, SlotGives, SlotsGive}
 use Rattle.flow_table.specs.Rows.{IsRowOf, IsFlowTable}
 use Rattle.flow_table.specs.Small.{IsSmall}
-use Rattle.flow_table.specs.Ways.{IsEnd}
+use Rattle.flow_table.specs.Ways.{IsWayEnd}
 use Rattle.flow_table.proofs.Rowing.{place_fits}
 use Rattle.flow_table.proofs.Slotted.{row_of}
 use Rattle.fact_flows.specs.Flows.{OneGives, FlowsTo, WayGives, StartsIn}
@@ -48,7 +48,7 @@ guarded_flow x P e p how q slots old new guarded are h =
 
 -- one way
 
-pub way_of_ends : (x : Exchange) (P : Facts) (e p : ℕ) (w : Way) (points : List ℕ) (old new : List Fact) → ((q : ℕ) → Contains points q ↔ IsEnd x w.ends q) → HasGiven old new (OneGives (FlowsTo x P e p w.how) points) → HasGiven old new (WayGives x P e p w)
+pub way_of_ends : (x : Exchange) (P : Facts) (e p : ℕ) (w : Way) (points : List ℕ) (old new : List Fact) → ((q : ℕ) → Contains points q ↔ IsWayEnd x w.ends q) → HasGiven old new (OneGives (FlowsTo x P e p w.how) points) → HasGiven old new (WayGives x P e p w)
 way_of_ends x P e p w points old new are h =
     given_as (OneGives (FlowsTo x P e p w.how) points) (WayGives x P e p w) old new
     (λ f k. record { end = k.one; ends = (are k.one).0 k.among; flows = k.gives })
@@ -57,19 +57,19 @@ way_of_ends x P e p w points old new are h =
 
 pub to_points : (x : Exchange) (P : Facts) (e p : ℕ) (w : Way) (listed points : List ℕ) (old new : List Fact) → w.ends ≡ ends.Points listed → points ≡ listed → HasGiven old new (OneGives (FlowsTo x P e p w.how) points) → HasGiven old new (WayGives x P e p w)
 to_points x P e p w listed points old new is same h =
-    way_of_ends x P e p w points old new (λ q. subst (λ k. Contains points q ↔ IsEnd x k q) (sym is) (λ c. subst (λ l. Contains l q) same c, λ c. subst (λ l. Contains l q) (sym same) c)) h
+    way_of_ends x P e p w points old new (λ q. subst (λ k. Contains points q ↔ IsWayEnd x k q) (sym is) (λ c. subst (λ l. Contains l q) same c, λ c. subst (λ l. Contains l q) (sym same) c)) h
 
 pub to_retrieves : (x : Exchange) (t : FlowTable) (P : Facts) (e p : ℕ) (w : Way) (answer : ℕ) (listed points : List ℕ) (old new : List Fact) → IsFlowTable x t → w.ends ≡ ends.Retrieves answer → slice_get t.retrieves answer ≡ Some listed → points ≡ listed → HasGiven old new (OneGives (FlowsTo x P e p w.how) points) → HasGiven old new (WayGives x P e p w)
 to_retrieves x t P e p w answer listed points old new table is there same h =
     let are = table.retrieves.exact answer listed there in
     way_of_ends x P e p w points old new
-    (λ q. subst (λ k. Contains points q ↔ IsEnd x k q) (sym is) (λ c. (are.exact q).0 (subst (λ l. Contains l q) same c), λ r. subst (λ l. Contains l q) (sym same) ((are.exact q).1 r)))
+    (λ q. subst (λ k. Contains points q ↔ IsWayEnd x k q) (sym is) (λ c. (are.exact q).0 (subst (λ l. Contains l q) same c), λ r. subst (λ l. Contains l q) (sym same) ((are.exact q).1 r)))
     h
 
 pub no_retrieves : (x : Exchange) (t : FlowTable) (P : Facts) (e p : ℕ) (w : Way) (answer : ℕ) (old : List Fact) → IsExchange x → IsFlowTable x t → w.ends ≡ ends.Retrieves answer → length t.retrieves ≤ answer → HasGiven old old (WayGives x P e p w)
 no_retrieves x t P e p w answer old kept table is past =
     given_none (WayGives x P e p w) old (λ f k.
-    let r : IsRetrieveAt x k.end answer = subst (λ o. IsEnd x o k.end) is k.ends in
+    let r : IsRetrieveAt x k.end answer = subst (λ o. IsWayEnd x o k.end) is k.ends in
     let many = table.retrieves.each_signal in
     answer_below x r.place.block r.place.layer answer (omega (arith, many, past)) (place_fits x r.place kept r.stands.place) r.retrieves)
 

@@ -10,7 +10,7 @@ use Rattle.flow_points.specs.Slots.{HasSlot}
 use Rattle.flow_points.specs.Sources.{source_of, start_source}
 use Rattle.flow_table.specs.declared.way.Way.{Way}
 use Rattle.flow_table.specs.Giving.{SlotGives}
-use Rattle.flow_table.specs.Ways.{IsEnd}
+use Rattle.flow_table.specs.Ways.{IsWayEnd}
 
 -- one of these gives the fact
 pub record OneGives {A : Type 0} (G : A → Fact → Type 0) (xs : List A) (f : Fact) : Type 0 where
@@ -29,7 +29,7 @@ pub record FlowsTo (x : Exchange) (P : Facts) (e p : ℕ) (how : Passing) (q : �
 -- the flow to an end of a way does
 pub record WayGives (x : Exchange) (P : Facts) (e p : ℕ) (w : Way) (f : Fact) : Type 0 where
   pub end : ℕ
-  pub ends : IsEnd x w.ends end
+  pub ends : IsWayEnd x w.ends end
   pub flows : FlowsTo x P e p w.how end f
 
 -- the start of a job, whose signal has so many values, gives the fact to a slot

@@ -22,7 +22,7 @@ use Rattle.exchange_model.proofs.Layers.{expr_fits-out, term_fits-out, joined_fi
 use Rattle.source_meaning.specs.Value.{Got, Gives, Fails, Eval, Sight, with_value, joined, summed, sum_value, product_value, summand_of, multiplier_of, expr_value, term_value, factor_value}
 use Rattle.source_meaning.specs.Valid.{IsWord}
 use Rattle.source_meaning.proofs.Layers.{expr_value-out, term_value-out, factor_value-Number, factor_value-Temporary, factor_value-Bracket, factor_value-Reference}
-use Rattle.source_meaning.proofs.Parts.{Parts, every_expr}
+use Rattle.source_meaning.proofs.Parts.{NodeParts, every_expr}
 use Rattle.source_meaning.proofs.WordValues.{word_at}
 use Rattle.flow_points.specs.declared.fact.Slot.TheVariants.{Temp}
 use Rattle.flow_points.specs.declared.fact.Value.TheVariants.{Const, Any}
@@ -104,7 +104,7 @@ module _ (P : Facts) (e : ℕ) (args : List ℕ) (p : ℕ) where
         (times_sourced (joined_source j) (factor_value j.factor s) (sourced_is (joined_source-out j) refl (each.0 (joined_fits-out (scope_of x b k) j fit.0))))
     product_sourced (j ∷ i ∷ js) stands each fit = any_sourced (product_value (map multiplier_of (j ∷ i ∷ js)) 1 s)
 
-    source_parts : Parts ExprSourced TermSourced FactorSourced
+    source_parts : NodeParts ExprSourced TermSourced FactorSourced
     source_parts = record {
       expr = λ ex each fit. (let f = expr_fits-out (scope_of x b k) ex fit in sourced_is (expr_source-out ex) (ap (λ (v : Eval). v s) (expr_value-out ex)) (sum_sourced (out-Expr ex).terms f.0 each f.1));
       term = λ t each fit. (let f = term_fits-out (scope_of x b k) t fit in sourced_is (term_source-out t) (ap (λ (v : Eval). v s) (term_value-out t)) (product_sourced (out-Term t).factors f.0 each f.1));

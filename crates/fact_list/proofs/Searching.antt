@@ -1,16 +1,17 @@
 -- What a search in facts that rise finds.
-use Rattle.std.proofs.Common.{◌≡◌, inl, inr, ◌↔◌, ℕ, ◌+◌, ◌-◌, ◌<◌, ◌≤◌, Bool, false, List, length, get_or, drop, map, Contains, Result, IfOk, Ok, Err, refl, sym, subst, ap, ◌∙◌, arith, length-drop, length-take-le, get_or-drop, get_or-take}
-use Rattle.std.specs.Prelude.{IsTrue, slice_range, nat_lt}
+use Rattle.std.proofs.Common.{◌≡◌, ◌⊎◌, inl, inr, ◌↔◌, ℕ, ◌+◌, ◌-◌, ◌<◌, ◌≤◌, Bool, true, false, List, length, get_or, drop, map, Contains, Some, Result, IfOk, Ok, Err, refl, sym, subst, ap, ◌∙◌, arith, length-drop, length-take-le, get_or-drop, get_or-take}
+use Rattle.std.specs.Prelude.{IsTrue, slice_get, slice_range, nat_lt}
 use Rattle.std.specs.declared.cmp.Ordering.{Ordering}
 use Rattle.std.specs.declared.cmp.Ordering.TheVariants.{Less, Equal, Greater}
 use Rattle.std.specs.List.Sorted.{IsBinarySearchResult, IsPartitionPoint, IsStrictlySortedBy}
-use Rattle.std.specs.Ordering.{is_lt, nat_cmp, ordering_reverse, ordering_then}
+use Rattle.std.specs.Ordering.{is_gt, is_lt, nat_cmp, ordering_reverse, ordering_then}
 use Rattle.std.proofs.lemmas.Bool.{cases_lt, lt-ltb, ltb-true}
 use Rattle.std.proofs.lemmas.Cmp.{alike_right, nat_cmp_total, ranked, tied_itself}
 use Rattle.std.proofs.lemmas.List.{get_or-map, get_or_default, length-map}
 use Rattle.std.proofs.lemmas.List.Sorted.{searchable_from_sorted}
 use Rattle.std.proofs.lemmas.Map.Keys.{Less-from_sorted}
-use Rattle.plex_num.proofs.Numbers.{nat_same}
+use Rattle.std.proofs.lemmas.Option.{get_or_from_slice_get, slice_get_within}
+use Rattle.plex_num.proofs.Numbers.{is_less, nat_same}
 use Rattle.flow_points.specs.declared.fact.Slot.{Slot}
 use Rattle.flow_points.specs.declared.fact.Slot.TheVariants.{Depth}
 use Rattle.flow_points.specs.declared.fact.Value.{Value}
@@ -26,22 +27,24 @@ use Rattle.flow_points.proofs.Orders.{order_same}
 use Rattle.flow_table.specs.Giving.{AreValues}
 use Rattle.fact_rows.proofs.Listing.{slot_same}
 use Rattle.fact_list.specs.declared.search.Span.{Span}
-use Rattle.fact_list.specs.Spans.{IsSpan, value_of}
+use Rattle.fact_list.specs.Spans.{AreAbove, AreBelow, IsSpan, Rises, shifted, value_of}
 
 -- ---- the place of a fact
 
-module _ (facts : List Fact) (f : Fact) (up : IsStrictlySortedBy fact_order facts) where
-  rises : (i j : ℕ) (d : Fact) → i < j → j < length facts → fact_order (get_or facts i d) (get_or facts j d) ≡ Less
-  rises i j d lt inside = Less-from_sorted fact_order facts i j d up lt inside
+is_more : (o : Ordering) → is_gt o ≡ true → o ≡ Greater
+is_more Less e = cc
+is_more Equal e = cc
+is_more Greater e = refl
 
+module _ (facts : List Fact) (f : Fact) (up : Rises facts) where
   falls : (i j : ℕ) (d : Fact) → i < j → j < length facts → fact_order (get_or facts j d) (get_or facts i d) ≡ Greater
-  falls i j d lt inside = total-law.antisymm (get_or facts j d) (get_or facts i d) ∙ ap ordering_reverse (rises i j d lt inside)
+  falls i j d lt inside = total-law.antisymm (get_or facts j d) (get_or facts i d) ∙ ap ordering_reverse (up.pairs i j d lt inside)
 
   pub span_found : (place : ℕ) → place < length facts → ((d : Fact) → fact_order (get_or facts place d) f ≡ Equal) → IsSpan facts f (record { from = place; to = place + 1 })
   span_found place inside same = record {
     ordered = omega arith;
     within = omega arith;
-    before = λ k d lt. sym (alike_right total-law (get_or facts place d) f (get_or facts k d) (same d)) ∙ rises k place d lt inside;
+    before = λ k d lt. sym (alike_right total-law (get_or facts place d) f (get_or facts k d) (same d)) ∙ up.pairs k place d lt inside;
     here = λ k d le lt. (let at : k ≡ place = omega arith in ap (λ n. fact_order (get_or facts n d) f) at ∙ same d);
     behind = λ k d le lt. sym (alike_right total-law (get_or facts place d) f (get_or facts k d) (same d)) ∙ falls place k d (omega arith) lt;
   }
@@ -59,6 +62,108 @@ module _ (facts : List Fact) (f : Fact) (up : IsStrictlySortedBy fact_order fact
         here = λ k d le lt. absurd (omega arith);
         behind = λ k d le lt. parted.1 k d le lt;
       }
+
+  -- what is less than a fact below, or greater than one above
+
+  pub last_below : (count : ℕ) (g : Fact) (r : Bool) → slice_get facts (count - 1) ≡ Some g → r ≡ is_lt (fact_order g f) → IsTrue r → AreBelow facts f count
+  last_below count g r at is t = record { there = omega (arith, slice_get_within facts (count - 1) g at); each = λ k d lt. below k d (cases_lt k (count - 1)) lt }
+    where
+      last : (d : Fact) → fact_order (get_or facts (count - 1) d) f ≡ Less
+      last d = ap (λ h. fact_order h f) (get_or_from_slice_get facts (count - 1) g d at) ∙ is_less (fact_order g f) (sym is ∙ t)
+
+      below : (k : ℕ) (d : Fact) → (k < count - 1) ⊎ (count - 1 ≤ k) → k < count → fact_order (get_or facts k d) f ≡ Less
+      below k d (inl less) lt = total-law.trans (get_or facts k d) (get_or facts (count - 1) d) f (up.pairs k (count - 1) d less (slice_get_within facts (count - 1) g at)) (last d)
+      below k d (inr past) lt = (let same : k ≡ count - 1 = omega (arith, past, lt) in ap (λ n. fact_order (get_or facts n d) f) same ∙ last d)
+
+  pub first_above : (place : ℕ) (g : Fact) (r : Bool) → slice_get facts place ≡ Some g → r ≡ is_gt (fact_order g f) → IsTrue r → AreAbove facts f place
+  first_above place g r at is t = record { there = omega (arith, slice_get_within facts place g at); each = λ k d le lt. above k d (cases_lt place k) le lt }
+    where
+      first : (d : Fact) → fact_order (get_or facts place d) f ≡ Greater
+      first d = ap (λ h. fact_order h f) (get_or_from_slice_get facts place g d at) ∙ is_more (fact_order g f) (sym is ∙ t)
+
+      before : (d : Fact) → fact_order f (get_or facts place d) ≡ Less
+      before d = total-law.antisymm f (get_or facts place d) ∙ ap ordering_reverse (first d)
+
+      above : (k : ℕ) (d : Fact) → (place < k) ⊎ (k ≤ place) → place ≤ k → k < length facts → fact_order (get_or facts k d) f ≡ Greater
+      above k d (inl past) le lt =
+          total-law.antisymm (get_or facts k d) f ∙ ap ordering_reverse (total-law.trans f (get_or facts place d) (get_or facts k d) (before d) (up.pairs place k d past lt))
+      above k d (inr back) le lt = (let same : k ≡ place = omega (arith, back, le) in ap (λ n. fact_order (get_or facts n d) f) same ∙ first d)
+
+pub rising_list : (facts mid seen : List Fact) → seen ≡ mid → mid ≡ facts → IsStrictlySortedBy fact_order facts → Rises seen
+rising_list facts mid seen same are up = subst Rises (sym (same ∙ are)) (record { pairs = λ i j d lt inside. Less-from_sorted fact_order facts i j d up lt inside })
+
+pub none_below : (facts : List Fact) (f : Fact) (count : ℕ) → count ≡ 0 → AreBelow facts f count
+none_below facts f count none = record { there = omega (arith, none); each = λ k d lt. absurd (omega (arith, none, lt)) }
+
+pub none_above : (facts : List Fact) (f : Fact) (place : ℕ) → place ≡ length facts → AreAbove facts f place
+none_above facts f place past = record { there = omega (arith, past); each = λ k d le lt. absurd (omega (arith, past, le, lt)) }
+
+-- ---- a part of the list
+
+pub before_above : (facts : List Fact) (f : Fact) (from to : ℕ) → AreBelow facts f from → AreAbove facts f to → from ≤ to
+before_above facts f from to below above = elim (cases_lt to from) [
+  | inl lt ↦ absurd (crossed lt)
+  | inr le ↦ le
+]
+  where
+    crossed : to < from → ⊥
+    crossed lt =
+        let less : fact_order (get_or facts to f) f ≡ Less = below.each to f lt in
+        let more : fact_order (get_or facts to f) f ≡ Greater = above.each to f (omega arith) (let t = below.there in omega (arith, t, lt)) in
+        cc
+
+module _ (facts : List Fact) (f : Fact) (h : Span) (part : List Fact) (below : AreBelow facts f h.from) (above : AreAbove facts f h.to) (is : part ≡ slice_range facts h.from h.to) where
+  pub ordered : h.from ≤ h.to
+  ordered = before_above facts f h.from h.to below above
+
+  long : length part ≡ h.to - h.from
+  long = ap length is ∙ length-take-le (h.to - h.from) (drop h.from facts) (let w = above.there in omega (arith, length-drop h.from facts))
+
+  at_part : (i : ℕ) (d : Fact) → i < h.to - h.from → get_or part i d ≡ get_or facts (h.from + i) d
+  at_part i d lt = ap (λ l. get_or l i d) is ∙ get_or-take (h.to - h.from) (drop h.from facts) i d lt ∙ get_or-drop h.from facts i d
+
+  -- the same from the whole list
+  of_part : (k : ℕ) (d : Fact) → h.from ≤ k → k < h.to → get_or facts k d ≡ get_or part (k - h.from) d
+  of_part k d le lt =
+      let at : h.from + (k - h.from) ≡ k = omega (arith, le) in
+      sym (at_part (k - h.from) d (omega (arith, le, lt)) ∙ ap (λ n. get_or facts n d) at)
+
+  pub part_rises : Rises facts → Rises part
+  part_rises up = record {
+    pairs = λ i j d lt inside.
+        (let few : j < h.to - h.from = omega (arith, inside, long) in
+        let w = above.there in
+        ap (λ g. fact_order g (get_or part j d)) (at_part i d (omega (arith, lt, few)))
+        ∙ ap (fact_order (get_or facts (h.from + i) d)) (at_part j d few)
+        ∙ up.pairs (h.from + i) (h.from + j) d (omega (arith, lt)) (omega (arith, few, w)));
+  }
+
+  pub part_fits : (s : Span) → IsSpan part f s → h.from + s.to ≤ length facts
+  part_fits s span = (let w = above.there in let o = ordered in let t = span.within in omega (arith, w, o, t, long))
+
+  pub span_within : (s r : Span) → IsSpan part f s → r ≡ shifted h.from s → IsSpan facts f r
+  span_within s r span same = subst (IsSpan facts f) (sym same) (record {
+    ordered = (let o = span.ordered in omega (arith, o));
+    within = part_fits s span;
+    before = λ k d lt. less k d lt (cases_lt k h.from);
+    here = λ k d le lt.
+        (let from : h.from ≤ k = omega (arith, le) in
+        let under : k < h.to = (let w = span.within in let o = ordered in omega (arith, lt, w, o, long)) in
+        ap (λ g. fact_order g f) (of_part k d from under) ∙ span.here (k - h.from) d (omega (arith, le)) (omega (arith, lt, from)));
+    behind = λ k d le lt. more k d le lt (cases_lt k h.to);
+  })
+    where
+      less : (k : ℕ) (d : Fact) → k < h.from + s.from → (k < h.from) ⊎ (h.from ≤ k) → fact_order (get_or facts k d) f ≡ Less
+      less k d lt (inl low) = below.each k d low
+      less k d lt (inr from) =
+          let under : k < h.to = (let o = span.ordered in let w = span.within in let p = ordered in omega (arith, lt, o, w, p, long)) in
+          ap (λ g. fact_order g f) (of_part k d from under) ∙ span.before (k - h.from) d (omega (arith, lt, from))
+
+      more : (k : ℕ) (d : Fact) → h.from + s.to ≤ k → k < length facts → (k < h.to) ⊎ (h.to ≤ k) → fact_order (get_or facts k d) f ≡ Greater
+      more k d le lt (inl under) =
+          let from : h.from ≤ k = omega (arith, le) in
+          ap (λ g. fact_order g f) (of_part k d from under) ∙ span.behind (k - h.from) d (omega (arith, le)) (omega (arith, under, from, long))
+      more k d le lt (inr past) = above.each k d past lt
 
 -- ---- whether a fact is there
 

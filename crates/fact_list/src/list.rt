@@ -6,7 +6,9 @@ ghost use Rattle.flow_points.specs.declared.fact.Fact.{Fact};
 ghost use Rattle.flow_points.specs.Facts.{Reached, fact};
 ghost use Rattle.flow_points.specs.Orders.{fact_order};
 ghost use Rattle.flow_table.specs.Giving.{AreValues};
+ghost use Rattle.fact_list.specs.Spans.{Rises};
 
+use crate::index::Index;
 use crate::search::{between, span_of, values_of};
 use flow_points::{Fact, Slot, Value};
 use flow_table::KnownFacts;
@@ -14,14 +16,16 @@ use plex_num::{Memory, Seq};
 use std::alloc::Global;
 use std::marker::Model;
 
-/// Facts in their order, each once, which contracts see as the list of them.
+/// Facts in their order, each once, which contracts see as the list of them. Beside them stands where those of each entry at each
+/// point are.
 pub struct FactList {
     facts: Seq<Fact>,
+    index: Index,
 }
 
 impl Drop for FactList {
     fn drop(self) {
-        let FactList { facts: _ } = self;
+        let FactList { facts: _, index: _ } = self;
     }
 }
 
@@ -39,12 +43,13 @@ impl Model for FactList {
 }
 
 impl FactList {
-    /// The list of these facts, which must stand in their order, each once.
-    pub fn new(facts: Seq<Fact>) -> FactList
+    /// The list of these facts, which must stand in their order, each once. Memory is the only reason for an error.
+    pub fn new(alloc: Global, facts: Seq<Fact>) -> Result<FactList, Memory>
         requires { IsStrictlySortedBy fact_order facts }
-        ensures { result ≡ facts }
+        ensures { IfOk result (λ list. list ≡ facts) }
     {
-        FactList { facts }
+        let index = Index::new(alloc, facts.as_slice())?;
+        Ok(FactList { facts, index })
     }
 
     /// The facts, in their order, each once.
@@ -59,8 +64,18 @@ impl FactList {
     pub fn has(&self, fact: Fact) -> bool
         ensures { IsTrue result ↔ Contains self.now fact }
     {
-        let span = span_of(self.facts.as_slice(), fact);
+        let hint = self.index.span(fact.entry, fact.point);
+        let span = span_of(self.in_order(), hint, fact);
         span.from < span.to
+    }
+
+    /// The facts, each before those behind it.
+    #[tactic(auto, using(crate::proofs::Searching::rising_list))]
+    fn in_order(&self) -> &[Fact]
+        ensures facts { result.now ≡ self.now }
+        ensures rising { Rises result.now }
+    {
+        self.facts().as_slice()
     }
 }
 
@@ -74,16 +89,22 @@ impl KnownFacts for FactList {
         point: u32,
         slot: Slot,
     ) -> Result<Seq<Value>, Memory> {
-        let facts = self.facts.as_slice();
-        let least = span_of(facts, fact_of(entry, point, slot, Value::Arg(0)));
-        let greatest = span_of(facts, fact_of(entry, point, slot, Value::Any));
+        let facts = self.in_order();
+        let hint = self.index.span(entry, point);
+        let least = span_of(facts, hint, fact_of(entry, point, slot, Value::Arg(0)));
+        let greatest = span_of(facts, hint, fact_of(entry, point, slot, Value::Any));
         values_of(alloc, between(facts, least.from, greatest.to))
     }
 
     fn is_reached(&self, entry: u32, point: u32) -> bool {
-        let facts = self.facts.as_slice();
-        let least = span_of(facts, fact_of(entry, point, Slot::Depth, Value::Arg(0)));
-        let greatest = span_of(facts, fact_of(entry, point, Slot::Depth, Value::Any));
+        let facts = self.in_order();
+        let hint = self.index.span(entry, point);
+        let least = span_of(
+            facts,
+            hint,
+            fact_of(entry, point, Slot::Depth, Value::Arg(0)),
+        );
+        let greatest = span_of(facts, hint, fact_of(entry, point, Slot::Depth, Value::Any));
         least.from < greatest.to
     }
 }

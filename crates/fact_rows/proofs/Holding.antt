@@ -29,7 +29,7 @@ use Rattle.fact_rows.specs.declared.value.TheConstants.{ANY_NUMBER, AWAITED_NUMB
 use Rattle.fact_rows.specs.Numbers.{AreNumbers}
 use Rattle.fact_rows.specs.Places.{Marks, at_spot, counts_of, spot_of, numbers_at}
 use Rattle.fact_rows.specs.Values.{number_in, value_in, numbers_of}
-use Rattle.fact_rows.specs.Known.{Rows, Knows, Fits, KnowNothing, Adds, missing}
+use Rattle.fact_rows.specs.Known.{BitRows, Knows, Fits, KnowNothing, Adds, missing}
 use Rattle.fact_rows.specs.Grids.{IsBlank, IsSetAt, SetsPlane, SetsAwaited, SetsAt}
 use Rattle.fact_rows.specs.Touched.{ArePlaned, IsKept, IsTouched}
 use Rattle.fact_rows.proofs.Laying.{has_spot, numbers_by, spots_apart, plane_slot, await_slot}
@@ -237,10 +237,10 @@ slot_below m touched kept p s = by (spot_of m.slots p s) refl
 -- ---- what is known then
 
 module _ (e : ℕ) (m : Marks) (f : Fact) (added : Bool) (new : Marks) (touched : List ℕ) (of_entry : f.entry ≡ e) (fits : Fits m.slots f) (kept : IsKept m touched) (more : IsMore m f.point f.slot (number_in f.slot f.value) added new) where
-  abbrev before : Rows
+  abbrev before : BitRows
   before = record { entry = e; marks = m }
 
-  abbrev after : Rows
+  abbrev after : BitRows
   after = record { entry = e; marks = new }
 
   value_is : value_in f.slot (number_in f.slot f.value) ≡ f.value
@@ -314,19 +314,19 @@ module _ (e : ℕ) (m : Marks) (f : Fact) (added : Bool) (new : Marks) (touched 
       by false same = λ i. record { entry = e; marks = same i }
 
 -- what a call that adds a fact leaves
-pub record IsAdded (f : Fact) (old new : Rows) (added : Bool) : Type 0 where
+pub record IsAdded (f : Fact) (old new : BitRows) (added : Bool) : Type 0 where
   pub adds : Adds f old new
   pub fresh : IsTrue added ↔ (Knows old f → ⊥)
   pub one : MatchBool added (missing new + 1 ≡ missing old) (new ≡ old)
 
-pub rows_added : (k : Rows) (e : ℕ) (m new : Marks) (f : Fact) (n : ℕ) (added : Bool) (touched : List ℕ)
+pub rows_added : (k : BitRows) (e : ℕ) (m new : Marks) (f : Fact) (n : ℕ) (added : Bool) (touched : List ℕ)
     → record { entry = e; marks = m } ≡ k → f.entry ≡ k.entry → Fits k.marks.slots f → IsKept m touched → n ≡ number_in f.slot f.value → n < numbers_of f.slot
     → SetsAt m n added (spot_of m.slots f.point f.slot) new → IsAdded f k (record { entry = e; marks = new }) added
 rows_added k e m new f n added touched same of_entry fits kept is lt sets =
-    let own_entry : f.entry ≡ e = of_entry ∙ sym (ap (λ (r : Rows). r.entry) same) in
-    let own_fits : Fits m.slots f = subst (λ (r : Rows). Fits r.marks.slots f) (sym same) fits in
+    let own_entry : f.entry ≡ e = of_entry ∙ sym (ap (λ (r : BitRows). r.entry) same) in
+    let own_fits : Fits m.slots f = subst (λ (r : BitRows). Fits r.marks.slots f) (sym same) fits in
     let more : IsMore m f.point f.slot (number_in f.slot f.value) added new = subst (λ i. IsMore m f.point f.slot i added new) is (spot_more m f.point f.slot n added new lt kept.planes kept.awaits sets) in
-    subst (λ (r : Rows). IsAdded f r (record { entry = e; marks = new }) added) same (record {
+    subst (λ (r : BitRows). IsAdded f r (record { entry = e; marks = new }) added) same (record {
       adds = fact_added e m f added new touched own_entry own_fits kept more;
       fresh = fact_new e m f added new touched own_entry own_fits kept more;
       one = fact_counted e m f added new touched own_entry own_fits kept more;
@@ -362,9 +362,9 @@ touch_kept m touched later fresh q kept touch = record {
   listed = λ p s. ⊎_elim inl (λ there. inr (touch.still p there)) (kept.listed p s);
 }
 
-pub has_place : (k : Rows) (e : ℕ) (m : Marks) (f : Fact) → record { entry = e; marks = m } ≡ k → Fits k.marks.slots f → IsSome (spot_of m.slots f.point f.slot)
+pub has_place : (k : BitRows) (e : ℕ) (m : Marks) (f : Fact) → record { entry = e; marks = m } ≡ k → Fits k.marks.slots f → IsSome (spot_of m.slots f.point f.slot)
 has_place k e m f same fits =
-    let own : Fits m.slots f = subst (λ (r : Rows). Fits r.marks.slots f) (sym same) fits in
+    let own : Fits m.slots f = subst (λ (r : BitRows). Fits r.marks.slots f) (sym same) fits in
     ap is_some (has_spot m.slots f.point own.counts f.slot own.there own.slot).1
 
 -- ---- nothing is known
@@ -402,22 +402,22 @@ blank_kept slots m b = record {
 
 -- ---- what is read
 
-pub values_known : (k : Rows) (e p : ℕ) (s : Slot) (values : List Value) → e ≡ k.entry → values ≡ map (value_in s) (numbers_at k.marks p s) → AreValues (λ v. Knows k (fact e p s v)) values
+pub values_known : (k : BitRows) (e p : ℕ) (s : Slot) (values : List Value) → e ≡ k.entry → values ≡ map (value_in s) (numbers_at k.marks p s) → AreValues (λ v. Knows k (fact e p s v)) values
 values_known k e p s values of_entry are = record {
   each = λ v c. record { entry = of_entry; value = subst (λ l. Contains l v) are c };
   listed = λ v known. subst (λ l. Contains l v) (sym are) known.value;
 }
 
-pub no_values : (k : Rows) (e p : ℕ) (s : Slot) (values : List Value) → (e ≡ k.entry → ⊥) → values ≡ [] → AreValues (λ v. Knows k (fact e p s v)) values
+pub no_values : (k : BitRows) (e p : ℕ) (s : Slot) (values : List Value) → (e ≡ k.entry → ⊥) → values ≡ [] → AreValues (λ v. Knows k (fact e p s v)) values
 no_values k e p s values apart none = record {
   each = λ v c. absurd (none_in v (subst (λ l. Contains l v) none c));
   listed = λ v known. absurd (apart known.entry);
 }
 
-pub not_reached : (k : Rows) (e p : ℕ) → (e ≡ k.entry → ⊥) → IsTrue false ↔ Reached (Knows k) e p
+pub not_reached : (k : BitRows) (e p : ℕ) → (e ≡ k.entry → ⊥) → IsTrue false ↔ Reached (Knows k) e p
 not_reached k e p apart = (λ t. absurd (true≢false (sym t)), λ r. absurd (apart r.1.entry))
 
-pub reached_known : (k : Rows) (e p : ℕ) (empty : Bool) → e ≡ k.entry → (IsTrue empty ↔ (numbers_at k.marks p Depth ≡ [])) → IsTrue (not empty) ↔ Reached (Knows k) e p
+pub reached_known : (k : BitRows) (e p : ℕ) (empty : Bool) → e ≡ k.entry → (IsTrue empty ↔ (numbers_at k.marks p Depth ≡ [])) → IsTrue (not empty) ↔ Reached (Knows k) e p
 reached_known k e p empty of_entry is = (λ t. some (numbers_at k.marks p Depth) refl (λ none. true≢false (sym t ∙ ap not (is.1 none))), λ r. filled empty refl r)
   where
     some : (ns : List ℕ) → numbers_at k.marks p Depth ≡ ns → (ns ≡ [] → ⊥) → Reached (Knows k) e p
@@ -428,23 +428,23 @@ reached_known k e p empty of_entry is = (λ t. some (numbers_at k.marks p Depth)
     filled false e r = refl
     filled true e r = absurd (none_in r.0 (subst (λ l. Contains (map (value_in Depth) l) r.0) (is.0 e) r.1.value))
 
-pub values_ok : {E : Type 0} (k : Rows) (e m_entry p : ℕ) (m : Marks) (s : Slot) (ns : List ℕ) (r : Result (List Value) E) → record { entry = m_entry; marks = m } ≡ k → e ≡ m_entry → ns ≡ numbers_at m p s
+pub values_ok : {E : Type 0} (k : BitRows) (e m_entry p : ℕ) (m : Marks) (s : Slot) (ns : List ℕ) (r : Result (List Value) E) → record { entry = m_entry; marks = m } ≡ k → e ≡ m_entry → ns ≡ numbers_at m p s
     → IfOk r (λ values. values ≡ map (value_in s) ns) → IfOk r (AreValues (λ v. Knows k (fact e p s v)))
 values_ok k e m_entry p m s ns (Ok values) same of_entry are h =
-    subst (λ (r : Rows). AreValues (λ v. Knows r (fact e p s v)) values) same (values_known (record { entry = m_entry; marks = m }) e p s values of_entry (h ∙ ap (map (value_in s)) are))
+    subst (λ (r : BitRows). AreValues (λ v. Knows r (fact e p s v)) values) same (values_known (record { entry = m_entry; marks = m }) e p s values of_entry (h ∙ ap (map (value_in s)) are))
 values_ok k e m_entry p m s ns (Err x) same of_entry are h = h
 
-pub none_ok : (k : Rows) (e m_entry p : ℕ) (m : Marks) (s : Slot) (values : List Value) → record { entry = m_entry; marks = m } ≡ k → (e ≡ m_entry → ⊥) → values ≡ [] → AreValues (λ v. Knows k (fact e p s v)) values
-none_ok k e m_entry p m s values same apart none = subst (λ (r : Rows). AreValues (λ v. Knows r (fact e p s v)) values) same (no_values (record { entry = m_entry; marks = m }) e p s values apart none)
+pub none_ok : (k : BitRows) (e m_entry p : ℕ) (m : Marks) (s : Slot) (values : List Value) → record { entry = m_entry; marks = m } ≡ k → (e ≡ m_entry → ⊥) → values ≡ [] → AreValues (λ v. Knows k (fact e p s v)) values
+none_ok k e m_entry p m s values same apart none = subst (λ (r : BitRows). AreValues (λ v. Knows r (fact e p s v)) values) same (no_values (record { entry = m_entry; marks = m }) e p s values apart none)
 
-pub reached_ok : (k : Rows) (e m_entry p : ℕ) (m : Marks) (empty : Bool) → record { entry = m_entry; marks = m } ≡ k → e ≡ m_entry → (IsTrue empty ↔ (numbers_at m p Depth ≡ [])) → IsTrue (not empty) ↔ Reached (Knows k) e p
-reached_ok k e m_entry p m empty same of_entry h = subst (λ (r : Rows). IsTrue (not empty) ↔ Reached (Knows r) e p) same (reached_known (record { entry = m_entry; marks = m }) e p empty of_entry h)
+pub reached_ok : (k : BitRows) (e m_entry p : ℕ) (m : Marks) (empty : Bool) → record { entry = m_entry; marks = m } ≡ k → e ≡ m_entry → (IsTrue empty ↔ (numbers_at m p Depth ≡ [])) → IsTrue (not empty) ↔ Reached (Knows k) e p
+reached_ok k e m_entry p m empty same of_entry h = subst (λ (r : BitRows). IsTrue (not empty) ↔ Reached (Knows r) e p) same (reached_known (record { entry = m_entry; marks = m }) e p empty of_entry h)
 
-pub unreached_ok : (k : Rows) (e m_entry p : ℕ) (m : Marks) → record { entry = m_entry; marks = m } ≡ k → (e ≡ m_entry → ⊥) → IsTrue false ↔ Reached (Knows k) e p
-unreached_ok k e m_entry p m same apart = subst (λ (r : Rows). IsTrue false ↔ Reached (Knows r) e p) same (not_reached (record { entry = m_entry; marks = m }) e p apart)
+pub unreached_ok : (k : BitRows) (e m_entry p : ℕ) (m : Marks) → record { entry = m_entry; marks = m } ≡ k → (e ≡ m_entry → ⊥) → IsTrue false ↔ Reached (Knows k) e p
+unreached_ok k e m_entry p m same apart = subst (λ (r : BitRows). IsTrue false ↔ Reached (Knows r) e p) same (not_reached (record { entry = m_entry; marks = m }) e p apart)
 
-pub begun_ok : (k : Rows) (e m_entry : ℕ) (m new : Marks) → record { entry = m_entry; marks = m } ≡ k → IsBlank m.slots new → KnowNothing e k.marks.slots (record { entry = e; marks = new })
-begun_ok k e m_entry m new same blank = subst (λ (r : Rows). KnowNothing e r.marks.slots (record { entry = e; marks = new })) same (blank_knows e m.slots new blank)
+pub begun_ok : (k : BitRows) (e m_entry : ℕ) (m new : Marks) → record { entry = m_entry; marks = m } ≡ k → IsBlank m.slots new → KnowNothing e k.marks.slots (record { entry = e; marks = new })
+begun_ok k e m_entry m new same blank = subst (λ (r : BitRows). KnowNothing e r.marks.slots (record { entry = e; marks = new })) same (blank_knows e m.slots new blank)
 
 pub begun_kept : (slots : List Counts) (new : Marks) (touched : List ℕ) → IsBlank slots new → touched ≡ [] → IsKept new touched
 begun_kept slots new touched blank none = subst (IsKept new) (sym none) (blank_kept slots new blank)

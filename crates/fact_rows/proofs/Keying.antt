@@ -23,7 +23,7 @@ use Rattle.fact_rows.specs.declared.place.Counts.{Counts}
 use Rattle.fact_rows.specs.declared.place.Spot.{Spot}
 use Rattle.fact_rows.specs.Numbers.{AreNumbers}
 use Rattle.fact_rows.specs.Places.{Marks, HasPlace, numbers_at, spot_of}
-use Rattle.fact_rows.specs.Known.{Rows, Knows, AreFacts}
+use Rattle.fact_rows.specs.Known.{BitRows, Knows, AreFacts}
 use Rattle.fact_rows.specs.Touched.{key_order, key, IsKept, facts_at, facts_of, keys_at, keys_before, keys_if, keys_of, numbered_keys, numbered_slot}
 use Rattle.fact_rows.proofs.Numbering.{in_range, range_has, range_rises}
 use Rattle.fact_rows.proofs.Laying.{numbers_by, slot_placed}
@@ -260,11 +260,11 @@ module _ (e : ℕ) (m : Marks) (touched ps : List ℕ) (kept : IsKept m touched)
   points_exact : AreFacts (Knows (record { entry = e; marks = m })) (facts_of e m (keys_of m.slots ps))
   points_exact = facts_exact e m touched kept (keys_of m.slots ps) (keys_rise m.slots ps are.rising) key_there
 
-pub facts_ok : {E : Type 0} (k : Rows) (e : ℕ) (m : Marks) (touched seen once points : List ℕ) (r : Result (List Fact) E) → record { entry = e; marks = m } ≡ k → IsKept m touched → seen ≡ touched → AreNumbers (Contains seen) once → points ≡ once
+pub facts_ok : {E : Type 0} (k : BitRows) (e : ℕ) (m : Marks) (touched seen once points : List ℕ) (r : Result (List Fact) E) → record { entry = e; marks = m } ≡ k → IsKept m touched → seen ≡ touched → AreNumbers (Contains seen) once → points ≡ once
     → IfOk r (λ facts. facts ≡ facts_of e m (keys_of m.slots points)) → IfOk r (AreFacts (Knows k))
 facts_ok k e m touched seen once points (Ok facts) same kept are_touched are are_once h =
     let all : AreNumbers (Contains touched) points = subst (AreNumbers (Contains touched)) (sym are_once) (subst (λ l. AreNumbers (Contains l) once) are_touched are) in
-    subst (λ (rows : Rows). AreFacts (Knows rows) facts) same (subst (AreFacts (Knows (record { entry = e; marks = m }))) (sym h) (points_exact e m touched points kept all))
+    subst (λ (rows : BitRows). AreFacts (Knows rows) facts) same (subst (AreFacts (Knows (record { entry = e; marks = m }))) (sym h) (points_exact e m touched points kept all))
 facts_ok k e m touched seen once points (Err x) same kept are_touched are are_once h = h
 
 -- ---- the list of facts grows by a point

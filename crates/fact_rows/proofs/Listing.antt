@@ -34,7 +34,7 @@ use Rattle.fact_rows.specs.declared.keys.Key.{Key}
 use Rattle.fact_rows.specs.declared.value.TheConstants.{ANY_NUMBER}
 use Rattle.fact_rows.specs.Places.{Marks, numbers_at}
 use Rattle.fact_rows.specs.Values.{numbered_value, value_in, numbers_of}
-use Rattle.fact_rows.specs.Known.{Rows, Knows, AreFacts}
+use Rattle.fact_rows.specs.Known.{BitRows, Knows, AreFacts}
 use Rattle.fact_rows.specs.Numbers.{AreNumbers}
 use Rattle.fact_rows.specs.Touched.{key_order, key, IsKept, facts_at, facts_of}
 use Rattle.fact_rows.proofs.Valuing.{arg_is, const_is, any_is}
@@ -152,7 +152,7 @@ listed_to e m (j ∷ ks) k n c there =
     (first_or_later j k ks c)
 
 module _ (e : ℕ) (m : Marks) (touched : List ℕ) (kept : IsKept m touched) where
-  abbrev rows : Rows
+  abbrev rows : BitRows
   rows = record { entry = e; marks = m }
 
   facts_rise : (ks : List Key) → IsStrictlySortedBy key_order ks → IsStrictlySortedBy fact_order (facts_of e m ks)

@@ -20,7 +20,7 @@ use Rattle.fact_rows.specs.declared.value.TheConstants.{ANY_NUMBER, AWAITED_NUMB
 use Rattle.fact_rows.specs.Numbers.{AreNumbers}
 use Rattle.fact_rows.specs.Places.{Marks, at_spot, spot_of, numbers_at}
 use Rattle.fact_rows.specs.Values.{is_awaits, numbered_value, value_in}
-use Rattle.fact_rows.specs.Known.{HasSpot, Joins, Knows, Rows, missing}
+use Rattle.fact_rows.specs.Known.{HasSpot, Joins, Knows, BitRows, missing}
 use Rattle.fact_rows.specs.Grids.{IsJoinedAt, JoinsAt, JoinsPlane, JoinsAwaited}
 use Rattle.fact_rows.specs.Touched.{ArePlaned, IsKept, IsTouched}
 use Rattle.fact_rows.proofs.Laying.{has_spot, numbers_by, spots_apart}
@@ -159,10 +159,10 @@ known_by : (e : ℕ) (m : Marks) (g : Fact) → g.entry ≡ e → (n : ℕ) → 
 known_by e m g entry n there is = record { entry = entry; value = subst (Contains (map (value_in g.slot) (numbers_at m g.point g.slot))) is (to_map (value_in g.slot) (numbers_at m g.point g.slot) n there) }
 
 module _ (e : ℕ) (m new : Marks) (from to : Key) (grown : Bool) (alike : is_awaits from.slot ≡ is_awaits to.slot) (merged : IsMerged m from.point from.slot to.point to.slot grown new) where
-  abbrev before : Rows
+  abbrev before : BitRows
   before = record { entry = e; marks = m }
 
-  abbrev after : Rows
+  abbrev after : BitRows
   after = record { entry = e; marks = new }
 
   abbrev IsTo : Fact → Type 0
@@ -218,23 +218,23 @@ module _ (e : ℕ) (m new : Marks) (from to : Key) (grown : Bool) (alike : is_aw
       by false same = λ i. record { entry = e; marks = same i }
 
 -- what a call that joins two slots leaves
-pub record AreJoined (from to : Key) (old new : Rows) (grown : Bool) : Type 0 where
+pub record AreJoined (from to : Key) (old new : BitRows) (grown : Bool) : Type 0 where
   pub joins : Joins from to old new
   pub fewer : MatchBool grown (missing new < missing old) (new ≡ old)
 
-pub rows_joined : (k : Rows) (e : ℕ) (m new : Marks) (from to : Key) (grown : Bool) (touched : List ℕ)
+pub rows_joined : (k : BitRows) (e : ℕ) (m new : Marks) (from to : Key) (grown : Bool) (touched : List ℕ)
     → record { entry = e; marks = m } ≡ k → is_awaits from.slot ≡ is_awaits to.slot → IsKept m touched
     → JoinsAt m grown (spot_of m.slots from.point from.slot) (spot_of m.slots to.point to.slot) new → AreJoined from to k (record { entry = e; marks = new }) grown
 rows_joined k e m new from to grown touched same alike kept joins =
     let merged = spot_merged m from.point from.slot to.point to.slot grown new kept.planes kept.awaits joins in
-    subst (λ (r : Rows). AreJoined from to r (record { entry = e; marks = new }) grown) same (record { joins = joined e m new from to grown alike merged; fewer = fewer_missing e m new from to grown alike merged })
+    subst (λ (r : BitRows). AreJoined from to r (record { entry = e; marks = new }) grown) same (record { joins = joined e m new from to grown alike merged; fewer = fewer_missing e m new from to grown alike merged })
 
 -- a slot that has nothing gives nothing
-pub none_joins : (k : Rows) (e : ℕ) (m : Marks) (from to : Key) → record { entry = e; marks = m } ≡ k → numbers_at m from.point from.slot ≡ [] → Joins from to k k
+pub none_joins : (k : BitRows) (e : ℕ) (m : Marks) (from to : Key) → record { entry = e; marks = m } ≡ k → numbers_at m from.point from.slot ≡ [] → Joins from to k k
 none_joins k e m from to same none = record { entry = refl; slots = refl; knows = λ g. (λ h. inr h, λ w. ⊎_elim (λ h. absurd (nothing g h.2)) (λ h. h) w) }
   where
     nothing : (g : Fact) → Knows k (fact g.entry from.point from.slot g.value) → ⊥
-    nothing g h = none_in g.value (subst (λ l. Contains (map (value_in from.slot) l) g.value) none (subst (λ (r : Rows). Knows r (fact g.entry from.point from.slot g.value)) (sym same) h).value)
+    nothing g h = none_in g.value (subst (λ l. Contains (map (value_in from.slot) l) g.value) none (subst (λ (r : BitRows). Knows r (fact g.entry from.point from.slot g.value)) (sym same) h).value)
 
 -- ---- what is asked of the spots
 
@@ -245,7 +245,7 @@ spot_filled m p s empty is not_empty = by (spot_of m.slots p s) refl
     by None e = absurd (true≢false (sym (is.1 (numbers_by m p s None e)) ∙ not_empty))
     by (Some spot) e = ap is_some e
 
-pub spot_there : (k : Rows) (e : ℕ) (m : Marks) (p : ℕ) (s : Slot) → record { entry = e; marks = m } ≡ k → HasSpot k.marks.slots p s → IsSome (spot_of m.slots p s)
+pub spot_there : (k : BitRows) (e : ℕ) (m : Marks) (p : ℕ) (s : Slot) → record { entry = e; marks = m } ≡ k → HasSpot k.marks.slots p s → IsSome (spot_of m.slots p s)
 spot_there k e m p s same has =
-    let own : HasSpot m.slots p s = subst (λ (r : Rows). HasSpot r.marks.slots p s) (sym same) has in
+    let own : HasSpot m.slots p s = subst (λ (r : BitRows). HasSpot r.marks.slots p s) (sym same) has in
     ap is_some (has_spot m.slots p own.counts s own.there own.slot).1

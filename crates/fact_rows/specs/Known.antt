@@ -14,12 +14,12 @@ use Rattle.fact_rows.specs.Places.{Marks, HasPlace, counts_of, numbers_at}
 use Rattle.fact_rows.specs.Values.{HasNumber, value_in}
 
 -- rows of bits: whose facts they are, and the numbers in their planes
-pub record Rows : Type 0 where
+pub record BitRows : Type 0 where
   pub entry : ℕ
   pub marks : Marks
 
 -- the rows know the fact: it is of their entry, and the number of its value is in the plane of its slot and point
-pub record Knows (k : Rows) (f : Fact) : Type 0 where
+pub record Knows (k : BitRows) (f : Fact) : Type 0 where
   pub entry : f.entry ≡ k.entry
   pub value : Contains (map (value_in f.slot) (numbers_at k.marks f.point f.slot)) f.value
 
@@ -41,25 +41,25 @@ abbrev pub slots_of : FlowTable → List Counts
 slots_of t = map counts_of t.rows
 
 -- rows of an entry, for these slots before each point, that know nothing
-pub record KnowNothing (entry : ℕ) (slots : List Counts) (k : Rows) : Type 0 where
+pub record KnowNothing (entry : ℕ) (slots : List Counts) (k : BitRows) : Type 0 where
   pub of_entry : k.entry ≡ entry
   pub of_slots : k.marks.slots ≡ slots
   pub nothing : (f : Fact) → Knows k f → ⊥
 
 -- exactly one fact more is known, if it was not known before
-pub record Adds (f : Fact) (old new : Rows) : Type 0 where
+pub record Adds (f : Fact) (old new : BitRows) : Type 0 where
   pub entry : new.entry ≡ old.entry
   pub slots : new.marks.slots ≡ old.marks.slots
   pub knows : (g : Fact) → Knows new g ↔ ((g ≡ f) ⊎ Knows old g)
 
 -- the values of one slot come to be known of another one too
-pub record Joins (from to : Key) (old new : Rows) : Type 0 where
+pub record Joins (from to : Key) (old new : BitRows) : Type 0 where
   pub entry : new.entry ≡ old.entry
   pub slots : new.marks.slots ≡ old.marks.slots
   pub knows : (g : Fact) → Knows new g ↔ (((g.point ≡ to.point) × (g.slot ≡ to.slot) × Knows old (fact g.entry from.point from.slot g.value)) ⊎ Knows old g)
 
 -- how many facts are not known
-unfoldable pub missing : Rows → ℕ
+unfoldable pub missing : BitRows → ℕ
 missing k =
     ((ANY_NUMBER + 1) * length k.marks.planes + AWAITED_NUMBERS * length k.marks.awaits)
     - (sum_by length k.marks.planes + sum_by length k.marks.awaits)

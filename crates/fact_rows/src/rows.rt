@@ -41,9 +41,9 @@ impl Drop for FactRows {
 }
 
 impl Model for FactRows {
-    ghost use Rattle.fact_rows.specs.Known.{Rows};
+    ghost use Rattle.fact_rows.specs.Known.{BitRows};
 
-    ghost Value = { Rows };
+    ghost Value = { BitRows };
 
     ghost use Rattle.fact_rows.specs.Touched.{IsKept};
 

@@ -23,7 +23,7 @@ use Rattle.source_meaning.proofs.Layers.{expr_value-out, term_value-out, factor_
 use Rattle.source_meaning.proofs.Lists.{Within}
 use Rattle.source_meaning.proofs.Loads.{FaultIs}
 use Rattle.source_meaning.proofs.Naming.{named_in-out, named_in_term-out, named-Field, named-Bracket}
-use Rattle.source_meaning.proofs.Parts.{Parts, every_expr}
+use Rattle.source_meaning.proofs.Parts.{NodeParts, every_expr}
 use Rattle.entry_summary.specs.Divides.{term_divides, divisor_in, above_zero, joins_badly}
 use Rattle.entry_summary.specs.Faults.{divides, may_divide_by_zero}
 use Rattle.entry_summary.proofs.Dividing.{expr_out, term_out, inside_is}
@@ -127,7 +127,7 @@ module _ (s : Sight) where
   false_true : false ≡ true → (b : Bool) → b ≡ true
   false_true is b = cc
 
-  told_parts : Parts ExprTold TermTold FactorTold
+  told_parts : NodeParts ExprTold TermTold FactorTold
   told_parts = record {
     expr = λ e each. told_is (may_divide_by_zero e) (named_in e) (ap (λ (v : Eval). v s) (expr_value-out e))
         (subst (λ ns. Told (may_divide_by_zero e) ns (sum_value (map summand_of (out-Expr e).terms) 0 s)) (sym (named_in-out e))

@@ -31,7 +31,7 @@ use Rattle.flow_points.specs.Facts.{Facts, Reached, IsClosed}
 use Rattle.flow_points.specs.Flows.{Leads, SendLeads, passed}
 use Rattle.flow_points.specs.Places.{IsRetrieveAt}
 use Rattle.flow_points.specs.Sources.{expr_source}
-use Rattle.entry_summary.specs.Faults.{GoesTo, Walk, Once, Then}
+use Rattle.entry_summary.specs.Faults.{FlowLeads, Walk, Once, Then}
 use Rattle.fact_laws.specs.Covers.{Activation, KnownBefore}
 use Rattle.fact_laws.proofs.Going.{leads_next, leads_label, leads_branch, no_enter, label_at}
 use Rattle.fact_laws.proofs.Leaving.{may_receive, retrieve_target}
@@ -87,7 +87,7 @@ module _ (x : Exchange) (P : Facts) (closed : IsClosed x P) (e : ℕ) (args : Li
   past_loop p temp this end body rest h known q at =
       stays_known x P closed e args b temps given callers p (stmt.On temp h.0.from h.0.upto body) rest q (loop_place h.0) (inr (record { ends = at; is = refl })) (known p refl) (rest_target x b rest h.1 q at)
 
-  loop_goes : (p temp this end : ℕ) (body : List Stmt) (rest : List Item) → IsRest x b (Turns p temp this end body ∷ rest) → KnownAll (Turns p temp this end body ∷ rest) → (q : ℕ) → head_point rest ≡ Some q → GoesTo x P e p q
+  loop_goes : (p temp this end : ℕ) (body : List Stmt) (rest : List Item) → IsRest x b (Turns p temp this end body ∷ rest) → KnownAll (Turns p temp this end body ∷ rest) → (q : ℕ) → head_point rest ≡ Some q → FlowLeads x P e p q
   loop_goes p temp this end body rest h known q at = record {
     at = at_place b p (stmt.On temp h.0.from h.0.upto body) rest;
     stands = record { place = loop_place h.0; here = refl };
@@ -126,7 +126,7 @@ module _ (x : Exchange) (P : Facts) (closed : IsClosed x P) (e : ℕ) (args : Li
 
 module _ (x : Exchange) (kept : IsExchange x) (P : Facts) (closed : IsClosed x P) (e : ℕ) (args : List ℕ) where
   module _ (c : Config) (p : ℕ) (reached : Reached P e p) where
-    flow_to : (l : Layer) (rest : List Item) → StandsAs x c.block p l rest → (q : ℕ) (how : Passing) → Leads x c.block p (head_point rest) l q how → GoesTo x P e p q
+    flow_to : (l : Layer) (rest : List Item) → StandsAs x c.block p l rest → (q : ℕ) (how : Passing) → Leads x c.block p (head_point rest) l q how → FlowLeads x P e p q
     flow_to l rest stands q how leads = record {
       at = at_place c.block p l rest;
       stands = record { place = deed_place stands; here = refl };
@@ -137,7 +137,7 @@ module _ (x : Exchange) (kept : IsExchange x) (P : Facts) (closed : IsClosed x P
 
   -- to the head of where the job goes on, but for a loop that begins
   abbrev HeadsTo : Deed → List Item → Type 0
-  HeadsTo deed todo = (q : ℕ) → head_point todo ≡ Some q → GoesTo x P e (deed_point deed) q
+  HeadsTo deed todo = (q : ℕ) → head_point todo ≡ Some q → FlowLeads x P e (deed_point deed) q
 
   -- a loop begins
   record Loops (deed : Deed) (todo rest : List Item) : Type 0 where

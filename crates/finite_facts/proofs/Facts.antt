@@ -21,7 +21,7 @@ use Rattle.flow_points.proofs.Least.{derived_in, least_in}
 use Rattle.finite_facts.proofs.Closing.{Closed, IsBuilt, closing}
 use Rattle.finite_facts.proofs.Finite.{Listed, below, listed_as, listed_map, listed_none, listed_one, listed_or, listed_some, listed_then}
 use Rattle.finite_facts.proofs.Giving.{given, same_fact}
-use Rattle.finite_facts.proofs.Leading.{Way, leads}
+use Rattle.finite_facts.proofs.Leading.{WayOn, leads}
 use Rattle.finite_facts.proofs.Places.{places}
 use Rattle.finite_facts.proofs.Slots.{slots_at, slots_of}
 
@@ -47,11 +47,11 @@ module _ (x : Exchange) where
   abbrev StartValue : Value → Type 0
   StartValue v = (e : ℕ) × (e < length x.entries) × OfEntry e v
 
-  abbrev AtEnd : Way → Value → Type 0
+  abbrev AtEnd : WayOn → Value → Type 0
   AtEnd w v = (s : Slot) × HasSlot x w.0 s × (source_of w.1 s ≡ Is v)
 
   abbrev OfPlace : Place → Value → Type 0
-  OfPlace at v = (w : Way) × LeadsTo x at w.0 w.1 × AtEnd w v
+  OfPlace at v = (w : WayOn) × LeadsTo x at w.0 w.1 × AtEnd w v
 
   abbrev FlowValue : Value → Type 0
   FlowValue v = (at : Place) × IsPlace x at × OfPlace at v
@@ -72,7 +72,7 @@ module _ (x : Exchange) where
 
       flows : Listed FlowValue
       flows = listed_then (IsPlace x) OfPlace (places x)
-          (λ at is. listed_then (λ (w : Way). LeadsTo x at w.0 w.1) AtEnd (leads x at)
+          (λ at is. listed_then (λ (w : WayOn). LeadsTo x at w.0 w.1) AtEnd (leads x at)
           (λ w to. listed_then (HasSlot x w.0) (λ s v. source_of w.1 s ≡ Is v) (slots_at x w.0) (λ s has. source_is (source_of w.1 s))))
 
   -- the facts that may be told of it: of an entry, before a statement, of a slot, with such a value

@@ -230,8 +230,8 @@ below (suc n) = listed_as (λ i. (i < n) ⊎ (i ≡ n)) (λ i. i < suc n) to (λ
 
 -- the values of a function at the numbers below one
 
-abbrev pub Made : {A : Type 0} → (ℕ → A) → ℕ → A → Type 0
-Made make most a = (n : ℕ) × (n < most) × (a ≡ make n)
+abbrev pub IsMadeBelow : {A : Type 0} → (ℕ → A) → ℕ → A → Type 0
+IsMadeBelow make most a = (n : ℕ) × (n < most) × (a ≡ make n)
 
-pub made : {A : Type 0} (make : ℕ → A) (most : ℕ) → Listed (Made make most)
+pub made : {A : Type 0} (make : ℕ → A) (most : ℕ) → Listed (IsMadeBelow make most)
 made make most = listed_map (λ n. n < most) make (below most)

@@ -14,13 +14,13 @@ use Rattle.flow_points.specs.declared.flow.Passing.{Passing}
 use Rattle.flow_points.specs.declared.flow.Passing.TheVariants.{Answers, Begins, Calls, Kept, Passes, Retrieves, Sets, Takes}
 use Rattle.flow_points.specs.declared.flow.Source.{Source}
 use Rattle.flow_points.specs.declared.flow.Source.TheVariants.{Deeper, Is, Nothing, Of}
-use Rattle.flow_points.specs.Facts.{FlowGives, Gives, Guarded, HasRoom, Known, PointGives, Reached, SourceGives, StartGives, fact}
+use Rattle.flow_points.specs.Facts.{FlowGives, Gives, Guarded, HasRoomForCaller, Known, PointGives, Reached, SourceGives, StartGives, fact}
 use Rattle.flow_points.specs.Flows.{LeadsTo}
 use Rattle.flow_points.specs.Places.{IsPlace, Place}
 use Rattle.flow_points.specs.Slots.{HasSlot}
 use Rattle.flow_points.specs.Sources.{source_of, start_source}
 use Rattle.finite_facts.proofs.Finite.{Decided, Listed, any, below, both, certain, decided_as, is_in, listed_as, listed_in, listed_none, listed_one, listed_or, listed_some, listed_then, listed_when, no, same_number, some_case, yes}
-use Rattle.finite_facts.proofs.Leading.{Way, leads}
+use Rattle.finite_facts.proofs.Leading.{WayOn, leads}
 use Rattle.finite_facts.proofs.Places.{places}
 use Rattle.finite_facts.proofs.Slots.{slots_at}
 
@@ -82,7 +82,7 @@ module _ (known : List Fact) where
   pub is_reached : (e p : ℕ) → Decided (Reached (Contains known) e p)
   is_reached e p = any (λ v. Known (Contains known) e p Depth v) (known_values e p Depth)
 
-  has_room : (e p : ℕ) → Decided (HasRoom (Contains known) e p)
+  has_room : (e p : ℕ) → Decided (HasRoomForCaller (Contains known) e p)
   has_room e p = some_case (λ c. c < MOST_CALLERS) (λ c. Known (Contains known) e p Depth (Const c)) (below MOST_CALLERS) (λ c lt. is_known (fact e p Depth (Const c)))
 
   guarded : (e p q : ℕ) (how : Passing) → Decided (Guarded (Contains known) e p q how)
@@ -160,16 +160,16 @@ module _ (x : Exchange) (known : List Fact) where
 
   -- over a flow
 
-  abbrev Reaches : Place → Way → Fact → Type 0
+  abbrev Reaches : Place → WayOn → Fact → Type 0
   Reaches at w r = (r.point ≡ at.point) × (r.slot ≡ Depth) × Guarded (Contains known) r.entry at.point w.0 w.1
 
-  abbrev OfReached : Place → Way → Fact → Type 0
+  abbrev OfReached : Place → WayOn → Fact → Type 0
   OfReached at w f = (r : Fact) × Contains known r × (Reaches at w r × AllSlots r.entry at.point w.0 (source_of w.1) f)
 
   abbrev OfPlace : Place → Fact → Type 0
-  OfPlace at f = (w : Way) × LeadsTo x at w.0 w.1 × OfReached at w f
+  OfPlace at f = (w : WayOn) × LeadsTo x at w.0 w.1 × OfReached at w f
 
-  reaches : (at : Place) (w : Way) (r : Fact) → Decided (Reaches at w r)
+  reaches : (at : Place) (w : WayOn) (r : Fact) → Decided (Reaches at w r)
   reaches at w r = decided_as (λ h. (h.0.0, h.0.1, h.1)) (λ h. ((h.0, h.1), h.2)) (both (both (same_number r.point at.point) (same_slot r.slot Depth)) (guarded known r.entry at.point w.0 w.1))
 
   flows : Listed (λ f. (p : ℕ) × PointGives x (Contains known) p f)

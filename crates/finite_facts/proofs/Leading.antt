@@ -8,14 +8,14 @@ use Rattle.flow_points.specs.Places.{IsPlace, IsRetrieveAt, Place}
 use Rattle.flow_table.specs.declared.way.Ends.{Ends}
 use Rattle.flow_table.specs.declared.way.Ends.TheVariants as ends
 use Rattle.flow_table.specs.declared.way.Way.{Way as TableWay}
-use Rattle.flow_table.specs.Ways.{IsEnd, WayLeads, ways_of}
+use Rattle.flow_table.specs.Ways.{IsWayEnd, WayLeads, ways_of}
 use Rattle.flow_table.proofs.Telling.{ways_exact}
 use Rattle.finite_facts.proofs.Finite.{Listed, listed_as, listed_in, listed_one, listed_then, listed_when, same_number, same_option}
 use Rattle.finite_facts.proofs.Places.{places}
 
 -- a point and how values go along to it
-abbrev pub Way : Type 0
-Way = ℕ × Passing
+abbrev pub WayOn : Type 0
+WayOn = ℕ × Passing
 
 module _ (x : Exchange) where
   -- the RETRIEVEs of an answer
@@ -27,18 +27,18 @@ module _ (x : Exchange) where
       (listed_then (IsPlace x) (λ p q. (retrieved p.layer ≡ Some answer) × (q ≡ p.point)) (places x)
       (λ p is. listed_when (retrieved p.layer ≡ Some answer) (λ q. q ≡ p.point) (same_option same_number (retrieved p.layer) answer) (λ r. listed_one p.point)))
 
-  reached : (to : Ends) → Listed (λ q. IsEnd x to q)
+  reached : (to : Ends) → Listed (λ q. IsWayEnd x to q)
   reached (ends.Points points) = listed_in points
   reached (ends.Retrieves answer) = retrieves answer
 
-  way_leads : (w : TableWay) → Listed (λ (v : Way). WayLeads x w v.0 v.1)
+  way_leads : (w : TableWay) → Listed (λ (v : WayOn). WayLeads x w v.0 v.1)
   way_leads w =
-      listed_as (λ v. (q : ℕ) × IsEnd x w.ends q × (v ≡ (q, w.how))) (λ v. WayLeads x w v.0 v.1)
-      (λ v h. record { end = subst (λ q. IsEnd x w.ends q) (sym (ap (λ (u : Way). u.0) h.2)) h.1; is = ap (λ (u : Way). u.1) h.2 })
+      listed_as (λ v. (q : ℕ) × IsWayEnd x w.ends q × (v ≡ (q, w.how))) (λ v. WayLeads x w v.0 v.1)
+      (λ v h. record { end = subst (λ q. IsWayEnd x w.ends q) (sym (ap (λ (u : WayOn). u.0) h.2)) h.1; is = ap (λ (u : WayOn). u.1) h.2 })
       (λ v l. (v.0, l.end, λ i. (v.0, l.is i)))
-      (listed_then (λ q. IsEnd x w.ends q) (λ q v. v ≡ (q, w.how)) (reached w.ends) (λ q e. listed_one (q, w.how)))
+      (listed_then (λ q. IsWayEnd x w.ends q) (λ q v. v ≡ (q, w.how)) (reached w.ends) (λ q e. listed_one (q, w.how)))
 
-  pub leads : (at : Place) → Listed (λ (v : Way). LeadsTo x at v.0 v.1)
+  pub leads : (at : Place) → Listed (λ (v : WayOn). LeadsTo x at v.0 v.1)
   leads at =
       listed_as (λ v. (w : TableWay) × Contains (ways_of x at) w × WayLeads x w v.0 v.1) (λ v. LeadsTo x at v.0 v.1)
       (λ v h. ((ways_exact x at).exact v.0 v.1).0 (record { way = h.0; one = h.1; leads = h.2 }))

@@ -6,7 +6,7 @@ use Rattle.flow_points.specs.declared.fact.Slot.{Slot}
 use Rattle.flow_points.specs.declared.fact.Slot.TheVariants.{Answered, Awaits, Depth, Given, Temp}
 use Rattle.flow_points.specs.Places.{IsPlace, Place}
 use Rattle.flow_points.specs.Slots.{HasSlot, IsSlotOf, answer_count, given_count, temp_count}
-use Rattle.finite_facts.proofs.Finite.{Listed, Made, listed_as, listed_one, listed_or, listed_then, listed_when, made, same_number}
+use Rattle.finite_facts.proofs.Finite.{Listed, IsMadeBelow, listed_as, listed_one, listed_or, listed_then, listed_when, made, same_number}
 use Rattle.finite_facts.proofs.Places.{places}
 
 -- one of so many temporaries, entry values and values of an answer, or one of the other two
@@ -25,13 +25,13 @@ module _ (temps given answered : ℕ) where
   Other s = (s ≡ Depth) ⊎ (s ≡ Awaits)
 
   abbrev AnsweredOr : Slot → Type 0
-  AnsweredOr s = Made (λ k. Answered k) answered s ⊎ Other s
+  AnsweredOr s = IsMadeBelow (λ k. Answered k) answered s ⊎ Other s
 
   abbrev GivenOr : Slot → Type 0
-  GivenOr s = Made (λ k. Given k) given s ⊎ AnsweredOr s
+  GivenOr s = IsMadeBelow (λ k. Given k) given s ⊎ AnsweredOr s
 
   abbrev One : Slot → Type 0
-  One s = Made (λ t. Temp t) temps s ⊎ GivenOr s
+  One s = IsMadeBelow (λ t. Temp t) temps s ⊎ GivenOr s
 
   to : (s : Slot) → One s → First s
   to s (inl h) = subst First (sym h.2) h.1
@@ -50,9 +50,9 @@ module _ (temps given answered : ℕ) where
   pub first_slots : Listed First
   first_slots =
       listed_as One First to from
-      (listed_or (Made (λ t. Temp t) temps) GivenOr (made (λ t. Temp t) temps)
-      (listed_or (Made (λ k. Given k) given) AnsweredOr (made (λ k. Given k) given)
-      (listed_or (Made (λ k. Answered k) answered) Other (made (λ k. Answered k) answered) (listed_or (λ s. s ≡ Depth) (λ s. s ≡ Awaits) (listed_one Depth) (listed_one Awaits)))))
+      (listed_or (IsMadeBelow (λ t. Temp t) temps) GivenOr (made (λ t. Temp t) temps)
+      (listed_or (IsMadeBelow (λ k. Given k) given) AnsweredOr (made (λ k. Given k) given)
+      (listed_or (IsMadeBelow (λ k. Answered k) answered) Other (made (λ k. Answered k) answered) (listed_or (λ s. s ≡ Depth) (λ s. s ≡ Awaits) (listed_one Depth) (listed_one Awaits)))))
 
 -- by their counts
 

@@ -1,18 +1,15 @@
 -- A first fault is one.
-use Rattle.std.proofs.Common.{◌≡◌, ℕ, ◌<◌, Bool, true, false, List, sym, ◌∙◌, ap, arith, slice_get}
+use Rattle.std.proofs.Common.{◌≡◌, ℕ, ◌<◌, Bool, List, sym, ◌∙◌, ap, arith, slice_get}
 use Rattle.std.proofs.lemmas.Option.{same_Some}
-use Rattle.std.proofs.lemmas.Bool.{cases_lt}
+use Rattle.std.proofs.lemmas.Bool.{cases_lt, true≢false}
 use Rattle.std.proofs.Common.{⊎_elim}
 use Rattle.first_fault.specs.First.{IsFine, IsFirstFault}
 
-both_ways : (b : Bool) → b ≡ true → b ≡ false → ⊥
-both_ways b e f = cc
-
 pub fine_no_fault : {E R : Type 0} (breaks : ℕ → E → R → Bool) (number : R → ℕ) (line : E → ℕ) (whole : List E) (rule : R) (on : ℕ) → IsFine breaks whole → IsFirstFault breaks number line whole rule on → ⊥
-fine_no_fault breaks number line whole rule on f x = both_ways (breaks x.place x.event rule) x.broken_here (f.each x.place x.event rule x.at)
+fine_no_fault breaks number line whole rule on f x = true≢false (sym x.broken_here ∙ f.each x.place x.event rule x.at)
 
 not_before : {E R : Type 0} (breaks : ℕ → E → R → Bool) (number : R → ℕ) (line : E → ℕ) (whole : List E) (rule other : R) (on at : ℕ) (x : IsFirstFault breaks number line whole rule on) (y : IsFirstFault breaks number line whole other at) → x.place < y.place → ⊥
-not_before breaks number line whole rule other on at x y low = both_ways (breaks x.place x.event rule) x.broken_here (y.first x.place x.event rule low x.at)
+not_before breaks number line whole rule other on at x y low = true≢false (sym x.broken_here ∙ y.first x.place x.event rule low x.at)
 
 -- the same place
 pub same_place : {E R : Type 0} (breaks : ℕ → E → R → Bool) (number : R → ℕ) (line : E → ℕ) (whole : List E) (rule other : R) (on at : ℕ) (x : IsFirstFault breaks number line whole rule on) (y : IsFirstFault breaks number line whole other at) → x.place ≡ y.place
@@ -28,8 +25,8 @@ same_line breaks number line whole rule other on at x y = x.on_line ∙ ap line 
 
 not_lower : {E R : Type 0} (breaks : ℕ → E → R → Bool) (number : R → ℕ) (line : E → ℕ) (whole : List E) (rule other : R) (on at : ℕ) → IsFirstFault breaks number line whole rule on → IsFirstFault breaks number line whole other at → number rule < number other → ⊥
 not_lower breaks number line whole rule other on at x y low =
-    both_ways (breaks x.place x.event rule) x.broken_here
-    (ap (λ k. breaks k x.event rule) (same_place breaks number line whole rule other on at x y) ∙ ap (λ e. breaks y.place e rule) (same_event breaks number line whole rule other on at x y) ∙ y.lowest rule low)
+    true≢false
+    (sym x.broken_here ∙ ap (λ k. breaks k x.event rule) (same_place breaks number line whole rule other on at x y) ∙ ap (λ e. breaks y.place e rule) (same_event breaks number line whole rule other on at x y) ∙ y.lowest rule low)
 
 pub same_number : {E R : Type 0} (breaks : ℕ → E → R → Bool) (number : R → ℕ) (line : E → ℕ) (whole : List E) (rule other : R) (on at : ℕ) → IsFirstFault breaks number line whole rule on → IsFirstFault breaks number line whole other at → number rule ≡ number other
 same_number breaks number line whole rule other on at x y =

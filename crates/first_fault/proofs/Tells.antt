@@ -1,31 +1,20 @@
 -- What is told of a text is its first fault, and where nothing is told it has none.
 use Rattle.std.proofs.Common.{⊎_elim, ◌≡◌, ℕ, ◌+◌, ◌<◌, Bool, List, [], ◌∷◌, ◌++◌, length, take, Option, Some, None, refl, sym, ◌∙◌, ap, subst, arith, slice_get, get_or, append_assoc}
 use Rattle.std.proofs.lemmas.Option.{same_Some, slice_get_within}
-use Rattle.std.proofs.lemmas.List.{append-nil}
+use Rattle.std.proofs.Math.Seq.{get_or-append_seam, take-append_seam}
+use Rattle.std.proofs.lemmas.List.{append-nil, length_push}
 use Rattle.std.proofs.lemmas.Bool.{cases_lt}
 use Rattle.first_fault.specs.First.{or_else, first_broken, IsFine, IsFirstFault, breaks_at}
 use Rattle.first_fault.specs.Told.{on_line, told_from, told, told_parts_from, told_parts, breaks_in, IsSo as ArePartsSo, HasAll}
 use Rattle.first_fault.proofs.First.{FineBelow, fine_none, fine_more, fine_all, first_fault}
 
--- the place after some items, and those before it
-here : {E : Type 0} (before : List E) (e : E) (rest : List E) (d : E) → e ≡ get_or (before ++ e ∷ rest) (length before) d
-here [] e rest d = refl
-here (x ∷ before) e rest d = here before e rest d
-
+-- the item after some others
 found_here : {E : Type 0} (before : List E) (e : E) (rest : List E) → slice_get (before ++ e ∷ rest) (length before) ≡ Some e
 found_here [] e rest = refl
 found_here (x ∷ before) e rest = found_here before e rest
 
-before_here : {E : Type 0} (before rest : List E) → take (length before) (before ++ rest) ≡ before
-before_here [] rest = refl
-before_here (x ∷ before) rest = ap (λ xs. x ∷ xs) (before_here before rest)
-
 goes_on : {E : Type 0} (whole before rest : List E) (e : E) → whole ≡ before ++ e ∷ rest → whole ≡ (before ++ e ∷ []) ++ rest
 goes_on whole before rest e is = is ∙ sym (append_assoc before (e ∷ []) rest)
-
-one_longer : {E : Type 0} (before : List E) (e : E) → length (before ++ e ∷ []) ≡ length before + 1
-one_longer [] e = refl
-one_longer (x ∷ before) e = omega (arith, one_longer before e)
 
 inside_here : {E : Type 0} (whole before rest : List E) (e : E) → whole ≡ before ++ e ∷ rest → length before < length whole
 inside_here whole before rest e is = slice_get_within whole (length before) e (ap (λ w. slice_get w (length before)) is ∙ found_here before e rest)
@@ -45,11 +34,11 @@ module _ {E K R : Type 0} (broken : R → K → E → Bool) (rules : List R) (nu
         at_event : (o : Option R) → first_broken broken rules (known before) e ≡ o → (FineBelow broken number line known whole (length (before ++ e ∷ [])) → IsSo (told_from broken rules line known (before ++ e ∷ []) rest)) → IsSo (or_else (on_line (line e) (first_broken broken rules (known before) e)) (told_from broken rules line known (before ++ e ∷ []) rest))
         at_event (Some rule) h below =
             subst (λ x. IsSo (or_else (on_line (line e) x) (told_from broken rules line known (before ++ e ∷ []) rest))) (sym h)
-            (first_fault broken number line known whole rules (known before) (length before) e rule all (inside_here whole before rest e is) (here before e rest e ∙ ap (λ w. get_or w (length before) e) (sym is)) (ap known (sym (ap (take (length before)) is ∙ before_here before (e ∷ rest)))) (sym h) fine)
+            (first_fault broken number line known whole rules (known before) (length before) e rule all (inside_here whole before rest e is) (sym (get_or-append_seam before e rest e) ∙ ap (λ w. get_or w (length before) e) (sym is)) (ap known (sym (ap (take (length before)) is ∙ take-append_seam before (e ∷ rest)))) (sym h) fine)
         at_event None h below =
             subst (λ x. IsSo (or_else (on_line (line e) x) (told_from broken rules line known (before ++ e ∷ []) rest))) (sym h)
-            (below (subst (FineBelow broken number line known whole) (sym (one_longer before e))
-            (fine_more broken number line known whole rules (known before) (length before) e all (inside_here whole before rest e is) (here before e rest e ∙ ap (λ w. get_or w (length before) e) (sym is)) (ap known (sym (ap (take (length before)) is ∙ before_here before (e ∷ rest)))) (sym h) fine)))
+            (below (subst (FineBelow broken number line known whole) (sym (length_push before e))
+            (fine_more broken number line known whole rules (known before) (length before) e all (inside_here whole before rest e is) (sym (get_or-append_seam before e rest e) ∙ ap (λ w. get_or w (length before) e) (sym is)) (ap known (sym (ap (take (length before)) is ∙ take-append_seam before (e ∷ rest)))) (sym h) fine)))
 
     pub tells : IsSo (told broken rules line known whole)
     tells = tells_from [] whole refl (fine_none broken number line known whole)
@@ -60,12 +49,12 @@ module _ {E K R : Type 0} (broken : R → K → E → Bool) (rules : List R) (nu
       pub each : (p : ℕ) (x : List E) → p < place → slice_get parts p ≡ Some x → IsFine (breaks_in broken number line known parts p x) x
 
     one_fine : (done rest : List (List E)) (own : List E) → parts ≡ done ++ own ∷ rest → IsFine (breaks_at broken (known done own) own) own → PartsFine (length done) → PartsFine (length (done ++ own ∷ []))
-    one_fine done rest own is own_fine fine = record { each = λ p x low at. ⊎_elim (λ below. fine.each p x below at) (λ high. last p x (omega (arith, one_longer done own)) at) (cases_lt p (length done)) }
+    one_fine done rest own is own_fine fine = record { each = λ p x low at. ⊎_elim (λ below. fine.each p x below at) (λ high. last p x (omega (arith, length_push done own)) at) (cases_lt p (length done)) }
       where
         last : (p : ℕ) (x : List E) → p ≡ length done → slice_get parts p ≡ Some x → IsFine (breaks_in broken number line known parts p x) x
         last p x same at =
             let x_is : own ≡ x = same_Some own x (sym (found_here done own rest) ∙ ap (λ w. slice_get w (length done)) (sym is) ∙ ap (slice_get parts) (sym same) ∙ at) in
-            let done_is : done ≡ take p parts = sym (ap (λ q. take q parts) same ∙ ap (take (length done)) is ∙ before_here done (own ∷ rest)) in
+            let done_is : done ≡ take p parts = sym (ap (λ q. take q parts) same ∙ ap (take (length done)) is ∙ take-append_seam done (own ∷ rest)) in
             subst (λ y. IsFine (breaks_in broken number line known parts p y) y) x_is (subst (λ d. IsFine (breaks_at broken (known d own) own) own) done_is own_fine)
 
     tells_parts_from : (done rest : List (List E)) → parts ≡ done ++ rest → PartsFine (length done) → ArePartsSo broken number line known parts (told_parts_from broken rules line known done rest)
@@ -81,7 +70,7 @@ module _ {E K R : Type 0} (broken : R → K → E → Bool) (rules : List R) (nu
               own = own;
               at = ap (λ w. slice_get w (length done)) is ∙ found_here done own rest;
               before = fine.each;
-              first = subst (λ d. IsFirstFault (breaks_at broken (known d own) own) number line own fault.0 fault.1) (sym (ap (take (length done)) is ∙ before_here done (own ∷ rest))) (subst (IsSo (known done own) own) h so);
+              first = subst (λ d. IsFirstFault (breaks_at broken (known d own) own) number line own fault.0 fault.1) (sym (ap (take (length done)) is ∙ take-append_seam done (own ∷ rest))) (subst (IsSo (known done own) own) h so);
             })
         at_part None h so below =
             subst (λ x. ArePartsSo broken number line known parts (or_else x (told_parts_from broken rules line known (done ++ own ∷ []) rest))) (sym h)

@@ -38,13 +38,13 @@ abbrev pub Reached : Facts → ℕ → ℕ → Type 0
 Reached P e p = (v : Value) × Known P e p Depth v
 
 -- fewer than eight callers may wait
-abbrev pub HasRoom : Facts → ℕ → ℕ → Type 0
-HasRoom P e p = (c : ℕ) × (c < MOST_CALLERS) × Known P e p Depth (Const c)
+abbrev pub HasRoomForCaller : Facts → ℕ → ℕ → Type 0
+HasRoomForCaller P e p = (c : ℕ) × (c < MOST_CALLERS) × Known P e p Depth (Const c)
 
 -- what a flow asks for besides that its statement is reached: a call that one more caller may wait, an answer that the RETRIEVE
 -- is reached
 abbrev pub Guarded : Facts → ℕ → ℕ → ℕ → Passing → Type 0
-Guarded P e p q (Calls values answer) = HasRoom P e p
+Guarded P e p q (Calls values answer) = HasRoomForCaller P e p
 Guarded P e p q (Answers values) = Reached P e q
 Guarded P e p q _ = Unit {0}
 

@@ -17,7 +17,7 @@ use Rattle.flow_points.specs.declared.flow.Source.{Source}
 use Rattle.flow_points.specs.declared.flow.Source.TheVariants.{Deeper}
 use Rattle.flow_points.specs.declared.flow.Passing.TheVariants.{Calls, Answers}
 use Rattle.flow_points.specs.declared.fact.Value.TheVariants.{Const}
-use Rattle.flow_points.specs.Facts.{Facts, fact, SourceGives, Guarded, HasRoom, Reached}
+use Rattle.flow_points.specs.Facts.{Facts, fact, SourceGives, Guarded, HasRoomForCaller, Reached}
 use Rattle.flow_points.specs.Sources.{source_of}
 use Rattle.flow_table.specs.Giving.{AreValues, HasGiven, SlotGives, SlotsGive}
 
@@ -117,11 +117,11 @@ on_ok_as (Err e) A B f h = h
 pub guard_calls : (P : Facts) (e p q : ℕ) (how : Passing) (values : List Source) (answer : ℕ) (vs : List Value) (b : Bool) → how ≡ Calls values answer → AreValues (SourceGives P e p Deeper) vs → b ≡ not (nat_eq (length vs) 0) → (b ≡ true) ↔ Guarded P e p q how
 guard_calls P e p q how values answer vs b is are test = subst (λ h. (b ≡ true) ↔ Guarded P e p q h) (sym is) (there vs are test, back vs are test)
   where
-    there : (vs : List Value) → AreValues (SourceGives P e p Deeper) vs → b ≡ not (nat_eq (length vs) 0) → b ≡ true → HasRoom P e p
+    there : (vs : List Value) → AreValues (SourceGives P e p Deeper) vs → b ≡ not (nat_eq (length vs) 0) → b ≡ true → HasRoomForCaller P e p
     there [] are test yes_is = absurd (let clash : false ≡ true = sym test ∙ yes_is in cc)
     there (v ∷ vs) are test yes_is = (let h = are.each v (first_is v vs) in (h.0, h.1, h.3))
 
-    back : (vs : List Value) → AreValues (SourceGives P e p Deeper) vs → b ≡ not (nat_eq (length vs) 0) → HasRoom P e p → b ≡ true
+    back : (vs : List Value) → AreValues (SourceGives P e p Deeper) vs → b ≡ not (nat_eq (length vs) 0) → HasRoomForCaller P e p → b ≡ true
     back [] are test h = absurd (none_in (Const (h.0 + 1)) (are.listed (Const (h.0 + 1)) (h.0, h.1, refl, h.2)))
     back (v ∷ vs) are test h = test ∙ ap not (ne_eqb (length (v ∷ vs)) 0 (λ e. let none = e in omega arith))
 

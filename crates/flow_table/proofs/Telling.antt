@@ -27,7 +27,7 @@ use Rattle.flow_points.specs.declared.flow.Passing.{Passing}
 use Rattle.flow_points.specs.declared.flow.Passing.TheVariants.{Kept, Sets, Takes, Retrieves, Passes}
 use Rattle.flow_points.specs.Places.{Place, label_point, enter_point, receives, MayReceive}
 use Rattle.flow_points.specs.Sources.{expr_source}
-use Rattle.flow_points.specs.Flows.{Goes, Enters, Chooses, passed, SendLeads, Leads}
+use Rattle.flow_points.specs.Flows.{GoesAlong, Enters, Chooses, passed, SendLeads, Leads}
 use Rattle.flow_table.specs.declared.way.Way.{Way}
 use Rattle.flow_table.specs.Ways.{WayLeads, WaysLead, AreWays, listed, to_points, to_next, receiving, receivers_of, enters_in, to_enters, bare_points, begun_points, choice_points, is_bare, send_ways, layer_ways, ways_of}
 
@@ -215,22 +215,22 @@ module _ (x : Exchange) (q : ℕ) (how : Passing) where
 
   -- to a point
 
-  goes_by : (made : Passing) (to : Option ℕ) → WayLeads x (to_next made to) q how → Goes to made q how
+  goes_by : (made : Passing) (to : Option ℕ) → WayLeads x (to_next made to) q how → GoesAlong to made q how
   goes_by made to h = record { ends = in_listed to q h.end; is = h.is }
 
-  by_goes : (made : Passing) (to : Option ℕ) → Goes to made q how → WayLeads x (to_next made to) q how
+  by_goes : (made : Passing) (to : Option ℕ) → GoesAlong to made q how → WayLeads x (to_next made to) q how
   by_goes made to g = record { end = listed_in to q g.ends; is = g.is }
 
   -- to two points
 
-  both_by : (made : Passing) (a b : Option ℕ) → WayLeads x (to_points made (listed a ++ listed b)) q how → Goes a made q how ⊎ Goes b made q how
+  both_by : (made : Passing) (a b : Option ℕ) → WayLeads x (to_points made (listed a ++ listed b)) q how → GoesAlong a made q how ⊎ GoesAlong b made q how
   both_by made a b h =
       ⊎_elim
       (λ c. inl (record { ends = in_listed a q c; is = h.is }))
       (λ c. inr (record { ends = in_listed b q c; is = h.is }))
       (Contains-append_cases (listed a) (listed b) q h.end)
 
-  by_both : (made : Passing) (a b : Option ℕ) → Goes a made q how ⊎ Goes b made q how → WayLeads x (to_points made (listed a ++ listed b)) q how
+  by_both : (made : Passing) (a b : Option ℕ) → GoesAlong a made q how ⊎ GoesAlong b made q how → WayLeads x (to_points made (listed a ++ listed b)) q how
   by_both made a b (inl g) = record { end = Contains-append_left (listed a) (listed b) q (listed_in a q g.ends); is = g.is }
   by_both made a b (inr g) = record { end = Contains-append_right (listed a) (listed b) q (listed_in b q g.ends); is = g.is }
 
@@ -246,14 +246,14 @@ module _ (x : Exchange) (q : ℕ) (how : Passing) where
 
   -- to choices
 
-  chooses_by : (whens : List When) (next other : Option ℕ) → WayLeads x (to_points Kept (choice_points whens next ++ listed other)) q how → Chooses whens next q how ⊎ Goes other Kept q how
+  chooses_by : (whens : List When) (next other : Option ℕ) → WayLeads x (to_points Kept (choice_points whens next ++ listed other)) q how → Chooses whens next q how ⊎ GoesAlong other Kept q how
   chooses_by whens next other h =
       ⊎_elim
       (λ c. inl (in_choices whens next q how h.is c))
       (λ c. inr (record { ends = in_listed other q c; is = h.is }))
       (Contains-append_cases (choice_points whens next) (listed other) q h.end)
 
-  by_chooses : (whens : List When) (next other : Option ℕ) → Chooses whens next q how ⊎ Goes other Kept q how → WayLeads x (to_points Kept (choice_points whens next ++ listed other)) q how
+  by_chooses : (whens : List When) (next other : Option ℕ) → Chooses whens next q how ⊎ GoesAlong other Kept q how → WayLeads x (to_points Kept (choice_points whens next ++ listed other)) q how
   by_chooses whens next other (inl g) = record { end = Contains-append_left (choice_points whens next) (listed other) q (choices_has whens next g.choice q g.one g.goes.ends); is = g.goes.is }
   by_chooses whens next other (inr g) = record { end = Contains-append_right (choice_points whens next) (listed other) q (listed_in other q g.ends); is = g.is }
 

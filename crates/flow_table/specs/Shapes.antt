@@ -18,7 +18,7 @@ use Rattle.flow_points.specs.Places.{Place}
 use Rattle.flow_points.specs.Sources.{expr_source}
 use Rattle.flow_table.specs.declared.way.Ends.TheVariants as ends
 use Rattle.flow_table.specs.declared.way.Way.{Way}
-use Rattle.flow_table.specs.Ways.{IsEnd, WayLeads}
+use Rattle.flow_table.specs.Ways.{IsWayEnd, WayLeads}
 
 -- the shape of a way from a statement of this layer
 pub data Shape (x : Exchange) (l : Layer) (w : Way) : Type 0 where
@@ -44,4 +44,4 @@ pub record LedBy (x : Exchange) (at : Place) (q : ℕ) (how : Passing) : Type 0 
   pub way : Way
   pub shape : Shape x at.layer way
   pub leads : WayLeads x way q how
-  pub others : (r : ℕ) → IsEnd x way.ends r → LeadsTo x at r how
+  pub others : (r : ℕ) → IsWayEnd x way.ends r → LeadsTo x at r how

@@ -28,12 +28,12 @@ use Rattle.flow_table.specs.declared.way.Way.{Way}
 
 -- what ways lead to
 
-abbrev pub IsEnd : Exchange → Ends → ℕ → Type 0
-IsEnd x (ends.Points points) q = Contains points q
-IsEnd x (ends.Retrieves answer) q = IsRetrieveAt x q answer
+abbrev pub IsWayEnd : Exchange → Ends → ℕ → Type 0
+IsWayEnd x (ends.Points points) q = Contains points q
+IsWayEnd x (ends.Retrieves answer) q = IsRetrieveAt x q answer
 
 pub record WayLeads (x : Exchange) (w : Way) (q : ℕ) (how : Passing) : Type 0 where
-  pub end : IsEnd x w.ends q
+  pub end : IsWayEnd x w.ends q
   pub is : how ≡ w.how
 
 pub record WaysLead (x : Exchange) (ways : List Way) (q : ℕ) (how : Passing) : Type 0 where

@@ -1,15 +1,15 @@
 // The seed of the tables of a text.
 use plex_num::{Seed, Seq};
-use text_events::{Event, Place};
+use text_events::{Event, EventKind};
 
 /// The seed that hangs, too, on what a table may keep of this place.
-fn with_place(seed: Seed, place: Place<'_>) -> Seed {
-    match place {
-        Place::Signal { name } => seed.with(name.as_slice()),
-        Place::BlockName { name } => seed.with(name.as_slice()),
-        Place::Declares { name, .. } => seed.with(name.as_slice()),
-        Place::Names { signal, .. } => seed.with(signal.as_slice()),
-        Place::Chooses { owner, number } => seed.with_number(owner).with_number(number),
+fn with_kind(seed: Seed, kind: EventKind<'_>) -> Seed {
+    match kind {
+        EventKind::Signal { name } => seed.with(name.as_slice()),
+        EventKind::BlockName { name } => seed.with(name.as_slice()),
+        EventKind::Declares { name, .. } => seed.with(name.as_slice()),
+        EventKind::Names { signal, .. } => seed.with(signal.as_slice()),
+        EventKind::Chooses { owner, number } => seed.with_number(owner).with_number(number),
         _ => seed,
     }
 }
@@ -20,7 +20,7 @@ pub(crate) fn seed_of(parts: &[Seq<Event<'_>>]) -> Seed {
     let mut seed = Seed::new();
     for part in parts {
         for event in part.as_slice() {
-            seed = with_place(seed, event.place());
+            seed = with_kind(seed, event.kind());
         }
     }
     seed

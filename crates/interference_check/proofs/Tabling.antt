@@ -1,12 +1,11 @@
--- A table of all pairs, as far as it is made, and what is looked up in it.
-use Rattle.std.proofs.Common.{◌≡◌, ◌⊎◌, ◌↔◌, inl, inr, ℕ, ◌+◌, ◌-◌, ◌*◌, ◌/◌, ◌%◌, ◌<◌, ◌≤◌, Bool, false, IsTrue, ◌&&◌, List, [], ◌∷◌, ◌++◌, All, length, take, drop, get_or, Some, slice_get, slice_range, sym, ap, ◌∙◌, subst, arith, append-nil, length-append}
+-- What is told of pairs, as one more comes, and what is looked up in it.
+use Rattle.std.proofs.Common.{◌≡◌, ◌↔◌, ⊎_elim, ℕ, ◌-◌, ◌≤◌, Bool, false, IsTrue, ◌&&◌, List, [], ◌∷◌, ◌++◌, All, length, take, drop, get_or, Option, Some, None, IfSome, MatchOption, slice_get, slice_range, sym, ap, ◌∙◌, subst, arith, length-append}
 use Rattle.std.specs.List.{Contains}
-use Rattle.std.proofs.lemmas.Bool.{and_from, and_parts, cases_lt}
+use Rattle.std.proofs.lemmas.Bool.{and_from, and_parts}
 use Rattle.std.proofs.lemmas.List.{drop-append-le, length-drop, take-append-le}
 use Rattle.std.proofs.lemmas.List.Elements.{All-contains, Contains-get_or}
-use Rattle.std.proofs.lemmas.Nat.{div-mul-add, mod-mul-add}
-use Rattle.std.proofs.lemmas.Option.{none-some, same_Some, slice_get_within}
-use Rattle.plex_num.proofs.Lists.{slice_get-append_left, slice_get-append_seam}
+use Rattle.std.proofs.lemmas.Option.{none-some}
+use Rattle.plex_num.proofs.Lists.{get_push}
 use Rattle.job_types.specs.declared.job.JobStart.{JobStart}
 use Rattle.entry_summary.specs.declared.summary.Summary.{Summary}
 use Rattle.pair_tests.specs.declared.pair.Test.{Test}
@@ -14,8 +13,9 @@ use Rattle.pair_tests.specs.Pairs.{TestHolds, IsTest, Passes}
 use Rattle.checked.specs.Kept.{KeptSummaries}
 use Rattle.interference_check.specs.declared.table.Pair.{Pair}
 use Rattle.interference_check.specs.declared.table.Pair.TheVariants.{Never, Asks}
+use Rattle.interference_check.specs.declared.table.Told.{Told}
 use Rattle.interference_check.specs.Pairs.{OfPair}
-use Rattle.interference_check.specs.Tables.{ArePairsOf, HasTests, IsFound, IsPairTable, IsTold, StandWithin, TellsTests}
+use Rattle.interference_check.specs.Tables.{AreTold, HasTests, IsFound, IsRight, IsTold, StandWithin, TellsTests}
 
 -- a range of a list stays as the list grows
 range_grown : {A : Type 0} (xs more : List A) (from to : ℕ) → from ≤ to → to ≤ length xs → slice_range (xs ++ more) from to ≡ slice_range xs from to
@@ -32,91 +32,77 @@ tells_grown tests more (Asks from to) s t h = record {
   exact = subst (λ (l : List Test). (test : Test) → Contains l test ↔ IsTest s t test) (sym (range_grown tests more from to h.ordered h.within)) h.exact;
 }
 
--- one pair after the other
+-- one more is told of two entries, or the list stays as it was
 
-pub table_begin : (k : KeptSummaries) (many : ℕ) (pairs : List Pair) (tests : List Test) → pairs ≡ [] → ArePairsOf k many (0 * many) pairs tests
-table_begin k many pairs tests none = record {
-  long = ap length none ∙ omega arith;
-  tells = λ first later pair lt there. absurd (none-some pair (ap (λ (l : List Pair). slice_get l (first * many + later)) (sym none) ∙ there));
+pub none_told : (k : KeptSummaries) (kept : List Told) (tests : List Test) → kept ≡ [] → AreTold k kept tests
+none_told k kept tests none place told there = absurd (none-some told (ap (λ (l : List Told). slice_get l place) (sym none) ∙ there))
+
+pub told_same : (k : KeptSummaries) (kept new : List Told) (tests : List Test) → new ≡ kept → AreTold k kept tests → AreTold k new tests
+told_same k kept new tests same are = subst (λ (l : List Told). AreTold k l tests) (sym same) are
+
+pub told_more : (k : KeptSummaries) (kept new : List Told) (tests : List Test) (one : Told) → new ≡ kept ++ one ∷ [] → AreTold k kept tests → IsRight k tests one → AreTold k new tests
+told_more k kept new tests one grown are right place told there =
+    ⊎_elim (λ old. are place told old) (λ last. subst (IsRight k tests) last.1 right)
+    (get_push kept one told place (ap (λ (l : List Told). slice_get l place) (sym grown) ∙ there))
+
+-- what was told stays so as tests come
+
+pair_grown : (k : KeptSummaries) (i j : ℕ) (tests more all : List Test) (pair : Pair) → all ≡ tests ++ more → OfPair k i j (TellsTests tests pair) → OfPair k i j (TellsTests all pair)
+pair_grown k i j tests more all pair grown h = record {
+  one = h.one;
+  other = h.other;
+  of_first = h.of_first;
+  of_later = h.of_later;
+  holds = subst (λ (l : List Test). TellsTests l pair h.one h.other) (sym grown) (tells_grown tests more pair h.one h.other h.holds);
 }
 
-pub table_end : (k : KeptSummaries) (many first : ℕ) (pairs : List Pair) (tests : List Test) → many ≤ length k.summaries → many ≤ first → first ≤ many → ArePairsOf k many (first * many) pairs tests → IsPairTable k many pairs tests
-table_end k many first pairs tests few past within h = record { few = few; all = subst (λ n. ArePairsOf k many (n * many) pairs tests) (omega (arith, past, within)) h }
+right_grown : (k : KeptSummaries) (i j : ℕ) (tests more all : List Test) (pair : Option Pair) → all ≡ tests ++ more → IfSome pair (λ p. OfPair k i j (TellsTests tests p)) → IfSome pair (λ p. OfPair k i j (TellsTests all p))
+right_grown k i j tests more all (Some p) grown h = pair_grown k i j tests more all p grown h
+right_grown k i j tests more all None grown h = tt
 
-pub row_begin : (k : KeptSummaries) (many first : ℕ) (pairs : List Pair) (tests : List Test) → ArePairsOf k many (first * many) pairs tests → ArePairsOf k many (first * many + 0) pairs tests
-row_begin k many first pairs tests h = subst (λ n. ArePairsOf k many n pairs tests) (omega arith) h
+told_grown : (k : KeptSummaries) (kept : List Told) (tests more all : List Test) → all ≡ tests ++ more → AreTold k kept tests → AreTold k kept all
+told_grown k kept tests more all grown are place told there = right_grown k told.first told.later tests more all told.pair grown (are place told there)
 
-pub row_end : (k : KeptSummaries) (many first later : ℕ) (pairs : List Pair) (tests : List Test) → many ≤ later → later ≤ many → ArePairsOf k many (first * many + later) pairs tests → ArePairsOf k many ((first + 1) * many) pairs tests
-row_end k many first later pairs tests past within h = subst (λ n. ArePairsOf k many n pairs tests) (next first many later (omega (arith, past, within))) h
-  where
-    next : (f n l : ℕ) → l ≡ n → f * n + l ≡ (f + 1) * n
-    next f n l is = grind arith
+pub told_after : (k : KeptSummaries) (kept : List Told) (s t : Summary) (tests all : List Test) (pair : Option Pair) → MatchOption pair (all ≡ tests) (IsTold s t tests all) → AreTold k kept tests → AreTold k kept all
+told_after k kept s t tests all (Some p) adds are = told_grown k kept tests adds.more all adds.grown are
+told_after k kept s t tests all None same are = subst (AreTold k kept) (sym same) are
 
-module _ (k : KeptSummaries) (many first later : ℕ) (s t : Summary) (tests all : List Test) (pair : Pair) (below : later < many) (of_first : slice_get k.summaries first ≡ Some s) (of_later : slice_get k.summaries later ≡ Some t) (adds : IsTold s t tests all pair) (pairs : List Pair) (so_far : ArePairsOf k many (first * many + later) pairs tests) where
-  told : OfPair k first later (TellsTests all pair)
-  told = record { one = s; other = t; of_first = of_first; of_later = of_later; holds = adds.tells }
+pub right_now : (k : KeptSummaries) (first later : ℕ) (s t : Summary) (tests all : List Test) (pair : Option Pair) → slice_get k.summaries first ≡ Some s → slice_get k.summaries later ≡ Some t
+    → MatchOption pair (all ≡ tests) (IsTold s t tests all) → IfSome pair (λ p. OfPair k first later (TellsTests all p))
+right_now k first later s t tests all (Some p) of_first of_later adds = record { one = s; other = t; of_first = of_first; of_later = of_later; holds = adds.tells }
+right_now k first later s t tests all None of_first of_later same = tt
 
-  kept_told : (i j : ℕ) (old : Pair) → OfPair k i j (TellsTests tests old) → OfPair k i j (TellsTests all old)
-  kept_told i j old h = record {
-    one = h.one;
-    other = h.other;
-    of_first = h.of_first;
-    of_later = h.of_later;
-    holds = subst (λ (l : List Test). TellsTests l old h.one h.other) (sym adds.grown) (tells_grown tests adds.more old h.one h.other h.holds);
-  }
+-- what is told of two entries is told of those with the same summaries
 
-  one_more : (i j : ℕ) (p : Pair) → j < many → slice_get (pairs ++ pair ∷ []) (i * many + j) ≡ Some p → OfPair k i j (TellsTests all p)
-  one_more i j p lt there = at (cases_lt (i * many + j) (length pairs))
-    where
-      at : (i * many + j < length pairs) ⊎ (length pairs ≤ i * many + j) → OfPair k i j (TellsTests all p)
-      at (inl old) = kept_told i j p (so_far.tells i j p lt (sym (slice_get-append_left pairs (pair ∷ []) (i * many + j) old) ∙ there))
-      at (inr past) =
-          let within = slice_get_within (pairs ++ pair ∷ []) (i * many + j) p there in
-          let long = length-append pairs (pair ∷ []) in
-          let last : i * many + j ≡ length pairs = omega (arith, past, within, long) in
-          let place : i * many + j ≡ first * many + later = last ∙ so_far.long in
-          let row : first ≡ i = sym (div-mul-add first many later below) ∙ ap (λ n. n / many) (sym place) ∙ div-mul-add i many j lt in
-          let column : later ≡ j = sym (mod-mul-add first many later below) ∙ ap (λ n. n % many) (sym place) ∙ mod-mul-add i many j lt in
-          let same : pair ≡ p = same_Some pair p (sym (slice_get-append_seam pairs pair []) ∙ subst (λ n. slice_get (pairs ++ pair ∷ []) n ≡ Some p) last there) in
-          subst (λ m. OfPair k m j (TellsTests all p)) row (subst (λ m. OfPair k first m (TellsTests all p)) column (subst (λ q. OfPair k first later (TellsTests all q)) same told))
+pub told_alike : (k : KeptSummaries) (first later one other : ℕ) (tests all : List Test) (pair : Option Pair) → slice_get k.summaries one ≡ slice_get k.summaries first → slice_get k.summaries other ≡ slice_get k.summaries later
+    → all ≡ tests → IfSome pair (λ p. OfPair k one other (TellsTests tests p)) → IfSome pair (λ p. OfPair k first later (TellsTests all p))
+told_alike k first later one other tests all (Some p) like_first like_later same h = record {
+  one = h.one;
+  other = h.other;
+  of_first = sym like_first ∙ h.of_first;
+  of_later = sym like_later ∙ h.of_later;
+  holds = subst (λ (l : List Test). TellsTests l p h.one h.other) (sym same) h.holds;
+}
+told_alike k first later one other tests all None like_first like_later same h = tt
 
-  pub pair_more : (new : List Pair) → new ≡ pairs ++ pair ∷ [] → ArePairsOf k many (first * many + (later + 1)) new all
-  pair_more new grown = subst (λ l. ArePairsOf k many (first * many + (later + 1)) l all) (sym grown) (record {
-    long = (let l = length-append pairs (pair ∷ []) in let h = so_far.long in omega (arith, l, h));
-    tells = one_more;
-  })
+pub found_tells : (k : KeptSummaries) (kept : List Told) (tests : List Test) (one other : ℕ) (told : Told) → AreTold k kept tests → IsFound kept one other told → IfSome told.pair (λ p. OfPair k one other (TellsTests tests p))
+found_tells k kept tests one other told are found =
+    subst (λ n. IfSome told.pair (λ p. OfPair k one n (TellsTests tests p))) found.later_is
+    (subst (λ n. IfSome told.pair (λ p. OfPair k n told.later (TellsTests tests p))) found.first_is (are found.place told found.there))
 
--- a pair that is told of two entries with the same summaries
+pub shown_tells : (k own : KeptSummaries) (first later : ℕ) (tests shown : List Test) (pair : Pair) → own ≡ k → shown ≡ tests → OfPair own first later (TellsTests tests pair) → OfPair k first later (TellsTests shown pair)
+shown_tells k own first later tests shown pair same all h =
+    subst (λ (l : List Test). OfPair k first later (TellsTests l pair)) (sym all) (subst (λ (t : KeptSummaries). OfPair t first later (TellsTests tests pair)) same h)
 
-pub same_pairs : (k : KeptSummaries) (many n : ℕ) (pairs shown : List Pair) (tests : List Test) → shown ≡ pairs → ArePairsOf k many n pairs tests → ArePairsOf k many n shown tests
-same_pairs k many n pairs shown tests same h = subst (λ (l : List Pair). ArePairsOf k many n l tests) (sym same) h
+pub is_found : (kept shown : List Told) (place first later : ℕ) (told : Told) → shown ≡ kept → slice_get shown place ≡ Some told → told.first ≡ first → told.later ≡ later → IsFound kept first later told
+is_found kept shown place first later told same there first_is later_is = record {
+  place = place;
+  there = ap (λ (l : List Told). slice_get l place) (sym same) ∙ there;
+  first_is = first_is;
+  later_is = later_is;
+}
 
-pub told_alike : (k : KeptSummaries) (many n first later one other : ℕ) (pair : Pair) (pairs : List Pair) (tests : List Test) → slice_get k.summaries one ≡ slice_get k.summaries first
-    → slice_get k.summaries other ≡ slice_get k.summaries later → ArePairsOf k many n pairs tests → IsFound pairs many one other pair → OfPair k first later (λ s t. IsTold s t tests tests pair)
-told_alike k many n first later one other pair pairs tests like_first like_later so_far found =
-    let h = so_far.tells one other pair found.below found.there in
-    record {
-      one = h.one;
-      other = h.other;
-      of_first = sym like_first ∙ h.of_first;
-      of_later = sym like_later ∙ h.of_later;
-      holds = record { more = []; grown = sym (append-nil tests); tells = h.holds };
-    }
-
-pub told_anew : (k : KeptSummaries) (first later : ℕ) (s t : Summary) (tests all : List Test) (pair : Pair) → slice_get k.summaries first ≡ Some s → slice_get k.summaries later ≡ Some t
-    → IsTold s t tests all pair → OfPair k first later (λ u v. IsTold u v tests all pair)
-told_anew k first later s t tests all pair of_first of_later told = record { one = s; other = t; of_first = of_first; of_later = of_later; holds = told }
-
--- the table, looked up
-
-pub pair_found : (pairs : List Pair) (many first later : ℕ) (pair : Pair) → later < many → slice_get pairs (first * many + later) ≡ Some pair → IsFound pairs many first later pair
-pair_found pairs many first later pair below there = record { below = below; there = there }
-
-pub found_tells : (k own : KeptSummaries) (many first later : ℕ) (pairs listed : List Pair) (tests shown : List Test) (pair : Pair) → own ≡ k → listed ≡ pairs → shown ≡ tests → IsPairTable own many pairs tests → IsFound listed many first later pair
-    → OfPair k first later (TellsTests shown pair)
-found_tells k own many first later pairs listed tests shown pair same list all table found =
-    let at : slice_get pairs (first * many + later) ≡ Some pair = ap (λ (l : List Pair). slice_get l (first * many + later)) (sym list) ∙ found.there in
-    subst (λ (l : List Test). OfPair k first later (TellsTests l pair)) (sym all) (subst (λ (t : KeptSummaries). OfPair t first later (TellsTests tests pair)) same (table.all.tells first later pair found.below at))
+-- the tests of a pair
 
 tests_there : (tests : List Test) (pair : Pair) (s t : Summary) → TellsTests tests pair s t → HasTests tests pair
 tests_there tests Never s t h = tt

@@ -1,5 +1,5 @@
--- What a table tells of every ordered pair of entries.
-use Rattle.std.specs.Prelude.{◌≡◌, ◌↔◌, ℕ, ◌+◌, ◌*◌, ◌<◌, ◌≤◌, List, ◌++◌, length, Some, slice_get, slice_range}
+-- What a table tells of ordered pairs of entries.
+use Rattle.std.specs.Prelude.{◌≡◌, ◌↔◌, ℕ, ◌≤◌, List, ◌++◌, length, Some, IfSome, slice_get, slice_range}
 use Rattle.std.specs.List.{Contains}
 use Rattle.entry_summary.specs.declared.summary.Summary.{Summary}
 use Rattle.pair_tests.specs.declared.pair.Test.{Test}
@@ -7,6 +7,7 @@ use Rattle.pair_tests.specs.Pairs.{HasNoConflict, IsTest}
 use Rattle.checked.specs.Kept.{KeptSummaries}
 use Rattle.interference_check.specs.declared.table.Pair.{Pair}
 use Rattle.interference_check.specs.declared.table.Pair.TheVariants.{Never, Asks}
+use Rattle.interference_check.specs.declared.table.Told.{Told}
 use Rattle.interference_check.specs.Pairs.{OfPair}
 
 -- the two have no conflict, and their tests stand in the list from one place to before another one
@@ -27,20 +28,20 @@ pub record IsTold (first later : Summary) (tests all : List Test) (pair : Pair) 
   pub grown : all ≡ tests ++ more
   pub tells : TellsTests all pair first later
 
--- so many pairs, each at its place: those of one first entry together, by the later one, where those of the first so many are told
-pub record ArePairsOf (k : KeptSummaries) (told count : ℕ) (pairs : List Pair) (tests : List Test) : Type 0 where
-  pub long : length pairs ≡ count
-  pub tells : (first later : ℕ) (pair : Pair) → later < told → slice_get pairs (first * told + later) ≡ Some pair → OfPair k first later (TellsTests tests pair)
+-- what is told of two entries is so of their summaries, where something is
+abbrev pub IsRight : KeptSummaries → List Test → Told → Type 0
+IsRight k tests told = IfSome told.pair (λ pair. OfPair k told.first told.later (TellsTests tests pair))
 
--- all pairs of the first so many entries
-pub record IsPairTable (k : KeptSummaries) (told : ℕ) (pairs : List Pair) (tests : List Test) : Type 0 where
-  pub few : told ≤ length k.summaries
-  pub all : ArePairsOf k told (told * told) pairs tests
+-- each pair that is kept is told right
+abbrev pub AreTold : KeptSummaries → List Told → List Test → Type 0
+AreTold k kept tests = (place : ℕ) (told : Told) → slice_get kept place ≡ Some told → IsRight k tests told
 
--- the pair stands in the table
-pub record IsFound (pairs : List Pair) (told first later : ℕ) (pair : Pair) : Type 0 where
-  pub below : later < told
-  pub there : slice_get pairs (first * told + later) ≡ Some pair
+-- it is kept, and of these two entries
+pub record IsFound (kept : List Told) (first later : ℕ) (told : Told) : Type 0 where
+  pub place : ℕ
+  pub there : slice_get kept place ≡ Some told
+  pub first_is : told.first ≡ first
+  pub later_is : told.later ≡ later
 
 -- its tests stand in the list
 abbrev pub HasTests : List Test → Pair → Type 0

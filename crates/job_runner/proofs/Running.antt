@@ -22,11 +22,11 @@ use Rattle.shared_store.specs.declared.view.Lent.{Lent}
 use Rattle.shared_store.specs.Loans.{current}
 use Rattle.shared_store.specs.Seats.{JobView, StoreId}
 use Rattle.job_runner.specs.Seen.{readable, writable}
-use Rattle.job_runner.specs.Runs.{HasRun, IsReady, Keeps}
+use Rattle.job_runner.specs.Runs.{HasRun, IsReady, KeepsPermit}
 
 -- touches of cells that the permit lets are touches that the seat may make
 may_make : (x : Exchange) (loan : Lent) (ts : List Touch) → length loan.base ≡ x.cells → x.cells ≤ 1000000 → AreOfCells x ts
-    → Keeps loan.permit ts → AllByRecursion (MayMake (readable loan) (writable loan)) ts
+    → KeepsPermit loan.permit ts → AllByRecursion (MayMake (readable loan) (writable loan)) ts
 may_make x loan [] whole few cells keeps = tt
 may_make x loan (Load w v ∷ ts) whole few cells keeps = (and_from (is_word_of loan.base w) (may_read loan.permit w) (word_of loan.base x.cells w whole few cells.0) keeps.0, may_make x loan ts whole few cells.1 keeps.1)
 may_make x loan (Store w v ∷ ts) whole few cells keeps = (and_from (is_word_of loan.base w) (may_write loan.permit w) (word_of loan.base x.cells w whole few cells.0) keeps.0, may_make x loan ts whole few cells.1 keeps.1)

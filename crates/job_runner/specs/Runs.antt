@@ -17,8 +17,8 @@ use Rattle.shared_store.specs.declared.view.Lent.{Lent}
 use Rattle.shared_store.specs.Seats.{JobView, StoreId}
 
 -- each touch of the list is one that the permit lets be made
-abbrev pub Keeps : Permit → List Touch → Type 0
-Keeps p ts = AllByRecursion (MayMake (may_read p) (may_write p)) ts
+abbrev pub KeepsPermit : Permit → List Touch → Type 0
+KeepsPermit p ts = AllByRecursion (MayMake (may_read p) (may_write p)) ts
 
 -- a loan for a job: its base values are the stored words of a valid state which its start fits, and each touch of the job
 -- there is one that its permit lets
@@ -27,7 +27,7 @@ pub record IsForJob (x : Exchange) (loan : Lent) : Type 0 where
   pub valid : IsValid x state
   pub fitting : IsFitting x state loan.start
   pub store_is : state.store ≡ loan.base
-  pub keeps : Keeps loan.permit (trace_of x loan.start loan.base)
+  pub keeps : KeepsPermit loan.permit (trace_of x loan.start loan.base)
 
 -- the seat of such a loan of this store has touched nothing, and the run is at the loan's start
 pub record IsReady (x : Exchange) (code : Code) (store : StoreId) (seat : JobView) (run : Private) : Type 0 where

@@ -31,7 +31,7 @@ use Rattle.exchange_model.specs.Names.{names_of_blocks, names_of_signals}
 use Rattle.source_meaning.specs.State.{Coming}
 use Rattle.source_meaning.specs.Valid.{HasOrigin, LinesFit, NamesEarlier, entry_count}
 use Rattle.retire_order.specs.Lines.{coming_of, origin_of}
-use Rattle.job_table.specs.Fit.{AreNumberedFrom, HasWords, IsPlain}
+use Rattle.job_table.specs.Fit.{AreNumberedFrom, HasWords, IsPlainWord}
 use Rattle.job_table.specs.Writing.{ending_words, line_words, value_words, written_out}
 use Rattle.exchange_model.specs.Names.{name_of_block, name_of_entry, name_of_signal}
 use Rattle.retire_order.proofs.Fitting.{counts_more, before_is}
@@ -55,8 +55,8 @@ record IsWritten (x : Exchange) (l : Line) : Type 0 where
   pub block : List ℕ
   pub signal : Signal
   pub text : line_words x l ≡ codes "AFTER" ++ 32 ∷ (decimal l.after ++ 32 ∷ (name ++ 32 ∷ (block ++ (value_words l.values ++ ending_words l.kind))))
-  pub name_plain : IsPlain name
-  pub block_plain : IsPlain block
+  pub name_plain : IsPlainWord name
+  pub block_plain : IsPlainWord block
   pub found : signal_of x name ≡ Some signal
   pub entry : entry_of x signal.number block ≡ Some l.entry
   pub many : length l.values ≡ signal.count
@@ -95,8 +95,8 @@ written_line x kept has l inside many =
       block = block;
       signal = b.0;
       text = ap (λ t. codes "AFTER " ++ decimal l.after ++ codes " " ++ t ++ value_words l.values ++ ending_words l.kind) names ∙ shape (decimal l.after) name block (value_words l.values) (ending_words l.kind);
-      name_plain = all_at IsPlain (names_of_signals x.signals) e.signal name has.signals signal_there;
-      block_plain = all_at IsPlain (names_of_blocks x.blocks) e.block block has.blocks block_there;
+      name_plain = all_at IsPlainWord (names_of_signals x.signals) e.signal name has.signals signal_there;
+      block_plain = all_at IsPlainWord (names_of_blocks x.blocks) e.block block has.blocks block_there;
       found = found;
       entry = ap (λ number. entry_of x number block) b.2 ∙ entry;
       many = many ∙ count;

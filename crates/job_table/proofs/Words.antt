@@ -15,7 +15,7 @@ use Rattle.signal_file.specs.declared.line.LineKind.{LineKind}
 use Rattle.signal_file.specs.declared.line.LineKind.TheVariants.{Bare, Fresh, Same}
 use Rattle.signal_file.specs.Form.{closing, end_or_value, ending, with}
 use Rattle.text_lines.specs.Words.{is_blank, is_line_end, is_some_byte, words}
-use Rattle.job_table.specs.Fit.{IsPlain}
+use Rattle.job_table.specs.Fit.{IsPlainWord}
 use Rattle.job_table.specs.Writing.{ending_words, value_words}
 
 -- ---- plain words
@@ -40,11 +40,11 @@ split_last (b ∷ w) all = ap (λ t. cond t ([] ∷ slice_split is_blank w) (ont
 kept_word : (w : List ℕ) (parts : List (List ℕ)) → is_some_byte w ≡ true → filter is_some_byte (w ∷ parts) ≡ w ∷ filter is_some_byte parts
 kept_word w parts some = ap (λ t. cond t (w ∷ filter is_some_byte parts) (filter is_some_byte parts)) some
 
-pub word_first : (w rest : List ℕ) → IsPlain w → words (w ++ 32 ∷ rest) ≡ w ∷ words rest
+pub word_first : (w rest : List ℕ) → IsPlainWord w → words (w ++ 32 ∷ rest) ≡ w ∷ words rest
 unfolding words
 word_first w rest p = ap (filter is_some_byte) (split_word w rest p.all) ∙ kept_word w (slice_split is_blank rest) p.some
 
-pub word_alone : (w : List ℕ) → IsPlain w → words w ≡ w ∷ []
+pub word_alone : (w : List ℕ) → IsPlainWord w → words w ≡ w ∷ []
 unfolding words
 word_alone w p = ap (filter is_some_byte) (split_last w p.all) ∙ kept_word w [] p.some
 
@@ -61,23 +61,23 @@ some_byte : (bytes : List ℕ) → 0 < length bytes → is_some_byte bytes ≡ t
 some_byte [] some = absurd (omega arith)
 some_byte (b ∷ bytes) some = refl
 
-pub decimal_plain : (n : ℕ) → n < 2 ^ 32 → IsPlain (decimal n)
+pub decimal_plain : (n : ℕ) → n < 2 ^ 32 → IsPlainWord (decimal n)
 decimal_plain n small = record { some = some_byte (decimal n) (decimal_nonempty n (omega arith)); all = digits_above (decimal n) (decimal_all_digits n (omega arith)) }
 
 above_all : (bytes : List ℕ) → list_all (λ b. nat_lt 32 b) bytes ≡ true → AllAbove bytes
 above_all [] all = tt
 above_all (b ∷ bytes) all = let parts = and_parts (nat_lt 32 b) (list_all (λ b. nat_lt 32 b) bytes) all in (ltb-true 32 b parts.0, above_all bytes parts.1)
 
-plain_new : IsPlain (codes "NEW")
+plain_new : IsPlainWord (codes "NEW")
 plain_new = record { some = refl; all = above_all (codes "NEW") refl }
 
-plain_none : IsPlain (codes "NONE")
+plain_none : IsPlainWord (codes "NONE")
 plain_none = record { some = refl; all = above_all (codes "NONE") refl }
 
-plain_as : IsPlain (codes "AS")
+plain_as : IsPlainWord (codes "AS")
 plain_as = record { some = refl; all = above_all (codes "AS") refl }
 
-pub plain_after : IsPlain (codes "AFTER")
+pub plain_after : IsPlainWord (codes "AFTER")
 plain_after = record { some = refl; all = above_all (codes "AFTER") refl }
 
 -- ---- the values and the end of a line
@@ -100,14 +100,14 @@ kind_words (Same line) = codes "AS" ∷ decimal line ∷ []
 abbrev pub tail_words : List ℕ → LineKind → List (List ℕ)
 tail_words values kind = map decimal values ++ kind_words kind
 
-ending_read : (w : List ℕ) (kind : LineKind) → IsPlain w → HasSmall kind → words (w ++ ending_words kind) ≡ w ∷ kind_words kind
+ending_read : (w : List ℕ) (kind : LineKind) → IsPlainWord w → HasSmall kind → words (w ++ ending_words kind) ≡ w ∷ kind_words kind
 ending_read w Fresh p small = word_first w (codes "NEW") p ∙ ap (λ ws. w ∷ ws) (word_alone (codes "NEW") plain_new)
 ending_read w Bare p small = word_first w (codes "NONE") p ∙ ap (λ ws. w ∷ ws) (word_alone (codes "NONE") plain_none)
 ending_read w (Same line) p small =
     word_first w (codes "AS " ++ decimal line) p
     ∙ ap (λ ws. w ∷ ws) (word_first (codes "AS") (decimal line) plain_as ∙ ap (λ ws. codes "AS" ∷ ws) (word_alone (decimal line) (decimal_plain line small)))
 
-pub tail_read : (w : List ℕ) (values : List ℕ) (kind : LineKind) → IsPlain w → AreSmall values → HasSmall kind → words (w ++ (value_words values ++ ending_words kind)) ≡ w ∷ tail_words values kind
+pub tail_read : (w : List ℕ) (values : List ℕ) (kind : LineKind) → IsPlainWord w → AreSmall values → HasSmall kind → words (w ++ (value_words values ++ ending_words kind)) ≡ w ∷ tail_words values kind
 tail_read w [] kind p all small = ending_read w kind p small
 tail_read w (v ∷ values) kind p all small =
     let rest = value_words values ++ ending_words kind in

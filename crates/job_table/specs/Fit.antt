@@ -52,11 +52,11 @@ pub record IsNamed (lines : List Line) (periods : List Period) (l : Line) : Type
       ≡ Some (renumbered (new_number lines periods) (place + 1) l)
 
 -- a word: one byte or more, all of which stand above the blank
-pub record IsPlain (word : List ℕ) : Type 0 where
+pub record IsPlainWord (word : List ℕ) : Type 0 where
   pub some : is_some_byte word ≡ true
   pub all : AllByRecursion (λ b. 32 < b) word
 
 -- the names of signals and blocks are words
 pub record HasWords (x : Exchange) : Type 0 where
-  pub signals : AllByRecursion IsPlain (names_of_signals x.signals)
-  pub blocks : AllByRecursion IsPlain (names_of_blocks x.blocks)
+  pub signals : AllByRecursion IsPlainWord (names_of_signals x.signals)
+  pub blocks : AllByRecursion IsPlainWord (names_of_blocks x.blocks)

@@ -6,7 +6,7 @@ use Rattle.std.specs.Str.{bytes_eq}
 use Rattle.plex_num.specs.Number.{number_of}
 use Rattle.signal_file.specs.declared.line.LineKind.{LineKind}
 use Rattle.signal_file.specs.declared.line.LineKind.TheVariants.{Fresh, Bare, Same}
-use Rattle.signal_file.specs.Form.{Keeps, closing, with}
+use Rattle.signal_file.specs.Form.{KeepsFirst, closing, with}
 use Rattle.job_table.specs.declared.form.Said.{Said}
 
 -- a number, and the words behind it
@@ -57,7 +57,7 @@ pub record IsRead (s : Saying) (said : Said) : Type 0 where
   pub times : said.times ≡ s.times
   pub signal : said.signal.now ≡ s.signal
   pub block : said.block.now ≡ s.block
-  pub values : Keeps s.values said.values said.count
+  pub values : KeepsFirst s.values said.values said.count
   pub fresh : said.fresh ≡ s.fresh
 
 abbrev pub IsSaid : Option Saying → Said → Type 0

@@ -43,8 +43,8 @@ use Rattle.plex_ast.specs.declared.stmt.ReferenceKind.{ReferenceKind}
 use Rattle.plex_ast.specs.declared.stmt.ReferenceKind.TheVariants as references
 use Rattle.plex_ast.specs.Grammar as grammar
 use Rattle.kept_trees.specs.Keeps as keeps
-use Rattle.kept_trees.specs.Keeps.{IsNamed, IsNumbered, Every}
-use Rattle.kept_trees.specs.Words.{IsWord, AreWords}
+use Rattle.kept_trees.specs.Keeps.{IsNamed, KeepsNumber, Every}
+use Rattle.kept_trees.specs.Words.{IsTextWord, AreWords}
 
 -- what is spelled by words keeps K
 pub record Kept (K : Type 0) (L : Lang) : Type 0 where
@@ -97,13 +97,13 @@ kept-maybe : {X : Type 0} {K : X → Type 0} {L : X → Lang} → ((x : X) → K
 kept-maybe F None = record { keeps = λ u w h. tt }
 kept-maybe F (Some x) = F x
 
-pub word_at : (u : List Token) (t : Token) (k : TokenKind) → u ≡ t ∷ [] → t.kind ≡ k → AreWords u → IsWord k
-word_at u t k e h w = subst IsWord h ((subst AreWords e w).0)
+pub word_at : (u : List Token) (t : Token) (k : TokenKind) → u ≡ t ∷ [] → t.kind ≡ k → AreWords u → IsTextWord k
+word_at u t k e h w = subst IsTextWord h ((subst AreWords e w).0)
 
 kept-name : (s : Bool) (x : Named) → Kept (IsNamed x) (named s x)
 kept-name s x = record { keeps = λ u w h. word_at u h.0 (kinds.Name x.name) h.1 h.2 w }
 
-kept-number : (s : Bool) (x : Numbered) → Kept (IsNumbered x) (numbered s x)
+kept-number : (s : Bool) (x : Numbered) → Kept (KeepsNumber x) (numbered s x)
 kept-number s x = record { keeps = λ u w h. word_at u h.0 (kinds.Number x.value) h.1 h.2 w }
 
 -- expressions
@@ -221,7 +221,7 @@ kept-survey-at s (surveys.Send m) = kept-label s m
 kept-survey : (s : Bool) (x : Survey) → Kept (keeps.KeepsSurvey x) (grammar.survey s x)
 kept-survey s x = kept-on s x.line (kept-survey-at s x.kind)
 
-kept-init : (s : Bool) (i : Numbered) → Kept (IsNumbered i) (grammar.init s i)
+kept-init : (s : Bool) (i : Numbered) → Kept (KeepsNumber i) (grammar.init s i)
 kept-init s i = kept-after (kept-number s i)
 
 kept-field : (s : Bool) (x : Field) → Kept (keeps.KeepsField x) (grammar.field s x)

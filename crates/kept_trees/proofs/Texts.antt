@@ -17,7 +17,7 @@ use Rattle.plex_ast.specs.declared.tree.Tree.{Tree}
 use Rattle.plex_ast.specs.Grammar.{tree}
 use Rattle.plex_limits.specs.declared.limits.TheConstants.{MOST_BRACKETS, MOST_NESTED}
 use Rattle.kept_trees.specs.Keeps.{Keeps}
-use Rattle.kept_trees.specs.Words.{IsWord, AreWords}
+use Rattle.kept_trees.specs.Words.{IsTextWord, AreWords}
 use Rattle.kept_trees.proofs.Kept.{kept-tree}
 use Rattle.plex_num.proofs.Digits.{number_small}
 
@@ -51,11 +51,11 @@ no_some b e = cc
 abbrev Good : Lexed → Type 0
 Good r = (tokens : List Token) → r ≡ Ok tokens → AreWords tokens
 
-put_good : (t : Token) (r : Lexed) → IsWord t.kind → Good r → Good (put t r)
+put_good : (t : Token) (r : Lexed) → IsTextWord t.kind → Good r → Good (put t r)
 put_good t (Ok ts) w more tokens e = subst AreWords (same_tokens (t ∷ ts) tokens e) (w, more ts refl)
 put_good t (Err f) w more tokens e = absurd (no_tokens f tokens e)
 
-kind_good : (k : Result TokenKind LexFault) (offset line : ℕ) (r : Lexed) → ((kind : TokenKind) → k ≡ Ok kind → IsWord kind) → Good r → Good (with_kind k offset line r)
+kind_good : (k : Result TokenKind LexFault) (offset line : ℕ) (r : Lexed) → ((kind : TokenKind) → k ≡ Ok kind → IsTextWord kind) → Good r → Good (with_kind k offset line r)
 kind_good (Ok kind) offset line r is more tokens e = put_good (record { kind = kind; line = line; offset = offset }) r (is kind refl) more tokens e
 kind_good (Err f) offset line r is more tokens e = absurd (no_tokens f tokens e)
 
@@ -73,7 +73,7 @@ run_all p (x ∷ xs) = ap (list_all p) (take_while-cons p x xs) ∙ go (p x) ref
     go true h all = rw (h, all) refl
     go false h all = refl
 
-named : (run : List ℕ) (b : ℕ) (rest : List ℕ) (o : Option ℕ) → run ≡ b ∷ rest → is_ascii_uppercase b ≡ true → list_all in_word rest ≡ true → nat_lt 31 (length run) ≡ false → keyword_of run ≡ o → IsWord (keyword_or_name run o)
+named : (run : List ℕ) (b : ℕ) (rest : List ℕ) (o : Option ℕ) → run ≡ b ∷ rest → is_ascii_uppercase b ≡ true → list_all in_word rest ≡ true → nat_lt 31 (length run) ≡ false → keyword_of run ≡ o → IsTextWord (keyword_or_name run o)
 named run b rest (Some k) e up all few free = tt
 named run b rest None e up all few free = record {
   first = subst (λ r. is_ascii_uppercase (get_or r 0 0) ≡ true) (sym e) up;
@@ -82,18 +82,18 @@ named run b rest None e up all few free = record {
   free = free;
 }
 
-word_good : (b : ℕ) (rest : List ℕ) (offset line : ℕ) → is_ascii_uppercase b ≡ true → (kind : TokenKind) → word_kind (b ∷ take_while in_word rest) offset line ≡ Ok kind → IsWord kind
+word_good : (b : ℕ) (rest : List ℕ) (offset line : ℕ) → is_ascii_uppercase b ≡ true → (kind : TokenKind) → word_kind (b ∷ take_while in_word rest) offset line ≡ Ok kind → IsTextWord kind
 word_good b rest offset line up kind = pick (nat_lt 31 (length (b ∷ take_while in_word rest)))
     (λ _ e. absurd (no_kind _ kind e))
-    (λ few e. subst IsWord (same_kind _ kind e) (named (b ∷ take_while in_word rest) b (take_while in_word rest) (keyword_of (b ∷ take_while in_word rest)) refl up (run_all in_word rest) few refl))
+    (λ few e. subst IsTextWord (same_kind _ kind e) (named (b ∷ take_while in_word rest) b (take_while in_word rest) (keyword_of (b ∷ take_while in_word rest)) refl up (run_all in_word rest) few refl))
 
 -- a run of digits is a number
 
-fault_good : (o : Option ℕ) (offset line : ℕ) (kind : TokenKind) → ((n : ℕ) → o ≡ Some n → n < 2 ^ 32) → number_or_fault o offset line ≡ Ok kind → IsWord kind
-fault_good (Some n) offset line kind small e = subst IsWord (same_kind _ kind e) (small n refl)
+fault_good : (o : Option ℕ) (offset line : ℕ) (kind : TokenKind) → ((n : ℕ) → o ≡ Some n → n < 2 ^ 32) → number_or_fault o offset line ≡ Ok kind → IsTextWord kind
+fault_good (Some n) offset line kind small e = subst IsTextWord (same_kind _ kind e) (small n refl)
 fault_good None offset line kind small e = absurd (no_kind _ kind e)
 
-number_good : (run : List ℕ) (offset line : ℕ) (kind : TokenKind) → number_kind run offset line ≡ Ok kind → IsWord kind
+number_good : (run : List ℕ) (offset line : ℕ) (kind : TokenKind) → number_kind run offset line ≡ Ok kind → IsTextWord kind
 number_good run offset line kind = fault_good (number_of run) offset line kind (number_small run)
 
 begins_good : (follow : Mode → ℕ → Lexed) → ((mode : Mode) (line : ℕ) → Good (follow mode line)) → (offset line b : ℕ) (rest : List ℕ) → Good (begins follow offset line b rest)

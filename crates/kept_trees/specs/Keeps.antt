@@ -56,8 +56,8 @@ abbrev pub IsNamed : Named → Type 0
 IsNamed n = IsName n.name
 
 -- a number of 32 bits
-abbrev pub IsNumbered : Numbered → Type 0
-IsNumbered n = n.value < 2 ^ 32
+abbrev pub KeepsNumber : Numbered → Type 0
+KeepsNumber n = n.value < 2 ^ 32
 
 -- each of them keeps it
 abbrev pub Every : {X : Type 0} → (X → Type 0) → List X → Type 0
@@ -67,7 +67,7 @@ Every K (x ∷ xs) = K x × Every K xs
 -- expressions: `I` is kept by what a bracket holds, `F` by a factor, `T` by a term
 
 abbrev pub KeepsFactorAt : (Expr → Type 0) → open_expr.FactorKind-F Added FactorKind Multiplied Expr Factor Term → Type 0
-KeepsFactorAt I (open_expr.Number n) = IsNumbered n
+KeepsFactorAt I (open_expr.Number n) = KeepsNumber n
 KeepsFactorAt I (open_expr.Name n) = IsNamed n
 KeepsFactorAt I (open_expr.Field n p) = IsNamed n × IsNamed p
 KeepsFactorAt I (open_expr.Bracket e) = I e
@@ -128,7 +128,7 @@ KeepsReference x = KeepsReferenceAt x.kind
 -- statements: `B` is kept by what one that holds statements holds
 
 abbrev pub KeepsWhenAt : (List Stmt → Type 0) → open_stmt.When-F StmtKind Stmt When → Type 0
-KeepsWhenAt B x = IsNumbered x.number × B x.body
+KeepsWhenAt B x = KeepsNumber x.number × B x.body
 
 abbrev pub KeepsWhen : (List Stmt → Type 0) → When → Type 0
 KeepsWhen B x = KeepsWhenAt B (out-When x)
@@ -176,12 +176,12 @@ abbrev pub KeepsSurvey : Survey → Type 0
 KeepsSurvey x = KeepsSurveyAt x.kind
 
 abbrev pub KeepsField : Field → Type 0
-KeepsField x = IsNamed x.name × (IsNumbered x.width × IfSome x.init IsNumbered)
+KeepsField x = IsNamed x.name × (KeepsNumber x.width × IfSome x.init KeepsNumber)
 
 abbrev pub KeepsDeclAt : DeclKind → Type 0
-KeepsDeclAt (decls.Variable n w i clear) = IsNamed n × (IsNumbered w × IfSome i IsNumbered)
+KeepsDeclAt (decls.Variable n w i clear) = IsNamed n × (KeepsNumber w × IfSome i KeepsNumber)
 KeepsDeclAt (decls.Temporary n) = IsNamed n
-KeepsDeclAt (decls.File forlopp n size fields) = IsNamed n × (IsNumbered size × Every KeepsField fields)
+KeepsDeclAt (decls.File forlopp n size fields) = IsNamed n × (KeepsNumber size × Every KeepsField fields)
 
 abbrev pub KeepsDecl : Decl → Type 0
 KeepsDecl x = KeepsDeclAt x.kind
@@ -192,10 +192,10 @@ KeepsBlock b n x = IsNamed x.name × (Every KeepsDecl x.decls × (Every KeepsSur
 -- signals and the whole
 
 abbrev pub KeepsShapeAt : ShapeKind → Type 0
-KeepsShapeAt (shapes.Buffered l d) = IsNumbered d
-KeepsShapeAt (shapes.Direct d) = IsNumbered d
-KeepsShapeAt (shapes.Combined d a e) = IsNumbered d × (IsNamed a × IsNumbered e)
-KeepsShapeAt (shapes.Outside d) = IsNumbered d
+KeepsShapeAt (shapes.Buffered l d) = KeepsNumber d
+KeepsShapeAt (shapes.Direct d) = KeepsNumber d
+KeepsShapeAt (shapes.Combined d a e) = KeepsNumber d × (IsNamed a × KeepsNumber e)
+KeepsShapeAt (shapes.Outside d) = KeepsNumber d
 
 abbrev pub KeepsShape : Shape → Type 0
 KeepsShape x = KeepsShapeAt x.kind

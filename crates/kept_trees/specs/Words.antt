@@ -6,13 +6,13 @@ use Rattle.plex_lexer.specs.declared.token.TokenKind.TheVariants as kinds
 use Rattle.kept_trees.specs.Keeps.{IsName}
 
 -- a word that a text may have
-abbrev pub IsWord : TokenKind → Type 0
-IsWord (kinds.Name name) = IsName name
-IsWord (kinds.Number value) = value < 2 ^ 32
-IsWord (kinds.Keyword keyword) = Unit {0}
-IsWord (kinds.Mark mark) = Unit {0}
+abbrev pub IsTextWord : TokenKind → Type 0
+IsTextWord (kinds.Name name) = IsName name
+IsTextWord (kinds.Number value) = value < 2 ^ 32
+IsTextWord (kinds.Keyword keyword) = Unit {0}
+IsTextWord (kinds.Mark mark) = Unit {0}
 
 -- words that a text may have
 abbrev pub AreWords : List Token → Type 0
 AreWords [] = Unit {0}
-AreWords (token ∷ tokens) = IsWord token.kind × AreWords tokens
+AreWords (token ∷ tokens) = IsTextWord token.kind × AreWords tokens

@@ -25,23 +25,23 @@ use Rattle.flow_table.specs.Giving.{AreValues, SlotGives}
 use Rattle.flow_table.specs.Rows.{IsFlowTable}
 use Rattle.fact_flows.specs.Flows.{FlowsTo}
 use Rattle.fact_rows.specs.declared.place.Counts.{Counts}
-use Rattle.fact_rows.specs.Known.{Adds, Fits, HasSpot, Joins, Knows, Rows, missing}
+use Rattle.fact_rows.specs.Known.{Adds, Fits, HasSpot, Joins, Knows, BitRows, missing}
 use Rattle.fact_rows.specs.Touched.{key}
 use Rattle.fact_rows.specs.Values.{HasNumber, is_awaits}
-use Rattle.least_facts.specs.Fit.{Awaited, Numbered, SourceFits}
+use Rattle.least_facts.specs.Fit.{Awaited, NumberedSource, SourceFits}
 use Rattle.least_facts.specs.Giving.{CanFlow, Fills, FillsSlots, Gives, IsFact, OfValues}
 use Rattle.least_facts.specs.Growing.{is_answer}
 use Rattle.least_facts.proofs.Fitting.{InRows, least_fits, spot_at, value_numbered}
 
 -- ---- one after the other
 
-counted_then : (k m n : Rows) (a b : Bool) → MatchBool a (missing m < missing k) (m ≡ k) → MatchBool b (missing n < missing m) (n ≡ m) → MatchBool (a || b) (missing n < missing k) (n ≡ k)
+counted_then : (k m n : BitRows) (a b : Bool) → MatchBool a (missing m < missing k) (m ≡ k) → MatchBool b (missing n < missing m) (n ≡ m) → MatchBool (a || b) (missing n < missing k) (n ≡ k)
 counted_then k m n true true g h = omega (arith, g, h)
 counted_then k m n true false g h = subst (λ z. missing z < missing k) (sym h) g
 counted_then k m n false true g h = subst (λ z. missing n < missing z) g h
 counted_then k m n false false g h = h ∙ g
 
-gives_then : (k m n : Rows) (G H Q : Fact → Type 0) (a b : Bool) → Gives k G a m → Gives m H b n → ((f : Fact) → Q f → G f ⊎ H f) → ((f : Fact) → G f ⊎ H f → Q f) → Gives k Q (a || b) n
+gives_then : (k m n : BitRows) (G H Q : Fact → Type 0) (a b : Bool) → Gives k G a m → Gives m H b n → ((f : Fact) → Q f → G f ⊎ H f) → ((f : Fact) → G f ⊎ H f → Q f) → Gives k Q (a || b) n
 gives_then k m n G H Q a b g h from to = record {
   entry = h.entry ∙ g.entry;
   slots = h.slots ∙ g.slots;
@@ -62,7 +62,7 @@ item_there xs i d lt = (i, lt, get_or_default xs i (get_or xs i d) d lt)
 pub spot_fits : (slots : List Counts) (e q : ℕ) (s : Slot) (v : Value) → HasSpot slots q s → HasNumber s v → Fits slots (fact e q s v)
 spot_fits slots e q s v spot number = record { counts = spot.counts; there = spot.there; slot = spot.slot; number = number }
 
-pub fact_given : (k new : Rows) (g : Fact) (grown : Bool) → Adds g k new → MatchBool grown (missing new + 1 ≡ missing k) (new ≡ k) → Gives k (IsFact g) grown new
+pub fact_given : (k new : BitRows) (g : Fact) (grown : Bool) → Adds g k new → MatchBool grown (missing new + 1 ≡ missing k) (new ≡ k) → Gives k (IsFact g) grown new
 fact_given k new g grown adds counted = record { entry = adds.entry; slots = adds.slots; knows = adds.knows; counted = by grown counted }
   where
     by : (b : Bool) → MatchBool b (missing new + 1 ≡ missing k) (new ≡ k) → MatchBool b (missing new < missing k) (new ≡ k)
@@ -83,7 +83,7 @@ still_before xs i d y lt c = subst (λ l. Contains l y) (sym (take_more xs i d l
 pub now_before : {A : Type 0} (xs : List A) (i : ℕ) (d : A) → i < length xs → Contains (take (i + 1) xs) (get_or xs i d)
 now_before xs i d lt = subst (λ l. Contains l (get_or xs i d)) (sym (take_more xs i d lt)) (Contains-push (take i xs) (get_or xs i d))
 
-pub values_begin : (k : Rows) (e q : ℕ) (s : Slot) (values : List Value) → Gives k (OfValues e q s (take 0 values)) false k
+pub values_begin : (k : BitRows) (e q : ℕ) (s : Slot) (values : List Value) → Gives k (OfValues e q s (take 0 values)) false k
 values_begin k e q s values = record {
   entry = refl;
   slots = refl;
@@ -91,7 +91,7 @@ values_begin k e q s values = record {
   counted = refl;
 }
 
-pub values_more : (k now new : Rows) (e q : ℕ) (s : Slot) (values : List Value) (i : ℕ) (d : Value) (grown b : Bool) → i < length values → Gives now (IsFact (fact e q s (get_or values i d))) b new
+pub values_more : (k now new : BitRows) (e q : ℕ) (s : Slot) (values : List Value) (i : ℕ) (d : Value) (grown b : Bool) → i < length values → Gives now (IsFact (fact e q s (get_or values i d))) b new
     → Gives k (OfValues e q s (take i values)) grown now → Gives k (OfValues e q s (take (i + 1) values)) (grown || b) new
 values_more k now new e q s values i d grown b lt h g =
     gives_then k now new (OfValues e q s (take i values)) (IsFact (fact e q s (get_or values i d))) (OfValues e q s (take (i + 1) values)) grown b g h
@@ -108,10 +108,10 @@ values_more k now new e q s values i d grown b lt h g =
       value = subst (Contains (take (i + 1) values)) (sym (ap (λ (z : Fact). z.value) is)) (now_before values i d lt);
     }) w)
 
-pub values_end : (k now : Rows) (e q : ℕ) (s : Slot) (values : List Value) (i : ℕ) (grown : Bool) → length values ≤ i → Gives k (OfValues e q s (take i values)) grown now → Gives k (OfValues e q s values) grown now
+pub values_end : (k now : BitRows) (e q : ℕ) (s : Slot) (values : List Value) (i : ℕ) (grown : Bool) → length values ≤ i → Gives k (OfValues e q s (take i values)) grown now → Gives k (OfValues e q s values) grown now
 values_end k now e q s values i grown past g = subst (λ l. Gives k (OfValues e q s l) grown now) (take_all i values past) g
 
-pub some_given : (k new : Rows) (e p q : ℕ) (s : Slot) (source : Source) (values seen : List Value) (grown : Bool) → AreValues (SourceGives (Knows k) e p source) values → seen ≡ values
+pub some_given : (k new : BitRows) (e p q : ℕ) (s : Slot) (source : Source) (values seen : List Value) (grown : Bool) → AreValues (SourceGives (Knows k) e p source) values → seen ≡ values
     → Gives k (OfValues e q s seen) grown new → Gives k (SlotGives (Knows k) e p source q s) grown new
 some_given k new e p q s source values seen grown are same g = record {
   entry = g.entry;
@@ -125,12 +125,12 @@ some_given k new e p q s source values seen grown are same g = record {
   counted = g.counted;
 }
 
-pub seen_number : (k : Rows) (e p : ℕ) (s : Slot) (source : Source) (values seen : List Value) → AreValues (SourceGives (Knows k) e p source) values → seen ≡ values → ((v : Value) → SourceGives (Knows k) e p source v → HasNumber s v)
+pub seen_number : (k : BitRows) (e p : ℕ) (s : Slot) (source : Source) (values seen : List Value) → AreValues (SourceGives (Knows k) e p source) values → seen ≡ values → ((v : Value) → SourceGives (Knows k) e p source v → HasNumber s v)
     → (v : Value) → Contains seen v → HasNumber s v
 seen_number k e p s source values seen are same number v c = number v (are.each v (subst (λ l. Contains l v) same c))
 
 -- all values of another slot
-pub all_given : (k new : Rows) (e p q : ℕ) (own s : Slot) (source : Source) (grown : Bool) → k.entry ≡ e → source ≡ Of own → Joins (key p own) (key q s) k new → MatchBool grown (missing new < missing k) (new ≡ k)
+pub all_given : (k new : BitRows) (e p q : ℕ) (own s : Slot) (source : Source) (grown : Bool) → k.entry ≡ e → source ≡ Of own → Joins (key p own) (key q s) k new → MatchBool grown (missing new < missing k) (new ≡ k)
     → Gives k (SlotGives (Knows k) e p source q s) grown new
 all_given k new e p q own s source grown of_entry is joins counted = subst (λ o. Gives k (SlotGives (Knows k) e p o q s) grown new) (sym is) (record {
   entry = joins.entry;
@@ -169,7 +169,7 @@ flows_more x P Q e p how q f more h = record {
 
 -- ---- slots
 
-numbered_alike : (own : Slot) → Numbered (Of own) → is_awaits own ≡ false
+numbered_alike : (own : Slot) → NumberedSource (Of own) → is_awaits own ≡ false
 numbered_alike (Temp t) h = refl
 numbered_alike (Given k) h = refl
 numbered_alike (Answered k) h = refl
@@ -190,7 +190,7 @@ of_alike (Answered k) own h = numbered_alike own h
 of_alike Depth own h = numbered_alike own h
 of_alike Awaits own h = awaited_alike own h
 
-fills_then : (x : Exchange) (q : ℕ) (k m n : Rows) (a b : Bool) → Fills x q k a m → Fills x q m b n → Fills x q k (a || b) n
+fills_then : (x : Exchange) (q : ℕ) (k m n : BitRows) (a b : Bool) → Fills x q k a m → Fills x q m b n → Fills x q k (a || b) n
 fills_then x q k m n a b g h = record {
   entry = h.entry ∙ g.entry;
   slots = h.slots ∙ g.slots;
@@ -200,7 +200,7 @@ fills_then x q k m n a b g h = record {
 }
 
 -- where all that is given is least
-pub fills_given : (x : Exchange) (q : ℕ) (k new : Rows) (G : Fact → Type 0) (grown : Bool) → Gives k G grown new → ((f : Fact) → G f → (f.point ≡ q) × IsLeast x f) → Fills x q k grown new
+pub fills_given : (x : Exchange) (q : ℕ) (k new : BitRows) (G : Fact → Type 0) (grown : Bool) → Gives k G grown new → ((f : Fact) → G f → (f.point ≡ q) × IsLeast x f) → Fills x q k grown new
 fills_given x q k new G grown g least = record {
   entry = g.entry;
   slots = g.slots;
@@ -209,14 +209,14 @@ fills_given x q k new G grown g least = record {
   counted = g.counted;
 }
 
-pub slots_begin : (x : Exchange) (e p : ℕ) (how : Passing) (q : ℕ) (slots : List Slot) (k : Rows) → FillsSlots x e p how q (take 0 slots) k false k
+pub slots_begin : (x : Exchange) (e p : ℕ) (how : Passing) (q : ℕ) (slots : List Slot) (k : BitRows) → FillsSlots x e p how q (take 0 slots) k false k
 slots_begin x e p how q slots k = record {
   fills = record { entry = refl; slots = refl; more = λ f c. c; each = λ f c. inl c; counted = refl };
   all = λ f g. absurd (none_yet slots f.slot g.slot);
 }
 
-module _ (x : Exchange) (t : FlowTable) (e p : ℕ) (how : Passing) (q : ℕ) (k : Rows) (kept : IsExchange x) (table : IsFlowTable x t) (can : CanFlow x t e p how q k) (slots : List Slot) (has : (s : Slot) → Contains slots s → HasSlot x q s) (i : ℕ) (d : Slot) (lt : i < length slots)
-    (grown : Bool) (now : Rows) (g : FillsSlots x e p how q (take i slots) k grown now) where
+module _ (x : Exchange) (t : FlowTable) (e p : ℕ) (how : Passing) (q : ℕ) (k : BitRows) (kept : IsExchange x) (table : IsFlowTable x t) (can : CanFlow x t e p how q k) (slots : List Slot) (has : (s : Slot) → Contains slots s → HasSlot x q s) (i : ℕ) (d : Slot) (lt : i < length slots)
+    (grown : Bool) (now : BitRows) (g : FillsSlots x e p how q (take i slots) k grown now) where
   abbrev s : Slot
   s = get_or slots i d
 
@@ -249,7 +249,7 @@ module _ (x : Exchange) (t : FlowTable) (e p : ℕ) (how : Passing) (q : ℕ) (k
     }),
   )
 
-  pub slots_more : (source : Source) → source ≡ source_of how s → (b : Bool) (new : Rows) → Gives now (SlotGives (Knows now) e p source q s) b new → FillsSlots x e p how q (take (i + 1) slots) k (grown || b) new
+  pub slots_more : (source : Source) → source ≡ source_of how s → (b : Bool) (new : BitRows) → Gives now (SlotGives (Knows now) e p source q s) b new → FillsSlots x e p how q (take (i + 1) slots) k (grown || b) new
   slots_more source is b new given =
       let own : Gives now (SlotGives (Knows now) e p (source_of how s) q s) b new = subst (λ o. Gives now (SlotGives (Knows now) e p o q s) b new) is given in
       record {
@@ -266,5 +266,5 @@ module _ (x : Exchange) (t : FlowTable) (e p : ℕ) (how : Passing) (q : ℕ) (k
             (before_or_here slots i d f.slot lt h.slot);
       }
 
-pub slots_end : (x : Exchange) (e p : ℕ) (how : Passing) (q : ℕ) (slots : List Slot) (k now : Rows) (i : ℕ) (grown : Bool) → length slots ≤ i → FillsSlots x e p how q (take i slots) k grown now → FillsSlots x e p how q slots k grown now
+pub slots_end : (x : Exchange) (e p : ℕ) (how : Passing) (q : ℕ) (slots : List Slot) (k now : BitRows) (i : ℕ) (grown : Bool) → length slots ≤ i → FillsSlots x e p how q (take i slots) k grown now → FillsSlots x e p how q slots k grown now
 slots_end x e p how q slots k now i grown past g = subst (λ l. FillsSlots x e p how q l k grown now) (take_all i slots past) g

@@ -1,6 +1,6 @@
 -- Each least fact has its place in the rows.
-use Rattle.std.proofs.Common.{◌≡◌, inl, inr, ℕ, ◌<◌, List, map, Some, slice_get, sym, ap, subst, arith, zero, suc, [], ◌∷◌}
-use Rattle.std.proofs.lemmas.Option.{none-some, same_Some}
+use Rattle.std.proofs.Common.{inl, inr, ℕ, ◌<◌, sym, subst, arith}
+use Rattle.plex_num.proofs.Lists.{got_map}
 use Rattle.exchange_model.specs.declared.exchange.Exchange.{Exchange}
 use Rattle.exchange_model.specs.Kept.{IsExchange}
 use Rattle.flow_points.specs.declared.fact.Fact.{Fact}
@@ -21,7 +21,7 @@ use Rattle.flow_table.proofs.Rowing.{place_fits}
 use Rattle.fact_rows.specs.Known.{Fits, HasSpot, slots_of}
 use Rattle.fact_rows.specs.Places.{HasPlace, counts_of}
 use Rattle.fact_rows.specs.Values.{HasNumber, IsNumbered, IsAwaited}
-use Rattle.least_facts.specs.Fit.{Awaited, Numbered, SourceFits}
+use Rattle.least_facts.specs.Fit.{Awaited, NumberedSource, SourceFits}
 use Rattle.least_facts.proofs.Numbering.{leads_fit, start_fits}
 
 -- values
@@ -30,7 +30,7 @@ module _ (t : FlowTable) where
   abbrev pub InRows : Facts
   InRows f = Fits (slots_of t) f
 
-  numbered_gives : (e p : ℕ) (source : Source) (v : Value) → Numbered source → SourceGives InRows e p source v → IsNumbered v
+  numbered_gives : (e p : ℕ) (source : Source) (v : Value) → NumberedSource source → SourceGives InRows e p source v → IsNumbered v
   numbered_gives e p (Of s) v h g = h v g.number
   numbered_gives e p (Is w) v h g = subst IsNumbered (sym g) h
   numbered_gives e p Deeper v h g = subst IsNumbered (sym g.2) (let lt = g.1 in omega (arith, lt))
@@ -51,11 +51,6 @@ module _ (t : FlowTable) where
 
   -- slots
 
-  get_map : {A B : Type 0} (f : A → B) (xs : List A) (i : ℕ) (a : A) → slice_get xs i ≡ Some a → slice_get (map f xs) i ≡ Some (f a)
-  get_map f [] i a there = absurd (none-some a there)
-  get_map f (y ∷ xs) zero a there = ap (λ z. Some (f z)) (same_Some y a there)
-  get_map f (y ∷ xs) (suc i) a there = get_map f xs i a there
-
   pub slot_placed : (x : Exchange) (at : Place) (r : Row) (s : Slot) → IsRowOf x at r → IsSlotOf x at s → HasPlace (counts_of r) s
   slot_placed x at r (Temp k) is h = subst (λ n. k < n) (sym is.temps) h
   slot_placed x at r (Given k) is h = subst (λ n. k < n) (sym is.given) h
@@ -68,7 +63,7 @@ module _ (t : FlowTable) where
       let r = table.rows.each f.point slot.place slot.stands in
       record {
         counts = counts_of r.row;
-        there = get_map counts_of t.rows f.point r.row r.there;
+        there = got_map counts_of t.rows f.point r.row r.there;
         slot = slot_placed x slot.place r.row f.slot r.is slot.slot;
         number = number;
       }
@@ -87,4 +82,4 @@ module _ (t : FlowTable) where
   pub spot_at : (x : Exchange) (q : ℕ) (s : Slot) → IsFlowTable x t → HasSlot x q s → HasSpot (slots_of t) q s
   spot_at x q s table slot =
       let r = table.rows.each q slot.place slot.stands in
-      record { counts = counts_of r.row; there = get_map counts_of t.rows q r.row r.there; slot = slot_placed x slot.place r.row s r.is slot.slot }
+      record { counts = counts_of r.row; there = got_map counts_of t.rows q r.row r.there; slot = slot_placed x slot.place r.row s r.is slot.slot }

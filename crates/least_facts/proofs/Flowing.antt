@@ -32,17 +32,17 @@ use Rattle.flow_table.specs.declared.way.Ends.TheVariants as ends
 use Rattle.flow_table.specs.declared.way.Way.{Way}
 use Rattle.flow_table.specs.Rows.{IsRowOf, IsFlowTable}
 use Rattle.flow_table.specs.Small.{IsSmall}
-use Rattle.flow_table.specs.Ways.{IsEnd}
+use Rattle.flow_table.specs.Ways.{IsWayEnd}
 use Rattle.flow_table.proofs.Rowing.{place_fits}
 use Rattle.flow_table.proofs.Slotted.{row_of}
 use Rattle.fact_flows.specs.Flows.{FlowsTo, OneGives, WayGives}
 use Rattle.fact_flows.specs.Slots.{AreSlots}
 use Rattle.fact_flows.proofs.Flowing.{ways_give, ways_small}
 use Rattle.fact_flows.proofs.Peopled.{point_stands}
-use Rattle.fact_rows.specs.Known.{Adds, Fits, Knows, Rows, missing}
+use Rattle.fact_rows.specs.Known.{Adds, Fits, Knows, BitRows, missing}
 use Rattle.least_facts.specs.declared.answers.AnswerTable.{AnswerTable}
 use Rattle.least_facts.specs.Answers.{AreAnswers, awaited_at, known_answer}
-use Rattle.least_facts.specs.Fit.{Numbered}
+use Rattle.least_facts.specs.Fit.{NumberedSource}
 use Rattle.least_facts.specs.Giving.{CanFlow, FillsSlots, IsFact, IsGood, IsOwnLeast}
 use Rattle.least_facts.specs.Growing.{Goes, HandedFrom, IsHandedBy, Search, SentFrom, IsLeastSoFar, WaySends, Went, answer_way, handing_of, is_answer}
 use Rattle.least_facts.specs.Marks.{Settles}
@@ -61,7 +61,7 @@ module _ (x : Exchange) (t : FlowTable) (a : AnswerTable) (e p : ℕ) (how : Pas
   pub not_guarded : (b : Bool) → (IsTrue b ↔ Guarded (Knows s.rows) e p q how) → b ≡ false → Went x t a e (FlowsTo x (Knows s.rows) e p how q) s s
   not_guarded b test off = went_none x t a e (FlowsTo x (Knows s.rows) e p how q) s stands (λ f h. true≢false (sym (test.1 h.guarded) ∙ off))
 
-  pub flowed : (kept : IsExchange x) (are : AreAnswers x a) (all slots : List Slot) (grown reached : Bool) (k : Rows) (m : List ℕ) (firsts : List (Option ℕ)) → AreSlots x q all → slots ≡ all → (IsTrue reached ↔ Reached (Knows s.rows) e q)
+  pub flowed : (kept : IsExchange x) (are : AreAnswers x a) (all slots : List Slot) (grown reached : Bool) (k : BitRows) (m : List ℕ) (firsts : List (Option ℕ)) → AreSlots x q all → slots ≡ all → (IsTrue reached ↔ Reached (Knows s.rows) e q)
       → FillsSlots x e p how q slots s.rows grown k → Settles a k e grown reached q s.marks s.firsts m firsts → Went x t a e (FlowsTo x (Knows s.rows) e p how q) s (record { rows = k; marks = m; firsts = firsts })
   flowed kept are all slots grown reached k m firsts exact same test fills settles = record {
     goes = settled_goes x t a e kept are s k q stands m firsts grown reached fills.fills test settles;
@@ -72,7 +72,7 @@ pub slots_there : (x : Exchange) (q : ℕ) (all slots : List Slot) → AreSlots 
 slots_there x q all slots exact same s c = (exact.exact s).0 (subst (λ l. Contains l s) same c)
 
 -- a fact is added
-pub added : (x : Exchange) (t : FlowTable) (a : AnswerTable) (e : ℕ) (kept : IsExchange x) (are : AreAnswers x a) (s : Search) (stands : IsLeastSoFar x t e s) (f : Fact) (least : IsOwnLeast x e f) (grown reached : Bool) (k : Rows) (m : List ℕ) (firsts : List (Option ℕ)) → (IsTrue reached ↔ Reached (Knows s.rows) e f.point)
+pub added : (x : Exchange) (t : FlowTable) (a : AnswerTable) (e : ℕ) (kept : IsExchange x) (are : AreAnswers x a) (s : Search) (stands : IsLeastSoFar x t e s) (f : Fact) (least : IsOwnLeast x e f) (grown reached : Bool) (k : BitRows) (m : List ℕ) (firsts : List (Option ℕ)) → (IsTrue reached ↔ Reached (Knows s.rows) e f.point)
     → Adds f s.rows k → MatchBool grown (missing k + 1 ≡ missing s.rows) (k ≡ s.rows) → Settles a k e grown reached f.point s.marks s.firsts m firsts → Went x t a e (IsFact f) s (record { rows = k; marks = m; firsts = firsts })
 added x t a e kept are s stands f least grown reached k m firsts test adds counted settles = record {
   goes = settled_goes x t a e kept are s k f.point stands m firsts grown reached
@@ -93,7 +93,7 @@ module _ (x : Exchange) (t : FlowTable) (e p : ℕ) (kept : IsExchange x) (table
   below : p < length x.points
   below = (let lt = slice_get_within t.rows p r there in let all = table.rows.each_point in omega (arith, lt, all))
 
-  pub ways_good : (k : Rows) → ((f : Fact) → Knows k f → IsLeast x f) → Reached (Knows k) e p → (ways : List Way) → ways ≡ r.ways → (w : Way) → Contains ways w → (q : ℕ) → IsEnd x w.ends q → IsGood x e p w.how q
+  pub ways_good : (k : BitRows) → ((f : Fact) → Knows k f → IsLeast x f) → Reached (Knows k) e p → (ways : List Way) → ways ≡ r.ways → (w : Way) → Contains ways w → (q : ℕ) → IsWayEnd x w.ends q → IsGood x e p w.how q
   ways_good k least reached ways same w one q end =
       let at = point_stands x kept p below in
       let is : IsRowOf x at.at r = row_of x t p r at.at table there at.stands in
@@ -106,7 +106,7 @@ module _ (x : Exchange) (t : FlowTable) (e p : ℕ) (kept : IsExchange x) (table
       }
 
   -- what the ways send is all that is sent
-  pub sent_by : (firsts : List (Option ℕ)) (k : Rows) (ways : List Way) → ways ≡ r.ways → (f : Fact) → SentFrom x firsts (Knows k) e p f → OneGives (WaySends x firsts (Knows k) e p) ways f
+  pub sent_by : (firsts : List (Option ℕ)) (k : BitRows) (ways : List Way) → ways ≡ r.ways → (f : Fact) → SentFrom x firsts (Knows k) e p f → OneGives (WaySends x firsts (Knows k) e p) ways f
   sent_by firsts k ways same f h =
       let g = h.given.gives in
       let w = ((row_of x t p r g.at table there g.stands).ways.exact f.point g.how).1 g.flow.leads in
@@ -175,7 +175,7 @@ module _ (x : Exchange) (t : FlowTable) (a : AnswerTable) (e p : ℕ) (how : Pas
 pub handing_more : (k : ℕ) (now new : List Source) → new ≡ now ++ Of (Answered k) ∷ [] → now ≡ handing_of k → new ≡ handing_of (k + 1)
 handing_more k now new pushed is = (let e : 0 + k ≡ k = omega arith in pushed ∙ ap (λ l. l ++ Of (Answered k) ∷ []) is ∙ sym (map-range_with_len_more (λ i. Of (Answered i)) 0 k k e))
 
-handing_numbered : (start count : ℕ) → AllByRecursion Numbered (map (λ k. Of (Answered k)) (range_with_len start count))
+handing_numbered : (start count : ℕ) → AllByRecursion NumberedSource (map (λ k. Of (Answered k)) (range_with_len start count))
 handing_numbered start zero = tt
 handing_numbered start (suc n) = (λ v h. h, handing_numbered (start + 1) n)
 
@@ -276,13 +276,13 @@ module _ (x : Exchange) (t : FlowTable) (a : AnswerTable) (e p : ℕ) (s new : S
   pub sent_points : (P : Facts) (firsts : List (Option ℕ)) (listed points : List ℕ) → w.ends ≡ ends.Points listed → points ≡ listed → Went x t a e (OneGives (FlowsTo x P e p w.how) points) s new → Went x t a e (WaySends x firsts P e p w) s new
   sent_points P firsts listed points is same went =
       went_as x t a e (OneGives (FlowsTo x P e p w.how) points) (WaySends x firsts P e p w) s new
-      (λ f h. record { one = h.end; among = subst (λ l. Contains l h.end) (sym same) (subst (λ o. IsEnd x o h.end) is h.ends); gives = h.flows }) went
+      (λ f h. record { one = h.end; among = subst (λ l. Contains l h.end) (sym same) (subst (λ o. IsWayEnd x o h.end) is h.ends); gives = h.flows }) went
 
-  pub points_good : (listed points : List ℕ) → w.ends ≡ ends.Points listed → points ≡ listed → ((q : ℕ) → IsEnd x w.ends q → IsGood x e p w.how q) → (q : ℕ) → Contains points q → IsGood x e p w.how q
-  points_good listed points is same good q c = good q (subst (λ o. IsEnd x o q) (sym is) (subst (λ l. Contains l q) same c))
+  pub points_good : (listed points : List ℕ) → w.ends ≡ ends.Points listed → points ≡ listed → ((q : ℕ) → IsWayEnd x w.ends q → IsGood x e p w.how q) → (q : ℕ) → Contains points q → IsGood x e p w.how q
+  points_good listed points is same good q c = good q (subst (λ o. IsWayEnd x o q) (sym is) (subst (λ l. Contains l q) same c))
 
-  pub answers_good : (n : ℕ) → w.ends ≡ ends.Retrieves n → ((q : ℕ) → IsEnd x w.ends q → IsGood x e p w.how q) → (q : ℕ) → IsRetrieveAt x q n → IsGood x e p w.how q
-  answers_good n is good q c = good q (subst (λ o. IsEnd x o q) (sym is) c)
+  pub answers_good : (n : ℕ) → w.ends ≡ ends.Retrieves n → ((q : ℕ) → IsWayEnd x w.ends q → IsGood x e p w.how q) → (q : ℕ) → IsRetrieveAt x q n → IsGood x e p w.how q
+  answers_good n is good q c = good q (subst (λ o. IsWayEnd x o q) (sym is) c)
 
   way_is : (n : ℕ) → w.ends ≡ ends.Retrieves n → answer_way w.how n ≡ w
   way_is n is = λ i. record { how = w.how; ends = sym is i }

@@ -37,13 +37,13 @@ use Rattle.flow_table.specs.declared.way.Way.{Way}
 use Rattle.flow_table.specs.Giving.{HasGiven}
 use Rattle.flow_table.specs.Rows.{IsFlowTable}
 use Rattle.flow_table.specs.Shapes.{Shape, Stays, Assigns, Finds, TakesGiven, TakesAnswer, Starts, Transfers, Asks, GivesAnswer}
-use Rattle.flow_table.specs.Ways.{IsEnd}
+use Rattle.flow_table.specs.Ways.{IsWayEnd}
 use Rattle.flow_table.proofs.Rowing.{place_fits}
 use Rattle.flow_table.proofs.Shaping.{led_by}
 use Rattle.fact_flows.specs.Flows.{OneGives}
 use Rattle.fact_flows.specs.Given.{GivenAtStart}
 use Rattle.fact_rows.specs.declared.place.Counts.{Counts}
-use Rattle.fact_rows.specs.Known.{AreFacts, KnowNothing, Knows, Rows, missing, slots_of}
+use Rattle.fact_rows.specs.Known.{AreFacts, KnowNothing, Knows, BitRows, missing, slots_of}
 use Rattle.least_facts.specs.declared.analyser.Analyser.{Analyser}
 use Rattle.least_facts.specs.declared.answers.AnswerTable.{AnswerTable}
 use Rattle.least_facts.specs.declared.looks.Looked.{Looked}
@@ -73,7 +73,7 @@ answered x b p next l q values g =
     let led = led_by x (record { block = b; point = p; layer = l; next = next }) q (Answers values) g in
     by led.way led.shape led.leads.is led.leads.end led.others
   where
-    by : (w : Way) → Shape x l w → Answers values ≡ w.how → IsEnd x w.ends q → ((r : ℕ) → IsEnd x w.ends r → Leads x b p next l r (Answers values)) → ReturnsFrom x b p next l q (Answers values)
+    by : (w : Way) → Shape x l w → Answers values ≡ w.how → IsWayEnd x w.ends q → ((r : ℕ) → IsWayEnd x w.ends r → Leads x b p next l r (Answers values)) → ReturnsFrom x b p next l q (Answers values)
     by w (Stays is) e end others = other values Kept (e ∙ is) refl
     by w (Assigns temp a own is) e end others = other values _ (e ∙ is) refl
     by w (Finds temp is) e end others = other values _ (e ∙ is) refl
@@ -85,8 +85,8 @@ answered x b p next l q values g =
     by w (GivesAnswer answer exprs kind is to) e end others = record {
       answer = answer;
       returns = ap returned kind;
-      awaits = subst (λ (o : Ends). IsEnd x o q) to end;
-      others = λ r at. others r (subst (λ (o : Ends). IsEnd x o r) (sym to) at);
+      awaits = subst (λ (o : Ends). IsWayEnd x o q) to end;
+      others = λ r at. others r (subst (λ (o : Ends). IsWayEnd x o r) (sym to) at);
     }
 
 -- ---- RETRIEVEs and RETURNs by the table
@@ -240,7 +240,7 @@ module _ (x : Exchange) (t : FlowTable) (a : AnswerTable) (e : ℕ) where
       sum : (b c d : ℕ) → d ≡ b + most → d ≤ c → new + b ≤ old + c
       sum b c d is le = omega (arith, few, is, le)
 
-  module _ (kept : IsExchange x) (are : AreAnswers x a) (s : Search) (k : Rows) (q : ℕ) (stands : IsLeastSoFar x t e s) (m : List ℕ) (firsts : List (Option ℕ)) where
+  module _ (kept : IsExchange x) (are : AreAnswers x a) (s : Search) (k : BitRows) (q : ℕ) (stands : IsLeastSoFar x t e s) (m : List ℕ) (firsts : List (Option ℕ)) where
     abbrev made : Search
     made = record { rows = k; marks = m; firsts = firsts }
 
@@ -439,7 +439,7 @@ module _ (x : Exchange) (t : FlowTable) (a : AnswerTable) (e : ℕ) where
   pub restand : (s : Search) (marks : List ℕ) → IsLeastSoFar x t e s → IsLeastSoFar x t e (without s marks)
   restand s marks h = record { of_entry = h.of_entry; of_slots = h.of_slots; least = h.least; long = h.long; retrieve = h.retrieve; reached = h.reached; found = h.found }
 
-  start_was : (k new : Rows) (f : Fact) → GivenAtStart x (Knows new) e f → GivenAtStart x (Knows k) e f
+  start_was : (k new : BitRows) (f : Fact) → GivenAtStart x (Knows new) e f → GivenAtStart x (Knows k) e f
   start_was k new f g = record { entry = g.entry; gives = start_any x (Knows new) (Knows k) f g.gives }
 
   pub visited : (are : AreAnswers x a) (s mid new : Search) (p : ℕ) (G : Fact → Type 0) → Searches x t e (without s (p ∷ s.marks)) → ((f : Fact) → SentFrom x s.firsts (Knows s.rows) e p f → G f)
@@ -516,7 +516,7 @@ module _ (x : Exchange) (t : FlowTable) (a : AnswerTable) (e : ℕ) where
   none_first (suc n) zero q there = none-some q (same_Some None (Some q) there)
   none_first (suc n) (suc i) q there = none_first n i q there
 
-  module _ (k : Rows) (slots : List Counts) (knows : KnowNothing e slots k) where
+  module _ (k : BitRows) (slots : List Counts) (knows : KnowNothing e slots k) where
     pub begun_stands : (m : List ℕ) (firsts : List (Option ℕ)) (n : ℕ) → slots ≡ slots_of t → firsts ≡ replicate n None → n ≡ length x.signals → IsLeastSoFar x t e (record { rows = k; marks = m; firsts = firsts })
     begun_stands m firsts n own none many = record {
       of_entry = knows.of_entry;
@@ -550,7 +550,7 @@ module _ (x : Exchange) (t : FlowTable) (a : AnswerTable) (e : ℕ) where
   -- ---- the end
 
   module _ (are : AreAnswers x a) (s : Search) (searches : Searches x t e s) (unmarked : s.marks ≡ []) where
-    abbrev k : Rows
+    abbrev k : BitRows
     k = s.rows
 
     goes_on : (p : ℕ) (f : Fact) → GoesOn x s.firsts (Knows k) e p f → Knows k f
@@ -646,8 +646,8 @@ learned_or_over x t e a most (Over looks) over = over
 
 -- what is found is listed
 
-pub found_exact : (x : Exchange) (t : FlowTable) (e : ℕ) (k : Rows) (facts : List Fact) → AreFound x t e k → AreFacts (Knows k) facts → (f : Fact) → Contains facts f ↔ ((f.entry ≡ e) × IsLeast x f)
+pub found_exact : (x : Exchange) (t : FlowTable) (e : ℕ) (k : BitRows) (facts : List Fact) → AreFound x t e k → AreFacts (Knows k) facts → (f : Fact) → Contains facts f ↔ ((f.entry ≡ e) × IsLeast x f)
 found_exact x t e k facts found are f = (λ c. (found.exact f).0 (are.each f c), λ h. are.listed f ((found.exact f).1 h))
 
-pub found_rising : (k : Rows) (facts : List Fact) → AreFacts (Knows k) facts → IsStrictlySortedBy fact_order facts
+pub found_rising : (k : BitRows) (facts : List Fact) → AreFacts (Knows k) facts → IsStrictlySortedBy fact_order facts
 found_rising k facts are = are.rising

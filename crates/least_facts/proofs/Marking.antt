@@ -14,7 +14,7 @@ use Rattle.std.proofs.lemmas.List.{drop_more, length-map}
 use Rattle.std.proofs.lemmas.List.Sums.{sum_by-cons}
 use Rattle.plex_num.proofs.Members.{first_or_later, none_in, first_is, later_is}
 use Rattle.flow_points.specs.Facts.{Reached}
-use Rattle.fact_rows.specs.Known.{Knows, Rows}
+use Rattle.fact_rows.specs.Known.{Knows, BitRows}
 use Rattle.fact_rows.proofs.Holding.{from_map, to_map}
 use Rattle.least_facts.specs.declared.answers.AnswerTable.{AnswerTable}
 use Rattle.least_facts.specs.Answers.{ReturnsOf, awaited_at, known_answer}
@@ -184,7 +184,7 @@ opens_first a q n m new firsts new_firsts is none lt put h = record {
 
 -- a point at which something is new
 
-module _ (a : AnswerTable) (k : Rows) (e : ℕ) (grown reached : Bool) (q : ℕ) (m : List ℕ) (firsts : List (Option ℕ)) where
+module _ (a : AnswerTable) (k : BitRows) (e : ℕ) (grown reached : Bool) (q : ℕ) (m : List ℕ) (firsts : List (Option ℕ)) where
   pub settles_same : grown ≡ false → Settles a k e grown reached q m firsts m firsts
   settles_same none = record {
     same = λ is. (refl, refl);

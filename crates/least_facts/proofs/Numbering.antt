@@ -21,7 +21,7 @@ use Rattle.exchange_model.proofs.Layers.{expr_fits-out, term_fits-out, joined_fi
 use Rattle.source_meaning.specs.Changes.{value_count}
 use Rattle.source_meaning.specs.Named.{Layer}
 use Rattle.source_meaning.specs.Rests.{IsOfBlock}
-use Rattle.source_meaning.proofs.Parts.{Parts, every_expr}
+use Rattle.source_meaning.proofs.Parts.{NodeParts, every_expr}
 use Rattle.flow_points.specs.declared.limits.TheConstants.{SMALL_NUMBERS}
 use Rattle.flow_points.specs.declared.fact.Slot.{Slot}
 use Rattle.flow_points.specs.declared.fact.Slot.TheVariants.{Temp, Given, Answered, Depth, Awaits}
@@ -37,62 +37,62 @@ use Rattle.flow_table.specs.Alone.{term_source, joined_source, own_source}
 use Rattle.flow_table.specs.Shapes.{Shape, Stays, Assigns, Finds, TakesGiven, TakesAnswer, Starts, Transfers, Asks, GivesAnswer}
 use Rattle.flow_table.proofs.Shaping.{led_by}
 use Rattle.flow_table.proofs.Sourcing.{expr_source-out, term_source-out, joined_source-out, factor_as}
-use Rattle.least_facts.specs.Fit.{HowFits, Numbered, SourceFits}
+use Rattle.least_facts.specs.Fit.{HowFits, NumberedSource, SourceFits}
 use Rattle.flow_points.proofs.Few.{count_few}
 
-no_number : Numbered (Is (Const 0))
+no_number : NumberedSource (Is (Const 0))
 no_number = omega arith
 
 -- expressions
 
 module _ (s : Scope) (few : length s.blocks ≤ MOST_BLOCKS) where
   abbrev ExprNumbered : Expr → Type 0
-  ExprNumbered e = ExprFits s e → Numbered (expr_source e)
+  ExprNumbered e = ExprFits s e → NumberedSource (expr_source e)
 
   abbrev TermNumbered : Term → Type 0
-  TermNumbered t = TermFits s t → Numbered (term_source t)
+  TermNumbered t = TermFits s t → NumberedSource (term_source t)
 
   abbrev FactorNumbered : Factor → Type 0
-  FactorNumbered f = FactorOwnFits s f → Numbered (own_source f)
+  FactorNumbered f = FactorOwnFits s f → NumberedSource (own_source f)
 
-  alone_term : (ts : List Term) → AllByRecursion TermNumbered ts → AllByRecursion (TermFits s) ts → Numbered (alone (map term_source ts))
+  alone_term : (ts : List Term) → AllByRecursion TermNumbered ts → AllByRecursion (TermFits s) ts → NumberedSource (alone (map term_source ts))
   alone_term [] each fit = tt
   alone_term (t ∷ []) each fit = each.0 fit.0
   alone_term (t ∷ u ∷ ts) each fit = tt
 
-  alone_factor : (js : List Joined) → AllByRecursion (λ (j : Joined). FactorNumbered j.factor) js → AllByRecursion (JoinedFits s) js → Numbered (alone (map joined_source js))
+  alone_factor : (js : List Joined) → AllByRecursion (λ (j : Joined). FactorNumbered j.factor) js → AllByRecursion (JoinedFits s) js → NumberedSource (alone (map joined_source js))
   alone_factor [] each fit = tt
-  alone_factor (j ∷ []) each fit = subst Numbered (sym (joined_source-out j)) (each.0 (joined_fits-out s j fit.0))
+  alone_factor (j ∷ []) each fit = subst NumberedSource (sym (joined_source-out j)) (each.0 (joined_fits-out s j fit.0))
   alone_factor (j ∷ k ∷ js) each fit = tt
 
-  small_number : (n : ℕ) (t : Bool) → nat_lt n SMALL_NUMBERS ≡ t → Numbered (if t then Is (Const n) else Is Any)
+  small_number : (n : ℕ) (t : Bool) → nat_lt n SMALL_NUMBERS ≡ t → NumberedSource (if t then Is (Const n) else Is Any)
   small_number n true is = ltb-true n SMALL_NUMBERS is
   small_number n false is = tt
 
-  numbered_parts : Parts ExprNumbered TermNumbered FactorNumbered
+  numbered_parts : NodeParts ExprNumbered TermNumbered FactorNumbered
   numbered_parts = record {
-    expr = λ e each fit. subst Numbered (sym (expr_source-out e)) (alone_term (out-Expr e).terms each (expr_fits-out s e fit).1);
-    term = λ t each fit. subst Numbered (sym (term_source-out t)) (alone_factor (out-Term t).factors each (term_fits-out s t fit).1);
-    number = λ n fit. subst Numbered (factor_as (factor.Number n) (layer.Number n) (factor.outs-Number n)) (small_number n (nat_lt n SMALL_NUMBERS) refl);
-    variable = λ v fit. subst Numbered (factor_as (factor.Variable v) (layer.Variable v) (factor.outs-Variable v)) tt;
-    temporary = λ t fit. subst Numbered (factor_as (factor.Temporary t) (layer.Temporary t) (factor.outs-Temporary t)) (λ v h. h);
-    field = λ file field pointer fit. subst Numbered (factor_as (factor.Field file field pointer) (layer.Field file field pointer) (factor.outs-Field file field pointer)) tt;
-    bracket = λ e inside fit. subst Numbered (factor_as (factor.Bracket e) (layer.Bracket e) (factor.outs-Bracket e)) (inside (subst (InsideFits s) (factor.outs-Bracket e) (factor_fits-out s (factor.Bracket e) fit).1));
+    expr = λ e each fit. subst NumberedSource (sym (expr_source-out e)) (alone_term (out-Expr e).terms each (expr_fits-out s e fit).1);
+    term = λ t each fit. subst NumberedSource (sym (term_source-out t)) (alone_factor (out-Term t).factors each (term_fits-out s t fit).1);
+    number = λ n fit. subst NumberedSource (factor_as (factor.Number n) (layer.Number n) (factor.outs-Number n)) (small_number n (nat_lt n SMALL_NUMBERS) refl);
+    variable = λ v fit. subst NumberedSource (factor_as (factor.Variable v) (layer.Variable v) (factor.outs-Variable v)) tt;
+    temporary = λ t fit. subst NumberedSource (factor_as (factor.Temporary t) (layer.Temporary t) (factor.outs-Temporary t)) (λ v h. h);
+    field = λ file field pointer fit. subst NumberedSource (factor_as (factor.Field file field pointer) (layer.Field file field pointer) (factor.outs-Field file field pointer)) tt;
+    bracket = λ e inside fit. subst NumberedSource (factor_as (factor.Bracket e) (layer.Bracket e) (factor.outs-Bracket e)) (inside (subst (InsideFits s) (factor.outs-Bracket e) (factor_fits-out s (factor.Bracket e) fit).1));
     reference = λ b fit.
-        subst Numbered (factor_as (factor.Reference b) (layer.Reference b) (factor.outs-Reference b))
+        subst NumberedSource (factor_as (factor.Reference b) (layer.Reference b) (factor.outs-Reference b))
         (let below : b < length s.blocks = subst (FactorFits s) (factor.outs-Reference b) (factor_fits-out s (factor.Reference b) fit).0 in omega (arith, below, few));
   }
 
-  expr_numbered : (e : Expr) → ExprFits s e → Numbered (expr_source e)
+  expr_numbered : (e : Expr) → ExprFits s e → NumberedSource (expr_source e)
   expr_numbered e = every_expr numbered_parts e
 
-  exprs_numbered : (es : List Expr) → AllByRecursion (ExprFits s) es → AllByRecursion Numbered (map expr_source es)
+  exprs_numbered : (es : List Expr) → AllByRecursion (ExprFits s) es → AllByRecursion NumberedSource (map expr_source es)
   exprs_numbered [] fit = tt
   exprs_numbered (e ∷ es) fit = (expr_numbered e fit.0, exprs_numbered es fit.1)
 
 -- flows
 
-either : (t : Bool) (a b : Source) → Numbered a → Numbered b → Numbered (if t then a else b)
+either : (t : Bool) (a b : Source) → NumberedSource a → NumberedSource b → NumberedSource (if t then a else b)
 either true a b h k = h
 either false a b h k = k
 
@@ -103,14 +103,14 @@ kept_fits (Answered k) = tt
 kept_fits Depth = λ v h. h
 kept_fits Awaits = λ v h. h
 
-sets_fit : (temp : ℕ) (source : Source) → Numbered source → HowFits (Sets temp source)
+sets_fit : (temp : ℕ) (source : Source) → NumberedSource source → HowFits (Sets temp source)
 sets_fit temp source h (Temp t) = either (nat_eq t temp) source (Of (Temp t)) h (λ v k. k)
 sets_fit temp source h (Given k) = λ v h. h
 sets_fit temp source h (Answered k) = tt
 sets_fit temp source h Depth = λ v h. h
 sets_fit temp source h Awaits = λ v h. h
 
-named_fits : (names : List ℕ) (slot : ℕ → Slot) → ((k : ℕ) → Numbered (Of (slot k))) → (k t : ℕ) (before : Source) → Numbered before → Numbered (named names slot k t before)
+named_fits : (names : List ℕ) (slot : ℕ → Slot) → ((k : ℕ) → NumberedSource (Of (slot k))) → (k t : ℕ) (before : Source) → NumberedSource before → NumberedSource (named names slot k t before)
 named_fits [] slot each k t before h = h
 named_fits (name ∷ names) slot each k t before h = named_fits names slot each (k + 1) t (if nat_eq t name then Of (slot k) else before) (either (nat_eq t name) (Of (slot k)) before (each k) h)
 
@@ -128,12 +128,12 @@ retrieves_fit names (Answered k) = tt
 retrieves_fit names Depth = λ v h. h
 retrieves_fit names Awaits = λ v h. h
 
-at_fits : (values : List Source) (k : ℕ) (past : Source) → AllByRecursion Numbered values → Numbered past → Numbered (at_place values k past)
+at_fits : (values : List Source) (k : ℕ) (past : Source) → AllByRecursion NumberedSource values → NumberedSource past → NumberedSource (at_place values k past)
 at_fits [] k past each h = h
 at_fits (v ∷ values) zero past each h = each.0
 at_fits (v ∷ values) (suc k) past each h = at_fits values k past each.1 h
 
-begins_fit : (values : List Source) → AllByRecursion Numbered values → HowFits (Begins values)
+begins_fit : (values : List Source) → AllByRecursion NumberedSource values → HowFits (Begins values)
 begins_fit values each (Temp t) = no_number
 begins_fit values each (Given k) = at_fits values k (Is (Const 0)) each no_number
 begins_fit values each (Answered k) = tt
@@ -147,14 +147,14 @@ passes_fit count (Answered k) = tt
 passes_fit count Depth = λ v h. h
 passes_fit count Awaits = λ v h. h
 
-calls_fit : (values : List Source) (answer : ℕ) → AllByRecursion Numbered values → answer < MOST_SIGNALS → HowFits (Calls values answer)
+calls_fit : (values : List Source) (answer : ℕ) → AllByRecursion NumberedSource values → answer < MOST_SIGNALS → HowFits (Calls values answer)
 calls_fit values answer each lt (Temp t) = no_number
 calls_fit values answer each lt (Given k) = at_fits values k (Is (Const 0)) each no_number
 calls_fit values answer each lt (Answered k) = tt
 calls_fit values answer each lt Depth = tt
 calls_fit values answer each lt Awaits = omega (arith, lt)
 
-pub answers_fit : (values : List Source) → AllByRecursion Numbered values → HowFits (Answers values)
+pub answers_fit : (values : List Source) → AllByRecursion NumberedSource values → HowFits (Answers values)
 answers_fit values each (Temp t) = tt
 answers_fit values each (Given k) = tt
 answers_fit values each (Answered k) = at_fits values k Nothing each tt
@@ -180,7 +180,7 @@ module _ (x : Exchange) (exchange : IsExchange x) where
       each : (exprs : List Expr) → own_exprs l ≡ exprs → AllByRecursion (ExprFits (scope_of x b of.block)) exprs
       each exprs own = subst (AllByRecursion (ExprFits (scope_of x b of.block))) own of.fits.exprs.each
 
-      values_fit : (exprs : List Expr) → own_exprs l ≡ exprs → AllByRecursion Numbered (map expr_source exprs)
+      values_fit : (exprs : List Expr) → own_exprs l ≡ exprs → AllByRecursion NumberedSource (map expr_source exprs)
       values_fit exprs own = exprs_numbered (scope_of x b of.block) exchange.blocks.few exprs (each exprs own)
 
       by : Shape x l w → HowFits w.how
@@ -206,7 +206,7 @@ module _ (x : Exchange) (exchange : IsExchange x) where
 
   -- the start
 
-  given_start : (count k : ℕ) (t : Bool) → count ≤ MOST_VALUES → nat_lt k count ≡ t → Numbered (if t then Is (Arg k) else Is (Const 0))
+  given_start : (count k : ℕ) (t : Bool) → count ≤ MOST_VALUES → nat_lt k count ≡ t → NumberedSource (if t then Is (Arg k) else Is (Const 0))
   given_start count k true few is = (let lt = ltb-true k count is in omega (arith, few, lt))
   given_start count k false few is = no_number
 

@@ -10,11 +10,11 @@ use Rattle.fact_rows.specs.Values.{HasNumber, IsAwaited, IsNumbered}
 
 -- sources of slots other than AWAITS, and of AWAITS
 
-abbrev pub Numbered : Source → Type 0
-Numbered (Of s) = (v : Value) → HasNumber s v → IsNumbered v
-Numbered (Is v) = IsNumbered v
-Numbered Deeper = Unit {0}
-Numbered Nothing = Unit {0}
+abbrev pub NumberedSource : Source → Type 0
+NumberedSource (Of s) = (v : Value) → HasNumber s v → IsNumbered v
+NumberedSource (Is v) = IsNumbered v
+NumberedSource Deeper = Unit {0}
+NumberedSource Nothing = Unit {0}
 
 abbrev pub Awaited : Source → Type 0
 Awaited (Of s) = (v : Value) → HasNumber s v → IsAwaited v
@@ -23,10 +23,10 @@ Awaited Deeper = ⊥
 Awaited Nothing = Unit {0}
 
 abbrev pub SourceFits : Slot → Source → Type 0
-SourceFits (Temp t) source = Numbered source
-SourceFits (Given k) source = Numbered source
-SourceFits (Answered k) source = Numbered source
-SourceFits Depth source = Numbered source
+SourceFits (Temp t) source = NumberedSource source
+SourceFits (Given k) source = NumberedSource source
+SourceFits (Answered k) source = NumberedSource source
+SourceFits Depth source = NumberedSource source
 SourceFits Awaits source = Awaited source
 
 -- each source over a flow fits its slot

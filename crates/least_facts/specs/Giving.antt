@@ -12,11 +12,11 @@ use Rattle.flow_table.specs.declared.row.FlowTable.{FlowTable}
 use Rattle.flow_table.specs.Giving.{SlotsGive}
 use Rattle.flow_table.specs.Small.{IsSmall}
 use Rattle.fact_flows.specs.Flows.{FlowsTo}
-use Rattle.fact_rows.specs.Known.{Knows, Rows, missing, slots_of}
+use Rattle.fact_rows.specs.Known.{Knows, BitRows, missing, slots_of}
 use Rattle.least_facts.specs.Fit.{HowFits}
 
 -- exactly these facts come to be known, and where one of them is new, fewer are missing
-pub record Gives (old : Rows) (G : Fact → Type 0) (grown : Bool) (new : Rows) : Type 0 where
+pub record Gives (old : BitRows) (G : Fact → Type 0) (grown : Bool) (new : BitRows) : Type 0 where
   pub entry : new.entry ≡ old.entry
   pub slots : new.marks.slots ≡ old.marks.slots
   pub knows : (f : Fact) → Knows new f ↔ (G f ⊎ Knows old f)
@@ -38,7 +38,7 @@ pub record OfValues (e q : ℕ) (s : Slot) (values : List Value) (f : Fact) : Ty
   pub value : Contains values f.value
 
 -- a point gets some least facts, and where one of them is new, fewer are missing
-pub record Fills (x : Exchange) (q : ℕ) (old : Rows) (grown : Bool) (new : Rows) : Type 0 where
+pub record Fills (x : Exchange) (q : ℕ) (old : BitRows) (grown : Bool) (new : BitRows) : Type 0 where
   pub entry : new.entry ≡ old.entry
   pub slots : new.marks.slots ≡ old.marks.slots
   pub more : (f : Fact) → Knows old f → Knows new f
@@ -52,7 +52,7 @@ pub record IsGood (x : Exchange) (e p : ℕ) (how : Passing) (q : ℕ) : Type 0 
   pub small : IsSmall how
 
 -- rows of least facts, from which something goes along so
-pub record CanFlow (x : Exchange) (t : FlowTable) (e p : ℕ) (how : Passing) (q : ℕ) (k : Rows) : Type 0 where
+pub record CanFlow (x : Exchange) (t : FlowTable) (e p : ℕ) (how : Passing) (q : ℕ) (k : BitRows) : Type 0 where
   pub of_entry : k.entry ≡ e
   pub of_slots : k.marks.slots ≡ slots_of t
   pub least : (f : Fact) → Knows k f → IsLeast x f
@@ -60,6 +60,6 @@ pub record CanFlow (x : Exchange) (t : FlowTable) (e p : ℕ) (how : Passing) (q
   pub guarded : Guarded (Knows k) e p q how
 
 -- a point gets all that goes along to these slots
-pub record FillsSlots (x : Exchange) (e p : ℕ) (how : Passing) (q : ℕ) (slots : List Slot) (old : Rows) (grown : Bool) (new : Rows) : Type 0 where
+pub record FillsSlots (x : Exchange) (e p : ℕ) (how : Passing) (q : ℕ) (slots : List Slot) (old : BitRows) (grown : Bool) (new : BitRows) : Type 0 where
   pub fills : Fills x q old grown new
   pub all : (f : Fact) → SlotsGive (Knows old) e p how q slots f → Knows new f

@@ -18,10 +18,10 @@ use Rattle.flow_points.specs.Slots.{HasSlot}
 use Rattle.flow_table.specs.declared.row.FlowTable.{FlowTable}
 use Rattle.flow_table.specs.declared.way.Way.{Way}
 use Rattle.flow_table.specs.declared.way.Ends.TheVariants as ends
-use Rattle.flow_table.specs.Ways.{IsEnd}
+use Rattle.flow_table.specs.Ways.{IsWayEnd}
 use Rattle.fact_flows.specs.Flows.{FlowsTo}
 use Rattle.fact_flows.specs.Given.{GivenAt, GivenAtStart}
-use Rattle.fact_rows.specs.Known.{Rows, Knows, missing, slots_of}
+use Rattle.fact_rows.specs.Known.{BitRows, Knows, missing, slots_of}
 use Rattle.least_facts.specs.declared.answers.AnswerTable.{AnswerTable}
 use Rattle.least_facts.specs.declared.marks.Marked.{Marked}
 use Rattle.least_facts.specs.Answers.{IsReturnAt, awaited_at}
@@ -29,11 +29,11 @@ use Rattle.least_facts.specs.Marks.{marks_of, most_marks}
 
 -- how far a search is: what is known, the points that are marked, and for each answer the RETRIEVE that was reached first
 pub record Search : Type 0 where
-  pub rows : Rows
+  pub rows : BitRows
   pub marks : List ℕ
   pub firsts : List (Option ℕ)
 
-abbrev pub search_of : Rows → Marked → Search
+abbrev pub search_of : BitRows → Marked → Search
 search_of k m = record { rows = k; marks = marks_of m; firsts = m.firsts.items }
 
 -- the point is the first of an answer
@@ -68,7 +68,7 @@ GoesOn x firsts P e p f = SentFrom x firsts P e p f ⊎ HandedFrom x firsts P e 
 -- what a way from the point gives, where an answer goes to the first RETRIEVE alone
 pub record WaySends (x : Exchange) (firsts : List (Option ℕ)) (P : Facts) (e p : ℕ) (w : Way) (f : Fact) : Type 0 where
   pub end : ℕ
-  pub ends : IsEnd x w.ends end
+  pub ends : IsWayEnd x w.ends end
   pub first : is_answer w.how ≡ true → IsFirst firsts end
   pub flows : FlowsTo x P e p w.how end f
 
@@ -132,6 +132,6 @@ abbrev pub without : Search → List ℕ → Search
 without s marks = record { rows = s.rows; marks = marks; firsts = s.firsts }
 
 -- exactly the least facts of the entry are known
-pub record AreFound (x : Exchange) (t : FlowTable) (e : ℕ) (k : Rows) : Type 0 where
+pub record AreFound (x : Exchange) (t : FlowTable) (e : ℕ) (k : BitRows) : Type 0 where
   pub of_slots : k.marks.slots ≡ slots_of t
   pub exact : (f : Fact) → Knows k f ↔ ((f.entry ≡ e) × IsLeast x f)

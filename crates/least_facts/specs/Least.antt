@@ -4,7 +4,7 @@ use Rattle.exchange_model.specs.declared.exchange.Exchange.{Exchange}
 use Rattle.flow_table.specs.declared.row.FlowTable.{FlowTable}
 use Rattle.flow_points.specs.declared.fact.Fact.{Fact}
 use Rattle.flow_points.specs.Facts.{IsLeast}
-use Rattle.fact_rows.specs.Known.{Rows, Knows, slots_of}
+use Rattle.fact_rows.specs.Known.{BitRows, Knows, slots_of}
 use Rattle.least_facts.specs.declared.analyser.Analyser.{Analyser}
 use Rattle.least_facts.specs.Answers.{AreAnswers}
 
@@ -14,7 +14,7 @@ pub record IsFor (x : Exchange) (t : FlowTable) (a : Analyser) : Type 0 where
   pub slots : a.rows.marks.slots ≡ slots_of t
 
 -- exactly the least facts of the entry are known
-pub record KnowLeast (x : Exchange) (e : ℕ) (k : Rows) : Type 0 where
+pub record KnowLeast (x : Exchange) (e : ℕ) (k : BitRows) : Type 0 where
   pub exact : (f : Fact) → Knows k f ↔ ((f.entry ≡ e) × IsLeast x f)
 
 -- it has learned those of the entry

@@ -2,7 +2,7 @@
 use Rattle.std.specs.Prelude.{◌≡◌, ◌⊎◌, ℕ, ◌+◌, ◌<◌, ◌≤◌, ◌%◌, ◌^◌, Bool, true, false, List, [], ◌∷◌, length, map, Option, Some, None, slice_get}
 use Rattle.std.specs.List.{Contains, sum_by}
 use Rattle.flow_points.specs.Facts.{Reached}
-use Rattle.fact_rows.specs.Known.{Knows, Rows}
+use Rattle.fact_rows.specs.Known.{Knows, BitRows}
 use Rattle.least_facts.specs.declared.answers.AnswerTable.{AnswerTable}
 use Rattle.least_facts.specs.declared.marks.Marked.{Marked}
 use Rattle.least_facts.specs.Answers.{ReturnsOf, awaited_at}
@@ -58,7 +58,7 @@ pub record Reaches (a : AnswerTable) (point : ℕ) (old : List ℕ) (before : Li
   pub found : (n : ℕ) → awaited_at a point ≡ Some n → n < length before → HasFirst point new after n
 
 -- something is new at a point, unless nothing has grown: it is marked, and where it is reached only now, that is noted
-pub record Settles (a : AnswerTable) (k : Rows) (e : ℕ) (grown reached : Bool) (point : ℕ) (old : List ℕ) (before : List (Option ℕ)) (new : List ℕ) (after : List (Option ℕ)) : Type 0 where
+pub record Settles (a : AnswerTable) (k : BitRows) (e : ℕ) (grown reached : Bool) (point : ℕ) (old : List ℕ) (before : List (Option ℕ)) (new : List ℕ) (after : List (Option ℕ)) : Type 0 where
   pub same : grown ≡ false → (new ≡ old) × (after ≡ before)
   pub still : (p : ℕ) → Contains old p → Contains new p
   pub own : grown ≡ true → Contains new point

@@ -6,7 +6,7 @@ ghost use Rattle.flow_points.specs.Places.{IsRetrieveAt};
 ghost use Rattle.flow_points.specs.Slots.{answer_count};
 ghost use Rattle.flow_table.specs.declared.way.Way.{Way as WayType};
 ghost use Rattle.flow_table.specs.Rows.{IsFlowTable};
-ghost use Rattle.flow_table.specs.Ways.{IsEnd};
+ghost use Rattle.flow_table.specs.Ways.{IsWayEnd};
 ghost use Rattle.fact_flows.specs.Flows.{FlowsTo, OneGives, WayGives};
 ghost use Rattle.fact_rows.specs.Known.{Knows, slots_of};
 ghost use Rattle.least_facts.specs.Answers.{AreAnswers};
@@ -211,7 +211,7 @@ fn send_ways(
     requires answers { AreAnswers exchange.now answers.now }
     requires stands { IsLeastSoFar exchange.now table.now entry (search_of rows.old marked.old) }
     requires good { (w : WayType) → Contains ways.now w → (q : ℕ)
-        → IsEnd exchange.now w.ends q → IsGood exchange.now entry point w.how q }
+        → IsWayEnd exchange.now w.ends q → IsGood exchange.now entry point w.how q }
     ensures { OnOk result (Went exchange.now table.now answers.now entry
         (OneGives (WaySends exchange.now marked.old.firsts.items (Knows rows.old) entry point)
         ways.now)
@@ -245,7 +245,7 @@ fn send(
     requires answers { AreAnswers exchange.now answers.now }
     requires stands { IsLeastSoFar exchange.now table.now entry (search_of rows.old marked.old) }
     requires good { (q : ℕ)
-        → IsEnd exchange.now way.now.ends q → IsGood exchange.now entry point way.now.how q }
+        → IsWayEnd exchange.now way.now.ends q → IsGood exchange.now entry point way.now.how q }
     ensures { OnOk result (Went exchange.now table.now answers.now entry
         (WaySends exchange.now marked.old.firsts.items (Knows rows.old) entry point way.now)
         (search_of rows.old marked.old) (search_of rows.new marked.new)) }

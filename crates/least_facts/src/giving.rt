@@ -77,30 +77,12 @@ fn give(
             )?;
             Ok(grown)
         }
-        _ => give_some(alloc, entry, from, source, to, slot, rows),
+        _ => {
+            let values = values_from(alloc, &*rows, entry, from, source)?;
+            let grown = give_values(entry, to, slot, values.as_slice(), rows)?;
+            Ok(grown)
+        }
     }
-}
-
-/// Gives a slot the values that come from a source before a point, one by one.
-fn give_some(
-    alloc: Global,
-    entry: u32,
-    from: u32,
-    source: Source,
-    to: u32,
-    slot: Slot,
-    rows: &mut FactRows,
-) -> Result<bool, Memory>
-    requires entry { rows.old.entry ≡ entry }
-    requires spot { HasSpot rows.old.marks.slots to slot }
-    requires number { (v : ValueType)
-        → SourceGives (Knows rows.old) entry from source v → HasNumber slot v }
-    ensures { IfOk result (λ grown.
-        Gives rows.old (SlotGives (Knows rows.old) entry from source to slot) grown rows.new) }
-{
-    let values = values_from(alloc, &*rows, entry, from, source)?;
-    let grown = give_values(entry, to, slot, values.as_slice(), rows)?;
-    Ok(grown)
 }
 
 /// Gives a slot these values.

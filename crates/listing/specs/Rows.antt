@@ -2,7 +2,7 @@
 use Rattle.std.specs.Prelude.{◌≡◌, ◌≢◌, ℕ, List, [], ◌∷◌, length, map, slice_get, Option, Some, None, Result, Ok, Err, unwrap_or}
 use Rattle.case_table.specs.Names.{operation_names}
 use Rattle.machine_code.specs.declared.op.Op.{Op}
-use Rattle.machine_code.specs.Operands.{OpFits, IsRegister, IsLocal, IsPlace, IsNumber, IsLevel, IsSending, IsWidth}
+use Rattle.machine_code.specs.Operands.{OpFits, IsRegister, IsLocal, IsValuePlace, IsNumber, IsLevel, IsSendingWay, IsWidth}
 use Rattle.machine_code.specs.declared.op.Op.TheVariants.{Stmt, Ldi, Ldt, Stt, Lde, Lda, Add, Sub, Mul, Div, Rem, Eq, Ne, Lt, Le, Gt, Ge, And, Or, Jmp, Jz, Ldw, Stw, Ckw, Ckp, Own, Ldx, Stx, Ckf, Chn, Unc, Arg, Snd, Dir, Call, Ret, Trf, End}
 use Rattle.listing.specs.declared.fault.LineFault.{LineFault}
 use Rattle.listing.specs.declared.fault.LineFault.TheVariants.{Form, Operand}
@@ -24,10 +24,10 @@ pub data Kind : Type 0 where
 abbrev pub InRange : Kind → ℕ → Type 0
 InRange Register n = IsRegister n
 InRange Local n = IsLocal n
-InRange Place n = IsPlace n
+InRange Place n = IsValuePlace n
 InRange Number n = IsNumber n
 InRange Level n = IsLevel n
-InRange Sending n = IsSending n
+InRange Sending n = IsSendingWay n
 InRange Width n = IsWidth n
 
 -- an operand that was read, none where it is too large for every kind

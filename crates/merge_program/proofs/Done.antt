@@ -24,7 +24,7 @@ use Rattle.plex_program.specs.declared.perform.Answer.{Answer}
 use Rattle.plex_program.specs.declared.program.Status.{Status}
 use Rattle.plex_program.specs.declared.program.Status.TheVariants as status
 use Rattle.plex_program.proofs.Accepted.{gone_on}
-use Rattle.plex_program.proofs.WrittenOut.{timed_is_run}
+use Rattle.plex_program.proofs.Tables.{timed_is_run}
 use Rattle.merge_program.specs.Merge.{IsMergeAnswer, lines_answer, merge_of}
 
 IsDone : Status → Type 0

@@ -3,7 +3,7 @@ use Rattle.std.proofs.Common.{◌≡◌, ℕ, ◌≤◌, ◌<◌, List, [], ◌�
 use Rattle.plex_io.specs.Files.{Files}
 use Rattle.command_words.specs.Words.{Word}
 use Rattle.plex_program.specs.Outcome.{Out}
-use Rattle.plex_program.specs.Stages.{Comes, Reads}
+use Rattle.plex_program.specs.Stages.{Comes, ReadAs}
 use Rattle.plex_program.specs.Answer.{answer_of}
 use Rattle.plex_program.specs.Program.{Answers, IsEnding, Makes}
 use Rattle.plex_program.proofs.Stages.{performs_as, performs_told}
@@ -45,7 +45,7 @@ usage_is (u ∷ v ∷ []) files o others is = ap answer_of is
 usage_is (u ∷ v ∷ w ∷ []) files o others is = absurd (others refl)
 usage_is (u ∷ v ∷ w ∷ x ∷ rest) files o others is = ap answer_of is
 
-pub answers_usage : (held : Option Files) (words : List Word) (n : ℕ) (r : Result Answer Stop) → AreOthers words → Reads (Ok usage_answer) r → Answers (IsMergeAnswer words) held n n r
+pub answers_usage : (held : Option Files) (words : List Word) (n : ℕ) (r : Result Answer Stop) → AreOthers words → ReadAs (Ok usage_answer) r → Answers (IsMergeAnswer words) held n n r
 answers_usage held words n r others reads =
     performs_as held (λ files o. Ok usage_answer ≡ o) (λ files o. IsMergeAnswer words files (answer_of o)) n n r (λ files o. usage_is words files o others) (performs_told held (λ o. Ok usage_answer ≡ o) n r reads)
 

@@ -1,7 +1,7 @@
 // The program as one call.
 ghost use Rattle.std.specs.Prelude.{◌≡◌, Ok, IfOk, IfSome};
-ghost use Rattle.plex_program.specs.Stages.{Comes, Reads};
-ghost use Rattle.plex_program.specs.Program.{Answers, Ends, EndsAs, IsComplete, IsEnding};
+ghost use Rattle.plex_program.specs.Stages.{Comes, ReadAs};
+ghost use Rattle.plex_program.specs.Program.{Answers, ProcessEnds, ProcessEndsAs, IsComplete, IsEnding};
 ghost use Rattle.plex_program.specs.Program.{Makes, ReadCause, WriteCause};
 ghost use Rattle.merge_program.specs.Merge.{AreOthers, IsMergeAnswer, lines_answer, merge_of};
 ghost use Rattle.merge_program.specs.Merge.{usage_answer, usage_text};
@@ -29,10 +29,10 @@ pub fn plex_merge<S: Shelf, K: Sink>(
     sink: &mut K,
 ) -> Status
     ensures answers { IfSome (S.held shelf.old)
-        (λ files. EndsAs (IsMergeAnswer words.now files)
+        (λ files. ProcessEndsAs (IsMergeAnswer words.now files)
         (K.written sink.old) (K.written sink.new) result) }
     ensures unshaped { AreOthers words.now →
-        Ends usage_answer (K.written sink.old) (K.written sink.new) result }
+        ProcessEnds usage_answer (K.written sink.old) (K.written sink.new) result }
     ensures usage { result ≡ Status.Usage → AreOthers words.now }
     ensures read { result ≡ Status.Read → ReadCause (IsMergeAnswer words.now) (S.held shelf.old)
         (S.faults shelf.old) (S.faults shelf.new) (K.written sink.old) (K.written sink.new) }
@@ -86,7 +86,7 @@ fn merge_files<S: Shelf>(
 
 /// The text of the signal file that has these lines, as a stage.
 fn lines_answer(alloc: Global, exchange: &Exchange, lines: &Seq<Line>) -> Result<Answer, Stop>
-    ensures reads { Reads (Ok (lines_answer exchange.now lines.now)) result }
+    ensures reads { ReadAs (Ok (lines_answer exchange.now lines.now)) result }
     ensures ending { IfOk result (λ a. IsEnding a.status) }
 {
     match write_out(alloc, exchange, lines) {
@@ -101,7 +101,7 @@ fn lines_answer(alloc: Global, exchange: &Exchange, lines: &Seq<Line>) -> Result
 /// The usage line.
 #[tactic(auto, unfolding(crate::specs::Merge::usage_text))]
 fn usage_answer(alloc: Global) -> Result<Answer, Stop>
-    ensures { Reads (Ok usage_answer) result }
+    ensures { ReadAs (Ok usage_answer) result }
 {
     match Seq::copied(alloc, b"usage: plex-merge E S T\n") {
         Ok(text) => Ok(Answer {

@@ -1,6 +1,7 @@
 -- The four lists of those who wait: who joins behind the pick, and what a release takes from behind it, change places with taking
 -- the pick.
 use Rattle.std.proofs.Common.{◌≡◌, ℕ, ◌+◌, ◌≤◌, cond, List, [], ◌∷◌, Some, refl, sym, ap, ◌∙◌, subst, arith}
+use Rattle.std.proofs.Math.Nat.{zero-add}
 use Rattle.std.proofs.lemmas.Bool.{ne_eqb}
 use Rattle.std.proofs.lemmas.List.Sums.{sum_by-cons}
 use Rattle.std.proofs.lemmas.Option.{none-some, same_Some}
@@ -50,13 +51,10 @@ join_stays j k w h e low = joined j k k.level w.a w.b w.c w.d h.b h.c h.d low e
 first_is_other : (f : ℕ) (x : Job) (xs : List Job) → x.forlopp ≢ f → others_in f (x ∷ xs) ≡ x ∷ others_in f xs
 first_is_other f x xs other = ap (λ b. cond (not b) (x ∷ others_in f xs) (others_in f xs)) (ne_eqb x.forlopp f other)
 
-none_more : (m n : ℕ) → m ≡ 0 → m + n ≡ n
-none_more m n none = omega arith
-
 first_counts_not : (f : ℕ) (x : Job) (xs : List Job) → x.forlopp ≢ f → count_by (is_of f) (x ∷ xs) ≡ count_by (is_of f) xs
 first_counts_not f x xs other =
     sum_by-cons (λ (y : Job). cond (is_of f y) 1 0) x xs
-    ∙ none_more (cond (is_of f x) 1 0) (count_by (is_of f) xs) (ap (λ b. cond b 1 0) (ne_eqb x.forlopp f other))
+    ∙ ap (λ b. cond b 1 0 + count_by (is_of f) xs) (ne_eqb x.forlopp f other) ∙ zero-add (count_by (is_of f) xs)
 
 -- the jobs of another forlopp go, and the pick stays
 pub record OthersStay (j : Job) (f : ℕ) (w : Waiting) : Type 0 where

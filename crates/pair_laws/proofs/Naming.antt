@@ -25,13 +25,13 @@ use Rattle.entry_summary.specs.declared.summary.Access.{Access}
 use Rattle.entry_summary.specs.declared.summary.Access.TheVariants.{Variable, Field, Own, Seizes, Frees}
 use Rattle.entry_summary.specs.Accesses.{Accesses, IsAccess, IsForlopp, IsPlain, NamesField, reads, reads_holder, writes, reads_field, writes_field, searches, reads_own, writes_own, opens_own, seizes, frees}
 use Rattle.entry_summary.specs.Numbers.{field_number}
-use Rattle.start_permit.specs.Granted.{IsField}
+use Rattle.start_permit.specs.Granted.{IsFieldNumber}
 
 -- the number is that of a field of a forlopp file, or of a plain one
 pub record IsFieldOf (x : Exchange) (number : ℕ) (forlopp : Bool) : Type 0 where
   pub file : ℕ
   pub field : ℕ
-  pub at : IsField x number file field
+  pub at : IsFieldNumber x number file field
   pub is : at.placed.file.forlopp ≡ forlopp
 
 -- an access is of fields and files of its kind
@@ -108,18 +108,18 @@ prefix_once f xs i j u v p q at there lt gt e =
       | inr (inr after) ↦ absurd (omega (arith, sum_by_rises f xs j i q there after, gt, e))
     ]
 
-pub field_once : (x : Exchange) (number file field other place : ℕ) → IsField x number file field → IsField x number other place → file ≡ other
+pub field_once : (x : Exchange) (number file field other place : ℕ) → IsFieldNumber x number file field → IsFieldNumber x number other place → file ≡ other
 field_once x number file field other place f g =
     prefix_once (λ (p : Placed). length p.file.fields) (files_of x) file other field place f.placed g.placed f.there g.there f.within g.within (sym f.numbered ∙ g.numbered)
 
 -- so it is of a file of one kind
 
-pub plain_at : (x : Exchange) (number file field : ℕ) → IsFieldOf x number false → IsField x number file field → IsPlain x file
+pub plain_at : (x : Exchange) (number file field : ℕ) → IsFieldOf x number false → IsFieldNumber x number file field → IsPlain x file
 plain_at x number file field f at =
     let same = field_once x number f.file f.field file field f.at at in
     record { placed = f.at.placed; there = subst (λ n. IsFileAt x n f.at.placed) same f.at.there; plain = f.is }
 
-pub forlopp_at : (x : Exchange) (number file field : ℕ) → IsFieldOf x number true → IsField x number file field → IsForlopp x file
+pub forlopp_at : (x : Exchange) (number file field : ℕ) → IsFieldOf x number true → IsFieldNumber x number file field → IsForlopp x file
 forlopp_at x number file field f at =
     let same = field_once x number f.file f.field file field f.at at in
     record { placed = f.at.placed; there = subst (λ n. IsFileAt x n f.at.placed) same f.at.there; forlopp = f.is }

@@ -12,7 +12,7 @@ use Rattle.entry_summary.specs.declared.summary.Summary.{Summary}
 use Rattle.entry_summary.specs.Orders.{level_number}
 use Rattle.pair_tests.specs.declared.pair.Conflict.{Conflict}
 use Rattle.pair_tests.specs.declared.pair.Conflict.TheVariants as conflict
-use Rattle.pair_tests.specs.Clashes.{share, meet, only_if, clash_of, Clashes, ClashesAbove, IsLeast, IsSooner}
+use Rattle.pair_tests.specs.Clashes.{share, meet, only_if, clash_of, Clashes, ClashesAbove, IsLeastConflict, IsSooner}
 use Rattle.pair_tests.specs.Pairs.{ShareFile, both_seize, later_frees, first_frees, Meet, IsConflict, IsFirstConflict, on_variable, on_field, on_file, on_level}
 use Rattle.pair_tests.proofs.Leasts.{least_joined}
 use Rattle.pair_tests.proofs.Preceding.{Ranked, Same, Before, After, ranked}
@@ -119,12 +119,12 @@ module _ (first later : Summary) where
 -- the first of the conflicts of accesses and of levels
 pub first_of : (first later : Summary) (ones others : List Access) (levels : List Level) (clash above result : Option Conflict)
     → ones ≡ first.accesses → others ≡ later.accesses → levels ≡ first.levels
-    → IsLeast (Clashes ones others) clash → IsLeast (ClashesAbove levels later.level) above → IsSooner clash above result → IsLeast (IsConflict first later) result
+    → IsLeastConflict (Clashes ones others) clash → IsLeastConflict (ClashesAbove levels later.level) above → IsSooner clash above result → IsLeastConflict (IsConflict first later) result
 first_of first later ones others levels clash above result same_ones same_others same_levels c a is =
     least_joined (Clashes first.accesses later.accesses) (ClashesAbove first.levels later.level) (IsConflict first later)
     (of_accesses first later) (of_level first later) (conflict_cases first later) clash above result
-    (subst (λ l. IsLeast (Clashes first.accesses l) clash) same_others (subst (λ l. IsLeast (Clashes l others) clash) same_ones c))
-    (subst (λ l. IsLeast (ClashesAbove l later.level) above) same_levels a)
+    (subst (λ l. IsLeastConflict (Clashes first.accesses l) clash) same_others (subst (λ l. IsLeastConflict (Clashes l others) clash) same_ones c))
+    (subst (λ l. IsLeastConflict (ClashesAbove l later.level) above) same_levels a)
     is
 
 -- a first conflict is the only one

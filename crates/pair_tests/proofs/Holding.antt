@@ -6,6 +6,8 @@ use Rattle.std.specs.List.{All, Contains}
 use Rattle.std.proofs.lemmas.List.{take_all, take_more}
 use Rattle.std.proofs.lemmas.List.Elements.{All-contains, Contains-get_or}
 use Rattle.std.proofs.lemmas.Option.{none-some, same_Some}
+use Rattle.std.proofs.lemmas.Bool.{false≢true}
+use Rattle.plex_num.proofs.Booleans.{true_not_false}
 use Rattle.plex_num.proofs.Members.{none_in}
 use Rattle.job_types.specs.declared.chain.Held.{Held}
 use Rattle.job_types.specs.declared.job.JobStart.{JobStart}
@@ -14,7 +16,7 @@ use Rattle.entry_summary.specs.declared.summary.Summary.{Summary}
 use Rattle.pair_tests.specs.declared.pair.Conflict.{Conflict}
 use Rattle.pair_tests.specs.declared.pair.Test.{Test}
 use Rattle.pair_tests.specs.declared.pair.Test.TheVariants as test
-use Rattle.pair_tests.specs.Clashes.{IsLeast}
+use Rattle.pair_tests.specs.Clashes.{IsLeastConflict}
 use Rattle.pair_tests.specs.Asked.{asked_of, asks, release_test, AskedWith, Asked, AskedSeizing, AskedRelease, AllHold}
 use Rattle.pair_tests.specs.Nearby.{passes_reads, AreNear}
 use Rattle.pair_tests.specs.Pairs.{TestHolds, IsConflict, IsTest, Passes}
@@ -26,9 +28,6 @@ sure r e = e
 unsure : (r : Bool) → r ≡ false → IsTrue r → ⊥
 unsure true e h = cc
 unsure false e h = cc
-
-never : IsTrue false → ⊥
-never h = cc
 
 module _ (a b : JobStart) where
   -- all tests of the set hold where those of two parts of it do
@@ -45,7 +44,7 @@ module _ (a b : JobStart) where
   pub both_hold : (P Q R : Test → Type 0) → ((t : Test) → P t → R t) → ((t : Test) → Q t → R t) → ((t : Test) → R t → P t ⊎ Q t)
       → (x y : Bool) → IsTrue x ↔ AllHold P a b → IsTrue y ↔ AllHold Q a b → IsTrue (x && y) ↔ AllHold R a b
   both_hold P Q R from_p from_q cases true y p q = (λ h. joined P Q R cases (p.0 refl) (q.0 h), λ h. q.1 (fewer Q R from_q h))
-  both_hold P Q R from_p from_q cases false y p q = (λ h. absurd (never h), λ h. p.1 (fewer P R from_p h))
+  both_hold P Q R from_p from_q cases false y p q = (λ h. absurd (false≢true h), λ h. p.1 (fewer P R from_p h))
 
   pub none_asked : IsTrue true ↔ AllHold (λ t. None ≡ Some t) a b
   none_asked = (λ h. none_hold (λ t. None ≡ Some t) (λ t e. none-some t e), λ h. refl)
@@ -70,7 +69,7 @@ module _ (a b : JobStart) where
       → o ≡ asked_of one (get_or others i d) → IsTrue r ↔ AllHold (λ t. o ≡ Some t) a b → r ≡ false
       → IsTrue false ↔ AllHold (AskedWith one others) a b
   with_fails one others i d o r lt same is fails =
-      (λ h. absurd (never h), λ h. absurd (unsure r fails (is.1 (record { each = λ t e. h.each t (record { other = get_or others i d; there = Contains-get_or others i d lt; asks = sym same ∙ e }) }))))
+      (λ h. absurd (false≢true h), λ h. absurd (unsure r fails (is.1 (record { each = λ t e. h.each t (record { other = get_or others i d; there = Contains-get_or others i d lt; asks = sym same ∙ e }) }))))
 
   pub with_end : (one : Access) (others : List Access) (i : ℕ) → length others ≤ i → AllHold (AskedWith one (take i others)) a b → IsTrue true ↔ AllHold (AskedWith one others) a b
   with_end one others i past h = (λ k. subst (λ l. AllHold (AskedWith one l) a b) (take_all i others past) h, λ k. refl)
@@ -105,7 +104,7 @@ module _ (a b : JobStart) where
       → IsTrue r ↔ AllHold (AskedWith (get_or ones i d) others) a b → r ≡ false
       → IsTrue false ↔ AllHold (Asked ones others) a b
   all_fails ones others i d r lt is fails =
-      (λ h. absurd (never h), λ h. absurd (unsure r fails (is.1 (record { each = λ t e. h.each t (record { one = get_or ones i d; there = Contains-get_or ones i d lt; asks = e }) }))))
+      (λ h. absurd (false≢true h), λ h. absurd (unsure r fails (is.1 (record { each = λ t e. h.each t (record { one = get_or ones i d; there = Contains-get_or ones i d lt; asks = e }) }))))
 
   pub all_end : (ones others : List Access) (i : ℕ) → length ones ≤ i → AllHold (Asked (take i ones) others) a b → IsTrue true ↔ AllHold (Asked ones others) a b
   all_end ones others i past h = (λ k. subst (λ l. AllHold (Asked l others) a b) (take_all i ones past) h, λ k. refl)
@@ -127,22 +126,18 @@ module _ (a b : JobStart) where
       → o ≡ release_test (get_or others i d) → IsTrue r ↔ AllHold (λ t. o ≡ Some t) a b → r ≡ false
       → IsTrue false ↔ AllHold (AskedSeizing others) a b
   seizing_fails others i d o r lt same is fails =
-      (λ h. absurd (never h), λ h. absurd (unsure r fails (is.1 (record { each = λ t e. h.each t (record { other = get_or others i d; there = Contains-get_or others i d lt; asks = sym same ∙ e }) }))))
+      (λ h. absurd (false≢true h), λ h. absurd (unsure r fails (is.1 (record { each = λ t e. h.each t (record { other = get_or others i d; there = Contains-get_or others i d lt; asks = sym same ∙ e }) }))))
 
   pub seizing_end : (others : List Access) (i : ℕ) → length others ≤ i → AllHold (AskedSeizing (take i others)) a b → IsTrue true ↔ AllHold (AskedSeizing others) a b
   seizing_end others i past h = (λ k. subst (λ l. AllHold (AskedSeizing l) a b) (take_all i others past) h, λ k. refl)
 
   -- a first job that may fault
 
-  both_ways : (b : Bool) → b ≡ true → b ≡ false → ⊥
-  both_ways true e f = cc
-  both_ways false e f = cc
-
   pub no_fault : (fault : Bool) (others : List Access) → fault ≡ false → IsTrue true ↔ AllHold (AskedRelease fault others) a b
-  no_fault fault others e = (λ h. none_hold (AskedRelease fault others) (λ t k. both_ways fault k.fault_may e), λ h. refl)
+  no_fault fault others e = (λ h. none_hold (AskedRelease fault others) (λ t k. true_not_false fault k.fault_may e), λ h. refl)
 
   pub no_forlopp : (fault : Bool) (others : List Access) → fault ≡ true → a.job.forlopp ≡ 0 → IsTrue false ↔ AllHold (AskedRelease fault others) a b
-  no_forlopp fault others e zero = (λ h. absurd (never h), λ h. absurd (h.each test.InForlopp (record { fault_may = e; asks = inl refl }) zero))
+  no_forlopp fault others e zero = (λ h. absurd (false≢true h), λ h. absurd (h.each test.InForlopp (record { fault_may = e; asks = inl refl }) zero))
 
   pub released : (fault : Bool) (others : List Access) (r : Bool) → fault ≡ true → a.job.forlopp ≢ 0 → IsTrue r ↔ AllHold (AskedSeizing others) a b → IsTrue r ↔ AllHold (AskedRelease fault others) a b
   released fault others r e some h = (
@@ -161,23 +156,23 @@ module _ (a b : JobStart) where
       (subst (λ l. IsTrue x ↔ AllHold (Asked l later.accesses) a b) same_ones (subst (λ l. IsTrue x ↔ AllHold (Asked ones l) a b) same_others p))
       (subst (λ l. IsTrue y ↔ AllHold (AskedRelease first.fault l) a b) same_others q)
 
-  conflict_in : (first later : Summary) (o : Option Conflict) → is_some o ≡ true → IsLeast (IsConflict first later) o → Passes first later a b → ⊥
-  unfolding IsLeast
+  conflict_in : (first later : Summary) (o : Option Conflict) → is_some o ≡ true → IsLeastConflict (IsConflict first later) o → Passes first later a b → ⊥
+  unfolding IsLeastConflict
   conflict_in first later None e least h = cc
   conflict_in first later (Some c) e least h = h.apart c least.0
 
-  no_conflict_in : (first later : Summary) (o : Option Conflict) → is_some o ≡ false → IsLeast (IsConflict first later) o → (c : Conflict) → IsConflict first later c → ⊥
-  unfolding IsLeast
+  no_conflict_in : (first later : Summary) (o : Option Conflict) → is_some o ≡ false → IsLeastConflict (IsConflict first later) o → (c : Conflict) → IsConflict first later c → ⊥
+  unfolding IsLeastConflict
   no_conflict_in first later None e least = least
   no_conflict_in first later (Some c) e least = cc
 
-  pub conflicting : (first later : Summary) (o : Option Conflict) → is_some o ≡ true → IsLeast (IsConflict first later) o → IsTrue false ↔ Passes first later a b
-  conflicting first later o e least = (λ h. absurd (never h), λ h. absurd (conflict_in first later o e least h))
+  pub conflicting : (first later : Summary) (o : Option Conflict) → is_some o ≡ true → IsLeastConflict (IsConflict first later) o → IsTrue false ↔ Passes first later a b
+  conflicting first later o e least = (λ h. absurd (false≢true h), λ h. absurd (conflict_in first later o e least h))
 
-  pub passing : (first later : Summary) (o : Option Conflict) (x y : Bool) → is_some o ≡ false → IsLeast (IsConflict first later) o
+  pub passing : (first later : Summary) (o : Option Conflict) (x y : Bool) → is_some o ≡ false → IsLeastConflict (IsConflict first later) o
       → IsTrue x ↔ AllHold (IsTest first later) a b → IsTrue y ↔ (a.job.forlopp ≡ b.job.forlopp → a.job.forlopp ≡ 0) → IsTrue (x && y) ↔ Passes first later a b
   passing first later o true y e least p q = (λ h. record { apart = no_conflict_in first later o e least; tests = (p.0 refl).each; forlopps = q.0 h }, λ h. q.1 h.forlopps)
-  passing first later o false y e least p q = (λ h. absurd (never h), λ h. p.1 (record { each = h.tests }))
+  passing first later o false y e least p q = (λ h. absurd (false≢true h), λ h. p.1 (record { each = h.tests }))
 
 -- a chain without records of a file
 

@@ -25,7 +25,7 @@ use Rattle.entry_summary.specs.Orders.{access_order, value_order}
 use Rattle.pair_tests.specs.declared.pair.Conflict.{Conflict}
 use Rattle.pair_tests.specs.declared.pair.Test.{Test}
 use Rattle.pair_tests.specs.declared.pair.Conflict.TheVariants as conflict
-use Rattle.pair_tests.specs.Clashes.{share, meet, clash_of, ClashesWith, IsLeast, IsSooner}
+use Rattle.pair_tests.specs.Clashes.{share, meet, clash_of, ClashesWith, IsLeastConflict, IsSooner}
 use Rattle.pair_tests.specs.Asked.{asked_of, selector_test}
 use Rattle.pair_tests.specs.declared.near.Bound.{Bound}
 use Rattle.pair_tests.specs.declared.near.Bound.TheVariants.{Below, UpTo}
@@ -238,7 +238,7 @@ asked_writes _ _ t reads e = absurd (none-some t e)
 
 -- the first of the conflicts with those that are near
 pub least_writes : (one : Access) (all some : List Access) (writes : Option Conflict) → passes_reads one ≡ true → AreNear one true all some
-    → IsLeast (ClashesWith one some) writes → IsLeast (ClashesWith one all) writes
+    → IsLeastConflict (ClashesWith one some) writes → IsLeastConflict (ClashesWith one all) writes
 least_writes one all some writes reads w first =
     least_same (ClashesWith one some) (ClashesWith one all)
     (λ c h. record { other = h.other; there = w.each h.other h.there; clash = h.clash })
@@ -247,7 +247,7 @@ least_writes one all some writes reads w first =
 
 pub least_near : (one : Access) (all some_reads some_writes : List Access) (reads writes result : Option Conflict)
     → AreNear one false all some_reads → AreNear one true all some_writes
-    → IsLeast (ClashesWith one some_reads) reads → IsLeast (ClashesWith one some_writes) writes → IsSooner reads writes result → IsLeast (ClashesWith one all) result
+    → IsLeastConflict (ClashesWith one some_reads) reads → IsLeastConflict (ClashesWith one some_writes) writes → IsSooner reads writes result → IsLeastConflict (ClashesWith one all) result
 least_near one all some_reads some_writes reads writes result r w first second is =
     least_joined (ClashesWith one some_reads) (ClashesWith one some_writes) (ClashesWith one all)
     (λ c h. record { other = h.other; there = r.each h.other h.there; clash = h.clash })

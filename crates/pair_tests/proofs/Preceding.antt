@@ -4,7 +4,7 @@ use Rattle.std.specs.declared.cmp.Ordering.{Ordering}
 use Rattle.std.specs.declared.cmp.Ordering.TheVariants.{Less, Equal, Greater}
 use Rattle.std.specs.Cmp.{IsTotalOrder}
 use Rattle.std.specs.Ordering.{ordering_reverse}
-use Rattle.std.proofs.lemmas.Bool.{cases_lt}
+use Rattle.std.proofs.lemmas.Bool.{cases_order}
 use Rattle.std.proofs.lemmas.Cmp.{tied_itself}
 use Rattle.plex_num.specs.declared.level.Level.{Level}
 use Rattle.plex_num.specs.declared.level.Level.TheVariants.{A, B, C, D}
@@ -129,29 +129,26 @@ same_level C C e = refl
 same_level D D e = refl
 same_level _ _ e = absurd (omega arith)
 
-numbers_ranked : (c d : ℕ → Conflict) (n m : ℕ) → ((k : ℕ) → c k ≡ d k) → (n < m → Precedes (c n) (d m)) → (m < n → Precedes (d m) (c n)) → (n < m) ⊎ ((n ≡ m) ⊎ (m < n)) → Ranked (c n) (d m)
-numbers_ranked c d n m same before after (inl h) = Before (before h)
-numbers_ranked c d n m same before after (inr (inl h)) = Same (same n ∙ ap d h)
+numbers_ranked : (c d : ℕ → Conflict) (n m : ℕ) → ((k : ℕ) → c k ≡ d k) → (n < m → Precedes (c n) (d m)) → (m < n → Precedes (d m) (c n)) → (n ≡ m) ⊎ ((n < m) ⊎ (m < n)) → Ranked (c n) (d m)
+numbers_ranked c d n m same before after (inl h) = Same (same n ∙ ap d h)
+numbers_ranked c d n m same before after (inr (inl h)) = Before (before h)
 numbers_ranked c d n m same before after (inr (inr h)) = After (after h)
 
-cases_of : (n m : ℕ) → (n < m) ⊎ ((n ≡ m) ⊎ (m < n))
-cases_of n m = grind (arith, cases_lt n m, cases_lt m n)
-
-field_ranked : (n m : ℕ) (u v w z : Value) → (n < m) ⊎ ((n ≡ m) ⊎ (m < n)) → Ranked (Field n u v) (Field m w z)
-field_ranked n m u v w z (inl h) = Before (inl h)
-field_ranked n m u v w z (inr (inl h)) = subst (λ k. Ranked (Field n u v) (Field k w z)) h (fields_ranked n u v w z (selectors_ranked u v w z (told (value_order u w))))
+field_ranked : (n m : ℕ) (u v w z : Value) → (n ≡ m) ⊎ ((n < m) ⊎ (m < n)) → Ranked (Field n u v) (Field m w z)
+field_ranked n m u v w z (inl h) = subst (λ k. Ranked (Field n u v) (Field k w z)) h (fields_ranked n u v w z (selectors_ranked u v w z (told (value_order u w))))
+field_ranked n m u v w z (inr (inl h)) = Before (inl h)
 field_ranked n m u v w z (inr (inr h)) = After (inl h)
 
-level_ranked : (l m : Level) → (level_number l < level_number m) ⊎ ((level_number l ≡ level_number m) ⊎ (level_number m < level_number l)) → Ranked (Above l) (Above m)
-level_ranked l m (inl h) = Before h
-level_ranked l m (inr (inl h)) = Same (ap Above (same_level l m h))
+level_ranked : (l m : Level) → (level_number l ≡ level_number m) ⊎ ((level_number l < level_number m) ⊎ (level_number m < level_number l)) → Ranked (Above l) (Above m)
+level_ranked l m (inl h) = Same (ap Above (same_level l m h))
+level_ranked l m (inr (inl h)) = Before h
 level_ranked l m (inr (inr h)) = After h
 
 pub ranked : (c d : Conflict) → Ranked c d
-ranked (Variable n) (Variable m) = numbers_ranked Variable Variable n m (λ k. refl) (λ h. h) (λ h. h) (cases_of n m)
-ranked (Field n u v) (Field m w z) = field_ranked n m u v w z (cases_of n m)
-ranked (Seizing n) (Seizing m) = numbers_ranked Seizing Seizing n m (λ k. refl) (λ h. h) (λ h. h) (cases_of n m)
-ranked (Above l) (Above m) = level_ranked l m (cases_of (level_number l) (level_number m))
+ranked (Variable n) (Variable m) = numbers_ranked Variable Variable n m (λ k. refl) (λ h. h) (λ h. h) (cases_order n m)
+ranked (Field n u v) (Field m w z) = field_ranked n m u v w z (cases_order n m)
+ranked (Seizing n) (Seizing m) = numbers_ranked Seizing Seizing n m (λ k. refl) (λ h. h) (λ h. h) (cases_order n m)
+ranked (Above l) (Above m) = level_ranked l m (cases_order (level_number l) (level_number m))
 ranked (Variable n) _ = Before tt
 ranked _ (Variable m) = After tt
 ranked (Field n u v) _ = Before tt

@@ -13,6 +13,7 @@ use Rattle.std.proofs.lemmas.List.Sorted.{Contains-permutation, IsPermutation-sy
 use Rattle.std.proofs.lemmas.List.{take_all, take_more}
 use Rattle.std.proofs.lemmas.List.Elements.{Contains-append_left, Contains-push, Contains-push_cases}
 use Rattle.std.proofs.lemmas.Option.{none-some, same_Some}
+use Rattle.plex_num.proofs.Booleans.{true_not_false}
 use Rattle.plex_num.proofs.Members.{none_in}
 use Rattle.plex_num.proofs.Numbers.{nat_same}
 use Rattle.flow_points.specs.declared.fact.Value.{Value}
@@ -192,11 +193,7 @@ pub seizing_end : (others : List Access) (i : ℕ) (old new : List Test) → len
 seizing_end others i old new past h = subst (λ l. Adds (AskedSeizing l) old new) (take_all i others past) h
 
 pub no_release : (fault : Bool) (others : List Access) (old : List Test) → fault ≡ false → Adds (AskedRelease fault others) old old
-no_release fault others old e = adds_nothing (AskedRelease fault others) old (λ t h. both_ways fault h.fault_may e)
-  where
-    both_ways : (b : Bool) → b ≡ true → b ≡ false → ⊥
-    both_ways true e f = cc
-    both_ways false e f = cc
+no_release fault others old e = adds_nothing (AskedRelease fault others) old (λ t h. true_not_false fault h.fault_may e)
 
 pub release : (fault : Bool) (others : List Access) (old now new : List Test) → fault ≡ true → now ≡ old ++ test.InForlopp ∷ [] → Adds (AskedSeizing others) now new
     → Adds (AskedRelease fault others) old new

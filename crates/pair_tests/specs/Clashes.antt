@@ -60,9 +60,9 @@ pub record ClashesAbove (levels : List Level) (later : Level) (c : Conflict) : T
   pub clash : above_of level later ≡ Some c
 
 -- none of these conflicts comes before this one of them; `None` where there are none
-unfoldable pub IsLeast : (Conflict → Type 0) → Option Conflict → Type 0
-IsLeast P None = (c : Conflict) → P c → ⊥
-IsLeast P (Some c) = P c × ((d : Conflict) → P d → Precedes d c → ⊥)
+unfoldable pub IsLeastConflict : (Conflict → Type 0) → Option Conflict → Type 0
+IsLeastConflict P None = (c : Conflict) → P c → ⊥
+IsLeastConflict P (Some c) = P c × ((d : Conflict) → P d → Precedes d c → ⊥)
 
 -- the one of the two that comes first
 abbrev pub IsSooner : Option Conflict → Option Conflict → Option Conflict → Type 0

@@ -3,7 +3,7 @@ ghost use Rattle.std.specs.Prelude.{◌≡◌};
 ghost use Rattle.entry_summary.specs.declared.summary.Access.TheVariants as access;
 ghost use Rattle.std.specs.List.Sorted.{IsStrictlySortedBy};
 ghost use Rattle.entry_summary.specs.Orders.{access_order};
-ghost use Rattle.pair_tests.specs.Clashes.{above_of, clash_of, only_if as only_if_of, meet as meet_of, share as share_of, Clashes, ClashesAbove, ClashesWith, IsLeast};
+ghost use Rattle.pair_tests.specs.Clashes.{above_of, clash_of, only_if as only_if_of, meet as meet_of, share as share_of, Clashes, ClashesAbove, ClashesWith, IsLeastConflict};
 
 use crate::near::{Hints, near, passes_reads};
 use crate::pair::Conflict;
@@ -118,7 +118,7 @@ fn clash(one: Access, other: Access) -> Option<Conflict>
 /// The first conflict of an access of the first with one of these accesses of the later.
 #[tactic(auto, using(crate::proofs::Leasts::with_none, crate::proofs::Leasts::with_more))]
 fn first_among(one: Access, others: &[Access]) -> Option<Conflict>
-    ensures { IsLeast (ClashesWith one others.now) result }
+    ensures { IsLeastConflict (ClashesWith one others.now) result }
 {
     let mut least = None;
     for other in others {
@@ -131,7 +131,7 @@ fn first_among(one: Access, others: &[Access]) -> Option<Conflict>
 #[tactic(auto, using(crate::proofs::Nearing::least_writes, crate::proofs::Nearing::least_near))]
 fn first_with(one: Access, others: &[Access], hints: &mut Hints) -> Option<Conflict>
     requires { IsStrictlySortedBy access_order others.now }
-    ensures { IsLeast (ClashesWith one others.now) result }
+    ensures { IsLeastConflict (ClashesWith one others.now) result }
 {
     let writes = first_among(one, near(others, one, true, &mut hints.writes));
     if passes_reads(one) {
@@ -145,7 +145,7 @@ fn first_with(one: Access, others: &[Access], hints: &mut Hints) -> Option<Confl
 #[tactic(auto, using(crate::proofs::Leasts::of_none, crate::proofs::Leasts::of_more))]
 pub fn first_clash(ones: &[Access], others: &[Access]) -> Option<Conflict>
     requires { IsStrictlySortedBy access_order others.now }
-    ensures { IsLeast (Clashes ones.now others.now) result }
+    ensures { IsLeastConflict (Clashes ones.now others.now) result }
 {
     let mut least = None;
     let mut hints = Hints::new();
@@ -168,7 +168,7 @@ fn above(level: Level, later: Level) -> Option<Conflict>
 /// The first conflict of a level to which the first may send with the later's own level.
 #[tactic(auto, using(crate::proofs::Leasts::above_none, crate::proofs::Leasts::above_more))]
 pub fn first_above(levels: &[Level], later: Level) -> Option<Conflict>
-    ensures { IsLeast (ClashesAbove levels.now later) result }
+    ensures { IsLeastConflict (ClashesAbove levels.now later) result }
 {
     let mut least = None;
     for level in levels {

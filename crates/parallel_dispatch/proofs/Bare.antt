@@ -1,5 +1,5 @@
 -- The permit of a trace lets the trace be made, and no more than the touches of the trace are permitted.
-use Rattle.std.proofs.Common.{◌≡◌, ℕ, true, false, List, [], ◌∷◌, subst, inr, ⊎_elim}
+use Rattle.std.proofs.Common.{◌≡◌, ℕ, true, List, [], ◌∷◌, subst, inr, ⊎_elim}
 use Rattle.std.proofs.lemmas.Bool.{or_cases, or_left, or_right, false≢true}
 use Rattle.std.specs.List.{list_any}
 use Rattle.job_types.specs.declared.job.JobStart.{JobStart}
@@ -14,7 +14,7 @@ use Rattle.start_permit.specs.Granted.{MayRead, MayWrite}
 use Rattle.permit_laws.specs.Permitted.{ArePermitted}
 use Rattle.shared_store.specs.Alone.{alone}
 use Rattle.shared_store.proofs.Alone.{alone_in, alone_out}
-use Rattle.job_runner.specs.Runs.{Keeps}
+use Rattle.job_runner.specs.Runs.{KeepsPermit}
 use Rattle.parallel_dispatch.specs.Bare.{bare, loads_of, stores_of}
 
 module _ (x : Exchange) (m : Summary) (start : JobStart) (chains : ChainMap) where
@@ -40,10 +40,10 @@ module _ (x : Exchange) (m : Summary) (start : JobStart) (chains : ChainMap) whe
   pub bare_reads : (ts : List Touch) → ArePermitted x m start chains ts → (w : ℕ) → may_read (bare ts) w ≡ true → MayRead x m start chains w
   bare_reads ts all w e = ⊎_elim (λ h. loaded ts all w h) (λ h. inr (stored ts all w h)) (or_cases (list_any (λ s. spans s w) (loads_of ts)) (may_write (bare ts) w) e)
 
-keeps_of : (p : Permit) (ts : List Touch) → ((w : ℕ) → list_any (λ s. spans s w) (loads_of ts) ≡ true → may_read p w ≡ true) → ((w : ℕ) → list_any (λ s. spans s w) (stores_of ts) ≡ true → may_write p w ≡ true) → Keeps p ts
+keeps_of : (p : Permit) (ts : List Touch) → ((w : ℕ) → list_any (λ s. spans s w) (loads_of ts) ≡ true → may_read p w ≡ true) → ((w : ℕ) → list_any (λ s. spans s w) (stores_of ts) ≡ true → may_write p w ≡ true) → KeepsPermit p ts
 keeps_of p [] reads writes = tt
 keeps_of p (Load w v ∷ ts) reads writes = (reads w (or_left (spans (alone w) w) _ (alone_in w)), keeps_of p ts (λ u e. reads u (or_right (spans (alone w) u) _ e)) writes)
 keeps_of p (Store w v ∷ ts) reads writes = (writes w (or_left (spans (alone w) w) _ (alone_in w)), keeps_of p ts reads (λ u e. writes u (or_right (spans (alone w) u) _ e)))
 
-pub keeps_bare : (ts : List Touch) → Keeps (bare ts) ts
+pub keeps_bare : (ts : List Touch) → KeepsPermit (bare ts) ts
 keeps_bare ts = keeps_of (bare ts) ts (λ w e. or_left _ (may_write (bare ts) w) e) (λ w e. e)

@@ -47,8 +47,9 @@ may_fly_alone k books w start is none some line =
       pass = subst (λ (ls : List Lent). AllByRecursion (λ (older : JobStart). MayFollow k older start) (starts_of ls)) (sym empty) tt;
     }
 
-pub may_fly_beside : (k : KeptSummaries) (books : Account) (w : View) (start : JobStart) (behind : ℕ) → Some start ≡ upcoming books → length w.loans < w.room → NoLineBefore (books.state.ended + length w.loans + 1) books.state.lines → (behind ≡ 0 → AllByRecursion (λ (older : JobStart). MayFollow k older start) (starts_of w.loans)) → behind ≡ 0 → MayFly k books w start
-may_fly_beside k books w start behind is lt line pass none = record { next = is; room = lt; line = line; pass = pass none }
+pub may_fly_beside : (k own : KeptSummaries) (books : Account) (w : View) (start : JobStart) (behind : ℕ) → Some start ≡ upcoming books → length w.loans < w.room → NoLineBefore (books.state.ended + length w.loans + 1) books.state.lines → own ≡ k → (behind ≡ 0 → AllByRecursion (λ (older : JobStart). MayFollow own older start) (starts_of w.loans)) → behind ≡ 0 → MayFly k books w start
+may_fly_beside k own books w start behind is lt line same pass none =
+    record { next = is; room = lt; line = line; pass = subst (λ o. AllByRecursion (λ (older : JobStart). MayFollow o older start) (starts_of w.loans)) same (pass none) }
 
 pub some_fly : (w : View) (o : Option JobStart) → length w.loans ≢ 0 → w.loans ≡ [] → None ≡ o
 some_fly w o some is = absurd (some (ap length is))

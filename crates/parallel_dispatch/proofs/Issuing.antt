@@ -29,7 +29,7 @@ use Rattle.retire_order.specs.Accounts.{Account, after_start, upcoming, with_wor
 use Rattle.shared_store.specs.declared.view.Lent.{Lent}
 use Rattle.shared_store.specs.declared.view.Top.{Top}
 use Rattle.shared_store.specs.Loans.{FitsBeside, Has, lender, lent}
-use Rattle.job_runner.specs.Runs.{IsForJob, Keeps}
+use Rattle.job_runner.specs.Runs.{IsForJob, KeepsPermit}
 use Rattle.interleave_core.proofs.Joining.{begun_all_valid}
 use Rattle.parallel_dispatch.specs.Bare.{bare}
 use Rattle.parallel_dispatch.specs.Flying.{AllPass, AreWithin, Fly, IsLent, starts_of}
@@ -134,7 +134,7 @@ module _ (x : Exchange) (k : KeptSummaries) (kept : IsExchange x) (checked : IsC
           valid = fly.valid;
           fitting = fits;
           store_is = sym fly.values;
-          keeps = subst (λ (q : Permit). Keeps q (trace_of x start top.values)) (sym p_is) (keeps_bare (trace_of x start top.values));
+          keeps = subst (λ (q : Permit). KeepsPermit q (trace_of x start top.values)) (sym p_is) (keeps_bare (trace_of x start top.values));
         }
 
         new_lent : IsLent x k s (lent top start p)

@@ -20,13 +20,13 @@ PassAll k later starts = AllByRecursion (λ (older : JobStart). MayFollow k olde
 pub passes_begin : (k : KeptSummaries) (later : JobStart) (starts : List JobStart) (n : ℕ) → n ≡ length starts → PassAll k later (drop (n - 0) starts)
 passes_begin k later starts n long = subst (PassAll k later) (sym (drop_all (n - 0) starts (omega (arith, long)))) tt
 
-pub passes_more : (k : KeptSummaries) (later : JobStart) (starts : List JobStart) (n i place : ℕ) (start : JobStart) → n ≡ length starts → i < n → place ≡ n - 1 - i → start ≡ get_or starts place start → MayFollow k start later → PassAll k later (drop (n - i) starts) → PassAll k later (drop (n - (i + 1)) starts)
-passes_more k later starts n i place start long lt at is one all =
+pub passes_more : (k own : KeptSummaries) (later : JobStart) (starts : List JobStart) (n i place : ℕ) (start : JobStart) → n ≡ length starts → i < n → place ≡ n - 1 - i → start ≡ get_or starts place start → own ≡ k → MayFollow own start later → PassAll k later (drop (n - i) starts) → PassAll k later (drop (n - (i + 1)) starts)
+passes_more k own later starts n i place start long lt at is same one all =
     let within : place < length starts = omega (arith, long, lt, at) in
     let here : n - (i + 1) ≡ place = omega (arith, at) in
     let next : n - i ≡ place + 1 = omega (arith, lt, at) in
     subst (PassAll k later) (sym (ap (λ m. drop m starts) here ∙ drop_more starts place start within))
-    (subst (λ a. MayFollow k a later) is one, subst (λ m. PassAll k later (drop m starts)) next all)
+    (subst (λ a. MayFollow k a later) is (subst (λ o. MayFollow o start later) same one), subst (λ m. PassAll k later (drop m starts)) next all)
 
 pub passes_end : (k : KeptSummaries) (later : JobStart) (starts : List JobStart) (n : ℕ) → PassAll k later (drop (n - n) starts) → PassAll k later starts
 passes_end k later starts n all = (let none : n - n ≡ 0 = omega arith in subst (λ m. PassAll k later (drop m starts)) none all)

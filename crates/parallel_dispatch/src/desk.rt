@@ -172,14 +172,15 @@ impl<B: Course> Desk<B> {
     pub fn next_move(
         &self,
         setting: &Setting<'_>,
-        pairs: &PairTable<'_>,
+        pairs: &mut PairTable<'_>,
         shop: &Shop<B>,
         pace: &mut Pace,
     ) -> Move
         requires setting { SuitsBy B.exchange B.code B.store B.book B.kept setting.now }
-        requires pairs { pairs.now ≡ B.kept }
+        requires pairs { pairs.old ≡ B.kept }
         requires goes_on { GoesOn self.now.books self.now.window }
-        ensures { MayMove B.kept self.now.books self.now.window result }
+        ensures may { MayMove B.kept self.now.books self.now.window result }
+        ensures kept { pairs.new ≡ B.kept }
     {
         let _ = setting;
         next_move(&self.books, &self.window, pairs, shop, pace)

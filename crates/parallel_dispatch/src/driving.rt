@@ -37,14 +37,14 @@ pub(crate) fn run_jobs<
 >(
     scope: &'s Scope<'s, &'e ()>,
     hall: &Hall<'e, B, R, G>,
-    pairs: &PairTable<'_>,
+    pairs: &mut PairTable<'_>,
     pace: Pace,
     books: Books,
     root: RootSeat,
     window: Window<B>,
 ) -> Result<(Books, Over), Left<B>>
     requires setting { SuitsBy B.exchange B.code B.store B.book B.kept hall.now.setting }
-    requires pairs { pairs.now ≡ B.kept }
+    requires pairs { pairs.old ≡ B.kept }
     requires open { MayOpen B.exchange B.store B.workers B.first B.limit books root window }
     ensures over { IfOk result (λ end.
         IsOverFrom B.exchange B.code B.kept B.workers B.store B.first B.limit end.0 end.1) }

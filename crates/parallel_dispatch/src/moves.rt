@@ -22,7 +22,7 @@ use interference_check::PairTable;
 use job_runner::RootWords;
 use job_types::JobStart;
 use machine_code::Code;
-use plex_io::{Gate, Place};
+use plex_io::{Gate, Moment};
 use plex_num::Memory;
 use register_machine::{JobRun, run_to_end};
 use retire_order::{Books, let_arrive};
@@ -55,7 +55,7 @@ pub(crate) struct Retired {
 pub(crate) fn next_move<B: Naming>(
     books: &Books,
     window: &Window<B>,
-    pairs: &PairTable<'_>,
+    pairs: &mut PairTable<'_>,
     shop: &Shop<B>,
     pace: &mut Pace,
 ) -> Move
@@ -63,9 +63,10 @@ pub(crate) fn next_move<B: Naming>(
     requires line { window.now.loans ≡ []
         → NoLineBefore (books.now.state.ended + 1) books.now.state.lines }
     requires next { (start : StartType)
-        → Some start ≡ upcoming books.now → HasSummary pairs.now start }
-    requires window { AllByRecursion (HasSummary pairs.now) (starts_of window.now.loans) }
-    ensures { MayMove pairs.now books.now window.now result }
+        → Some start ≡ upcoming books.now → HasSummary pairs.old start }
+    requires window { AllByRecursion (HasSummary pairs.old) (starts_of window.now.loans) }
+    ensures may { MayMove pairs.old books.now window.now result }
+    ensures kept { pairs.new ≡ pairs.old }
 {
     if waits_for_oldest(window, shop, pace) {
         return Move::Retire;
@@ -86,7 +87,8 @@ pub(crate) fn next_move<B: Naming>(
     if window.len() >= window.room() || !retire_before_line(books, window.len()) {
         return Move::Retire;
     }
-    if !pace.may_ask(entry, window.asking(pairs, entry), window.len()) {
+    let tests = window.asking(pairs, entry);
+    if !pace.may_ask(entry, tests, window.len()) {
         pace.waits_for(1);
         return Move::Retire;
     }
@@ -220,7 +222,7 @@ pub(crate) fn run_alone<B: Naming, G: Gate>(
     };
     let mut run = run;
     run.begin(setting.work.code, &start);
-    gate.at(job, Place::Before);
+    gate.at(job, Moment::Before);
     let root = run_on_root(
         setting.work.exchange,
         setting.work.code,
@@ -230,7 +232,7 @@ pub(crate) fn run_alone<B: Naming, G: Gate>(
         &start,
     );
     let steps = run.steps();
-    gate.at(job, Place::After { steps });
+    gate.at(job, Moment::After { steps });
     let done = run.done();
     pace.has_ended(start.job.entry, steps);
     let mut words = RootWords::new(setting.store, root);

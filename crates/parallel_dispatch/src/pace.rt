@@ -1,5 +1,8 @@
-// What the dispatcher has learned of its jobs, and which of them are worth a loan by that. Nothing here has a contract: what comes out of
-// a run is the same whatever is answered.
+// What the dispatcher has learned of its jobs, and which of them are worth a loan by that. No
+// answer here has a contract: what comes out of a run is the same whatever is answered. The table
+// of pairs, which learns as it is asked, stays that of its certificate.
+ghost use Rattle.std.specs.Prelude.{◌≡◌};
+
 use exchange_run::{MOST_COUNTED, long_job};
 use interference_check::PairTable;
 use plex_num::Memory;
@@ -127,7 +130,9 @@ impl Pace {
     }
 
     /// Whether the next job, of this entry, is worth a loan where none flies.
-    pub fn may_fly_first(&mut self, pairs: &PairTable<'_>, entry: u32) -> bool {
+    pub fn may_fly_first(&mut self, pairs: &mut PairTable<'_>, entry: u32) -> bool
+        ensures { pairs.new ≡ pairs.old }
+    {
         let mut known = self.asked_partner(pairs, entry);
         if known.rest > 0 {
             known.rest -= 1;
@@ -138,7 +143,9 @@ impl Pace {
     }
 
     /// How the next job flies, which is of this entry, beside so many.
-    pub fn way(&mut self, pairs: &PairTable<'_>, entry: u32, flying: usize) -> Way {
+    pub fn way(&mut self, pairs: &mut PairTable<'_>, entry: u32, flying: usize) -> Way
+        ensures { pairs.new ≡ pairs.old }
+    {
         if flying == 0 {
             return Way::InHand;
         }
@@ -261,7 +268,9 @@ impl Pace {
     }
 
     /// What is known of this entry, and whether it has a partner.
-    fn asked_partner(&mut self, pairs: &PairTable<'_>, entry: u32) -> Known {
+    fn asked_partner(&mut self, pairs: &mut PairTable<'_>, entry: u32) -> Known
+        ensures { pairs.new ≡ pairs.old }
+    {
         let mut known = self.known(entry);
         if let Partner::Unknown = known.partner {
             known.partner = if pairs.has_partner(entry) {

@@ -131,7 +131,7 @@ fn drive<'s, 'e: 's, B: Course + Send + Sync, R: Threads + Wait + Sync, G: Gate 
     } = beginning;
     let alloc = hall.setting.alloc;
     let checked = hall.setting.work.checked;
-    let Ok(pairs) = PairTable::new(alloc, checked) else {
+    let Ok(mut pairs) = PairTable::new(alloc, checked) else {
         return Err(root);
     };
     let helpers = helpers(hall.rt, workers);
@@ -142,7 +142,7 @@ fn drive<'s, 'e: 's, B: Course + Send + Sync, R: Threads + Wait + Sync, G: Gate 
         return Err(root);
     };
     let _closing = hall.shop.closing();
-    match run_jobs(scope, hall, &pairs, pace, books, root, window) {
+    match run_jobs(scope, hall, &mut pairs, pace, books, root, window) {
         Ok(over) => Ok(over),
         Err(left) => Err(drain(hall, left)),
     }

@@ -81,16 +81,20 @@ impl<B: Naming> Window<B> {
     }
 
     /// How many of the oldest must retire before a job passes with each that flies, as the later one: it does so now where none must.
-    pub fn blockers(&self, pairs: &PairTable<'_>, later: &JobStart) -> usize
-        requires window { AllByRecursion (HasSummary pairs.now) (starts_of self.now.loans) }
-        requires later { HasSummary pairs.now later.now }
-        ensures { result ≡ 0 → FollowsAll pairs.now (starts_of self.now.loans) later.now }
+    pub fn blockers(&self, pairs: &mut PairTable<'_>, later: &JobStart) -> usize
+        requires window { AllByRecursion (HasSummary pairs.old) (starts_of self.now.loans) }
+        requires later { HasSummary pairs.old later.now }
+        ensures passes { result ≡ 0
+            → FollowsAll pairs.old (starts_of self.now.loans) later.now }
+        ensures kept { pairs.new ≡ pairs.old }
     {
         blockers_among(pairs, &self.starts, later)
     }
 
     /// How many tests it takes, about, to ask whether a job of this entry passes with each that flies.
-    pub fn asking(&self, pairs: &PairTable<'_>, entry: u32) -> u64 {
+    pub fn asking(&self, pairs: &mut PairTable<'_>, entry: u32) -> u64
+        ensures { pairs.new ≡ pairs.old }
+    {
         let mut tests: u64 = 0;
         for start in self.starts.iter() {
             tests = tests.saturating_add(pairs.asking(start.job.entry, entry));
@@ -199,10 +203,11 @@ impl<B: Naming> Window<B> {
 /// How many of these, the first ones, end with one with which a job does not pass, as the later one: it passes with all where there is
 /// none.
 #[tactic(auto, using(crate::proofs::Passing::passes_begin, crate::proofs::Passing::passes_more, crate::proofs::Passing::passes_end))]
-fn blockers_among(pairs: &PairTable<'_>, older: &VecDeque<JobStart>, later: &JobStart) -> usize
-    requires older { AllByRecursion (HasSummary pairs.now) older.now.items }
-    requires later { HasSummary pairs.now later.now }
-    ensures { result ≡ 0 → FollowsAll pairs.now older.now.items later.now }
+fn blockers_among(pairs: &mut PairTable<'_>, older: &VecDeque<JobStart>, later: &JobStart) -> usize
+    requires older { AllByRecursion (HasSummary pairs.old) older.now.items }
+    requires later { HasSummary pairs.old later.now }
+    ensures passes { result ≡ 0 → FollowsAll pairs.old older.now.items later.now }
+    ensures kept { pairs.new ≡ pairs.old }
 {
     for behind in 0..older.len() {
         let place = older.len() - 1 - behind;
@@ -214,10 +219,11 @@ fn blockers_among(pairs: &PairTable<'_>, older: &VecDeque<JobStart>, later: &Job
 }
 
 /// Whether a job passes with an older one.
-fn passes_with(pairs: &PairTable<'_>, older: &JobStart, later: &JobStart) -> bool
-    requires older { HasSummary pairs.now older.now }
-    requires later { HasSummary pairs.now later.now }
-    ensures { IsTrue result → MayFollow pairs.now older.now later.now }
+fn passes_with(pairs: &mut PairTable<'_>, older: &JobStart, later: &JobStart) -> bool
+    requires older { HasSummary pairs.old older.now }
+    requires later { HasSummary pairs.old later.now }
+    ensures passes { IsTrue result → MayFollow pairs.old older.now later.now }
+    ensures kept { pairs.new ≡ pairs.old }
 {
     pairs.may_follow(older, later)
 }

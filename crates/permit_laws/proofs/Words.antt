@@ -13,7 +13,7 @@ use Rattle.flow_points.specs.declared.fact.Value.TheVariants.{Arg, Const, Any}
 use Rattle.entry_summary.specs.declared.summary.Access.{Access}
 use Rattle.entry_summary.specs.declared.summary.Summary.{Summary}
 use Rattle.entry_summary.specs.Numbers.{variable_number, field_number}
-use Rattle.start_permit.specs.Granted.{OneOf, IsVariable, IsOfField, IsOfMark, Selects, Does, HasWord, Lets}
+use Rattle.start_permit.specs.Granted.{OneOf, IsVariableWord, IsOfField, IsOfMark, Selects, Does, HasWord, Lets}
 use Rattle.fact_laws.specs.Covers.{StandsFor}
 
 -- the record for which a value stands is the one that it selects
@@ -23,7 +23,7 @@ selects values (Const c) number h = h
 selects values Any number h = tt
 
 module _ (x : Exchange) where
-  pub variable_word : (b v : ℕ) (k : Block) → slice_get x.blocks b ≡ Some k → v < length k.variables → IsVariable x (variable_number x b v) (base_of x b + v)
+  pub variable_word : (b v : ℕ) (k : Block) → slice_get x.blocks b ≡ Some k → v < length k.variables → IsVariableWord x (variable_number x b v) (base_of x b + v)
   unfolding base_of
   variable_word b v k there lt = record { block = b; index = v; owner = k; there = there; within = lt; numbered = refl; is = refl }
 

@@ -21,7 +21,7 @@ mod steady_sink;
 mod system;
 mod turns;
 
-pub use gate::{Gate, NoGate, Place};
+pub use gate::{Gate, Moment, NoGate};
 pub use meet_gate::MeetGate;
 pub use memory_shelf::{MemoryShelf, StoredFile};
 pub use memory_sink::MemorySink;

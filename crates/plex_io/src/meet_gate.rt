@@ -1,5 +1,5 @@
 // A gate at which two jobs meet.
-use crate::gate::{Gate, Place};
+use crate::gate::{Gate, Moment};
 use crate::turns::comes_to;
 use std::sync::atomic::{AtomicU64, Ordering};
 
@@ -30,8 +30,8 @@ impl MeetGate {
 }
 
 impl Gate for MeetGate {
-    fn at(&self, _job: u64, place: Place) {
-        if let Place::Before = place {
+    fn at(&self, _job: u64, moment: Moment) {
+        if let Moment::Before = moment {
             self.begun.fetch_add(1, Ordering::SeqCst);
             if comes_to(&self.begun, 2, self.limit) {
                 self.seen.fetch_add(1, Ordering::SeqCst);

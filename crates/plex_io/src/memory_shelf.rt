@@ -1,6 +1,6 @@
 // Files in memory.
 ghost use Rattle.std.specs.Prelude.{◌≡◌, ◌≤◌, ◌↔◌, Some, None, Err, IsTrue, MatchOption, IfOk, IfErr, Contains};
-ghost use Rattle.plex_io.specs.Files.{Gives};
+ghost use Rattle.plex_io.specs.Files.{ReadGives};
 ghost use Rattle.plex_io.specs.Stored.{held_in, IsShelfCallListed, after_read};
 
 use crate::shelf::{Shelf, ShelfFault, Word};
@@ -60,7 +60,8 @@ impl Shelf for MemoryShelf {
     ghost faults = { λ s. s.faults };
 
     fn read_file(&mut self, alloc: Global, name: &Word, limit: u64) -> Result<Seq<u8>, ShelfFault>
-        ensures bytes { IfOk result (λ got. Gives (held_in self.old.files name.now) limit got) }
+        ensures bytes { IfOk result
+            (λ got. ReadGives (held_in self.old.files name.now) limit got) }
         ensures absent { (result ≡ Err ShelfFault.Absent)
             ↔ (¬ IsShelfCallListed self.old × (held_in self.old.files name.now ≡ None)) }
         ensures failed { (result ≡ Err ShelfFault.Failed) ↔ IsShelfCallListed self.old }
@@ -102,7 +103,7 @@ pub(crate) fn find<'a>(files: &'a [StoredFile], name: &[u8]) -> Option<&'a Seq<u
 
 /// The content, or its first `limit + 1` bytes.
 pub(crate) fn first_of(alloc: Global, content: &[u8], limit: u64) -> Result<Seq<u8>, ShelfFault>
-    ensures bytes { IfOk result (λ got. Gives (Some content.now) limit got) }
+    ensures bytes { IfOk result (λ got. ReadGives (Some content.now) limit got) }
     ensures memory { IfErr result (λ e. e ≡ ShelfFault.Memory) }
 {
     let part = if (content.len() as u64) <= limit {

@@ -1,7 +1,7 @@
 // Files by name.
 ghost use Rattle.std.specs.Prelude.{◌≡◌, ◌≤◌, ℕ, Option, IfOk, IfSome, Err};
 ghost use Rattle.plex_io.specs.Causes.{Rose};
-ghost use Rattle.plex_io.specs.Files.{Files, Gives, Lacks};
+ghost use Rattle.plex_io.specs.Files.{Files, ReadGives, Lacks};
 
 use plex_num::Seq;
 use std::alloc::Global;
@@ -32,7 +32,7 @@ pub trait Shelf {
     /// changes what is held.
     fn read_file(&mut self, alloc: Global, name: &Word, limit: u64) -> Result<Seq<u8>, ShelfFault>
         ensures bytes { IfOk result (λ got.
-            IfSome (held self.old) (λ files. Gives (files name.now) limit got)) }
+            IfSome (held self.old) (λ files. ReadGives (files name.now) limit got)) }
         ensures absent { result ≡ Err ShelfFault.Absent → Lacks (held self.old) name.now }
         ensures failed { result ≡ Err ShelfFault.Failed → Rose (faults self.old) (faults self.new) }
         ensures kept { held self.new ≡ held self.old }

@@ -1,5 +1,5 @@
 // A gate at which one job waits for the next.
-use crate::gate::{Gate, Place};
+use crate::gate::{Gate, Moment};
 use crate::turns::comes_to;
 use std::sync::atomic::{AtomicU64, Ordering};
 
@@ -30,8 +30,8 @@ impl SlideGate {
 }
 
 impl Gate for SlideGate {
-    fn at(&self, job: u64, place: Place) {
-        if let Place::Before = place {
+    fn at(&self, job: u64, moment: Moment) {
+        if let Moment::Before = moment {
             if job == 3 {
                 self.third.store(1, Ordering::SeqCst);
             }

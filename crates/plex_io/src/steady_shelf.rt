@@ -1,6 +1,6 @@
 // Files in memory of which none is missing and no read fails.
 ghost use Rattle.std.specs.Prelude.{◌≡◌, Some, IfOk, IfErr};
-ghost use Rattle.plex_io.specs.Files.{Gives};
+ghost use Rattle.plex_io.specs.Files.{ReadGives};
 ghost use Rattle.plex_io.specs.Steady.{always_held};
 
 use crate::memory_shelf::{StoredFile, find, first_of};
@@ -40,7 +40,7 @@ impl Shelf for SteadyShelf {
     ghost faults = { λ _. 0 };
 
     fn read_file(&mut self, alloc: Global, name: &Word, limit: u64) -> Result<Seq<u8>, ShelfFault>
-        ensures bytes { IfOk result (λ got. Gives (always_held self.old name.now) limit got) }
+        ensures bytes { IfOk result (λ got. ReadGives (always_held self.old name.now) limit got) }
         ensures memory { IfErr result (λ e. e ≡ ShelfFault.Memory) }
         ensures same { self.new ≡ self.old }
     {

@@ -1,6 +1,6 @@
 // A whole exchange.
 ghost use Rattle.std.specs.Prelude.{◌≡◌, ◌≤◌, ℕ, true, length};
-ghost use Rattle.token_grammar.specs.Gives.{Gives, Reads};
+ghost use Rattle.token_grammar.specs.Gives.{GivesOrStops, Reads};
 ghost use Rattle.plex_ast.specs.Grammar.{Sentence};
 ghost use Rattle.plex_ast.specs.declared.tree.Tree.{Tree};
 ghost use Rattle.plex_parser.specs.Blocks.{tree_read};
@@ -51,7 +51,7 @@ pub fn parse(alloc: Global, tokens: &Tokens<'_>) -> Result<Tree, ParseFault>
 
 #[tactic(auto, unfolding(crate::specs::Parses::tree_of))]
 fn whole(alloc: Global, tokens: &Tokens<'_>) -> Result<Tree, Fault>
-    ensures { Gives (λ x. x) result (tree_of tokens.now) }
+    ensures { GivesOrStops (λ x. x) result (tree_of tokens.now) }
 {
     let (tree, left) = exchange(alloc, tokens.cursor(), MOST_BRACKETS, MOST_NESTED)?;
     match left.split_first() {

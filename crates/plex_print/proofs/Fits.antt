@@ -13,8 +13,8 @@ use Rattle.token_grammar.specs.declared.named.Numbered.{Numbered}
 use Rattle.token_grammar.specs.declared.named.Leveled.{Leveled}
 use Rattle.token_grammar.specs.Language.{Lang, word, ◌·◌, nothing, never, on, each, maybe, flag, named, numbered, leveled, level_name, mem, kind_class, name_class, keyword, mark}
 use Rattle.plex_lexer.specs.Words.{keyword_of}
-use Rattle.kept_trees.specs.Keeps.{IsName, IsNamed, IsNumbered, Every}
-use Rattle.kept_trees.specs.Words.{AreWords, IsWord}
+use Rattle.kept_trees.specs.Keeps.{IsName, IsNamed, KeepsNumber, Every}
+use Rattle.kept_trees.specs.Words.{AreWords, IsTextWord}
 use Rattle.plex_print.specs.Writing.{Writer, say, semi, leave, ◌▷◌, each_of, maybe_of, flag_of}
 use Rattle.plex_print.specs.Printed.{name_text, number_text, level_text}
 use Rattle.plex_print.proofs.Lexing.{kinds_of, kinds-append, Reads, Reads-none, Reads-append, Reads-word, Reads-name, Reads-number, Reads-semi}
@@ -195,7 +195,7 @@ word_same cs u v e h =
     let o = one_of h.0.kind v (ap kinds_of (sym h.1) ∙ e) in
     (o.token, o.is, ap (λ k. mem (kind_class k) cs) o.kind ∙ h.2)
 
-Fits-word : (cs : List ℕ) (k : TokenKind) (bytes : List ℕ) (f : Writer) → IsWord k → mem (kind_class k) cs ≡ true → ((j : TokenKind) → mem (kind_class j) cs ≡ true → j ≡ k) → Reads (k ∷ []) bytes → ((old : List ℕ) → f old ≡ old ++ bytes) → Fits (Unit {0}) (word cs) (word cs) f
+Fits-word : (cs : List ℕ) (k : TokenKind) (bytes : List ℕ) (f : Writer) → IsTextWord k → mem (kind_class k) cs ≡ true → ((j : TokenKind) → mem (kind_class j) cs ≡ true → j ≡ k) → Reads (k ∷ []) bytes → ((old : List ℕ) → f old ≡ old ++ bytes) → Fits (Unit {0}) (word cs) (word cs) f
 Fits-word cs k bytes f good its only r adds = record {
   wrote = λ u w h old. wrote_one k bytes f u h.0 h.1 (only h.0.kind h.2) r adds old;
   same = word_same cs;
@@ -252,7 +252,7 @@ Fits-name s x = record {
     no : false ≡ true → ⊥
     no z = cc
 
-pub Fits-number : (s : Bool) (x : Numbered) → Fits (IsNumbered x) (numbered s x) (numbered false x) (number_text x)
+pub Fits-number : (s : Bool) (x : Numbered) → Fits (KeepsNumber x) (numbered s x) (numbered false x) (number_text x)
 Fits-number s x = record {
   wrote = λ u w h old. wrote_one (kinds.Number x.value) (decimal x.value ++ (32 ∷ [])) (say (decimal x.value)) u h.0 h.1 h.2 (Reads-number x.value (word_at u h.0 (kinds.Number x.value) h.1 h.2 w)) (said (decimal x.value)) old;
   same = λ u v e h. let o = one_of h.0.kind v (ap kinds_of (sym h.1) ∙ e) in (o.token, o.is, o.kind ∙ h.2, λ z. absurd (no z));

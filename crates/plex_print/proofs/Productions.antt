@@ -200,7 +200,7 @@ Fits-survey : (s : Bool) (x : Survey) → Fits (keeps.KeepsSurvey x) (grammar.su
 unfolding printed.survey_text
 Fits-survey s x = Fits-on s x.line (Fits-survey-at s x.kind)
 
-Fits-init : (s : Bool) (i : Numbered) → Fits (keeps.IsNumbered i) (grammar.init s i) (grammar.init false i) (printed.init_text i)
+Fits-init : (s : Bool) (i : Numbered) → Fits (keeps.KeepsNumber i) (grammar.init s i) (grammar.init false i) (printed.init_text i)
 unfolding printed.init_text
 Fits-init s i = Fits-after fits-INIT (Fits-number s i)
 

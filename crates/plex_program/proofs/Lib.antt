@@ -1,16 +1,6 @@
 pub mod Accepted
 pub mod Answering
-pub mod Certified
 pub mod Changed
 pub mod Endings
-pub mod Farther
-pub mod Faults
-pub mod FewTokens
-pub mod NamedWords
-pub mod Opened
 pub mod Stages
 pub mod Tables
-pub mod Traced
-pub mod Whole
-pub mod Words
-pub mod WrittenOut

@@ -14,7 +14,7 @@ use Rattle.command_words.specs.declared.command.ChangeWords.{ChangeWords}
 use Rattle.plex_program.specs.declared.perform.Answer.{Answer}
 use Rattle.plex_program.specs.declared.fault.Which.TheVariants.{New}
 use Rattle.plex_program.specs.declared.program.Status.TheVariants as status
-use Rattle.plex_program.specs.Outcome.{GoesOn, IsAnAnswer, Out, headed_by}
+use Rattle.plex_program.specs.Outcome.{ComesOf, IsAnAnswer, Out, headed_by}
 use Rattle.plex_program.specs.Given.{exchange_as, exchange_at, lines_at}
 use Rattle.plex_program.specs.RunAnswer.{end_of, ended_answer, ending_of, run_answer}
 
@@ -62,7 +62,7 @@ ChangeAnswers old new lines jobs at = AnswersChange old new lines jobs at (misfi
 
 abbrev pub ChangeComes : ChangeWords → Files → Out Answer → Type 0
 ChangeComes w files =
-    GoesOn (exchange_at w.run.exchange files) (λ old.
-    GoesOn (lines_at old w.run.signals files) (λ lines.
-    GoesOn (exchange_as New w.new files) (λ new.
+    ComesOf (exchange_at w.run.exchange files) (λ old.
+    ComesOf (lines_at old w.run.signals files) (λ lines.
+    ComesOf (exchange_as New w.new files) (λ new.
     IsAnAnswer (ChangeAnswers old new lines w.run.bounds.jobs w.at))))

@@ -11,7 +11,7 @@ use Rattle.certificate.specs.Certified.{IsCertificate}
 use Rattle.command_words.specs.Words.{Word}
 use Rattle.plex_program.specs.declared.perform.Answer.{Answer}
 use Rattle.plex_program.specs.declared.program.Status.TheVariants as status
-use Rattle.plex_program.specs.Outcome.{GoesOn, IsAnAnswer, Out}
+use Rattle.plex_program.specs.Outcome.{ComesOf, IsAnAnswer, Out}
 use Rattle.plex_program.specs.Given.{exchange_at}
 
 -- the analysis of an exchange: what the summaries of its entries say, which are those by the least facts
@@ -30,4 +30,4 @@ pub record AnswersCertificate (x : Exchange) (a : Answer) : Type 0 where
 
 -- such an answer of the exchange of a file
 abbrev pub FromExchange : Word → (Exchange → Answer → Type 0) → Files → Out Answer → Type 0
-FromExchange name Is files = GoesOn (exchange_at name files) (λ x. IsAnAnswer (Is x))
+FromExchange name Is files = ComesOf (exchange_at name files) (λ x. IsAnAnswer (Is x))

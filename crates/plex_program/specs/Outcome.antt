@@ -26,9 +26,9 @@ abbrev pub headed_by : List ℕ → Answer → Answer
 headed_by text a = record { status = a.status; text = text ++ a.text }
 
 -- what comes of the value, or the answer where there is none
-abbrev pub GoesOn : {A : Type 0} → Out A → (A → Out Answer → Type 0) → Out Answer → Type 0
-GoesOn (Ok a) Go o = Go a o
-GoesOn (Err r) Go o = Err r ≡ o
+abbrev pub ComesOf : {A : Type 0} → Out A → (A → Out Answer → Type 0) → Out Answer → Type 0
+ComesOf (Ok a) Go o = Go a o
+ComesOf (Err r) Go o = Err r ≡ o
 
 -- an answer comes, which is such a one
 abbrev pub IsAnAnswer : (Answer → Type 0) → Out Answer → Type 0

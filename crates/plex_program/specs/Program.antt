@@ -18,23 +18,23 @@ pub record IsWritten (a : Answer) (before after : Option (List ℕ)) (s : Status
   pub text : after ≡ appended before a.text
 
 -- an end with this status, where this is the answer
-abbrev pub Ends : Answer → Option (List ℕ) → Option (List ℕ) → Status → Type 0
-Ends a before after status.Read = Unit {0}
-Ends a before after status.Memory = Unit {0}
-Ends a before after status.Write = WroteLess before after a.text
-Ends a before after s = IsWritten a before after s
+abbrev pub ProcessEnds : Answer → Option (List ℕ) → Option (List ℕ) → Status → Type 0
+ProcessEnds a before after status.Read = Unit {0}
+ProcessEnds a before after status.Memory = Unit {0}
+ProcessEnds a before after status.Write = WroteLess before after a.text
+ProcessEnds a before after s = IsWritten a before after s
 
 -- the answer is such a one, and the call ends with this status
 pub record EndsBy (Is : Answer → Type 0) (before after : Option (List ℕ)) (s : Status) : Type 0 where
   pub answer : Answer
   pub is : Is answer
-  pub ends : Ends answer before after s
+  pub ends : ProcessEnds answer before after s
 
 -- an end with this status, where the answer is such a one
-abbrev pub EndsAs : (Answer → Type 0) → Option (List ℕ) → Option (List ℕ) → Status → Type 0
-EndsAs Is before after status.Read = Unit {0}
-EndsAs Is before after status.Memory = Unit {0}
-EndsAs Is before after s = EndsBy Is before after s
+abbrev pub ProcessEndsAs : (Answer → Type 0) → Option (List ℕ) → Option (List ℕ) → Status → Type 0
+ProcessEndsAs Is before after status.Read = Unit {0}
+ProcessEndsAs Is before after status.Memory = Unit {0}
+ProcessEndsAs Is before after s = EndsBy Is before after s
 
 -- a read failed in this call, or the shelf tells its files and such an answer is that one is not held; nothing was written
 pub record ReadCause (Is : Files → Answer → Type 0) (held : Option Files) (faults faults' : ℕ) (before after : Option (List ℕ)) : Type 0 where
@@ -57,11 +57,11 @@ abbrev pub IsComplete : (Answer → Type 0) → ℕ → ℕ → ℕ → ℕ → 
 IsComplete Is shelf shelf' sink sink' s = ¬ (Rose shelf shelf') → ¬ (Rose sink sink') → HasStatus Is s ⊎ (s ≡ status.Memory)
 
 -- a status with which a text is written
-abbrev pub IsPlain : Status → Type 0
-IsPlain status.Read = ⊥
-IsPlain status.Write = ⊥
-IsPlain status.Memory = ⊥
-IsPlain s = Unit {0}
+abbrev pub WritesText : Status → Type 0
+WritesText status.Read = ⊥
+WritesText status.Write = ⊥
+WritesText status.Memory = ⊥
+WritesText s = Unit {0}
 
 -- such an answer comes, or why there is none
 abbrev pub Answers : (Files → Answer → Type 0) → Option Files → (faults faults' : ℕ) → Result Answer Stop → Type 0
@@ -69,7 +69,7 @@ Answers Is held faults faults' result = Performs held (λ files o. Is files (ans
 
 -- an answer that may be written: that of no shape is the usage line, and no other is
 pub record IsMade (Unshaped : Type 0) (usage_line a : Answer) : Type 0 where
-  pub plain : IsPlain a.status
+  pub plain : WritesText a.status
   pub usage : a.status ≡ status.Usage → Unshaped
   pub unshaped : Unshaped → a ≡ usage_line
 

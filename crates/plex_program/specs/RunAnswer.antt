@@ -18,7 +18,7 @@ use Rattle.plex_program.specs.declared.perform.Answer.{Answer}
 use Rattle.plex_program.specs.Text.{certificate_refusal}
 use Rattle.plex_program.specs.declared.program.Status.{Status}
 use Rattle.plex_program.specs.declared.program.Status.TheVariants as status
-use Rattle.plex_program.specs.Outcome.{GoesOn, Out, goes_on}
+use Rattle.plex_program.specs.Outcome.{ComesOf, Out, goes_on}
 use Rattle.plex_program.specs.Given.{exchange_at, lines_at, text_at}
 
 -- the status of an ending
@@ -66,9 +66,9 @@ pub record IsCertifiedRun (x : Exchange) (text : Option (List ℕ)) (a : Answer)
 -- a run with the certificate of a file, which is read behind the signal file
 abbrev pub RunsWith : RunWords → Word → Files → Out Answer → Type 0
 RunsWith w name files =
-    GoesOn (exchange_at w.exchange files) (λ x.
-    GoesOn (lines_at x w.signals files) (λ lines.
-    GoesOn (text_at name files) (λ text.
+    ComesOf (exchange_at w.exchange files) (λ x.
+    ComesOf (lines_at x w.signals files) (λ lines.
+    ComesOf (text_at name files) (λ text.
     IsCertifiedRun x text (run_answer x lines w.bounds.jobs))))
 
 -- a run with this certificate, or without one

@@ -45,8 +45,8 @@ TellsOutcome Is (Err stop.Failed) = ⊥
 TellsOutcome Is (Err stop.Memory) = Unit {0}
 
 -- the outcome is as said
-abbrev pub Reads : {A : Type 0} → Out A → Result A Stop → Type 0
-Reads said result = TellsOutcome (λ o. said ≡ o) result
+abbrev pub ReadAs : {A : Type 0} → Out A → Result A Stop → Type 0
+ReadAs said result = TellsOutcome (λ o. said ≡ o) result
 
 -- the stop that this refusal makes
 abbrev pub IsStopOf : Answer → Stop → Type 0

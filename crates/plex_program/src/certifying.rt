@@ -12,7 +12,7 @@ use std::alloc::Global;
 
 /// What is kept of the certificate of the exchange whose text this is, or the first fault of the
 /// text, which may be too large.
-#[tactic(auto, using(crate::proofs::Certified::judged_large))]
+#[tactic(auto, using(crate::proofs::Stages::judged_large))]
 pub fn kept_of_text(
     alloc: Global,
     exchange: &Exchange,
@@ -28,7 +28,7 @@ pub fn kept_of_text(
 }
 
 /// The same of a text that is not too large.
-#[tactic(auto, using(crate::proofs::Certified::judged_bad))]
+#[tactic(auto, using(crate::proofs::Stages::judged_bad))]
 fn kept_of_small(
     alloc: Global,
     exchange: &Exchange,

@@ -74,7 +74,7 @@ pub enum Grown {
 /// What the single run of these lines comes to within these bounds. Several jobs run at once as far
 /// as the certificate that is given lets them, or, where none is given, the exchange's own, once jobs
 /// are long.
-#[tactic(auto, using(crate::proofs::Opened::opened_rules))]
+#[tactic(auto, using(crate::proofs::Answering::opened_rules))]
 pub fn run_first<R: Threads + Wait + Sync, G: Gate + Sync>(
     host: &Host<'_, R, G>,
     exchange: &Exchange,
@@ -98,7 +98,7 @@ pub fn run_first<R: Threads + Wait + Sync, G: Gate + Sync>(
 
 /// What the single run comes to that goes on with these books and words, by this crew. Jobs run one
 /// after the other where one may run at a time, and by the source itself where the code would be long.
-#[tactic(auto, using(crate::proofs::Opened::grown_rules))]
+#[tactic(auto, using(crate::proofs::Answering::grown_rules))]
 pub fn go_on<R: Threads + Wait + Sync, G: Gate + Sync>(
     host: &Host<'_, R, G>,
     exchange: &Exchange,
@@ -192,7 +192,7 @@ fn kept_within(alloc: Global, exchange: &Exchange, looks: usize) -> Option<Check
 }
 
 /// The same with several jobs at once, as far as what is kept of a certificate lets them.
-#[tactic(auto, using(crate::proofs::Opened::root_rules))]
+#[tactic(auto, using(crate::proofs::Answering::root_rules))]
 fn run_at_once<R: Threads + Wait + Sync, G: Gate + Sync>(
     host: &Host<'_, R, G>,
     exchange: &Exchange,

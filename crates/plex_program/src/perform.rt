@@ -2,7 +2,7 @@
 ghost use Rattle.std.specs.Prelude.{◌≡◌, ◌≤◌, IfOk, IfSome, length};
 ghost use Rattle.plex_limits.specs.declared.limits.TheConstants.{MOST_BYTES, MOST_JOBS};
 ghost use Rattle.plex_program.specs.Program.{IsEnding};
-ghost use Rattle.plex_program.specs.Stages.{Comes, Performs, Reads, TellsOutcome};
+ghost use Rattle.plex_program.specs.Stages.{Comes, Performs, ReadAs, TellsOutcome};
 ghost use Rattle.plex_program.specs.Given.{exchange_as, exchange_at, exchange_of_file};
 ghost use Rattle.plex_program.specs.Given.{fitting, lines_at, lines_of_file, text_at};
 ghost use Rattle.plex_program.specs.RunAnswer.{IsCertifiedRun, RunsWith, run_answer};
@@ -123,7 +123,7 @@ pub(crate) fn exchange_as<S: Shelf>(
 #[tactic(auto, using(crate::proofs::Stages::refused_rules))]
 fn exchange_of_file(alloc: Global, which: Which, text: &Option<Seq<u8>>) -> Result<Exchange, Stop>
     requires { IfSome text.now (λ t. length t ≤ MOST_BYTES) }
-    ensures { Reads (exchange_of_file which text.now) result }
+    ensures { ReadAs (exchange_of_file which text.now) result }
 {
     match exchange_of_text(alloc, text)? {
         Ok(exchange) => Ok(exchange),
@@ -151,14 +151,14 @@ pub fn lines_in<S: Shelf>(
 }
 
 /// The signal lines of a file's text, which may be too large.
-#[tactic(auto, using(crate::proofs::Stages::refused_rules, crate::proofs::Tables::lines_of_text))]
+#[tactic(auto, using(crate::proofs::Stages::refused_rules, crate::proofs::Tables::are_of_text))]
 fn lines_of_file(
     alloc: Global,
     exchange: &Exchange,
     text: &Option<Seq<u8>>,
 ) -> Result<Seq<Line>, Stop>
     requires { IfSome text.now (λ t. length t ≤ MOST_BYTES) }
-    ensures reads { Reads (lines_of_file exchange.now text.now) result }
+    ensures reads { ReadAs (lines_of_file exchange.now text.now) result }
     ensures read { IfOk result (AreRead exchange.now) }
     ensures of_text { IfOk result (AreOfText exchange.now) }
 {
@@ -228,7 +228,7 @@ fn perform_certified<R: Threads + Wait + Sync, S: Shelf, G: Gate + Sync>(
 }
 
 /// The answer of a run whose certificate has this text, which may be too large.
-#[tactic(auto, using(crate::proofs::Certified::certified_rules))]
+#[tactic(auto, using(crate::proofs::Stages::certified_rules))]
 fn certified_answer<R: Threads + Wait + Sync, G: Gate + Sync>(
     host: &Host<'_, R, G>,
     exchange: &Exchange,
@@ -294,7 +294,7 @@ fn perform_load<R: Threads + Wait + Sync, G: Gate + Sync>(
     host: &Host<'_, R, G>,
     calls: u32,
 ) -> Result<Answer, Stop>
-    ensures reads { Reads (load_of calls) result }
+    ensures reads { ReadAs (load_of calls) result }
     ensures ending { IfOk result (λ a. IsEnding a.status) }
 {
     let text = load_exchange(host.alloc, calls)?;

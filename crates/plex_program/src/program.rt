@@ -1,9 +1,9 @@
 // The program as one call.
 ghost use Rattle.std.specs.Prelude.{◌≡◌, IfSome, None, Ok, ◌⊎◌};
 ghost use Rattle.plex_program.specs.Answer.{IsAnswer, usage_answer};
-ghost use Rattle.plex_program.specs.Program.{Answers, Ends, EndsAs, IsComplete, IsPlain, Makes};
+ghost use Rattle.plex_program.specs.Program.{Answers, ProcessEnds, ProcessEndsAs, IsComplete, WritesText, Makes};
 ghost use Rattle.plex_program.specs.Program.{ReadCause, WriteCause, exit_number};
-ghost use Rattle.plex_program.specs.Stages.{Reads};
+ghost use Rattle.plex_program.specs.Stages.{ReadAs};
 ghost use Rattle.command_words.specs.Words.{shape};
 
 use crate::going::Host;
@@ -89,10 +89,10 @@ pub fn plex<R: Threads + Wait + Sync, S: Shelf, K: Sink, G: Gate + Sync>(
     gate: &G,
 ) -> Status
     ensures answers { IfSome (S.held shelf.old)
-        (λ files. EndsAs (IsAnswer words.now files)
+        (λ files. ProcessEndsAs (IsAnswer words.now files)
         (K.written sink.old) (K.written sink.new) result) }
     ensures unshaped { shape words.now ≡ None →
-        Ends usage_answer (K.written sink.old) (K.written sink.new) result }
+        ProcessEnds usage_answer (K.written sink.old) (K.written sink.new) result }
     ensures usage { result ≡ Status.Usage → shape words.now ≡ None }
     ensures read { result ≡ Status.Read → ReadCause (IsAnswer words.now) (S.held shelf.old)
         (S.faults shelf.old) (S.faults shelf.new) (K.written sink.old) (K.written sink.new) }
@@ -132,7 +132,7 @@ fn answered<R: Threads + Wait + Sync, S: Shelf, G: Gate + Sync>(
 
 /// The usage line.
 fn usage_answer(alloc: Global) -> Result<Answer, Stop>
-    ensures { Reads (Ok usage_answer) result }
+    ensures { ReadAs (Ok usage_answer) result }
 {
     match Seq::copied(alloc, usage_line()) {
         Ok(text) => Ok(Answer {
@@ -145,8 +145,8 @@ fn usage_answer(alloc: Global) -> Result<Answer, Stop>
 
 /// Writes the answer, and gives its status back, or `Write` where a write failed.
 pub fn write_answer<K: Sink>(sink: &mut K, answer: &Answer) -> Status
-    requires { IsPlain answer.now.status }
-    ensures ends { Ends answer.now (K.written sink.old) (K.written sink.new) result }
+    requires { WritesText answer.now.status }
+    ensures ends { ProcessEnds answer.now (K.written sink.old) (K.written sink.new) result }
     ensures write { result ≡ Status.Write →
         WriteCause (K.size sink.old) (K.written sink.new) (K.faults sink.old) (K.faults sink.new) }
     ensures plain { (result ≡ Status.Write) ⊎ (result ≡ answer.now.status) }

@@ -20,7 +20,7 @@ use std::alloc::Global;
 use text_rules::Rule as TextRule;
 
 /// The exchange that a file's text means, which may be too large, or its first fault.
-#[tactic(auto, using(crate::proofs::Faults::found_rules))]
+#[tactic(auto, using(crate::proofs::Accepted::found_rules))]
 pub fn exchange_of_text(
     alloc: Global,
     text: &Option<Seq<u8>>,
@@ -38,7 +38,7 @@ pub fn exchange_of_text(
 }
 
 /// The exchange of a tree that breaks no rule.
-#[tactic(auto, using(crate::proofs::Faults::resolve_rules))]
+#[tactic(auto, using(crate::proofs::Accepted::resolve_rules))]
 fn exchange_of_tree(alloc: Global, tree: &Tree) -> Result<Result<Exchange, SourceFault>, Memory>
     requires { IsSpelled tree.now }
     ensures { Finds (resolved_or (resolved tree.now)) result }
@@ -62,7 +62,7 @@ fn tree_of_file(alloc: Global, text: &Option<Seq<u8>>) -> Result<Result<Tree, So
     }
 }
 
-#[tactic(auto, unfolding(crate::specs::Reading::tree_of), using(crate::proofs::Faults::all_found))]
+#[tactic(auto, unfolding(crate::specs::Reading::tree_of), using(crate::proofs::Accepted::all_found))]
 fn tree_of(alloc: Global, text: &[u8]) -> Result<Result<Tree, SourceFault>, Memory>
     requires { length text.now ≤ MOST_BYTES }
     ensures is { Finds (tree_of text.now) result }
@@ -119,7 +119,7 @@ fn fault_at(line: u32, rule: Rule) -> SourceFault
 }
 
 /// The line of the token at a place; 0 where there is none.
-#[tactic(auto, using(crate::proofs::Faults::line_rules))]
+#[tactic(auto, using(crate::proofs::Accepted::line_rules))]
 fn token_line(tokens: &Tokens<'_>, place: u32) -> u32
     ensures { result ≡ token_line tokens.now place }
 {

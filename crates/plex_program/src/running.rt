@@ -34,7 +34,7 @@ use text_parts::Text;
 
 /// The answer of the single run of these lines by the source itself, which ends after so many jobs at
 /// the latest. It calls the gate before and after each job.
-#[tactic(auto, using(crate::proofs::Answering::answer_is, crate::proofs::Opened::opened_rules))]
+#[tactic(auto, using(crate::proofs::Answering::answer_is, crate::proofs::Answering::opened_rules))]
 pub fn source_answer<R, G: Gate>(
     host: &Host<'_, R, G>,
     exchange: &Exchange,

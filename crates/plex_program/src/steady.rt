@@ -14,7 +14,7 @@ use std::thread::Threads;
 /// sink has room for the answer's text, no write fails either: the whole text is written and the
 /// status is the answer's, or memory was refused. After `Memory` nothing was written. This follows
 /// from the contract of `plex` alone, and so holds for each call of it with two such devices.
-#[tactic(auto, using(crate::proofs::Whole::whole_end, crate::proofs::Whole::silent_end))]
+#[tactic(auto, using(crate::proofs::Endings::whole_end, crate::proofs::Endings::silent_end))]
 pub fn plex_steady<R: Threads + Wait + Sync, G: Gate + Sync>(
     rt: &R,
     alloc: Global,

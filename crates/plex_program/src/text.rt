@@ -31,7 +31,7 @@ pub fn usage_line() -> &'static [u8]
 }
 
 /// The stop at a fault of an exchange text.
-#[tactic(auto, unfolding(crate::specs::Text::source_refusal), using(crate::proofs::Faults::told_so))]
+#[tactic(auto, unfolding(crate::specs::Text::source_refusal), using(crate::proofs::Stages::told_so))]
 pub fn source_stop(alloc: Global, which: Which, fault: SourceFault) -> Stop
     ensures { IsStopOf (source_refusal which fault) result }
 {
@@ -50,7 +50,7 @@ fn source_words(which: Which) -> &'static [u8]
 }
 
 /// The stop at a fault of a signal file.
-#[tactic(auto, unfolding(crate::specs::Text::signals_refusal), using(crate::proofs::Faults::told_so))]
+#[tactic(auto, unfolding(crate::specs::Text::signals_refusal), using(crate::proofs::Stages::told_so))]
 pub fn signals_stop(alloc: Global, fault: SignalsFault) -> Stop
     ensures { IsStopOf (signals_refusal fault) result }
 {
@@ -60,7 +60,7 @@ pub fn signals_stop(alloc: Global, fault: SignalsFault) -> Stop
 }
 
 /// The stop at a fault of a certificate.
-#[tactic(auto, unfolding(crate::specs::Text::certificate_refusal), using(crate::proofs::Faults::told_so))]
+#[tactic(auto, unfolding(crate::specs::Text::certificate_refusal), using(crate::proofs::Stages::told_so))]
 pub fn certificate_stop(alloc: Global, fault: CertificateFault) -> Stop
     ensures { IsStopOf (certificate_refusal fault) result }
 {
@@ -69,7 +69,7 @@ pub fn certificate_stop(alloc: Global, fault: CertificateFault) -> Stop
 }
 
 /// The stop at a fault of a table.
-#[tactic(auto, unfolding(crate::specs::Text::table_refusal), using(crate::proofs::Faults::told_so))]
+#[tactic(auto, unfolding(crate::specs::Text::table_refusal), using(crate::proofs::Stages::told_so))]
 pub fn table_stop(alloc: Global, fault: TableFault) -> Stop
     ensures { IsStopOf (table_refusal fault) result }
 {
@@ -79,7 +79,7 @@ pub fn table_stop(alloc: Global, fault: TableFault) -> Stop
 }
 
 /// The stop at a fault of a filter.
-#[tactic(auto, unfolding(crate::specs::Text::filter_refusal), using(crate::proofs::Faults::told_so))]
+#[tactic(auto, unfolding(crate::specs::Text::filter_refusal), using(crate::proofs::Stages::told_so))]
 pub fn filter_stop(alloc: Global, fault: FilterFault) -> Stop
     ensures { IsStopOf (filter_refusal fault) result }
 {
@@ -186,7 +186,7 @@ fn add_numbers(text: &mut Seq<u8>, numbers: &[u32]) -> Result<(), Memory>
 }
 
 /// Appends a number behind a space.
-#[tactic(auto, using(crate::proofs::Words::two_pieces))]
+#[tactic(auto, using(crate::proofs::Stages::two_pieces))]
 fn add_spaced(text: &mut Seq<u8>, number: u32) -> Result<(), Memory>
     ensures { OnOk result (text.new ≡ text.old ++ spaced number) }
 {
@@ -248,7 +248,7 @@ fn filter_word(rule: FilterRule) -> &'static [u8]
 }
 
 /// Appends `N` and the number of a rule.
-#[tactic(auto, using(crate::proofs::Words::two_pieces))]
+#[tactic(auto, using(crate::proofs::Stages::two_pieces))]
 fn add_number(text: &mut Seq<u8>, number: u8) -> Result<(), Memory>
     ensures { OnOk result (text.new ≡ text.old ++ numbered_name number) }
 {

@@ -1,7 +1,7 @@
 // A run with a table of periodic signals.
 ghost use Rattle.std.specs.Prelude.{◌≡◌, ◌≤◌, ◌<◌, ◌^◌, IfOk, IfSome, length};
 ghost use Rattle.plex_limits.specs.declared.limits.TheConstants.{MOST_BYTES};
-ghost use Rattle.plex_program.specs.Stages.{Comes, Reads};
+ghost use Rattle.plex_program.specs.Stages.{Comes, ReadAs};
 ghost use Rattle.plex_program.specs.TimedAnswer.{merged_at, merged_of_file, timed_of};
 ghost use Rattle.plex_program.specs.Program.{IsEnding};
 ghost use Rattle.plex_program.specs.Runs.{AreOfText, AreRead};
@@ -72,7 +72,7 @@ fn merged_of_file(
     requires of_text { AreOfText exchange.now lines.now }
     requires few { length lines.now < 2 ^ 32 }
     requires size { IfSome text.now (λ t. length t ≤ MOST_BYTES) }
-    ensures reads { Reads (merged_of_file exchange.now lines.now text.now) result }
+    ensures reads { ReadAs (merged_of_file exchange.now lines.now text.now) result }
     ensures read { IfOk result (AreRead exchange.now) }
 {
     let Some(text) = text else {

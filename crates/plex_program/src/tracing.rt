@@ -5,7 +5,7 @@ ghost use Rattle.source_meaning.specs.SingleRun.{opening};
 ghost use Rattle.retire_order.specs.Lines.{coming_of};
 ghost use Rattle.signal_trace.specs.Text.{trace_text};
 ghost use Rattle.signal_trace.specs.Trace.{trace};
-ghost use Rattle.plex_program.specs.Stages.{Comes, Reads};
+ghost use Rattle.plex_program.specs.Stages.{Comes, ReadAs};
 ghost use Rattle.plex_program.specs.TraceAnswer.{shows_at, shows_of_file, trace_answer, trace_of};
 ghost use Rattle.plex_program.specs.Program.{IsEnding};
 ghost use Rattle.plex_program.specs.Runs.{AreRead, IsRunOf};
@@ -68,7 +68,7 @@ fn shows_of_file(
     text: &Option<Seq<u8>>,
 ) -> Result<Seq<Show>, Stop>
     requires { IfSome text.now (λ t. length t ≤ MOST_BYTES) }
-    ensures { Reads (shows_of_file exchange.now text.now) result }
+    ensures { ReadAs (shows_of_file exchange.now text.now) result }
 {
     let Some(text) = text else {
         let rule = FilterRule::TooLarge;
@@ -81,7 +81,7 @@ fn shows_of_file(
 }
 
 /// The jobs of the single run of these lines that the filter shows, and then its report.
-#[tactic(auto, using(crate::proofs::Traced::trace_is))]
+#[tactic(auto, using(crate::proofs::Answering::trace_is))]
 fn trace_answer(
     alloc: Global,
     exchange: &Exchange,
@@ -101,7 +101,7 @@ fn trace_answer(
 
 /// The single run of these lines, one job after the other, and the text of the jobs of it that the
 /// filter shows: by compiled code, or by the source itself where that would be long.
-#[tactic(auto, using(crate::proofs::Traced::traced_rules))]
+#[tactic(auto, using(crate::proofs::Answering::traced_rules))]
 fn run_traced(
     alloc: Global,
     exchange: &Exchange,

@@ -2,7 +2,7 @@
 ghost use Rattle.std.specs.Prelude.{◌≡◌, ◌≤◌, ◌<◌, length, position, slice_get, None, Some, Err, IfOk, IfSome, MatchOption};
 ghost use Rattle.std.specs.Str.{bytes_eq};
 ghost use Rattle.plex_io.specs.Causes.{Rose};
-ghost use Rattle.plex_io.specs.Files.{Gives, Lacks};
+ghost use Rattle.plex_io.specs.Files.{ReadGives, Lacks};
 
 use plex_io::{Shelf, ShelfFault, Word};
 use plex_num::Seq;
@@ -59,7 +59,7 @@ impl<'a, S: Shelf> Shelf for NotingShelf<'a, S> {
 
     fn read_file(&mut self, alloc: Global, name: &Word, limit: u64) -> Result<Seq<u8>, ShelfFault>
         ensures bytes { IfOk result (λ got.
-            IfSome (S.held self.old.shelf) (λ files. Gives (files name.now) limit got)) }
+            IfSome (S.held self.old.shelf) (λ files. ReadGives (files name.now) limit got)) }
         ensures absent { result ≡ Err ShelfFault.Absent → Lacks (S.held self.old.shelf) name.now }
         ensures failed { result ≡ Err ShelfFault.Failed →
             Rose (S.faults self.old.shelf) (S.faults self.new.shelf) }

@@ -1,5 +1,5 @@
 // How far a run has come, told on the standard error while it runs.
-use plex_io::{Gate, Place};
+use plex_io::{Gate, Moment};
 use plex_limits::MOST_WORKERS;
 use std::env::FillError;
 use std::rt::{Clock, Env};
@@ -111,8 +111,8 @@ impl<R: Eprint> Progress<'_, R> {
 
 impl<R: Clock + Eprint> Gate for Progress<'_, R> {
     #[inline]
-    fn at(&self, job: u64, place: Place) {
-        if let Place::After { steps } = place
+    fn at(&self, job: u64, moment: Moment) {
+        if let Moment::After { steps } = moment
             && is_due(job, steps)
         {
             self.look(job);

@@ -1,7 +1,7 @@
 // The program with several workers: jobs that may run at once do begin so, where they are held at a gate.
 use crate::steps::steps_of;
 use crate::whole::{NotMade, answers};
-use plex_io::{Gate, MeetGate, Place, SlideGate};
+use plex_io::{Gate, MeetGate, Moment, SlideGate};
 use plex_program::Status;
 use std::alloc::Global;
 use std::hint;
@@ -64,11 +64,11 @@ struct StepsGate {
 }
 
 impl Gate for StepsGate {
-    fn at(&self, job: u64, place: Place) {
+    fn at(&self, job: u64, moment: Moment) {
         if job > 1 {
-            self.meet.at(job, place);
+            self.meet.at(job, moment);
         }
-        if let Place::After { steps } = place {
+        if let Moment::After { steps } = moment {
             self.steps.fetch_add(steps, Ordering::SeqCst);
         }
     }
@@ -98,8 +98,8 @@ impl CrowdGate {
 }
 
 impl Gate for CrowdGate {
-    fn at(&self, job: u64, place: Place) {
-        let Place::Before = place else {
+    fn at(&self, job: u64, moment: Moment) {
+        let Moment::Before = moment else {
             return;
         };
         self.begun.fetch_add(1, Ordering::SeqCst);

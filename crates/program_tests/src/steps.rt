@@ -46,7 +46,7 @@ pub fn steps_of<R: Threads + Wait + Sync>(
 }
 
 /// The same of lines that were read.
-#[tactic(auto, using(plex_program::proofs::Opened::opened_rules))]
+#[tactic(auto, using(plex_program::proofs::Answering::opened_rules))]
 fn counted<R: Threads + Wait + Sync>(
     rt: &R,
     alloc: Global,
@@ -66,7 +66,7 @@ fn counted<R: Threads + Wait + Sync>(
 }
 
 /// The same of a run on its way.
-#[tactic(auto, using(plex_program::proofs::Opened::root_rules))]
+#[tactic(auto, using(plex_program::proofs::Answering::root_rules))]
 fn dispatched<R: Threads + Wait + Sync>(
     rt: &R,
     alloc: Global,

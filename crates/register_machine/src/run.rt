@@ -29,12 +29,14 @@ const FIRST_REMAINING: u32 = MOST_COUNTED as u32 + 1;
 #[derive(Drop)]
 pub struct JobRun {
     address: usize,
+    // Between the registers and the locals stands what a call does not clear. Each of the two is
+    // cleared by a few stores then; side by side they would be cleared by a call of a function.
     registers: [u32; 16],
+    given: [u32; 8],
     locals: [u32; 50],
     outgoing: Values,
     frames: Frames,
     made: u64,
-    given: [u32; 8],
     answers: [u32; 8],
     forlopp: u64,
     /// How many statements may still be begun, the one that faults among them.

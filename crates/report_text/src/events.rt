@@ -6,7 +6,7 @@ ghost use Rattle.report_text.specs.Report.{event_line, event_lines, out_line, te
 use crate::names::{add_point, fault_word};
 use exchange_model::Exchange;
 use plex_num::{Memory, Seq, add_number};
-use retire_order::{Event, EventQueue, Faulty};
+use retire_order::{EventQueue, Faulty, ReportEvent};
 use std::alloc::Global;
 use text_parts::Text;
 
@@ -32,7 +32,7 @@ pub fn add_events(text: &mut Text, exchange: &Exchange, events: EventQueue) -> R
 }
 
 /// The line of an event.
-fn add_line(text: &mut Text, exchange: &Exchange, event: &Event) -> Result<(), Memory>
+fn add_line(text: &mut Text, exchange: &Exchange, event: &ReportEvent) -> Result<(), Memory>
     ensures { OnOk result
         (text.new ≡ text.old ++ written (event_line exchange.now (event_of event.now))) }
 {
@@ -44,17 +44,17 @@ fn add_line(text: &mut Text, exchange: &Exchange, event: &Event) -> Result<(), M
 }
 
 /// The line of an event, without its end.
-fn add_event(text: &mut Seq<u8>, exchange: &Exchange, event: &Event) -> Result<(), Memory>
+fn add_event(text: &mut Seq<u8>, exchange: &Exchange, event: &ReportEvent) -> Result<(), Memory>
     ensures { OnOk result (text.new ≡ text.old ++ event_line exchange.now (event_of event.now)) }
 {
     match event {
-        Event::Out {
+        ReportEvent::Out {
             job,
             signal,
             values,
             forlopp,
         } => add_out(text, exchange, *job, *signal, values.as_slice(), *forlopp),
-        Event::Release {
+        ReportEvent::Release {
             forlopp,
             fault,
             jobs,
@@ -63,8 +63,8 @@ fn add_event(text: &mut Seq<u8>, exchange: &Exchange, event: &Event) -> Result<(
             add_number(text, b"RELEASE F", *forlopp)?;
             add_fault(text, exchange, fault, *jobs, *records)
         }
-        Event::Lost { line } => add_number(text, b"LOST line ", u64::from(*line)),
-        Event::Restart {
+        ReportEvent::Lost { line } => add_number(text, b"LOST line ", u64::from(*line)),
+        ReportEvent::Restart {
             fault,
             jobs,
             records,

@@ -7,7 +7,7 @@ ghost use Rattle.report_text.specs.Tallies.{IsTallied};
 
 use crate::whole::{add_counted, add_ending};
 use plex_num::Memory;
-use retire_order::{Books, Ending, Event, EventQueue};
+use retire_order::{Books, Ending, EventQueue, ReportEvent};
 use std::alloc::Global;
 use text_parts::Text;
 
@@ -43,7 +43,7 @@ struct Tally {
 
 impl Tally {
     /// The tally with an event more; no number of it may be the last one of 64 bits.
-    fn with(self, event: &Event) -> Tally
+    fn with(self, event: &ReportEvent) -> Tally
         requires outs { self.outs + 1 < 2 ^ 64 }
         requires releases { self.releases + 1 < 2 ^ 64 }
         requires lost { self.lost + 1 < 2 ^ 64 }
@@ -55,19 +55,19 @@ impl Tally {
             lost,
         } = self;
         match event {
-            Event::Out { .. } => Tally {
+            ReportEvent::Out { .. } => Tally {
                 outs: outs + 1,
                 ..self
             },
-            Event::Release { .. } => Tally {
+            ReportEvent::Release { .. } => Tally {
                 releases: releases + 1,
                 ..self
             },
-            Event::Lost { .. } => Tally {
+            ReportEvent::Lost { .. } => Tally {
                 lost: lost + 1,
                 ..self
             },
-            Event::Restart { .. } => self,
+            ReportEvent::Restart { .. } => self,
         }
     }
 }

@@ -9,7 +9,7 @@ use crate::numbers::sum;
 use indexmap::IndexMap;
 use plex_num::{Memory, Seed};
 use std::alloc::Global;
-use text_events::{Event, Meaning, Place};
+use text_events::{Event, EventKind, Meaning};
 use token_grammar::KeptName;
 
 /// The names that a block declares. Of a name that stands twice the last counts.
@@ -55,7 +55,7 @@ impl Declared {
     {
         let mut declared = Declared::new(alloc, seed);
         for event in events {
-            declared.see(event.place(), first_file)?;
+            declared.see(event.kind(), first_file)?;
         }
         Ok(declared)
     }
@@ -70,11 +70,11 @@ impl Declared {
 
     /// Takes in one place more.
     #[tactic(auto, using(crate::proofs::Meanings::see_declared))]
-    fn see(&mut self, place: Place<'_>, first_file: u32) -> Result<(), Memory>
-        ensures { OnOk result (AddsMeaning first_file (note_of place.entry) (meanings_in self.old)
+    fn see(&mut self, kind: EventKind<'_>, first_file: u32) -> Result<(), Memory>
+        ensures { OnOk result (AddsMeaning first_file (note_of kind.entry) (meanings_in self.old)
             (meanings_in self.new)) }
     {
-        if let Place::Declares { name, meaning } = place {
+        if let EventKind::Declares { name, meaning } = kind {
             let meaning = counted_on(first_file, meaning)?;
             let kept = name.again(*self.names.allocator())?;
             match self.names.insert(kept, meaning) {

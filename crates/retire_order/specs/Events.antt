@@ -2,13 +2,13 @@
 use Rattle.std.specs.Prelude.{ℕ, List}
 use Rattle.source_meaning.specs.State as state
 use Rattle.source_meaning.specs.SingleRun as run
-use Rattle.retire_order.specs.declared.event.Event.{Event}
-use Rattle.retire_order.specs.declared.event.Event.TheVariants.{Out, Release, Lost, Restart}
+use Rattle.retire_order.specs.declared.event.ReportEvent.{ReportEvent}
+use Rattle.retire_order.specs.declared.event.ReportEvent.TheVariants.{Out, Release, Lost, Restart}
 use Rattle.retire_order.specs.declared.event.Ending.{Ending}
 use Rattle.retire_order.specs.declared.event.Ending.TheVariants.{Done, Restart as Restarted, Limit}
 
 -- an event
-abbrev pub event_of : Event → state.RunEvent
+abbrev pub event_of : ReportEvent → state.RunEvent
 event_of (Out job signal values forlopp) = state.Out job signal values forlopp
 event_of (Release forlopp f jobs records) = state.Release forlopp f.job f.fault f.point jobs records
 event_of (Lost line) = state.Lost line

@@ -7,7 +7,7 @@ ghost use Rattle.retire_order.specs.Accounts.{LetsArrive, TakesLine, TellsArriva
 ghost use Rattle.retire_order.specs.Lines.{coming_of, origin_of};
 
 use crate::books::Books;
-use crate::event::Event;
+use crate::event::ReportEvent;
 use crate::event_log::EventLog;
 use exchange_model::Exchange;
 use forlopp_chain::Chains;
@@ -121,7 +121,7 @@ fn admit(chains: &Chains, waiting: &mut Buffers, events: &mut EventLog, number: 
     ensures events { events.new.events ≡ with_loss chains.now.dead job number events.old.events }
 {
     if chains.is_dead(job.forlopp) {
-        events.push_reserved(Event::Lost { line: number });
+        events.push_reserved(ReportEvent::Lost { line: number });
     } else {
         waiting.push_reserved(job);
     }

@@ -3,7 +3,7 @@ ghost use Rattle.std.specs.Prelude.{◌+◌, ◌<◌, ◌≤◌, ◌^◌, length
 ghost use Rattle.source_meaning.specs.Retirement.{all_delivered, delivered};
 ghost use Rattle.retire_order.specs.Traffic.{HasRoom, Leads, LosesOne, with_traffic};
 
-use crate::event::Event;
+use crate::event::ReportEvent;
 use crate::event_log::EventLog;
 use job_buffers::Buffers;
 use job_types::{Job, SendTo, Sent};
@@ -60,7 +60,7 @@ fn deliver(
     let values = sent.values.copy();
     match sent.to {
         SendTo::Outside { signal } => {
-            events.push_reserved(Event::Out {
+            events.push_reserved(ReportEvent::Out {
                 job: ended,
                 signal,
                 values,

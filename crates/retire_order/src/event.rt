@@ -13,7 +13,7 @@ pub struct Faulty {
 /// What leaves the exchange, and what happens to forlopps. The `job` of a signal is by which job it
 /// was sent, as the number of jobs that have ended with it.
 #[derive(Drop)]
-pub enum Event {
+pub enum ReportEvent {
     /// A signal left the exchange.
     Out {
         job: u64,

@@ -5,7 +5,7 @@ ghost use Rattle.plex_limits.specs.declared.limits.TheConstants.{MOST_VALUES};
 ghost use Rattle.retire_order.specs.Events.{event_of};
 ghost use Rattle.retire_order.specs.Bytes.{IsNarrow, TakesFirst, after_event, after_kind, after_number, after_words, event_bytes, event_of_kind, fault_number, fault_of, first_event, long_at, number_bytes, word_at, words_at};
 
-use crate::event::{Event, Faulty};
+use crate::event::{Faulty, ReportEvent};
 use job_types::Fault;
 use plex_limits::MOST_VALUES;
 use plex_num::Values;
@@ -17,7 +17,7 @@ pub const MOST_EVENT_BYTES: usize = 12 * MOST_NUMBER_BYTES;
 
 /// Puts an event behind the others; there must be room for it.
 #[tactic(auto, using(crate::proofs::Told::row_put))]
-pub fn put_event(bytes: &mut Vec<u8>, event: &Event)
+pub fn put_event(bytes: &mut Vec<u8>, event: &ReportEvent)
     requires room { vec_len bytes.old + 120 ≤ vec_capacity bytes.old }
     ensures items { bytes.new.items ≡ bytes.old.items ++ event_bytes (event_of event.now) }
     ensures room { vec_len bytes.new ≤ vec_len bytes.old + 120 }
@@ -25,7 +25,7 @@ pub fn put_event(bytes: &mut Vec<u8>, event: &Event)
     ensures narrow { IsNarrow (event_of event.now) }
 {
     match event {
-        Event::Out {
+        ReportEvent::Out {
             job,
             signal,
             values,
@@ -36,7 +36,7 @@ pub fn put_event(bytes: &mut Vec<u8>, event: &Event)
             put_all(bytes, &[many, *job, u64::from(*signal), *forlopp]);
             put_words(bytes, values);
         }
-        Event::Release {
+        ReportEvent::Release {
             forlopp,
             fault,
             jobs,
@@ -47,8 +47,8 @@ pub fn put_event(bytes: &mut Vec<u8>, event: &Event)
             let (point, records) = (u64::from(fault.point), u64::from(*records));
             put_all(bytes, &[kind, *forlopp, fault.job, point, *jobs, records]);
         }
-        Event::Lost { line } => put_all(bytes, &[2, u64::from(*line)]),
-        Event::Restart {
+        ReportEvent::Lost { line } => put_all(bytes, &[2, u64::from(*line)]),
+        ReportEvent::Restart {
             fault,
             jobs,
             records,
@@ -146,7 +146,7 @@ fn number_of(fault: Fault) -> u64
 
 /// Takes the event that stands last, whose bytes stand in turned order.
 #[tactic(auto, using(crate::proofs::Told::first_by, crate::proofs::Told::after_by, crate::proofs::Told::last_kind))]
-pub fn read_event(bytes: &mut Vec<u8>) -> Event
+pub fn read_event(bytes: &mut Vec<u8>) -> ReportEvent
     ensures event { event_of result ≡ first_event (reverse bytes.old.items) }
     ensures left { reverse bytes.new.items ≡ after_event (reverse bytes.old.items) }
 {
@@ -155,7 +155,7 @@ pub fn read_event(bytes: &mut Vec<u8>) -> Event
     match kind % 4 {
         0 => read_out(bytes, more),
         1 => read_release(bytes, more),
-        2 => Event::Lost {
+        2 => ReportEvent::Lost {
             line: read_word(bytes),
         },
         _ => read_restart(bytes, more),
@@ -163,7 +163,7 @@ pub fn read_event(bytes: &mut Vec<u8>) -> Event
 }
 
 /// What follows the first number of a signal that left the exchange.
-fn read_out(bytes: &mut Vec<u8>, more: u64) -> Event
+fn read_out(bytes: &mut Vec<u8>, more: u64) -> ReportEvent
     ensures event { event_of result ≡ event_of_kind 0 more (reverse bytes.old.items) }
     ensures left { reverse bytes.new.items ≡ after_kind 0 more (reverse bytes.old.items) }
 {
@@ -171,7 +171,7 @@ fn read_out(bytes: &mut Vec<u8>, more: u64) -> Event
     let signal = read_word(bytes);
     let forlopp = read_number(bytes);
     let values = read_values(bytes, more.min(MOST_VALUES as u64));
-    Event::Out {
+    ReportEvent::Out {
         job,
         signal,
         values,
@@ -180,7 +180,7 @@ fn read_out(bytes: &mut Vec<u8>, more: u64) -> Event
 }
 
 /// What follows the first number of a release.
-fn read_release(bytes: &mut Vec<u8>, more: u64) -> Event
+fn read_release(bytes: &mut Vec<u8>, more: u64) -> ReportEvent
     ensures event { event_of result ≡ event_of_kind 1 more (reverse bytes.old.items) }
     ensures left { reverse bytes.new.items ≡ after_kind 1 more (reverse bytes.old.items) }
 {
@@ -189,7 +189,7 @@ fn read_release(bytes: &mut Vec<u8>, more: u64) -> Event
     let point = read_word(bytes);
     let jobs = read_number(bytes);
     let records = read_word(bytes);
-    Event::Release {
+    ReportEvent::Release {
         forlopp,
         fault: Faulty {
             job,
@@ -202,7 +202,7 @@ fn read_release(bytes: &mut Vec<u8>, more: u64) -> Event
 }
 
 /// What follows the first number of a restart.
-fn read_restart(bytes: &mut Vec<u8>, more: u64) -> Event
+fn read_restart(bytes: &mut Vec<u8>, more: u64) -> ReportEvent
     ensures event { event_of result ≡ event_of_kind 3 more (reverse bytes.old.items) }
     ensures left { reverse bytes.new.items ≡ after_kind 3 more (reverse bytes.old.items) }
 {
@@ -210,7 +210,7 @@ fn read_restart(bytes: &mut Vec<u8>, more: u64) -> Event
     let point = read_word(bytes);
     let jobs = read_number(bytes);
     let records = read_word(bytes);
-    Event::Restart {
+    ReportEvent::Restart {
         fault: Faulty {
             job,
             fault: fault_of(more),

@@ -2,7 +2,7 @@
 ghost use Rattle.std.specs.Prelude.{◌≡◌, ◌+◌, ◌-◌, ◌<◌, ◌≤◌, ◌^◌, ◌++◌, ◌∷◌, [], length, MatchOption, OnOk, IfOk, vec_capacity, vec_len};
 ghost use Rattle.retire_order.specs.Events.{event_of};
 
-use crate::event::Event;
+use crate::event::ReportEvent;
 use crate::event_bytes::{MOST_EVENT_BYTES, put_event, read_event};
 use plex_num::Memory;
 use std::alloc::Global;
@@ -64,7 +64,7 @@ impl EventLog {
 
     /// An event more; there must be room for it.
     #[tactic(auto, using(crate::proofs::Told::told_more, crate::proofs::Told::more_told))]
-    pub(crate) fn push_reserved(&mut self, event: Event)
+    pub(crate) fn push_reserved(&mut self, event: ReportEvent)
         requires { 0 < self.old.room }
         ensures events { self.new.events ≡ self.old.events ++ event_of event ∷ [] }
         ensures room { self.new.room ≡ self.old.room - 1 }
@@ -118,7 +118,7 @@ impl Model for EventQueue {
 
 impl EventQueue {
     /// The next event, which leaves the queue; `None` exactly where none is left.
-    pub fn next(&mut self) -> Option<Event>
+    pub fn next(&mut self) -> Option<ReportEvent>
         ensures { MatchOption result (self.old ≡ []) (λ e. self.old ≡ event_of e ∷ self.new) }
     {
         if self.last_first.is_empty() {

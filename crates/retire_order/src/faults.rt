@@ -6,7 +6,7 @@ ghost use Rattle.job_types.specs.Forlopps.{dead_below, is_dead, with_chain, with
 ghost use Rattle.job_types.specs.Waiting.{nobody, others};
 ghost use Rattle.retire_order.specs.Traffic.{HasRoom, release_of, restart_of};
 
-use crate::event::{Event, Faulty};
+use crate::event::{Faulty, ReportEvent};
 use crate::event_log::EventLog;
 use forlopp_chain::Chains;
 use job_buffers::Buffers;
@@ -44,7 +44,7 @@ pub fn release(
 {
     let jobs = waiting.remove_forlopp(forlopp);
     let chain = chains.kill_reserved(forlopp);
-    events.push_reserved(Event::Release {
+    events.push_reserved(ReportEvent::Release {
         forlopp,
         fault,
         jobs,
@@ -72,7 +72,7 @@ pub fn begin_anew(
 {
     let jobs = waiting.remove_all();
     chains.kill_below(next);
-    events.push_reserved(Event::Restart {
+    events.push_reserved(ReportEvent::Restart {
         fault,
         jobs,
         records,

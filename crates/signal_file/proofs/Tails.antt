@@ -4,7 +4,7 @@ use Rattle.std.proofs.lemmas.List.{take-append-le, take_all}
 use Rattle.plex_limits.specs.declared.limits.TheConstants.{MOST_VALUES}
 use Rattle.plex_num.specs.Number.{number_of}
 use Rattle.signal_file.specs.declared.line.LineKind.{LineKind}
-use Rattle.signal_file.specs.Form.{Closing, IsTail, Keeps, closing, end_or_value, ending, one_more, with}
+use Rattle.signal_file.specs.Form.{Closing, IsTail, KeepsFirst, closing, end_or_value, ending, one_more, with}
 
 -- these values stand before the others
 abbrev behind : List ℕ → Option Closing → Option Closing
@@ -14,7 +14,7 @@ behind done (Some c) = Some (record { values = done ++ c.values; kind = c.kind }
 -- some values have been read, and the rest is left
 pub record Goes (ws rest : List (List ℕ)) (kept : List ℕ) (count : ℕ) : Type 0 where
   pub done : List ℕ
-  pub keeps : Keeps done kept count
+  pub keeps : KeepsFirst done kept count
   pub so : closing ws ≡ behind done (closing rest)
 
 behind_none : (o : Option Closing) → o ≡ behind [] o
@@ -33,7 +33,7 @@ more_behind : (done : List ℕ) (v : ℕ) (o : Option Closing) → behind done (
 more_behind done v None = refl
 more_behind done v (Some c) = ap (λ vs. Some (record { values = vs; kind = c.kind })) (sym (append_assoc done (v ∷ []) c.values))
 
-pub tail_more : (ws rest after : List (List ℕ)) (w : List ℕ) (v count : ℕ) (kept new : List ℕ) → Goes ws rest kept count → rest ≡ w ∷ after → None ≡ ending (w ∷ after) → Some v ≡ number_of w → ((all : List ℕ) → Keeps all kept count → Keeps (all ++ v ∷ []) new (count + 1)) → Goes ws after new (count + 1)
+pub tail_more : (ws rest after : List (List ℕ)) (w : List ℕ) (v count : ℕ) (kept new : List ℕ) → Goes ws rest kept count → rest ≡ w ∷ after → None ≡ ending (w ∷ after) → Some v ≡ number_of w → ((all : List ℕ) → KeepsFirst all kept count → KeepsFirst (all ++ v ∷ []) new (count + 1)) → Goes ws after new (count + 1)
 tail_more ws rest after w v count kept new g is no_end number keep = record {
   done = g.done ++ v ∷ [];
   keeps = keep g.done g.keeps;
@@ -63,7 +63,7 @@ unfolding closing
 tail_none ws rest count kept g none = g.so ∙ ap (λ r. behind g.done (closing r)) none
 
 -- one more value is kept where there is room
-pub keep_room : (all kept : List ℕ) (count : ℕ) → Keeps all kept count → count < MOST_VALUES → kept ≡ all
+pub keep_room : (all kept : List ℕ) (count : ℕ) → KeepsFirst all kept count → count < MOST_VALUES → kept ≡ all
 keep_room all kept count k room = let n = k.counted in k.first ∙ take_all MOST_VALUES all (omega (arith, n))
 
 pub tail_room : (ws rest : List (List ℕ)) (kept : List ℕ) (count : ℕ) → Goes ws rest kept count → count < MOST_VALUES → length kept < MOST_VALUES
@@ -72,7 +72,7 @@ tail_room ws rest kept count g room = let n = g.keeps.counted in let e : length 
 one_longer : (all : List ℕ) (v : ℕ) → length (all ++ v ∷ []) ≡ length all + 1
 one_longer all v = length-append all (v ∷ [])
 
-pub keep_pushed : (all kept new : List ℕ) (count v : ℕ) → count < MOST_VALUES → Keeps all kept count → new ≡ kept ++ v ∷ [] → Keeps (all ++ v ∷ []) new (count + 1)
+pub keep_pushed : (all kept new : List ℕ) (count v : ℕ) → count < MOST_VALUES → KeepsFirst all kept count → new ≡ kept ++ v ∷ [] → KeepsFirst (all ++ v ∷ []) new (count + 1)
 keep_pushed all kept new count v room k pushed =
     let n = k.counted in
     let longer = one_longer all v in
@@ -81,7 +81,7 @@ keep_pushed all kept new count v room k pushed =
       counted = omega (arith, n, longer);
     }
 
-pub keep_full : (all kept new : List ℕ) (count v : ℕ) → MOST_VALUES ≤ count → Keeps all kept count → new ≡ kept → Keeps (all ++ v ∷ []) new (count + 1)
+pub keep_full : (all kept new : List ℕ) (count v : ℕ) → MOST_VALUES ≤ count → KeepsFirst all kept count → new ≡ kept → KeepsFirst (all ++ v ∷ []) new (count + 1)
 keep_full all kept new count v full k same =
     let n = k.counted in
     let longer = one_longer all v in

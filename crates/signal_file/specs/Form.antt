@@ -62,18 +62,18 @@ said_in (first ∷ count ∷ signal ∷ block ∷ rest) =
 said_in _ = None
 
 -- the first of these values are kept, as many as a signal may have, and all are counted
-pub record Keeps (all kept : List ℕ) (count : ℕ) : Type 0 where
+pub record KeepsFirst (all kept : List ℕ) (count : ℕ) : Type 0 where
   pub first : kept ≡ take MOST_VALUES all
   pub counted : count ≡ length all
 
 -- one more value is read, and kept if there is room
 abbrev pub KeepsOneMore : List ℕ → ℕ → ℕ → List ℕ → Type 0
-KeepsOneMore old count value new = (all : List ℕ) → Keeps all old count → Keeps (all ++ value ∷ []) new (count + 1)
+KeepsOneMore old count value new = (all : List ℕ) → KeepsFirst all old count → KeepsFirst (all ++ value ∷ []) new (count + 1)
 
 -- this is the end of a line as it is read
 abbrev pub IsTail : Option Closing → Tail → Type 0
 IsTail None t = ⊥
-IsTail (Some c) t = Keeps c.values t.values t.count × (t.kind ≡ c.kind)
+IsTail (Some c) t = KeepsFirst c.values t.values t.count × (t.kind ≡ c.kind)
 
 -- the end of a line is read, where these words are one
 abbrev pub IsTailOf : List (List ℕ) → Option Tail → Type 0
@@ -84,7 +84,7 @@ pub record IsRead (s : Saying) (said : Said) : Type 0 where
   pub after : said.after ≡ s.after
   pub signal : said.signal.now ≡ s.signal
   pub block : said.block.now ≡ s.block
-  pub values : Keeps s.values said.values said.count
+  pub values : KeepsFirst s.values said.values said.count
   pub kind : said.kind ≡ s.kind
 
 abbrev pub IsSaid : Option Saying → Said → Type 0

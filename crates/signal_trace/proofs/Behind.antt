@@ -1,4 +1,4 @@
--- The lines of a filter, one after the other.
+-- The lines of a filter, one after the other, and its first faulty line.
 use Rattle.std.proofs.Common.{◌≡◌, ℕ, ◌+◌, ◌<◌, ◌≤◌, ◌^◌, List, [], ◌∷◌, ◌++◌, length, Option, Some, None, Result, Ok, Err, refl, sym, ap, ◌∙◌, append_assoc, append-nil, arith}
 use Rattle.std.specs.List.{cons_option}
 use Rattle.std.specs.Str.Lines.{lines}
@@ -8,6 +8,7 @@ use Rattle.signal_file.specs.Rules.{IsDirectory, and_then}
 use Rattle.signal_trace.specs.declared.fault.FilterFault.{FilterFault}
 use Rattle.signal_trace.specs.declared.show.Show.{Show}
 use Rattle.signal_trace.specs.Filter.{added, filter_of, lines_from, names_of}
+use Rattle.signal_file.proofs.Behind.{ok_first}
 
 -- these lines, in front of the others
 abbrev fronted : List Show → Result (List Show) FilterFault → Result (List Show) FilterFault
@@ -77,3 +78,19 @@ read_few d text rest after number list r shorter small = let few = r.few in omeg
 
 -- for `search`
 pub ruleset file_read = (read_begin, read_skip, read_more, read_stop, read_end, read_few)
+
+-- ## The first faulty line of a filter decides
+
+pub first_faulty : (d : Directory) (number : ℕ) (front rest : List (List ℕ)) (line : List ℕ) (list : List Show) (f : FilterFault)
+    → lines_from d number front ≡ Ok list → added d (number + length front) line ≡ Err f → lines_from d number (front ++ line ∷ rest) ≡ Err f
+unfolding lines_from
+first_faulty d number [] rest line list f right wrong =
+    let here : number ≡ number + length {A = List ℕ} [] = omega arith in
+    ap (λ r. and_then r (λ first. and_then (lines_from d (number + 1) rest) (λ ls. Ok (cons_option first ls)))) (ap (λ n. added d n line) here ∙ wrong)
+first_faulty d number (one ∷ front) rest line list f right wrong =
+    let here = ok_first (added d number one) (λ first. and_then (lines_from d (number + 1) front) (λ ls. Ok (cons_option first ls))) list right in
+    let more = ok_first (lines_from d (number + 1) front) (λ ls. Ok (cons_option here.0 ls)) list here.2 in
+    let same : number + 1 + length front ≡ number + length (one ∷ front) = omega arith in
+    let later = first_faulty d (number + 1) front rest line more.0 f more.1 (ap (λ n. added d n line) same ∙ wrong) in
+    ap (λ r. and_then r (λ first. and_then (lines_from d (number + 1) (front ++ line ∷ rest)) (λ ls. Ok (cons_option first ls)))) here.1
+    ∙ ap (λ r. and_then r (λ ls. Ok (cons_option here.0 ls))) later

@@ -1,8 +1,5 @@
 mod Behind
-mod Deciding
 mod Filters
-pub mod Numbered
 mod Tabling
-mod Tracing
+pub mod Tracing
 mod Written
-pub mod Telling

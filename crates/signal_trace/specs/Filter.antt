@@ -1,7 +1,7 @@
 -- The lines of a filter, or its first fault.
 --
 -- Each line is looked at with its number, from 1; the lines that are skipped are counted too. The first faulty line decides.
-use Rattle.std.specs.Prelude.{ℕ, ◌+◌, List, [], ◌∷◌, position, Option, Some, None, Result, Ok, Err, if◌then◌else◌}
+use Rattle.std.specs.Prelude.{ℕ, ◌+◌, List, [], ◌∷◌, position, Option, Some, None, Result, Ok, if◌then◌else◌}
 use Rattle.std.specs.Str.{bytes_eq}
 use Rattle.std.specs.Str.Lines.{lines}
 use Rattle.std.specs.List.{cons_option}

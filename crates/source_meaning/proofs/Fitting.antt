@@ -26,7 +26,7 @@ use Rattle.source_meaning.specs.Rests.{IsRow, whole, later, branch, turn, Stands
 use Rattle.plex_num.proofs.Lists.{all_append}
 use Rattle.source_meaning.proofs.Lists.{all_contained}
 use Rattle.source_meaning.proofs.Naming.{named_in-out, named_in_term-out, named-Variable, named-Field, named-Bracket, named-Number, named-Temporary, named-Reference}
-use Rattle.source_meaning.proofs.Parts.{Parts, every_expr}
+use Rattle.source_meaning.proofs.Parts.{NodeParts, every_expr}
 
 -- rows
 
@@ -126,7 +126,7 @@ module _ (s : Scope) where
   nothing_named : (f : Factor) → named_in_factor f ≡ [] → AllByRecursion (NamedFits s) (named_in_factor f)
   nothing_named f is = subst (AllByRecursion (NamedFits s)) (sym is) tt
 
-  name_parts : Parts ExprNames TermNames FactorNames
+  name_parts : NodeParts ExprNames TermNames FactorNames
   name_parts = record {
     expr = λ e each fit. subst (AllByRecursion (NamedFits s)) (sym (named_in-out e)) (names_of_terms (out-Expr e).terms each (expr_fits-out s e fit).1);
     term = λ t each fit. subst (AllByRecursion (NamedFits s)) (sym (named_in_term-out t)) (names_of_factors (out-Term t).factors each (term_fits-out s t fit).1);

@@ -21,7 +21,7 @@ use Rattle.source_meaning.proofs.Layers.{expr_value-out, term_value-out, factor_
 use Rattle.plex_num.proofs.Lists.{all_append, all_left, all_right}
 use Rattle.source_meaning.proofs.Lists.{Within, within_left, within_right}
 use Rattle.source_meaning.proofs.Naming.{named_in-out, named_in_term-out, named-Variable, named-Field, named-Bracket}
-use Rattle.source_meaning.proofs.Parts.{Parts, every_expr}
+use Rattle.source_meaning.proofs.Parts.{NodeParts, every_expr}
 use Rattle.plex_num.proofs.Members.{first_is}
 
 abbrev pub loads_in : Got → List Touch
@@ -92,7 +92,7 @@ module _ (s : Sight) (all : List Named) where
   abbrev same_loads : {got next : Got} → got ≡ next → LoadsAre Q next → LoadsAre Q got
   same_loads is h = subst (LoadsAre Q) (sym is) h
 
-  expr_parts : Parts ExprLoads TermLoads FactorLoads
+  expr_parts : NodeParts ExprLoads TermLoads FactorLoads
   expr_parts = record {
     expr = λ e each within. subst (LoadsAre Q) (sym (ap (λ (v : Eval). v s) (expr_value-out e))) (sum_loads (out-Expr e).terms 0 each (subst (λ ns. Within ns all) (named_in-out e) within));
     term = λ t each within. subst (LoadsAre Q) (sym (ap (λ (v : Eval). v s) (term_value-out t))) (product_loads (out-Term t).factors 1 each (subst (λ ns. Within ns all) (named_in_term-out t) within));

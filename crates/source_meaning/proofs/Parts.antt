@@ -8,7 +8,7 @@ use Rattle.exchange_model.specs.declared.expr.Factor.{Factor}
 use Rattle.exchange_model.specs.declared.expr.Factor.TheVariants.{Number, Variable, Temporary, Field, Bracket, Reference}
 
 -- what is to be shown at each node, where it holds of the node's parts
-pub record Parts (P : Expr → Type 0) (Q : Term → Type 0) (R : Factor → Type 0) : Type 0 where
+pub record NodeParts (P : Expr → Type 0) (Q : Term → Type 0) (R : Factor → Type 0) : Type 0 where
   pub expr : (e : Expr) → AllByRecursion Q (out-Expr e).terms → P e
   pub term : (t : Term) → AllByRecursion (λ (j : Joined). R j.factor) (out-Term t).factors → Q t
   pub number : (n : ℕ) → R (Number n)
@@ -18,7 +18,7 @@ pub record Parts (P : Expr → Type 0) (Q : Term → Type 0) (R : Factor → Typ
   pub bracket : (e : Expr) → P e → R (Bracket e)
   pub reference : (b : ℕ) → R (Reference b)
 
-module _ {P : Expr → Type 0} {Q : Term → Type 0} {R : Factor → Type 0} (parts : Parts P Q R) where
+module _ {P : Expr → Type 0} {Q : Term → Type 0} {R : Factor → Type 0} (parts : NodeParts P Q R) where
   mutual
     pub every_expr : (e : Expr) → P e
     every_expr (Expr' n row) =

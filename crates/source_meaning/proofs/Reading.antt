@@ -19,7 +19,7 @@ use Rattle.source_meaning.specs.Value.{Got, Gives, Fails, Eval, Sight, with_valu
 use Rattle.source_meaning.proofs.Layers.{expr_value-out, term_value-out, factor_value-Number, factor_value-Variable, factor_value-Temporary, factor_value-Field, factor_value-Bracket, factor_value-Reference}
 use Rattle.plex_num.proofs.Lists.{all_left, all_right}
 use Rattle.source_meaning.proofs.Loads.{loads_in}
-use Rattle.source_meaning.proofs.Parts.{Parts, every_expr}
+use Rattle.source_meaning.proofs.Parts.{NodeParts, every_expr}
 
 -- the words give the load its value
 abbrev pub FoundIn : List ℕ → Touch → Type 0
@@ -83,7 +83,7 @@ module _ (t : List ℕ) where
     field_reads None file field number h = refl
     field_reads (Some p) file field number h = fault_reads (pointer_fault s.chain file p number) (field_cell p number field) h
 
-    expr_parts : Parts ExprReads TermReads FactorReads
+    expr_parts : NodeParts ExprReads TermReads FactorReads
     expr_parts = record {
       expr = λ e each. same_reads (expr_value e) (sum_value (map summand_of (out-Expr e).terms) 0) (expr_value-out e) (sum_reads (out-Expr e).terms 0 each);
       term = λ e each. same_reads (term_value e) (product_value (map multiplier_of (out-Term e).factors) 1) (term_value-out e) (product_reads (out-Term e).factors 1 each);

@@ -27,7 +27,7 @@ use Rattle.source_meaning.specs.Value.{Got, Gives, Fails, Eval, Sight, with_valu
 use Rattle.source_meaning.specs.Config.{base_of, files_of}
 use Rattle.source_meaning.specs.Valid.{IsWord, StoreFits}
 use Rattle.source_meaning.proofs.Layers.{expr_value-out, term_value-out, factor_value-Number, factor_value-Variable, factor_value-Temporary, factor_value-Field, factor_value-Bracket, factor_value-Reference}
-use Rattle.source_meaning.proofs.Parts.{Parts, every_expr}
+use Rattle.source_meaning.proofs.Parts.{NodeParts, every_expr}
 use Rattle.source_meaning.proofs.Touching.{pointer_within, field_of}
 
 -- the list of numbers of 32 bits, at each place and past its end
@@ -122,7 +122,7 @@ module _ (x : Exchange) (kept : IsExchange x) (b : ℕ) (k : Block) (there : sli
   word_is : {got next : Got} → got ≡ next → GotWord next → GotWord got
   word_is is h = subst GotWord (sym is) h
 
-  word_parts : Parts ExprWord TermWord FactorWord
+  word_parts : NodeParts ExprWord TermWord FactorWord
   word_parts = record {
     expr = λ e each fit. word_is (ap (λ (v : Eval). v s) (expr_value-out e)) (sum_word (out-Expr e).terms 0 small_0 each (expr_fits-out (scope_of x b k) e fit).1);
     term = λ t each fit. word_is (ap (λ (v : Eval). v s) (term_value-out t)) (product_word (out-Term t).factors 1 small_1 each (term_fits-out (scope_of x b k) t fit).1);

@@ -27,7 +27,7 @@ use Rattle.entry_summary.specs.declared.summary.Summary.{Summary}
 use Rattle.start_permit.specs.declared.runs.Run.{Run}
 use Rattle.start_permit.specs.declared.table.CellTable.{CellTable}
 use Rattle.start_permit.specs.declared.table.FieldPlace.{FieldPlace}
-use Rattle.start_permit.specs.Granted.{Does, HasWord, IsField, IsOfField, IsOfMark, IsOfRecord, IsCellTable, IsVariable, Lets, MayRead, MayWrite, OneOf, Selects}
+use Rattle.start_permit.specs.Granted.{Does, HasWord, IsFieldNumber, IsOfField, IsOfMark, IsOfRecord, IsCellTable, IsVariableWord, Lets, MayRead, MayWrite, OneOf, Selects}
 use Rattle.start_permit.specs.Recorded.{AreBelow, AreRuns, Gains, InRow, IsBelow, IsRowOf, IsRunOf, RowFits, spanned}
 use Rattle.start_permit.proofs.Gaining.{gains_as, none_gained, push_gains}
 
@@ -62,10 +62,10 @@ mark_fits x l file row laid r =
     fits_at x l file row.fields r.placed row laid r.there r.is (omega (arith, same))
 
 module _ (x : Exchange) (t : CellTable) (table : IsCellTable x t) (number : ℕ) (at : FieldPlace) (found : Some at ≡ slice_get t.fields number) where
-  is_field : IsField x number at.file at.field
+  is_field : IsFieldNumber x number at.file at.field
   is_field = (table.fields number at).0 (sym found)
 
-  same_place : (file field : ℕ) → IsField x number file field → record { file = file; field = field } ≡ at
+  same_place : (file field : ℕ) → IsFieldNumber x number file field → record { file = file; field = field } ≡ at
   same_place file field f = same_Some (record { file = file; field = field }) at (sym ((table.fields number (record { file = file; field = field })).1 f) ∙ sym found)
 
   row_is : (row : FileRow) → IsRowOf x at.file row → row ≡ file_row is_field.placed
@@ -79,14 +79,14 @@ module _ (x : Exchange) (t : CellTable) (table : IsCellTable x t) (number : ℕ)
       (λ w r. record { file = at.file; field = at.field; at = is_field; of_record = r })
       (λ w k. from w (record { file = k.file; field = k.field }) (sym (same_place k.file k.field k.at)) k.at k.of_record) g
     where
-      placed_same : (f : IsField x number at.file at.field) → f.placed ≡ is_field.placed
+      placed_same : (f : IsFieldNumber x number at.file at.field) → f.placed ≡ is_field.placed
       placed_same f = same_Some f.placed is_field.placed (sym f.there ∙ is_field.there)
 
-      base : (w : ℕ) (f : IsField x number at.file at.field) → IsOfRecord f.placed at.field (Chosen at.file) w → IsOfRecord is_field.placed at.field (Chosen at.file) w
+      base : (w : ℕ) (f : IsFieldNumber x number at.file at.field) → IsOfRecord f.placed at.field (Chosen at.file) w → IsOfRecord is_field.placed at.field (Chosen at.file) w
       base w f r = subst (λ p. IsOfRecord p at.field (Chosen at.file) w) (placed_same f) r
 
-      from : (w : ℕ) (k : FieldPlace) → at ≡ k → (f : IsField x number k.file k.field) → IsOfRecord f.placed k.field (Chosen k.file) w → IsOfRecord is_field.placed at.field (Chosen at.file) w
-      from w k e = subst (λ (q : FieldPlace). (f : IsField x number q.file q.field) → IsOfRecord f.placed q.field (Chosen q.file) w → IsOfRecord is_field.placed at.field (Chosen at.file) w) e (base w)
+      from : (w : ℕ) (k : FieldPlace) → at ≡ k → (f : IsFieldNumber x number k.file k.field) → IsOfRecord f.placed k.field (Chosen k.file) w → IsOfRecord is_field.placed at.field (Chosen at.file) w
+      from w k e = subst (λ (q : FieldPlace). (f : IsFieldNumber x number q.file q.field) → IsOfRecord f.placed q.field (Chosen q.file) w → IsOfRecord is_field.placed at.field (Chosen at.file) w) e (base w)
 
 -- no such field
 pub no_field : (x : Exchange) (t : CellTable) (number : ℕ) (Chosen : ℕ → ℕ → Type 0) (old : List Span) → IsCellTable x t → None ≡ slice_get t.fields number → Gains (IsOfField x number Chosen) old old
@@ -158,13 +158,13 @@ one_word word w h = (let s = spans_out (record { first = word; count = 1; stride
 its_word : (word : ℕ) → spans (record { first = word; count = 1; stride = 1 }) word ≡ true
 its_word word = (let at : word + 0 * 1 ≡ word = omega arith in subst (λ v. spans (record { first = word; count = 1; stride = 1 }) v ≡ true) at (spans_in (record { first = word; count = 1; stride = 1 }) 0 (omega arith)))
 
-pub variable_gained : (x : Exchange) (t : CellTable) (number word : ℕ) (old new : List Span) → IsCellTable x t → Some word ≡ slice_get t.variables number → new ≡ old ++ record { first = word; count = 1; stride = 1 } ∷ [] → Gains (IsVariable x number) old new
-variable_gained x t number word old new table found made = push_gains (IsVariable x number) old new (record { first = word; count = 1; stride = 1 }) made
-    (λ w h. subst (IsVariable x number) (one_word word w h) ((table.variables number word).0 (sym found)))
+pub variable_gained : (x : Exchange) (t : CellTable) (number word : ℕ) (old new : List Span) → IsCellTable x t → Some word ≡ slice_get t.variables number → new ≡ old ++ record { first = word; count = 1; stride = 1 } ∷ [] → Gains (IsVariableWord x number) old new
+variable_gained x t number word old new table found made = push_gains (IsVariableWord x number) old new (record { first = word; count = 1; stride = 1 }) made
+    (λ w h. subst (IsVariableWord x number) (one_word word w h) ((table.variables number word).0 (sym found)))
     (λ w v. subst (λ u. spans (record { first = word; count = 1; stride = 1 }) u ≡ true) (same_Some word w (found ∙ (table.variables number w).1 v)) (its_word word))
 
-pub no_variable : (x : Exchange) (t : CellTable) (number : ℕ) (old : List Span) → IsCellTable x t → None ≡ slice_get t.variables number → Gains (IsVariable x number) old old
-no_variable x t number old table none = none_gained (IsVariable x number) old (λ w v. none-some w (none ∙ (table.variables number w).1 v))
+pub no_variable : (x : Exchange) (t : CellTable) (number : ℕ) (old : List Span) → IsCellTable x t → None ≡ slice_get t.variables number → Gains (IsVariableWord x number) old old
+no_variable x t number old table none = none_gained (IsVariableWord x number) old (λ w v. none-some w (none ∙ (table.variables number w).1 v))
 
 -- accesses
 

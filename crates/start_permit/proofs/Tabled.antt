@@ -22,7 +22,7 @@ use Rattle.exchange_model.proofs.Places.{block_below, sum_by_within}
 use Rattle.source_meaning.specs.Config.{files_of}
 use Rattle.start_permit.specs.declared.table.CellTable.{CellTable}
 use Rattle.start_permit.specs.declared.table.FieldPlace.{FieldPlace}
-use Rattle.start_permit.specs.Granted.{IsField, IsCellTable, IsVariable}
+use Rattle.start_permit.specs.Granted.{IsFieldNumber, IsCellTable, IsVariableWord}
 use Rattle.start_permit.specs.Listed.{AllSmall, AreSmall, block_places, field_places, file_places, place_at, variable_words, words_from}
 
 -- one item more
@@ -184,7 +184,7 @@ word_out cell (b ∷ bs) n w there =
     record { i = suc r.i; v = r.v; k = r.k; there = r.there; within = r.within; number = omega (arith, number, more, long, ge); is = omega (arith, is, cells) }))
     (cases_lt n (length b.variables))
 
-variables_are : (x : Exchange) (n w : ℕ) → (slice_get (variable_words 0 x.blocks) n ≡ Some w) ↔ IsVariable x n w
+variables_are : (x : Exchange) (n w : ℕ) → (slice_get (variable_words 0 x.blocks) n ≡ Some w) ↔ IsVariableWord x n w
 variables_are x n w = (
   λ there. (let o = word_out 0 x.blocks n w there in let is = o.is in record { block = o.i; index = o.v; owner = o.k; there = o.there; within = o.within; numbered = o.number; is = omega (arith, is) }),
   λ v. (let at = word_at 0 x.blocks v.block v.index v.owner v.there v.within in let is = v.is in let same : 0 + cell_count (take v.block x.blocks) + v.index ≡ w = omega (arith, is) in ap (slice_get (variable_words 0 x.blocks)) v.numbered ∙ at ∙ ap Some same),
@@ -249,10 +249,10 @@ counts_are (p ∷ ps) =
     let right : sum_by placed_count (p ∷ ps) ≡ placed_count p + sum_by placed_count ps = sum_by-cons placed_count p ps in
     omega (arith, rest, one, left, right)
 
-fields_are : (x : Exchange) → IsExchange x → (n : ℕ) (f : FieldPlace) → (slice_get (field_places x.blocks) n ≡ Some f) ↔ IsField x n f.file f.field
+fields_are : (x : Exchange) → IsExchange x → (n : ℕ) (f : FieldPlace) → (slice_get (field_places x.blocks) n ≡ Some f) ↔ IsFieldNumber x n f.file f.field
 fields_are x kept n f = (there, back)
   where
-    there : slice_get (field_places x.blocks) n ≡ Some f → IsField x n f.file f.field
+    there : slice_get (field_places x.blocks) n ≡ Some f → IsFieldNumber x n f.file f.field
     there at =
         let o = spread_out placed_places (files_of x) n f (ap (λ l. slice_get l n) (places_of_files x) ∙ at) in
         let count = count_is o.x in
@@ -261,9 +261,9 @@ fields_are x kept n f = (there, back)
         let is : place_at o.x.file.number o.j ≡ f = same_Some (place_at o.x.file.number o.j) f (sym (range_at (place_at o.x.file.number) (length o.x.file.fields) o.j within) ∙ o.is) in
         let number = o.number in
         let sums = counts_are (take o.i (files_of x)) in
-        subst (λ (g : FieldPlace). IsField x n g.file g.field) is (record { placed = o.x; there = ap (slice_get (files_of x)) (files_number x kept o.i o.x o.there) ∙ o.there; within = within; numbered = omega (arith, number, sums, ap (λ i. sum_by placed_count (take i (files_of x))) (files_number x kept o.i o.x o.there)) })
+        subst (λ (g : FieldPlace). IsFieldNumber x n g.file g.field) is (record { placed = o.x; there = ap (slice_get (files_of x)) (files_number x kept o.i o.x o.there) ∙ o.there; within = within; numbered = omega (arith, number, sums, ap (λ i. sum_by placed_count (take i (files_of x))) (files_number x kept o.i o.x o.there)) })
 
-    back : IsField x n f.file f.field → slice_get (field_places x.blocks) n ≡ Some f
+    back : IsFieldNumber x n f.file f.field → slice_get (field_places x.blocks) n ≡ Some f
     back k =
         let count = count_is k.placed in
         let lt = k.within in
@@ -277,6 +277,6 @@ fields_are x kept n f = (there, back)
 
 pub table_is : (x : Exchange) (t : CellTable) (blocks others : List Block) → IsExchange x → blocks ≡ x.blocks → others ≡ x.blocks → t.variables ≡ variable_words 0 blocks → t.fields ≡ field_places others → IsCellTable x t
 table_is x t blocks others kept same alike variables fields = record {
-  variables = λ n w. subst (λ l. (slice_get l n ≡ Some w) ↔ IsVariable x n w) (sym (variables ∙ ap (variable_words 0) same)) (variables_are x n w);
-  fields = λ n f. subst (λ l. (slice_get l n ≡ Some f) ↔ IsField x n f.file f.field) (sym (fields ∙ ap field_places alike)) (fields_are x kept n f);
+  variables = λ n w. subst (λ l. (slice_get l n ≡ Some w) ↔ IsVariableWord x n w) (sym (variables ∙ ap (variable_words 0) same)) (variables_are x n w);
+  fields = λ n f. subst (λ l. (slice_get l n ≡ Some f) ↔ IsFieldNumber x n f.file f.field) (sym (fields ∙ ap field_places alike)) (fields_are x kept n f);
 }

@@ -23,7 +23,7 @@ use Rattle.start_permit.specs.declared.table.FieldPlace.{FieldPlace}
 -- variables, fields and marks, and their words
 
 -- the word of the variable of this number through the exchange
-pub record IsVariable (x : Exchange) (number word : ℕ) : Type 0 where
+pub record IsVariableWord (x : Exchange) (number word : ℕ) : Type 0 where
   pub block : ℕ
   pub index : ℕ
   pub owner : Block
@@ -33,7 +33,7 @@ pub record IsVariable (x : Exchange) (number word : ℕ) : Type 0 where
   pub is : word ≡ variable_cell x.blocks block index
 
 -- the field of this number through the exchange is this field of this file
-pub record IsField (x : Exchange) (number file field : ℕ) : Type 0 where
+pub record IsFieldNumber (x : Exchange) (number file field : ℕ) : Type 0 where
   pub placed : Placed
   pub there : IsFileAt x file placed
   pub within : field < length placed.file.fields
@@ -50,7 +50,7 @@ pub record IsOfRecord (p : Placed) (place : ℕ) (Chosen : ℕ → Type 0) (word
 pub record IsOfField (x : Exchange) (number : ℕ) (Chosen : ℕ → ℕ → Type 0) (word : ℕ) : Type 0 where
   pub file : ℕ
   pub field : ℕ
-  pub at : IsField x number file field
+  pub at : IsFieldNumber x number file field
   pub of_record : IsOfRecord at.placed field (Chosen file) word
 
 -- the word of the mark of a record of the file that is chosen: marks stand behind the fields
@@ -99,7 +99,7 @@ Does write (Frees file) = true ≡ write
 
 -- the words that an access writes, or reads
 abbrev pub HasWord : Exchange → List Access → JobStart → ChainMap → Bool → Access → ℕ → Type 0
-HasWord x accesses start chains write (Variable writes number) word = IsVariable x number word
+HasWord x accesses start chains write (Variable writes number) word = IsVariableWord x number word
 HasWord x accesses start chains write (Field writes number selector) word = IsOfField x number (λ file. Selects start.job.values selector) word
 HasWord x accesses start chains write (Own writes number) word = IsOfField x number (MayHold accesses start.chain chains) word
 HasWord x accesses start chains write (Seizes file) word = IsOfMark x file (Marks write chains file) word
@@ -120,8 +120,8 @@ MayRead x s start chains word = OneOf (Lets x s.accesses start chains false) s.a
 
 -- where the variables and fields of an exchange stand, by their numbers
 pub record IsCellTable (x : Exchange) (t : CellTable) : Type 0 where
-  pub variables : (number word : ℕ) → (slice_get t.variables number ≡ Some word) ↔ IsVariable x number word
-  pub fields : (number : ℕ) (f : FieldPlace) → (slice_get t.fields number ≡ Some f) ↔ IsField x number f.file f.field
+  pub variables : (number word : ℕ) → (slice_get t.variables number ≡ Some word) ↔ IsVariableWord x number word
+  pub fields : (number : ℕ) (f : FieldPlace) → (slice_get t.fields number ≡ Some f) ↔ IsFieldNumber x number f.file f.field
 
 -- the layout and the table are those of the exchange
 pub record AreGrounds (g : Grounds) : Type 0 where

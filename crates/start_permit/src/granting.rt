@@ -4,7 +4,7 @@ ghost use Rattle.exchange_model.specs.declared.exchange.Exchange as declared;
 ghost use Rattle.job_types.specs.Forlopps.{ChainMap, all_records};
 ghost use Rattle.source_meaning.specs.Config.{files_of};
 ghost use Rattle.store_layout.specs.Laid.{IsLayout};
-ghost use Rattle.start_permit.specs.Granted.{AreGrounds, Does, HasWord, IsOfField, IsOfMark, IsCellTable, IsVariable, Lets, Marks, MayHold, OneOf, Selects};
+ghost use Rattle.start_permit.specs.Granted.{AreGrounds, Does, HasWord, IsOfField, IsOfMark, IsCellTable, IsVariableWord, Lets, Marks, MayHold, OneOf, Selects};
 ghost use Rattle.start_permit.specs.Recorded.{AreBelow, Gains, InRow, IsBelow, IsRowOf, RowFits, spanned};
 
 use crate::runs::{Run, all_below, free_runs, own_runs, selected};
@@ -93,7 +93,7 @@ fn push_variable(
     spans: &mut Seq<Span>,
 ) -> Result<(), Memory>
     requires { IsCellTable exchange.now table.now }
-    ensures { OnOk result (Gains (IsVariable exchange.now number) spans.old spans.new) }
+    ensures { OnOk result (Gains (IsVariableWord exchange.now number) spans.old spans.new) }
 {
     let _ = exchange;
     let Some(word) = table.variable(number) else {

@@ -23,7 +23,7 @@ use Rattle.source_meaning.specs.Config.{files_of, base_of}
 use Rattle.std.specs.Option.{option_map_or}
 use Rattle.source_meaning.specs.Changes.{variable_width, field_width}
 use Rattle.expr_code.specs.Code.{expr_code, cond_code, own_code, pointer_code, rel_op}
-use Rattle.expr_code.specs.Sites.{IsLimited, IsSite, IsPlace}
+use Rattle.expr_code.specs.Sites.{IsLimited, IsSite, IsPlacedFile}
 use Rattle.plex_num.proofs.Lists.{all_append, all_at, some_at}
 use Rattle.expr_code.proofs.Operands.{expr_ops_fit, cond_ops_fit}
 use Rattle.stmt_code.specs.Numbers.{AreNumbers}
@@ -75,7 +75,7 @@ rel_narrow AtLeast r s p q = λ n. (p, q)
 
 module _ (x : Exchange) (kept : IsExchange x) (few_files : length (files_of x) ≤ 2 ^ 32) where
   -- where a block's statements stand
-  place_is : (i : ℕ) (p : Placed) → slice_get (files_of x) i ≡ Some p → IsPlace p
+  place_is : (i : ℕ) (p : Placed) → slice_get (files_of x) i ≡ Some p → IsPlacedFile p
   unfolding files_of
   place_is i p there =
       let below = file_below x.blocks i p there in

@@ -1,14 +1,13 @@
 -- The rows of a layout, read for a cell or for a word.
-use Rattle.std.proofs.Common.{◌≡◌, ℕ, zero, suc, ◌+◌, ◌-◌, ◌*◌, ◌/◌, ◌%◌, ◌<◌, ◌≤◌, inl, inr, Bool, true, false, List, [], ◌∷◌, length, take, get_or, leb, Some, slice_get, refl, sym, ap, ◌∙◌, subst, arith}
+use Rattle.std.proofs.Common.{◌≡◌, ℕ, zero, suc, ◌+◌, ◌-◌, ◌*◌, ◌/◌, ◌%◌, ◌<◌, ◌≤◌, inl, inr, true, false, List, [], ◌∷◌, length, take, get_or, leb, Some, slice_get, refl, sym, ap, ◌∙◌, subst, arith}
 use Rattle.std.specs.Option.{option_map}
 use Rattle.std.specs.List.Sorted.{IsNonDecreasingBy, IsPartitionPoint}
-use Rattle.std.proofs.lemmas.Bool.{cases_lt, cases_order, leb-false, leb-true}
+use Rattle.std.proofs.lemmas.Bool.{cases_lt, cases_order, leb-false, leb-true, true_from_ne_false}
 use Rattle.std.proofs.lemmas.List.{length-map}
 use Rattle.std.proofs.lemmas.List.Sums.{sum_by-cons}
 use Rattle.std.proofs.lemmas.Nat.{div-add-mod', mod_below, mul-le}
 use Rattle.std.proofs.lemmas.Option.{none-some, same_Some, slice_get-map, slice_get-get_or, slice_get_cases, slice_get_within, get_or_from_slice_get}
 use Rattle.exchange_model.specs.declared.block.Block.{Block}
-use Rattle.exchange_model.specs.declared.block.File.{File}
 use Rattle.exchange_model.specs.declared.entry.Cell.{Cell}
 use Rattle.exchange_model.specs.declared.entry.Cell.TheVariants.{Variable, Field, Mark}
 use Rattle.plex_limits.specs.declared.limits.TheConstants.{MOST_BLOCKS, MOST_CELLS}
@@ -309,13 +308,6 @@ record_below p n x word is below =
           absurd (omega (arith, many, is, below))
     ]
 
-only_marked : (f : File) (x : ℕ) → length f.fields ≤ x → x < record_cells f → f.forlopp ≡ true
-only_marked f x ge lt = decide f.forlopp (omega arith)
-  where
-    decide : (b : Bool) → 0 < marks b → b ≡ true
-    decide true _ = refl
-    decide false none = absurd (omega arith)
-
 cell_has : (bs : List Block) (l : Rows) (word f : ℕ) (row : FileRow) (c : Cell) → IsLayout bs l → Has bs word f row → IsIn row word c → IsCell bs c × (cell_number bs c ≡ word)
 cell_has bs l word f row (Variable block index) laid h is = absurd is
 cell_has bs l word f row (Field file number field) laid h is =
@@ -333,7 +325,7 @@ cell_has bs l word f row (Mark file number) laid h is =
     let there : slice_get (placed_files bs) file ≡ Some p = ap (slice_get (placed_files bs)) same ∙ h.there in
     let after : length p.file.fields ≤ mark.place = omega (arith, mark.after, ap (λ (r : FileRow). r.fields) h.is) in
     let within : mark.place < record_cells p.file = omega (arith, mark.within, ap (λ (r : FileRow). r.stride) h.is) in
-    let marked : p.file.forlopp ≡ true = only_marked p.file mark.place after within in
+    let marked : p.file.forlopp ≡ true = true_from_ne_false p.file.forlopp (λ none. let no_mark : marks p.file.forlopp ≡ 0 = ap marks none in omega (arith, no_mark, after, within)) in
     let one : marks p.file.forlopp ≡ 1 = ap marks marked in
     let last : mark.place ≡ length p.file.fields = omega (arith, one, after, within) in
     let spot : p.first + number * record_cells p.file + mark.place ≡ word = ap (λ (r : FileRow). r.first + number * r.stride + mark.place) (sym h.is) ∙ mark.is in

@@ -14,7 +14,7 @@ use Rattle.text_events.specs.Note.{Event, Nothing}
 use Rattle.text_events.specs.Note as note
 use Rattle.text_events.specs.Kept.{stmt_line_at}
 use Rattle.text_events.specs.Seen.{head_at, head_before, begins_at, stmt_heads}
-use Rattle.text_events.specs.Walk.{Walk, OwnWalk, add, in_turn, each_walk, expr_walk, term_walk, factor_walk, factor_kind_walk, added_walk, multiplied_walk, list_walk, body_walk, first_head, head_of, kind_head, kind_walk, kind_walk_at, stmt_walk, when_walk}
+use Rattle.text_events.specs.Walk.{EventWalk, OwnWalk, add, in_turn, each_walk, expr_walk, term_walk, factor_walk, factor_kind_walk, added_walk, multiplied_walk, list_walk, body_walk, first_head, head_of, kind_head, kind_walk, kind_walk_at, stmt_walk, when_walk}
 use Rattle.text_events.proofs.There.{line_there}
 use Rattle.text_events.proofs.Layers.{expr_walk-out, term_walk-out, factor_walk-out, opened, kind_walk-out, stmt_walk-out, when_walk-out}
 
@@ -33,17 +33,17 @@ pub walks_end : {A : Type 0} (f : A → OwnWalk) (xs : List A) (i owner : ℕ) (
 walks_end f xs i owner out old past w = ap (λ l. each_walk (map f l) owner out) (sym (drop_of_length-le xs past)) ∙ w.same
 
 -- the same of walks that need no statement
-pub record Turns {A : Type 0} (f : A → Walk) (xs : List A) (i : ℕ) (out old : List Event) : Type 0 where
+pub record Turns {A : Type 0} (f : A → EventWalk) (xs : List A) (i : ℕ) (out old : List Event) : Type 0 where
   pub same : in_turn (map f (drop i xs)) out ≡ in_turn (map f xs) old
 
-pub turns_begin : {A : Type 0} (f : A → Walk) (xs : List A) (out : List Event) → Turns f xs 0 out out
+pub turns_begin : {A : Type 0} (f : A → EventWalk) (xs : List A) (out : List Event) → Turns f xs 0 out out
 turns_begin f xs out = record { same = refl }
 
-pub turns_step : {A : Type 0} (f : A → Walk) (xs : List A) (i : ℕ) (x : A) (out new old : List Event) → i < length xs → x ≡ get_or xs i x → new ≡ f x out → Turns f xs i out old → Turns f xs (i + 1) new old
+pub turns_step : {A : Type 0} (f : A → EventWalk) (xs : List A) (i : ℕ) (x : A) (out new old : List Event) → i < length xs → x ≡ get_or xs i x → new ≡ f x out → Turns f xs i out old → Turns f xs (i + 1) new old
 turns_step f xs i x out new old inside is more w =
     record { same = rw more (ap (λ l. in_turn (map f l) out) (sym (cut_at xs i x inside is)) ∙ w.same) }
 
-pub turns_end : {A : Type 0} (f : A → Walk) (xs : List A) (i : ℕ) (out old : List Event) → length xs ≤ i → Turns f xs i out old → out ≡ in_turn (map f xs) old
+pub turns_end : {A : Type 0} (f : A → EventWalk) (xs : List A) (i : ℕ) (out old : List Event) → length xs ≤ i → Turns f xs i out old → out ≡ in_turn (map f xs) old
 turns_end f xs i out old past w = ap (λ l. in_turn (map f l) out) (sym (drop_of_length-le xs past)) ∙ w.same
 
 -- heads

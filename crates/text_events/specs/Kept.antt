@@ -4,8 +4,8 @@ use Rattle.plex_ast.specs.declared.block.Item.{Item}
 use Rattle.plex_ast.specs.declared.block.ItemKind.{ItemKind}
 use Rattle.plex_ast.specs.declared.block.ItemKind.TheVariants as items
 use Rattle.plex_ast.specs.declared.stmt.Stmt.{Stmt}
-use Rattle.text_events.specs.declared.kept.Kept.{Kept}
-use Rattle.text_events.specs.declared.kept.Kept.TheVariants as kept
+use Rattle.text_events.specs.declared.kept.PackedEvent.{PackedEvent}
+use Rattle.text_events.specs.declared.kept.PackedEvent.TheVariants as kept
 use Rattle.text_events.specs.declared.role.Meaning.TheVariants as meaning
 use Rattle.text_events.specs.Note.{Event, Note}
 use Rattle.text_events.specs.Note as note
@@ -23,7 +23,7 @@ own_line _ line = line
 abbrev pub item_line_at : List Item → ℕ → ℕ
 item_line_at xs i = get_or (map (λ (x : Item). own_line x.kind x.line) xs) i 0
 
-abbrev pub line_kept : Kept → ℕ
+abbrev pub line_kept : PackedEvent → ℕ
 line_kept (kept.Signals line count) = line
 line_kept (kept.Signal line name) = line
 line_kept (kept.Carries line count) = line
@@ -53,7 +53,7 @@ line_kept (kept.Holds line file) = line
 line_kept (kept.Chooses line owner number) = line
 line_kept (kept.Ends line) = line
 
-abbrev pub note_kept : Kept → Note
+abbrev pub note_kept : PackedEvent → Note
 note_kept (kept.Signals line count) = note.Signals count
 note_kept (kept.Signal line name) = note.Signal name.now
 note_kept (kept.Carries line count) = note.Carries count
@@ -84,5 +84,5 @@ note_kept (kept.Chooses line owner number) = note.Chooses owner number
 note_kept (kept.Ends line) = note.Ends
 
 -- the event of which this is kept
-abbrev pub said_of : Kept → Event
+abbrev pub said_of : PackedEvent → Event
 said_of k = record { line = line_kept k; note = note_kept k }

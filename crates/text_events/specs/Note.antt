@@ -5,10 +5,10 @@ use Rattle.text_events.specs.declared.role.Need.{Need}
 use Rattle.text_events.specs.declared.role.Role.{Role}
 
 -- to which of several receivers a signal goes: nothing is said of it, a block is named, or a name holds the block
-pub data Way : Type 0 where
-  Open : Way
-  To : (block : List ℕ) → Way
-  Held : Way
+pub data SignalWay : Type 0 where
+  Open : SignalWay
+  To : (block : List ℕ) → SignalWay
+  Held : SignalWay
 
 -- a statement or a label as its neighbours and the rules see it; `count` is that of the names or values after WITH
 pub data Head : Type 0 where
@@ -17,10 +17,10 @@ pub data Head : Type 0 where
   Other : Head
   Enters : (signal : List ℕ) (count : ℕ) → Head
   -- `fresh` says whether NEW FORLOPP stands there
-  Sends : (signal : List ℕ) (way : Way) (count : ℕ) (fresh : Bool) → Head
+  Sends : (signal : List ℕ) (way : SignalWay) (count : ℕ) (fresh : Bool) → Head
   Retrieves : (signal : List ℕ) (count : ℕ) → Head
   Returns : (signal : List ℕ) (count : ℕ) → Head
-  Transfers : (signal : List ℕ) (way : Way) → Head
+  Transfers : (signal : List ℕ) (way : SignalWay) → Head
 
 -- a statement is named by the number of the events before it in its part
 pub data Note : Type 0 where

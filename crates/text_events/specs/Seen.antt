@@ -3,18 +3,18 @@
 use Rattle.std.specs.Prelude.{ℕ, zero, suc, List, get_or, map}
 use Rattle.plex_ast.specs.declared.block.Item.{Item}
 use Rattle.plex_ast.specs.declared.stmt.Stmt.{Stmt}
-use Rattle.text_events.specs.declared.event.Place.{Place}
-use Rattle.text_events.specs.declared.event.Place.TheVariants as place
+use Rattle.text_events.specs.declared.event.EventKind.{EventKind}
+use Rattle.text_events.specs.declared.event.EventKind.TheVariants as kind
 use Rattle.text_events.specs.declared.heads.Head.{Head as SeenHead}
 use Rattle.text_events.specs.declared.heads.Head.TheVariants as seen
 use Rattle.text_events.specs.declared.heads.Way.{Way as SeenWay}
 use Rattle.text_events.specs.declared.heads.Way.TheVariants as way
-use Rattle.text_events.specs.Note.{Note, Head, Way}
+use Rattle.text_events.specs.Note.{Note, Head, SignalWay}
 use Rattle.text_events.specs.Note as note
-use Rattle.text_events.specs.Walk.{Walk, head_of}
+use Rattle.text_events.specs.Walk.{EventWalk, head_of}
 use Rattle.text_events.specs.Blocks.{item_head_at, item_walk_at}
 
-abbrev pub way_seen : SeenWay → Way
+abbrev pub way_seen : SeenWay → SignalWay
 way_seen way.Open = note.Open
 way_seen (way.To name) = note.To name.now
 way_seen way.Held = note.Held
@@ -45,32 +45,32 @@ stmt_heads ss = map head_of ss
 abbrev pub item_heads : List Item → List Head
 item_heads xs = map (λ (x : Item). item_head_at x.kind) xs
 
-abbrev pub note_of : Place → Note
-note_of (place.Signals count) = note.Signals count
-note_of (place.Signal name) = note.Signal name.now
-note_of (place.Carries count) = note.Carries count
-note_of place.Block = note.Block
-note_of (place.BlockName name) = note.BlockName name.now
-note_of (place.Cells count) = note.Cells count
-note_of (place.Declares name meaning) = note.Declares name.now meaning
-note_of (place.Width bits) = note.Width bits
-note_of (place.Init value bits) = note.Init value bits
-note_of (place.Size records) = note.Size records
-note_of (place.Receives signal) = note.Receives signal.now
-note_of (place.Names signal role) = note.Names signal.now role
-note_of (place.Begins list at) = begins_at (stmt_heads list.now) at
-note_of (place.BeginsItem list at) = begins_at (item_heads list.now) at
-note_of (place.Uses name need) = note.Uses name.now need
-note_of (place.Reads name need owner) = note.Reads name.now need owner
-note_of (place.Counts owner) = note.Counts owner
-note_of (place.Refers block owner) = note.Refers block.now owner
-note_of (place.Goes label) = note.Goes label.now
-note_of (place.Searches file) = note.Searches file.now
-note_of (place.Compares field file) = note.Compares field.now file.now
-note_of (place.Holds file) = note.Holds file.now
-note_of (place.Chooses owner number) = note.Chooses owner number
-note_of place.Ends = note.Ends
+abbrev pub note_of : EventKind → Note
+note_of (kind.Signals count) = note.Signals count
+note_of (kind.Signal name) = note.Signal name.now
+note_of (kind.Carries count) = note.Carries count
+note_of kind.Block = note.Block
+note_of (kind.BlockName name) = note.BlockName name.now
+note_of (kind.Cells count) = note.Cells count
+note_of (kind.Declares name meaning) = note.Declares name.now meaning
+note_of (kind.Width bits) = note.Width bits
+note_of (kind.Init value bits) = note.Init value bits
+note_of (kind.Size records) = note.Size records
+note_of (kind.Receives signal) = note.Receives signal.now
+note_of (kind.Names signal role) = note.Names signal.now role
+note_of (kind.Begins list at) = begins_at (stmt_heads list.now) at
+note_of (kind.BeginsItem list at) = begins_at (item_heads list.now) at
+note_of (kind.Uses name need) = note.Uses name.now need
+note_of (kind.Reads name need owner) = note.Reads name.now need owner
+note_of (kind.Counts owner) = note.Counts owner
+note_of (kind.Refers block owner) = note.Refers block.now owner
+note_of (kind.Goes label) = note.Goes label.now
+note_of (kind.Searches file) = note.Searches file.now
+note_of (kind.Compares field file) = note.Compares field.now file.now
+note_of (kind.Holds file) = note.Holds file.now
+note_of (kind.Chooses owner number) = note.Chooses owner number
+note_of kind.Ends = note.Ends
 
 -- the walk of the item at a place, after as many labels
-abbrev pub item_walk_in : Item → List Item → ℕ → ℕ → Walk
+abbrev pub item_walk_in : Item → List Item → ℕ → ℕ → EventWalk
 item_walk_in x items at label out = item_walk_at x.kind x.line label (head_before (item_heads items) at) (head_at (item_heads items) (suc at)) out

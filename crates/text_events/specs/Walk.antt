@@ -23,23 +23,23 @@ use Rattle.plex_ast.specs.declared.stmt.StmtKind.{StmtKind, StmtKind-F, fold-Stm
 use Rattle.plex_ast.specs.declared.stmt.StmtKind.TheOpen as stmts
 use Rattle.text_events.specs.declared.role.Need.TheVariants as need
 use Rattle.text_events.specs.declared.role.Role.TheVariants as role
-use Rattle.text_events.specs.Note.{Event, Note, Head, Way}
+use Rattle.text_events.specs.Note.{Event, Note, Head, SignalWay}
 use Rattle.text_events.specs.Note as note
 
 -- from the events so far, these and more
-abbrev pub Walk : Type 0
-Walk = List Event → List Event
+abbrev pub EventWalk : Type 0
+EventWalk = List Event → List Event
 
-abbrev pub add : ℕ → Note → Walk
+abbrev pub add : ℕ → Note → EventWalk
 add line said out = out ++ record { line = line; note = said } ∷ []
 
-abbrev pub in_turn : List Walk → Walk
+abbrev pub in_turn : List EventWalk → EventWalk
 in_turn [] out = out
 in_turn (w ∷ ws) out = in_turn ws (w out)
 
 -- within the statement that begins at a place
 abbrev pub OwnWalk : Type 0
-OwnWalk = ℕ → Walk
+OwnWalk = ℕ → EventWalk
 
 abbrev pub each_walk : List OwnWalk → OwnWalk
 each_walk [] owner out = out
@@ -111,10 +111,10 @@ abbrev pub values_of : Option Exprs → List Expr
 values_of None = []
 values_of (Some x) = x.first ∷ x.rest
 
-abbrev pub name_walk : Named → Walk
+abbrev pub name_walk : Named → EventWalk
 name_walk n out = add n.line (note.Uses n.name need.Temporary) out
 
-abbrev pub names_walk : Option Names → Walk
+abbrev pub names_walk : Option Names → EventWalk
 names_walk ns out = in_turn (map name_walk (names_of ns)) out
 
 abbrev pub values_walk : Option Exprs → OwnWalk
@@ -126,26 +126,26 @@ abbrev pub is_there : Option Reference → Bool
 is_there None = false
 is_there (Some r) = true
 
-abbrev pub way_at : ReferenceKind → Way
+abbrev pub way_at : ReferenceKind → SignalWay
 way_at (references.Block m) = note.To m.name
 way_at (references.Held v) = note.Held
 
-abbrev pub way_of : Option Reference → Way
+abbrev pub way_of : Option Reference → SignalWay
 way_of None = note.Open
 way_of (Some r) = way_at r.kind
 
-abbrev pub reference_kind_walk : ReferenceKind → Walk
+abbrev pub reference_kind_walk : ReferenceKind → EventWalk
 reference_kind_walk (references.Block m) out = out
 reference_kind_walk (references.Held v) out = add v.line (note.Uses v.name need.Value) out
 
-abbrev pub reference_walk : Option Reference → Walk
+abbrev pub reference_walk : Option Reference → EventWalk
 reference_walk None out = out
 reference_walk (Some r) out = reference_kind_walk r.kind out
 
 -- a statement: as its neighbours see it, and its events between two neighbours
 pub record StmtWalk : Type 0 where
   pub head : Head
-  pub walk : Head → Head → Walk
+  pub walk : Head → Head → EventWalk
 
 -- what follows a statement's first token
 pub record KindWalk : Type 0 where
@@ -157,14 +157,14 @@ first_head [] = note.Nothing
 first_head (s ∷ rest) = s.head
 
 -- statements in a list, after what stands before it
-abbrev pub list_walk : List StmtWalk → Head → Walk
+abbrev pub list_walk : List StmtWalk → Head → EventWalk
 list_walk [] before out = out
 list_walk (s ∷ rest) before out = list_walk rest s.head (s.walk before (first_head rest) out)
 
-abbrev pub body_walk : List StmtWalk → Walk
+abbrev pub body_walk : List StmtWalk → EventWalk
 body_walk ss out = list_walk ss note.Nothing out
 
-abbrev pub branch_walk : Option (List StmtWalk) → Walk
+abbrev pub branch_walk : Option (List StmtWalk) → EventWalk
 branch_walk None out = out
 branch_walk (Some ss) out = body_walk ss out
 
@@ -214,6 +214,6 @@ when_walk = fold-When KindWalk StmtWalk OwnWalk kind_walk_at stmt_walk_at when_w
 abbrev pub head_of : Stmt → Head
 head_of s = kind_head (out-StmtKind s.kind)
 
-abbrev pub other_walk : Option (List Stmt) → Walk
+abbrev pub other_walk : Option (List Stmt) → EventWalk
 other_walk None out = out
 other_walk (Some ss) out = body_walk (map stmt_walk ss) out

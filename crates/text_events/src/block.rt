@@ -7,7 +7,7 @@ ghost use Rattle.text_events.specs.Seen.{item_walk_in};
 
 use crate::declarations::walk_decls;
 use crate::event::Event;
-use crate::kept::Kept;
+use crate::kept::PackedEvent;
 use crate::pushes::{narrow, plus, push, push_signal};
 use crate::role::Role;
 use crate::statements::{walk_kind, walk_names};
@@ -20,7 +20,7 @@ fn walk_survey<'a>(s: &'a Survey, out: &mut Seq<Event<'a>>) -> Result<(), Memory
 {
     match &s.kind {
         SurveyKind::Receive { signal } => {
-            let kept = Kept::Receives {
+            let kept = PackedEvent::Receives {
                 line: s.line,
                 signal: &signal.name,
             };
@@ -62,7 +62,7 @@ fn walk_item<'a>(
     let number = narrow(at)?;
     match &item.kind {
         ItemKind::Label { name } => {
-            let kept = Kept::Label {
+            let kept = PackedEvent::Label {
                 number: label,
                 name,
             };
@@ -72,7 +72,7 @@ fn walk_item<'a>(
         ItemKind::Enter { signal, names } => {
             push(
                 out,
-                Kept::BeginsItem {
+                PackedEvent::BeginsItem {
                     at: number,
                     list: items,
                 },
@@ -85,7 +85,7 @@ fn walk_item<'a>(
             let owner = narrow(out.len())?;
             push(
                 out,
-                Kept::BeginsItem {
+                PackedEvent::BeginsItem {
                     at: number,
                     list: items,
                 },
@@ -128,8 +128,8 @@ pub(crate) fn walk_block<'a>(alloc: Global, block: &'a Block) -> Result<Seq<Even
     ensures { IfOk result (λ events. events ≡ block_events block.now) }
 {
     let mut out = Seq::new(alloc);
-    push(&mut out, Kept::Block { line: block.line })?;
-    let kept = Kept::BlockName {
+    push(&mut out, PackedEvent::Block { line: block.line })?;
+    let kept = PackedEvent::BlockName {
         line: block.name.line,
         name: &block.name.name,
     };
@@ -138,6 +138,6 @@ pub(crate) fn walk_block<'a>(alloc: Global, block: &'a Block) -> Result<Seq<Even
     walk_surveys(block.surveys.as_slice(), &mut out)?;
     walk_items(alloc, &block.items, &mut out)?;
     let line = block.end_line;
-    push(&mut out, Kept::Ends { line })?;
+    push(&mut out, PackedEvent::Ends { line })?;
     Ok(out)
 }

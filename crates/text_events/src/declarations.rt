@@ -6,7 +6,7 @@ ghost use Rattle.text_events.specs.Walk.{add};
 ghost use Rattle.text_events.specs.Blocks.{init_walk, width_walk, field_walk, fields_walk, variables_of, temporaries_of, files_of, cells_of, decl_walk, decls_walk};
 
 use crate::event::Event;
-use crate::kept::Kept;
+use crate::kept::PackedEvent;
 use crate::pushes::{plus, push, push_field};
 use plex_ast::{Decl, DeclKind, Field, Numbered};
 use plex_num::{Memory, Seq};
@@ -22,7 +22,7 @@ fn walk_init<'a>(
     match init {
         None => Ok(()),
         Some(i) => {
-            let kept = Kept::Init {
+            let kept = PackedEvent::Init {
                 line: i.line,
                 value: i.value,
                 bits,
@@ -40,7 +40,7 @@ fn walk_width<'a>(
 ) -> Result<(), Memory>
     ensures { OnOk result (out.new ≡ width_walk width.now init.now out.old) }
 {
-    let kept = Kept::Width {
+    let kept = PackedEvent::Width {
         line: width.line,
         bits: width.value,
     };
@@ -97,7 +97,7 @@ fn walk_decl<'a>(
             init,
             clear: _,
         } => {
-            let kept = Kept::Variable {
+            let kept = PackedEvent::Variable {
                 number: variables,
                 name,
             };
@@ -106,7 +106,7 @@ fn walk_decl<'a>(
             Ok(())
         }
         DeclKind::Temporary { name } => {
-            let kept = Kept::Temporary {
+            let kept = PackedEvent::Temporary {
                 number: temporaries,
                 name,
             };
@@ -119,13 +119,13 @@ fn walk_decl<'a>(
             size,
             fields,
         } => {
-            let named = Kept::File {
+            let named = PackedEvent::File {
                 forlopp: *forlopp,
                 file: files,
                 name,
             };
             push(out, named)?;
-            let sized = Kept::Size {
+            let sized = PackedEvent::Size {
                 line: size.line,
                 records: size.value,
             };
@@ -197,7 +197,7 @@ fn push_cells(out: &mut Seq<Event<'_>>, d: &Decl) -> Result<(), Memory>
 {
     let count = count_cells(&d.kind)?;
     let line = d.line;
-    push(out, Kept::Cells { line, count })?;
+    push(out, PackedEvent::Cells { line, count })?;
     Ok(())
 }
 

@@ -3,7 +3,7 @@ ghost use Rattle.std.specs.Prelude.{◌≡◌};
 ghost use Rattle.text_events.specs.Kept.{said_of};
 ghost use Rattle.text_events.specs.Seen.{note_of};
 
-use crate::kept::Kept;
+use crate::kept::PackedEvent;
 use crate::role::{Meaning, Need, Role};
 use plex_ast::{Item, Stmt};
 use std::marker::Model;
@@ -11,7 +11,7 @@ use token_grammar::KeptName;
 
 /// What stands at a place. Names stand in the tree. A statement is named by the number of the events before it in its part.
 #[derive(Clone, Copy, Drop)]
-pub enum Place<'a> {
+pub enum EventKind<'a> {
     /// A declaration makes so many signals.
     Signals {
         count: u32,
@@ -119,7 +119,7 @@ pub enum Place<'a> {
 /// What stands at a place, on its line, counted from 1; contracts see the line and the note.
 #[derive(Drop)]
 pub struct Event<'a> {
-    kept: Kept<'a>,
+    kept: PackedEvent<'a>,
 }
 
 impl<'a> Model for Event<'a> {
@@ -146,15 +146,15 @@ impl<'a> Event<'a> {
     }
 
     /// What stands there.
-    pub fn place(&self) -> Place<'a>
+    pub fn kind(&self) -> EventKind<'a>
         ensures { note_of result ≡ self.now.note }
     {
-        self.kept.place()
+        self.kept.kind()
     }
 }
 
 /// The event of which this is kept.
-pub(crate) fn made(kept: Kept<'_>) -> Event<'_>
+pub(crate) fn made(kept: PackedEvent<'_>) -> Event<'_>
     ensures { result ≡ said_of kept.entry }
 {
     Event { kept }

@@ -4,7 +4,7 @@ ghost use Rattle.text_events.specs.Note as note;
 ghost use Rattle.text_events.specs.Walk.{add, each_walk, expr_walk, term_walk, factor_walk, factor_kind_walk, added_walk, multiplied_walk, relation_walk, conj_walk, cond_walk, values_walk};
 
 use crate::event::Event;
-use crate::kept::Kept;
+use crate::kept::PackedEvent;
 use crate::pushes::{push, push_use};
 use crate::role::Need;
 use plex_ast::{
@@ -21,7 +21,7 @@ fn push_read<'a>(
 ) -> Result<(), Memory>
     ensures { OnOk result (out.new ≡ add n.now.line (note.Reads n.now.name need owner) out.old) }
 {
-    let kept = Kept::Reads {
+    let kept = PackedEvent::Reads {
         need,
         owner,
         name: n,
@@ -34,7 +34,7 @@ fn push_read<'a>(
 fn push_block<'a>(out: &mut Seq<Event<'a>>, n: &'a Named, owner: u32) -> Result<(), Memory>
     ensures { OnOk result (out.new ≡ add n.now.line (note.Refers n.now.name owner) out.old) }
 {
-    push(out, Kept::Refers { owner, block: n })?;
+    push(out, PackedEvent::Refers { owner, block: n })?;
     Ok(())
 }
 
@@ -145,7 +145,7 @@ fn walk_factor_kind<'a>(
     match k {
         FactorKind::Number(n) => {
             let line = n.line;
-            push(out, Kept::Counts { line, owner })?;
+            push(out, PackedEvent::Counts { line, owner })?;
             Ok(())
         }
         FactorKind::Name(n) => {

@@ -6,7 +6,7 @@ ghost use Rattle.text_events.specs.Note.{begun, before_begun, after_begun};
 ghost use Rattle.text_events.specs.Seen.{note_of, way_seen, head_seen, head_at, head_before, stmt_heads, item_heads};
 ghost use Rattle.plex_ast.specs.declared.stmt.StmtKind.{out-StmtKind};
 
-use crate::event::Place;
+use crate::event::EventKind;
 use plex_ast::{Boxed, Exprs, Item, ItemKind, Names, Reference, ReferenceKind, Stmt, StmtKind};
 use token_grammar::KeptName;
 
@@ -169,14 +169,14 @@ fn item_before(list: &[Item], at: u32) -> Head<'_>
     }
 }
 
-impl<'a> Place<'a> {
+impl<'a> EventKind<'a> {
     /// The statement that begins there, if one does.
     pub fn begun(self) -> Head<'a>
         ensures { head_seen result ≡ begun (note_of self.entry) }
     {
         match self {
-            Place::Begins { list, at } => statement_at(list, at as usize),
-            Place::BeginsItem { list, at } => item_at(list, at as usize),
+            EventKind::Begins { list, at } => statement_at(list, at as usize),
+            EventKind::BeginsItem { list, at } => item_at(list, at as usize),
             _ => Head::Nothing,
         }
     }
@@ -186,8 +186,8 @@ impl<'a> Place<'a> {
         ensures { head_seen result ≡ before_begun (note_of self.entry) }
     {
         match self {
-            Place::Begins { list, at } => statement_before(list, at),
-            Place::BeginsItem { list, at } => item_before(list, at),
+            EventKind::Begins { list, at } => statement_before(list, at),
+            EventKind::BeginsItem { list, at } => item_before(list, at),
             _ => Head::Nothing,
         }
     }
@@ -197,8 +197,8 @@ impl<'a> Place<'a> {
         ensures { head_seen result ≡ after_begun (note_of self.entry) }
     {
         match self {
-            Place::Begins { list, at } => statement_at(list, at as usize + 1),
-            Place::BeginsItem { list, at } => item_at(list, at as usize + 1),
+            EventKind::Begins { list, at } => statement_at(list, at as usize + 1),
+            EventKind::BeginsItem { list, at } => item_at(list, at as usize + 1),
             _ => Head::Nothing,
         }
     }

@@ -5,7 +5,7 @@ ghost use Rattle.text_events.specs.Seen.{note_of};
 ghost use Rattle.text_events.specs.Kept.{stmt_line_at, own_line, item_line_at, line_kept, note_kept};
 ghost use Rattle.text_events.specs.declared.role.Meaning.TheVariants as meanings;
 
-use crate::event::Place;
+use crate::event::EventKind;
 use crate::role::{Meaning, Need, Role};
 use plex_ast::{Boxed, Item, ItemKind, Named, Stmt};
 use plex_num::Seq;
@@ -28,7 +28,7 @@ pub struct Compared<'a> {
 
 /// What is kept of an event, in 16 bytes: small fields come first, the tree tells what it can, and what is seldom is boxed.
 #[derive(Drop)]
-pub enum Kept<'a> {
+pub enum PackedEvent<'a> {
     Signals {
         line: u32,
         count: u32,
@@ -172,57 +172,63 @@ fn item_line(list: &[Item], at: usize) -> u32
     }
 }
 
-impl<'a> Kept<'a> {
+impl<'a> PackedEvent<'a> {
     /// The line, counted from 1.
     pub fn line(&self) -> u32
         ensures { result ≡ line_kept self.now }
     {
         match self {
-            Kept::Signals { line, .. } => *line,
-            Kept::Signal { line, .. } => *line,
-            Kept::Carries { line, .. } => *line,
-            Kept::Block { line } => *line,
-            Kept::BlockName { line, .. } => *line,
-            Kept::Cells { line, .. } => *line,
-            Kept::Variable { name, .. } => name.line,
-            Kept::Temporary { name, .. } => name.line,
-            Kept::File { name, .. } => name.line,
-            Kept::Field(here) => here.get().name.line,
-            Kept::Label { name, .. } => name.line,
-            Kept::Width { line, .. } => *line,
-            Kept::Init { line, .. } => *line,
-            Kept::Size { line, .. } => *line,
-            Kept::Receives { line, .. } => *line,
-            Kept::Names { line, .. } => *line,
-            Kept::Begins { at, list } => statement_line(list.as_slice(), *at as usize),
-            Kept::BeginsItem { at, list } => item_line(list.as_slice(), *at as usize),
-            Kept::Uses { line, .. } => *line,
-            Kept::Reads { name, .. } => name.line,
-            Kept::Counts { line, .. } => *line,
-            Kept::Refers { block, .. } => block.line,
-            Kept::Goes { line, .. } => *line,
-            Kept::Searches { line, .. } => *line,
-            Kept::Compares(both) => both.get().field.line,
-            Kept::Holds { line, .. } => *line,
-            Kept::Chooses { line, .. } => *line,
-            Kept::Ends { line } => *line,
+            PackedEvent::Signals { line, .. } => *line,
+            PackedEvent::Signal { line, .. } => *line,
+            PackedEvent::Carries { line, .. } => *line,
+            PackedEvent::Block { line } => *line,
+            PackedEvent::BlockName { line, .. } => *line,
+            PackedEvent::Cells { line, .. } => *line,
+            PackedEvent::Variable { name, .. } => name.line,
+            PackedEvent::Temporary { name, .. } => name.line,
+            PackedEvent::File { name, .. } => name.line,
+            PackedEvent::Field(here) => here.get().name.line,
+            PackedEvent::Label { name, .. } => name.line,
+            PackedEvent::Width { line, .. } => *line,
+            PackedEvent::Init { line, .. } => *line,
+            PackedEvent::Size { line, .. } => *line,
+            PackedEvent::Receives { line, .. } => *line,
+            PackedEvent::Names { line, .. } => *line,
+            PackedEvent::Begins { at, list } => statement_line(list.as_slice(), *at as usize),
+            PackedEvent::BeginsItem { at, list } => item_line(list.as_slice(), *at as usize),
+            PackedEvent::Uses { line, .. } => *line,
+            PackedEvent::Reads { name, .. } => name.line,
+            PackedEvent::Counts { line, .. } => *line,
+            PackedEvent::Refers { block, .. } => block.line,
+            PackedEvent::Goes { line, .. } => *line,
+            PackedEvent::Searches { line, .. } => *line,
+            PackedEvent::Compares(both) => both.get().field.line,
+            PackedEvent::Holds { line, .. } => *line,
+            PackedEvent::Chooses { line, .. } => *line,
+            PackedEvent::Ends { line } => *line,
         }
     }
 
     /// What stands there.
-    pub fn place(&self) -> Place<'a>
+    pub fn kind(&self) -> EventKind<'a>
         ensures { note_of result ≡ note_kept self.now }
     {
         match self {
-            Kept::Signals { count, .. } => Place::Signals { count: *count },
-            Kept::Signal { name, .. } => Place::Signal { name: *name },
-            Kept::Carries { count, .. } => Place::Carries { count: *count },
-            Kept::Block { .. } => Place::Block,
-            Kept::BlockName { name, .. } => Place::BlockName { name: *name },
-            Kept::Cells { count, .. } => Place::Cells { count: *count },
-            Kept::Variable { number, name } => declared_place(*name, Meaning::Variable(*number)),
-            Kept::Temporary { number, name } => declared_place(*name, Meaning::Temporary(*number)),
-            Kept::File {
+            PackedEvent::Signals { count, .. } => EventKind::Signals { count: *count },
+            PackedEvent::Signal { name, .. } => EventKind::Signal { name: *name },
+            PackedEvent::Carries { count, .. } => EventKind::Carries { count: *count },
+            PackedEvent::Block { .. } => EventKind::Block,
+            PackedEvent::BlockName { name, .. } => EventKind::BlockName { name: *name },
+            PackedEvent::Cells { count, .. } => EventKind::Cells { count: *count },
+            PackedEvent::Variable { number, name } => declared_kind(
+                *name,
+                Meaning::Variable(*number),
+            ),
+            PackedEvent::Temporary { number, name } => declared_kind(
+                *name,
+                Meaning::Temporary(*number),
+            ),
+            PackedEvent::File {
                 forlopp,
                 file,
                 name,
@@ -231,79 +237,79 @@ impl<'a> Kept<'a> {
                     file: *file,
                     forlopp: *forlopp,
                 };
-                declared_place(*name, meaning)
+                declared_kind(*name, meaning)
             }
-            Kept::Field(here) => field_place(here.get()),
-            Kept::Label { number, name } => declared_place(*name, Meaning::Label(*number)),
-            Kept::Width { bits, .. } => Place::Width { bits: *bits },
-            Kept::Init { value, bits, .. } => Place::Init {
+            PackedEvent::Field(here) => field_kind(here.get()),
+            PackedEvent::Label { number, name } => declared_kind(*name, Meaning::Label(*number)),
+            PackedEvent::Width { bits, .. } => EventKind::Width { bits: *bits },
+            PackedEvent::Init { value, bits, .. } => EventKind::Init {
                 value: *value,
                 bits: *bits,
             },
-            Kept::Size { records, .. } => Place::Size { records: *records },
-            Kept::Receives { signal, .. } => Place::Receives { signal: *signal },
-            Kept::Names { role, signal, .. } => Place::Names {
+            PackedEvent::Size { records, .. } => EventKind::Size { records: *records },
+            PackedEvent::Receives { signal, .. } => EventKind::Receives { signal: *signal },
+            PackedEvent::Names { role, signal, .. } => EventKind::Names {
                 signal: *signal,
                 role: *role,
             },
-            Kept::Begins { at, list } => Place::Begins {
+            PackedEvent::Begins { at, list } => EventKind::Begins {
                 list: list.as_slice(),
                 at: *at,
             },
-            Kept::BeginsItem { at, list } => Place::BeginsItem {
+            PackedEvent::BeginsItem { at, list } => EventKind::BeginsItem {
                 list: list.as_slice(),
                 at: *at,
             },
-            Kept::Uses { need, name, .. } => Place::Uses {
+            PackedEvent::Uses { need, name, .. } => EventKind::Uses {
                 name: *name,
                 need: *need,
             },
-            Kept::Reads { need, owner, name } => Place::Reads {
+            PackedEvent::Reads { need, owner, name } => EventKind::Reads {
                 name: &name.name,
                 need: *need,
                 owner: *owner,
             },
-            Kept::Counts { owner, .. } => Place::Counts { owner: *owner },
-            Kept::Refers { owner, block } => Place::Refers {
+            PackedEvent::Counts { owner, .. } => EventKind::Counts { owner: *owner },
+            PackedEvent::Refers { owner, block } => EventKind::Refers {
                 block: &block.name,
                 owner: *owner,
             },
-            Kept::Goes { label, .. } => Place::Goes { label: *label },
-            Kept::Searches { file, .. } => Place::Searches { file: *file },
-            Kept::Compares(both) => compared_place(both.get()),
-            Kept::Holds { file, .. } => Place::Holds { file: *file },
-            Kept::Chooses { owner, number, .. } => Place::Chooses {
+            PackedEvent::Goes { label, .. } => EventKind::Goes { label: *label },
+            PackedEvent::Searches { file, .. } => EventKind::Searches { file: *file },
+            PackedEvent::Compares(both) => compared_kind(both.get()),
+            PackedEvent::Holds { file, .. } => EventKind::Holds { file: *file },
+            PackedEvent::Chooses { owner, number, .. } => EventKind::Chooses {
                 owner: *owner,
                 number: *number,
             },
-            Kept::Ends { .. } => Place::Ends,
+            PackedEvent::Ends { .. } => EventKind::Ends,
         }
     }
 }
 
-fn declared_place(n: &Named, meaning: Meaning) -> Place<'_>
+fn declared_kind(n: &Named, meaning: Meaning) -> EventKind<'_>
     ensures { note_of result ≡ note.Declares n.now.name meaning }
 {
-    Place::Declares {
+    EventKind::Declares {
         name: &n.name,
         meaning,
     }
 }
 
-fn field_place<'a>(here: &FieldHere<'a>) -> Place<'a>
+fn field_kind<'a>(here: &FieldHere<'a>) -> EventKind<'a>
     ensures { note_of result ≡ note.Declares here.now.name.now.name (meanings.Field here.now.file here.now.field) }
 {
     let meaning = Meaning::Field {
         file: here.file,
         field: here.field,
     };
-    declared_place(here.name, meaning)
+    declared_kind(here.name, meaning)
 }
 
-fn compared_place<'a>(both: &Compared<'a>) -> Place<'a>
+fn compared_kind<'a>(both: &Compared<'a>) -> EventKind<'a>
     ensures { note_of result ≡ note.Compares both.now.field.now.name both.now.file.now.name }
 {
-    Place::Compares {
+    EventKind::Compares {
         field: &both.field.name,
         file: &both.file.name,
     }

@@ -16,7 +16,7 @@ mod role;
 mod statements;
 mod text;
 
-pub use event::{Event, Place};
+pub use event::{Event, EventKind};
 pub use heads::{Head, Way};
 pub use role::{Meaning, Need, Role};
 pub use text::walk_text;

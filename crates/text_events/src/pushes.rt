@@ -6,7 +6,7 @@ ghost use Rattle.text_events.specs.Walk.{add};
 ghost use Rattle.text_events.specs.declared.role.Meaning.TheVariants as meanings;
 
 use crate::event::{Event, made};
-use crate::kept::{Compared, FieldHere, Kept};
+use crate::kept::{Compared, FieldHere, PackedEvent};
 use crate::role::{Need, Role};
 use plex_ast::{Boxed, Named};
 use plex_num::{Memory, Seq};
@@ -27,7 +27,7 @@ pub(crate) fn narrow(number: usize) -> Result<u32, Memory>
 }
 
 /// Appends the event of which this is kept.
-pub(crate) fn push<'a>(out: &mut Seq<Event<'a>>, kept: Kept<'a>) -> Result<(), Memory>
+pub(crate) fn push<'a>(out: &mut Seq<Event<'a>>, kept: PackedEvent<'a>) -> Result<(), Memory>
     ensures { OnOk result (out.new ≡ add (line_kept kept.entry) (note_kept kept.entry) out.old) }
 {
     out.push(made(kept))
@@ -44,7 +44,7 @@ pub(crate) fn push_field<'a>(
     ensures { OnOk result (out.new ≡ add name.now.line (note.Declares name.now.name (meanings.Field file field)) out.old) }
 {
     let here = Boxed::new(alloc, FieldHere { file, field, name })?;
-    push(out, Kept::Field(here))?;
+    push(out, PackedEvent::Field(here))?;
     Ok(())
 }
 
@@ -58,7 +58,7 @@ pub(crate) fn push_compared<'a>(
     ensures { OnOk result (out.new ≡ add field.now.line (note.Compares field.now.name file.now.name) out.old) }
 {
     let both = Boxed::new(alloc, Compared { field, file })?;
-    push(out, Kept::Compares(both))?;
+    push(out, PackedEvent::Compares(both))?;
     Ok(())
 }
 
@@ -66,7 +66,7 @@ pub(crate) fn push_compared<'a>(
 pub(crate) fn push_use<'a>(out: &mut Seq<Event<'a>>, n: &'a Named, need: Need) -> Result<(), Memory>
     ensures { OnOk result (out.new ≡ add n.now.line (note.Uses n.now.name need) out.old) }
 {
-    let kept = Kept::Uses {
+    let kept = PackedEvent::Uses {
         need,
         line: n.line,
         name: &n.name,
@@ -83,7 +83,7 @@ pub(crate) fn push_signal<'a>(
 ) -> Result<(), Memory>
     ensures { OnOk result (out.new ≡ add n.now.line (note.Names n.now.name role) out.old) }
 {
-    let kept = Kept::Names {
+    let kept = PackedEvent::Names {
         role,
         line: n.line,
         signal: &n.name,
@@ -96,7 +96,7 @@ pub(crate) fn push_signal<'a>(
 pub(crate) fn push_label<'a>(out: &mut Seq<Event<'a>>, n: &'a Named) -> Result<(), Memory>
     ensures { OnOk result (out.new ≡ add n.now.line (note.Goes n.now.name) out.old) }
 {
-    let kept = Kept::Goes {
+    let kept = PackedEvent::Goes {
         line: n.line,
         label: &n.name,
     };

@@ -5,7 +5,7 @@ ghost use Rattle.text_events.specs.Walk.{add, in_turn, each_walk, name_walk, nam
 
 use crate::event::Event;
 use crate::expressions::{walk_cond, walk_expr, walk_values};
-use crate::kept::Kept;
+use crate::kept::PackedEvent;
 use crate::pushes::{narrow, push, push_compared, push_label, push_signal, push_use};
 use crate::role::{Need, Role};
 use plex_ast::{Boxed, Named, Names, Reference, ReferenceKind, Stmt, StmtKind, When};
@@ -71,7 +71,7 @@ fn walk_reference<'a>(
 fn push_held<'a>(out: &mut Seq<Event<'a>>, file: &'a Named) -> Result<(), Memory>
     ensures { OnOk result (out.new ≡ add file.now.line (note.Holds file.now.name) out.old) }
 {
-    let kept = Kept::Holds {
+    let kept = PackedEvent::Holds {
         line: file.line,
         file: &file.name,
     };
@@ -88,7 +88,7 @@ fn push_searched<'a>(
 ) -> Result<(), Memory>
     ensures { OnOk result (out.new ≡ add field.now.line (note.Compares field.now.name file.now.name) (add file.now.line (note.Searches file.now.name) out.old)) }
 {
-    let kept = Kept::Searches {
+    let kept = PackedEvent::Searches {
         line: file.line,
         file: &file.name,
     };
@@ -107,7 +107,7 @@ fn walk_body<'a>(alloc: Global, list: &'a Seq<Stmt>, out: &mut Seq<Event<'a>>) -
     for i in 0..stmts.len() {
         let owner = narrow(out.len())?;
         let at = narrow(i)?;
-        push(out, Kept::Begins { at, list })?;
+        push(out, PackedEvent::Begins { at, list })?;
         walk_kind(alloc, &stmts[i].kind, owner, out)?;
     }
     Ok(())
@@ -265,7 +265,7 @@ fn walk_when<'a>(
 ) -> Result<(), Memory>
     ensures { OnOk result (out.new ≡ when_walk w.now owner out.old) }
 {
-    let kept = Kept::Chooses {
+    let kept = PackedEvent::Chooses {
         line: w.number.line,
         owner,
         number: w.number.value,

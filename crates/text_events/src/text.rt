@@ -6,7 +6,7 @@ ghost use Rattle.text_events.specs.Texts.{name_said, values_said, signals_made, 
 
 use crate::block::walk_block;
 use crate::event::Event;
-use crate::kept::Kept;
+use crate::kept::PackedEvent;
 use crate::pushes::push;
 use plex_ast::{Block, Named, Numbered, ShapeKind, Signal, Tree};
 use plex_num::{Memory, Seq};
@@ -15,7 +15,7 @@ use std::alloc::Global;
 fn walk_name<'a>(n: &'a Named, out: &mut Seq<Event<'a>>) -> Result<(), Memory>
     ensures { OnOk result (out.new ≡ name_said n.now out.old) }
 {
-    let kept = Kept::Signal {
+    let kept = PackedEvent::Signal {
         line: n.line,
         name: &n.name,
     };
@@ -26,7 +26,7 @@ fn walk_name<'a>(n: &'a Named, out: &mut Seq<Event<'a>>) -> Result<(), Memory>
 fn walk_values(n: &Numbered, out: &mut Seq<Event<'_>>) -> Result<(), Memory>
     ensures { OnOk result (out.new ≡ values_said n.now out.old) }
 {
-    let kept = Kept::Carries {
+    let kept = PackedEvent::Carries {
         line: n.line,
         count: n.value,
     };
@@ -77,7 +77,7 @@ fn walk_signal<'a>(s: &'a Signal, out: &mut Seq<Event<'a>>) -> Result<(), Memory
 {
     let count = count_signals(&s.shape.kind);
     let line = s.line;
-    push(out, Kept::Signals { line, count })?;
+    push(out, PackedEvent::Signals { line, count })?;
     walk_name(&s.name, out)?;
     walk_shape(&s.shape.kind, out)?;
     Ok(())

@@ -16,7 +16,7 @@ use Rattle.text_events.specs.Named.{meaning_of_note, meaning_in}
 use Rattle.text_rules.specs.declared.rule.BlockRule.{BlockRule}
 use Rattle.text_rules.specs.declared.rule.BlockRule.TheVariants as rule
 use Rattle.text_rules.specs.Surveys.{block_named}
-use Rattle.text_rules.specs.Blocks.{labels, labels_note, counts_for, chooses, Known, known_of, number_of, all_rules, KnowsNothing, Sees}
+use Rattle.text_rules.specs.Blocks.{labels, labels_note, counts_for, chooses, KnownInBlock, known_of, number_of, all_rules, KnowsNothing, Sees}
 
 among_all : (q : BlockRule) → Among q all_rules
 among_all rule.DeclaredTwice = inl refl
@@ -64,14 +64,14 @@ labels_end events i has past g n = g.same n ∙ ap (any (labels n)) (take_all i 
 
 -- what is known
 
-known_is : (k : Known) {d : List ℕ → Option Meaning} {c : ℕ → ℕ} {x : ℕ → ℕ → Bool} {b : List ℕ → Bool} {g : List ℕ → Option ℕ} {w : List ℕ → Option SignalKind} {o : List ℕ → Bool} → k.declared ≡ d → k.counted ≡ c → k.chosen ≡ x → k.label ≡ b → k.number ≡ g → k.kind ≡ w → k.block ≡ o → k ≡ record { declared = d; counted = c; chosen = x; label = b; number = g; kind = w; block = o }
+known_is : (k : KnownInBlock) {d : List ℕ → Option Meaning} {c : ℕ → ℕ} {x : ℕ → ℕ → Bool} {b : List ℕ → Bool} {g : List ℕ → Option ℕ} {w : List ℕ → Option SignalKind} {o : List ℕ → Bool} → k.declared ≡ d → k.counted ≡ c → k.chosen ≡ x → k.label ≡ b → k.number ≡ g → k.kind ≡ w → k.block ≡ o → k ≡ record { declared = d; counted = c; chosen = x; label = b; number = g; kind = w; block = o }
 known_is k pd pc px pb pg pw po = λ i. record { declared = pd i; counted = pc i; chosen = px i; label = pb i; number = pg i; kind = pw i; block = po i }
 
 module _ (signals : List SignalKind) (blocks : List Block) (own : List Event) where
-  pub known_nothing : (k : Known) → KnowsNothing k → ((n : List ℕ) → k.label n ≡ any (labels n) own) → k.number ≡ number_in signals → k.kind ≡ kind_in signals → k.block ≡ (λ n. is_some (block_named blocks n)) → k ≡ known_of signals blocks own []
+  pub known_nothing : (k : KnownInBlock) → KnowsNothing k → ((n : List ℕ) → k.label n ≡ any (labels n) own) → k.number ≡ number_in signals → k.kind ≡ kind_in signals → k.block ≡ (λ n. is_some (block_named blocks n)) → k ≡ known_of signals blocks own []
   known_nothing k h l s a o = known_is k (fun_ext λ n. h.declared n) (fun_ext λ o. h.counted o) (fun_ext λ o. fun_ext λ n. h.chosen o n) (fun_ext l) s a o
 
-  pub known_more : (k l : Known) (before : List Event) (e : Event) → k ≡ known_of signals blocks own before → Sees k e.note l → l ≡ known_of signals blocks own (before ++ e ∷ [])
+  pub known_more : (k l : KnownInBlock) (before : List Event) (e : Event) → k ≡ known_of signals blocks own before → Sees k e.note l → l ≡ known_of signals blocks own (before ++ e ∷ [])
   known_more k l before e t s = known_is l
       (fun_ext λ n. s.declared n ∙ ap (λ a. or_else (meaning_in n e) (a.declared n)) t ∙ sym (last_push (meaning_in n) before e))
       (fun_ext λ o. s.counted o ∙ ap (λ a. a.counted o + (if counts_for o e then 1 else 0)) t ∙ sym (count_push (counts_for o) before e))

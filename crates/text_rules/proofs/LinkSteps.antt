@@ -12,7 +12,7 @@ use Rattle.text_events.specs.Note.{Event, begun}
 use Rattle.text_rules.specs.declared.rule.LinkRule.{LinkRule}
 use Rattle.text_rules.specs.declared.rule.LinkRule.TheVariants as rule
 use Rattle.text_rules.specs.Surveys.{block_named, receiver_count, receives_at, receives, sends, enters, is_so}
-use Rattle.text_rules.specs.Links.{Known, Amounts, known_of, amounts_in, adds, plus, head_enters, enters_here, number_of, all_rules}
+use Rattle.text_rules.specs.Links.{KnownForLinks, Amounts, known_of, amounts_in, adds, plus, head_enters, enters_here, number_of, all_rules}
 
 among_all : (q : LinkRule) → Among q all_rules
 among_all rule.NoReceiver = inl refl
@@ -45,7 +45,7 @@ module _ {A : Type 0} (says : List ℕ → A → Bool) (xs : List A) where
 
 -- what is known
 
-known_is : (k l : Known) → k.kind ≡ l.kind → k.receivers ≡ l.receivers → k.named ≡ l.named → k.received_by ≡ l.received_by → k.received ≡ l.received → k.sent ≡ l.sent → k.entered ≡ l.entered → k.entered_before ≡ l.entered_before → k.before ≡ l.before → k ≡ l
+known_is : (k l : KnownForLinks) → k.kind ≡ l.kind → k.receivers ≡ l.receivers → k.named ≡ l.named → k.received_by ≡ l.received_by → k.received ≡ l.received → k.sent ≡ l.sent → k.entered ≡ l.entered → k.entered_before ≡ l.entered_before → k.before ≡ l.before → k ≡ l
 known_is k l p q r s t u v w x = λ i. record { kind = p i; receivers = q i; named = r i; received_by = s i; received = t i; sent = u i; entered = v i; entered_before = w i; before = x i }
 
 amounts_push : (kind : List ℕ → Option SignalKind) (before : List Event) (e : Event) → plus (amounts_in kind before) (adds kind e.note) ≡ amounts_in kind (before ++ e ∷ [])
@@ -57,10 +57,10 @@ amounts_push kind before e = λ i. record {
   cells = sym (total_push (λ (x : Event). (adds kind x.note).cells) before e) i;
 }
 
-pub known_begin : (k : Known) (signals : List SignalKind) (blocks : List Block) (own : Option Block) (all_before : List Event) → k.kind ≡ kind_in signals → k.receivers ≡ receiver_count blocks → k.named ≡ block_named blocks → k.received_by ≡ receives_at blocks → ((s : List ℕ) → k.received s ≡ is_so (receives s) own) → ((s : List ℕ) → k.sent s ≡ is_so (sends s) own) → ((s : List ℕ) → k.entered s ≡ is_so (enters s) own) → ((s : List ℕ) → k.entered_before s ≡ false) → k.before ≡ amounts_in (kind_in signals) all_before → k ≡ known_of signals blocks own all_before []
+pub known_begin : (k : KnownForLinks) (signals : List SignalKind) (blocks : List Block) (own : Option Block) (all_before : List Event) → k.kind ≡ kind_in signals → k.receivers ≡ receiver_count blocks → k.named ≡ block_named blocks → k.received_by ≡ receives_at blocks → ((s : List ℕ) → k.received s ≡ is_so (receives s) own) → ((s : List ℕ) → k.sent s ≡ is_so (sends s) own) → ((s : List ℕ) → k.entered s ≡ is_so (enters s) own) → ((s : List ℕ) → k.entered_before s ≡ false) → k.before ≡ amounts_in (kind_in signals) all_before → k ≡ known_of signals blocks own all_before []
 known_begin k signals blocks own all_before p q r s t u v w x = known_is k (known_of signals blocks own all_before []) p q r s (fun_ext t) (fun_ext u) (fun_ext v) (fun_ext w) x
 
-pub known_more : (k : Known) (entered : List ℕ → Bool) (amounts : Amounts) (signals : List SignalKind) (blocks : List Block) (own : Option Block) (all_before before : List Event) (e : Event) → k ≡ known_of signals blocks own all_before before → ((s : List ℕ) → entered s ≡ (k.entered_before s || head_enters s (begun e.note))) → amounts ≡ plus k.before (adds (kind_in signals) e.note) → record k { entered_before = entered; before = amounts } ≡ known_of signals blocks own (all_before ++ e ∷ []) (before ++ e ∷ [])
+pub known_more : (k : KnownForLinks) (entered : List ℕ → Bool) (amounts : Amounts) (signals : List SignalKind) (blocks : List Block) (own : Option Block) (all_before before : List Event) (e : Event) → k ≡ known_of signals blocks own all_before before → ((s : List ℕ) → entered s ≡ (k.entered_before s || head_enters s (begun e.note))) → amounts ≡ plus k.before (adds (kind_in signals) e.note) → record k { entered_before = entered; before = amounts } ≡ known_of signals blocks own (all_before ++ e ∷ []) (before ++ e ∷ [])
 known_more k entered amounts signals blocks own all_before before e t s a =
     known_is _ (known_of signals blocks own (all_before ++ e ∷ []) (before ++ e ∷ []))
     (ap (λ x. x.kind) t) (ap (λ x. x.receivers) t) (ap (λ x. x.named) t) (ap (λ x. x.received_by) t) (ap (λ x. x.received) t) (ap (λ x. x.sent) t) (ap (λ x. x.entered) t)

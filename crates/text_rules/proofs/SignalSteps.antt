@@ -6,7 +6,7 @@ use Rattle.first_fault.proofs.First.{any_push}
 use Rattle.text_events.specs.Note.{Event}
 use Rattle.text_rules.specs.declared.rule.SignalRule.{SignalRule}
 use Rattle.text_rules.specs.declared.rule.SignalRule.TheVariants as rule
-use Rattle.text_rules.specs.Signals.{Known, known_of, names_signal, names_block, signal_note, block_note, number_of, all_rules, KnowsNothing, Sees}
+use Rattle.text_rules.specs.Signals.{KnownNames, known_of, names_signal, names_block, signal_note, block_note, number_of, all_rules, KnowsNothing, Sees}
 
 among_all : (q : SignalRule) → Among q all_rules
 among_all rule.Once = inl refl
@@ -18,13 +18,13 @@ rising_all = search rules depth 8
 pub every_rule : HasAll number_of all_rules
 every_rule = record { all = among_all; rising = rising_all }
 
-known_is : (k l : Known) → ((n : List ℕ) → k.signal n ≡ l.signal n) → ((n : List ℕ) → k.block n ≡ l.block n) → k ≡ l
+known_is : (k l : KnownNames) → ((n : List ℕ) → k.signal n ≡ l.signal n) → ((n : List ℕ) → k.block n ≡ l.block n) → k ≡ l
 known_is k l s b = λ i. record { signal = fun_ext s i; block = fun_ext b i }
 
-pub known_nothing : (k : Known) → KnowsNothing k → k ≡ known_of []
+pub known_nothing : (k : KnownNames) → KnowsNothing k → k ≡ known_of []
 known_nothing k h = known_is k (known_of []) h.signal h.block
 
-pub known_more : (k l : Known) (before : List Event) (e : Event) → k ≡ known_of before → Sees k e.note l → l ≡ known_of (before ++ e ∷ [])
+pub known_more : (k l : KnownNames) (before : List Event) (e : Event) → k ≡ known_of before → Sees k e.note l → l ≡ known_of (before ++ e ∷ [])
 known_more k l before e t s = known_is l (known_of (before ++ e ∷ []))
     (λ n. s.signal n ∙ ap (λ a. a.signal n || signal_note n e.note) t ∙ sym (any_push (names_signal n) before e))
     (λ n. s.block n ∙ ap (λ a. a.block n || block_note n e.note) t ∙ sym (any_push (names_block n) before e))

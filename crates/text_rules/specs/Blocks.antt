@@ -55,7 +55,7 @@ abbrev pub chooses : ℕ → ℕ → Event → Bool
 chooses o n e = chooses_note o n e.note
 
 -- what a rule may look at besides its event
-pub record Known : Type 0 where
+pub record KnownInBlock : Type 0 where
   -- the last meaning of a name among the declarations before
   pub declared : List ℕ → Option Meaning
   -- how many operands of a statement stand before, and whether a CASE has a number before
@@ -69,7 +69,7 @@ pub record Known : Type 0 where
   -- whether there is a block of a name
   pub block : List ℕ → Bool
 
-abbrev pub known_of : List SignalKind → List Block → List Event → List Event → Known
+abbrev pub known_of : List SignalKind → List Block → List Event → List Event → KnownInBlock
 known_of signals blocks own before = record {
   declared = naming_of before;
   counted = λ o. count (counts_for o) before;
@@ -81,11 +81,11 @@ known_of signals blocks own before = record {
 }
 
 -- nothing is known of the parts before
-abbrev pub known_in_part : List SignalKind → List Block → List (List Event) → List Event → List Event → Known
+abbrev pub known_in_part : List SignalKind → List Block → List (List Event) → List Event → List Event → KnownInBlock
 known_in_part signals blocks done own before = known_of signals blocks own before
 
 -- 1
-abbrev pub declared_twice : Known → Note → Bool
+abbrev pub declared_twice : KnownInBlock → Note → Bool
 declared_twice k (Declares n meaning) = is_some (k.declared n)
 declared_twice k _ = false
 
@@ -117,13 +117,13 @@ serves need.Temporary (Some (Temporary t)) = true
 serves need.Field (Some (Field f g)) = true
 serves _ _ = false
 
-abbrev pub wrong_name : Known → Note → Bool
+abbrev pub wrong_name : KnownInBlock → Note → Bool
 wrong_name k (Uses n need) = not (serves need (k.declared n))
 wrong_name k (Reads n need o) = not (serves need (k.declared n))
 wrong_name k _ = false
 
 -- 7
-abbrev pub no_label : Known → Note → Bool
+abbrev pub no_label : KnownInBlock → Note → Bool
 no_label k (Goes n) = not (k.label n)
 no_label k _ = false
 
@@ -136,7 +136,7 @@ abbrev pub is_field_of : Option Meaning → Option Meaning → Bool
 is_field_of (Some (File f forlopp)) (Some (Field g place)) = nat_eq f g
 is_field_of _ _ = false
 
-abbrev pub not_searched : Known → Note → Bool
+abbrev pub not_searched : KnownInBlock → Note → Bool
 not_searched k (Searches file) = not (is_plain_file (k.declared file))
 not_searched k (Compares field file) = not (is_field_of (k.declared file) (k.declared field))
 not_searched k _ = false
@@ -146,7 +146,7 @@ abbrev pub is_forlopp_file : Option Meaning → Bool
 is_forlopp_file (Some (File f forlopp)) = forlopp
 is_forlopp_file _ = false
 
-abbrev pub not_held : Known → Note → Bool
+abbrev pub not_held : KnownInBlock → Note → Bool
 not_held k (Holds file) = not (is_forlopp_file (k.declared file))
 not_held k _ = false
 
@@ -163,7 +163,7 @@ stands role.Transferred (Some (signal.Direct name count)) = true
 stands role.Answer (Some (signal.Answer name count of)) = true
 stands _ _ = false
 
-abbrev pub wrong_signal : Known → Note → Bool
+abbrev pub wrong_signal : KnownInBlock → Note → Bool
 wrong_signal k (Names n role) = not (stands role (k.kind n))
 wrong_signal k _ = false
 
@@ -172,7 +172,7 @@ abbrev pub other_data : ℕ → Option SignalKind → Bool
 other_data count (Some kind) = not (nat_eq count (signal_count kind))
 other_data count None = false
 
-abbrev pub wrong_count : Known → Head → Bool
+abbrev pub wrong_count : KnownInBlock → Head → Bool
 wrong_count k (Enters n count) = other_data count (k.kind n)
 wrong_count k (Sends n way count fresh) = other_data count (k.kind n)
 wrong_count k (Retrieves n count) = other_data count (k.kind n)
@@ -204,7 +204,7 @@ apart number kind (Retrieves n count) before after = not (asks kind (number n) b
 apart number kind _ before after = false
 
 -- 13
-abbrev pub too_many_operands : Known → Option ℕ → Bool
+abbrev pub too_many_operands : KnownInBlock → Option ℕ → Bool
 too_many_operands k (Some o) = nat_eq (k.counted o) MOST_OPERANDS
 too_many_operands k None = false
 
@@ -214,21 +214,21 @@ is_other_kind None = false
 is_other_kind (Some (signal.Buffered name level count)) = false
 is_other_kind (Some _) = true
 
-abbrev pub wrong_fresh : Known → Head → Bool
+abbrev pub wrong_fresh : KnownInBlock → Head → Bool
 wrong_fresh k (Sends n way count fresh) = fresh && is_other_kind (k.kind n)
 wrong_fresh k _ = false
 
 -- 15
-abbrev pub chosen_twice : Known → Note → Bool
+abbrev pub chosen_twice : KnownInBlock → Note → Bool
 chosen_twice k (Chooses o n) = k.chosen o n
 chosen_twice k _ = false
 
 -- 17
-abbrev pub no_block : Known → Note → Bool
+abbrev pub no_block : KnownInBlock → Note → Bool
 no_block k (Refers n o) = not (k.block n)
 no_block k _ = false
 
-abbrev pub broken : BlockRule → Known → Note → Bool
+abbrev pub broken : BlockRule → KnownInBlock → Note → Bool
 broken rule.DeclaredTwice k note = declared_twice k note
 broken rule.Width k note = wrong_width note
 broken rule.Init k note = wrong_init note
@@ -268,13 +268,13 @@ abbrev pub all_rules : List BlockRule
 all_rules = rule.DeclaredTwice ∷ rule.Width ∷ rule.Init ∷ rule.Size ∷ rule.Temporaries ∷ rule.WrongName ∷ rule.NoLabel ∷ rule.NotSearched ∷ rule.NotHeld ∷ rule.WrongSignal ∷ rule.WrongCount ∷ rule.Apart ∷ rule.Operands ∷ rule.WrongFresh ∷ rule.ChosenTwice ∷ rule.NoBlock ∷ []
 
 -- before the first event
-pub record KnowsNothing (k : Known) : Type 0 where
+pub record KnowsNothing (k : KnownInBlock) : Type 0 where
   pub declared : (n : List ℕ) → k.declared n ≡ None
   pub counted : (o : ℕ) → k.counted o ≡ 0
   pub chosen : (o n : ℕ) → k.chosen o n ≡ false
 
 -- after one event more
-pub record Sees (k : Known) (note : Note) (l : Known) : Type 0 where
+pub record Sees (k : KnownInBlock) (note : Note) (l : KnownInBlock) : Type 0 where
   pub declared : (n : List ℕ) → l.declared n ≡ or_else (meaning_of_note n note) (k.declared n)
   pub counted : (o : ℕ) → l.counted o ≡ k.counted o + (if is_owner o (operand_of note) then 1 else 0)
   pub chosen : (o n : ℕ) → l.chosen o n ≡ (k.chosen o n || chooses_note o n note)

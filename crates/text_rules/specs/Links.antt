@@ -9,7 +9,7 @@ use Rattle.exchange_model.specs.declared.signal.SignalKind.TheVariants.{Buffered
 use Rattle.plex_limits.specs.declared.limits.TheConstants.{MOST_SIGNALS, MOST_BLOCKS, MOST_ENTRIES, MOST_STATEMENTS, MOST_CELLS}
 use Rattle.plex_ast.specs.declared.block.Block.{Block as TreeBlock}
 use Rattle.signal_types.specs.Found.{kind_in}
-use Rattle.text_events.specs.Note.{Event, Note, Head, Way, Open, To, Enters, Sends, Transfers, Signals, Block, Cells, Receives, Begins, Ends, begun}
+use Rattle.text_events.specs.Note.{Event, Note, Head, SignalWay, Open, To, Enters, Sends, Transfers, Signals, Block, Cells, Receives, Begins, Ends, begun}
 use Rattle.text_rules.specs.Surveys.{block_named, receiver_count, receives_at, sends, enters, is_so}
 use Rattle.text_rules.specs.declared.rule.LinkRule.{LinkRule}
 use Rattle.text_rules.specs.declared.rule.LinkRule.TheVariants as rule
@@ -98,7 +98,7 @@ plus a b = record {
 }
 
 -- what a rule may look at besides its event
-pub record Known : Type 0 where
+pub record KnownForLinks : Type 0 where
   -- the signal of a name
   pub kind : List ℕ → Option SignalKind
   -- how many blocks receive a signal, the number of the block of a name, and whether the block of a number receives a signal
@@ -118,7 +118,7 @@ abbrev pub block_of : List TreeBlock → ℕ → Option TreeBlock
 block_of blocks zero = None
 block_of blocks (suc b) = slice_get blocks b
 
-abbrev pub known_of : List SignalKind → List TreeBlock → Option TreeBlock → List Event → List Event → Known
+abbrev pub known_of : List SignalKind → List TreeBlock → Option TreeBlock → List Event → List Event → KnownForLinks
 known_of signals blocks own_one all_before before = record {
   kind = kind_in signals;
   receivers = receiver_count blocks;
@@ -131,55 +131,55 @@ known_of signals blocks own_one all_before before = record {
   before = amounts_in (kind_in signals) all_before;
 }
 
-abbrev pub known_in_part : List SignalKind → List TreeBlock → List (List Event) → List Event → List Event → Known
+abbrev pub known_in_part : List SignalKind → List TreeBlock → List (List Event) → List Event → List Event → KnownForLinks
 known_in_part signals blocks done own before = known_of signals blocks (block_of blocks (length done)) (joined done ++ before) before
 
 -- the rules
 
 -- a test of what a statement sends and of its way
-abbrev pub at_sending : (List ℕ → Way → Bool) → Head → Bool
+abbrev pub at_sending : (List ℕ → SignalWay → Bool) → Head → Bool
 at_sending test (Sends s way count fresh) = test s way
 at_sending test (Transfers s way) = test s way
 at_sending test _ = false
 
 -- no block receives what is sent, and it does not leave the exchange
-abbrev pub no_receiver : Known → List ℕ → Way → Bool
+abbrev pub no_receiver : KnownForLinks → List ℕ → SignalWay → Bool
 no_receiver k s way = not (is_outside (k.kind s)) && nat_eq (k.receivers s) 0
 
 -- several blocks receive it, and nothing is said of the way
-abbrev pub is_open : Way → Bool
+abbrev pub is_open : SignalWay → Bool
 is_open Open = true
 is_open _ = false
 
-abbrev pub needs_reference : Known → List ℕ → Way → Bool
+abbrev pub needs_reference : KnownForLinks → List ℕ → SignalWay → Bool
 needs_reference k s way = not (is_outside (k.kind s)) && (nat_lt 1 (k.receivers s) && is_open way)
 
 -- the named block does not receive it, or there is no such block
-abbrev pub is_not_received : Known → List ℕ → Option ℕ → Bool
+abbrev pub is_not_received : KnownForLinks → List ℕ → Option ℕ → Bool
 is_not_received k s None = true
 is_not_received k s (Some b) = not (k.received_by b s)
 
-abbrev pub is_wrong_way : Known → List ℕ → Way → Bool
+abbrev pub is_wrong_way : KnownForLinks → List ℕ → SignalWay → Bool
 is_wrong_way k s (To n) = is_not_received k s (k.named n)
 is_wrong_way k s _ = false
 
-abbrev pub not_received : Known → List ℕ → Way → Bool
+abbrev pub not_received : KnownForLinks → List ℕ → SignalWay → Bool
 not_received k s way = not (is_outside (k.kind s)) && is_wrong_way k s way
 
 -- the block's survey does not send what it sends, or does not receive what it enters
-abbrev pub not_in_survey : Known → Head → Bool
+abbrev pub not_in_survey : KnownForLinks → Head → Bool
 not_in_survey k (Sends s way count fresh) = not (k.sent s)
 not_in_survey k (Transfers s way) = not (k.sent s)
 not_in_survey k (Enters s count) = not (k.received s)
 not_in_survey k _ = false
 
 -- the block entered it before
-abbrev pub two_enters : Known → Head → Bool
+abbrev pub two_enters : KnownForLinks → Head → Bool
 two_enters k (Enters s count) = k.entered_before s
 two_enters k _ = false
 
 -- the block enters it nowhere
-abbrev pub no_enter : Known → Note → Bool
+abbrev pub no_enter : KnownForLinks → Note → Bool
 no_enter k (Receives s) = not (k.entered s)
 no_enter k _ = false
 
@@ -195,10 +195,10 @@ one_goes_over a more =
     || (goes_over MOST_STATEMENTS a.statements more.statements
     || goes_over MOST_CELLS a.cells more.cells)))
 
-abbrev pub over_limit : Known → Note → Bool
+abbrev pub over_limit : KnownForLinks → Note → Bool
 over_limit k note = one_goes_over k.before (adds k.kind note)
 
-abbrev pub broken : LinkRule → Known → Note → Bool
+abbrev pub broken : LinkRule → KnownForLinks → Note → Bool
 broken rule.NoReceiver k note = at_sending (no_receiver k) (begun note)
 broken rule.NeedsReference k note = at_sending (needs_reference k) (begun note)
 broken rule.NotReceived k note = at_sending (not_received k) (begun note)

@@ -25,19 +25,19 @@ abbrev pub names_block : List ℕ → Event → Bool
 names_block n e = block_note n e.note
 
 -- what a rule may look at besides its event: the names of signals with their answers, and those of blocks, that stand before
-pub record Known : Type 0 where
+pub record KnownNames : Type 0 where
   pub signal : List ℕ → Bool
   pub block : List ℕ → Bool
 
-abbrev pub known_of : List Event → Known
+abbrev pub known_of : List Event → KnownNames
 known_of before = record { signal = λ n. any (names_signal n) before; block = λ n. any (names_block n) before }
 
 -- the parts before and what stands before in the own part
-abbrev pub known_in_part : List (List Event) → List Event → List Event → Known
+abbrev pub known_in_part : List (List Event) → List Event → List Event → KnownNames
 known_in_part done own before = known_of (joined done ++ before)
 
 -- a name that stands before
-abbrev pub twice : Known → Note → Bool
+abbrev pub twice : KnownNames → Note → Bool
 twice k (Signal n) = k.signal n
 twice k (BlockName n) = k.block n
 twice k _ = false
@@ -47,7 +47,7 @@ abbrev pub many_values : Note → Bool
 many_values (Carries count) = nat_lt MOST_VALUES count
 many_values _ = false
 
-abbrev pub broken : SignalRule → Known → Note → Bool
+abbrev pub broken : SignalRule → KnownNames → Note → Bool
 broken Once k note = twice k note
 broken FewValues k note = many_values note
 
@@ -59,11 +59,11 @@ abbrev pub all_rules : List SignalRule
 all_rules = Once ∷ FewValues ∷ []
 
 -- before the first event
-pub record KnowsNothing (k : Known) : Type 0 where
+pub record KnowsNothing (k : KnownNames) : Type 0 where
   pub signal : (n : List ℕ) → k.signal n ≡ false
   pub block : (n : List ℕ) → k.block n ≡ false
 
 -- after one event more
-pub record Sees (k : Known) (note : Note) (l : Known) : Type 0 where
+pub record Sees (k : KnownNames) (note : Note) (l : KnownNames) : Type 0 where
   pub signal : (n : List ℕ) → l.signal n ≡ (k.signal n || signal_note n note)
   pub block : (n : List ℕ) → l.block n ≡ (k.block n || block_note n note)

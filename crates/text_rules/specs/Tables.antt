@@ -25,7 +25,7 @@ abbrev pub IsTold : {R : Type 0} → Option (R × ℕ) → Fault R → Type 0
 IsTold told (fault.Rule rule line) = told ≡ Some (rule, line)
 IsTold told fault.Memory = Unit {0}
 
-abbrev pub names_in : Seen → signals.Known
+abbrev pub names_in : Seen → signals.KnownNames
 names_in s = record { signal = λ n. contains bytes_eq s.signals.names n; block = λ n. contains bytes_eq s.blocks.names n }
 
 -- the tables of a block, and what stands around them
@@ -33,7 +33,7 @@ names_in s = record { signal = λ n. contains bytes_eq s.signals.names n; block 
 abbrev pub AnAround : Type 0
 AnAround = Around
 
-abbrev pub known_in : Tables → Around → blocks.Known
+abbrev pub known_in : Tables → Around → blocks.KnownInBlock
 known_in t a = record {
   declared = λ n. get bytes_eq t.declared.names n;
   counted = blocks.count_in t.counts.of.items;
@@ -60,7 +60,7 @@ pub record IsOwn (o : Own) (b : Option TreeBlock) : Type 0 where
   pub sent : (s : List ℕ) → contains bytes_eq o.sent.names s ≡ is_so (sends s) b
   pub entered : (s : List ℕ) → contains bytes_eq o.entered.names s ≡ is_so (enters s) b
 
-abbrev pub links_in : Before → Links → links.Known
+abbrev pub links_in : Before → Links → links.KnownForLinks
 links_in t a = record {
   kind = kind_in a.signals.now.kinds.now;
   receivers = receiver_count a.blocks.now.blocks.now;

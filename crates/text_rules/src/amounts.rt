@@ -11,7 +11,7 @@ use exchange_model::SignalKind;
 use plex_limits::{MOST_BLOCKS, MOST_CELLS, MOST_ENTRIES, MOST_SIGNALS, MOST_STATEMENTS};
 use plex_num::Memory;
 use signal_types::SignalTable;
-use text_events::{Head, Place};
+use text_events::{EventKind, Head};
 use token_grammar::KeptName;
 
 /// How much there is of what has limits.
@@ -24,20 +24,20 @@ pub(crate) struct Counted {
     pub(crate) cells: u64,
 }
 
-fn count_signals(place: Place<'_>) -> u64
-    ensures { result ≡ signals_note (note_of place.entry) }
+fn count_signals(kind: EventKind<'_>) -> u64
+    ensures { result ≡ signals_note (note_of kind.entry) }
 {
-    match place {
-        Place::Signals { count } => u64::from(count),
+    match kind {
+        EventKind::Signals { count } => u64::from(count),
         _ => 0,
     }
 }
 
-fn count_blocks(place: Place<'_>) -> u64
-    ensures { result ≡ blocks_note (note_of place.entry) }
+fn count_blocks(kind: EventKind<'_>) -> u64
+    ensures { result ≡ blocks_note (note_of kind.entry) }
 {
-    match place {
-        Place::Block => 1,
+    match kind {
+        EventKind::Block => 1,
         _ => 0,
     }
 }
@@ -60,36 +60,36 @@ fn count_entries(signals: &SignalTable, here: Head<'_>) -> u64
     }
 }
 
-fn count_statements(place: Place<'_>) -> u64
-    ensures { result ≡ statements_note (note_of place.entry) }
+fn count_statements(kind: EventKind<'_>) -> u64
+    ensures { result ≡ statements_note (note_of kind.entry) }
 {
-    match place {
-        Place::Begins { .. } => 1,
-        Place::BeginsItem { .. } => 1,
-        Place::Ends => 1,
+    match kind {
+        EventKind::Begins { .. } => 1,
+        EventKind::BeginsItem { .. } => 1,
+        EventKind::Ends => 1,
         _ => 0,
     }
 }
 
-fn count_cells(place: Place<'_>) -> u64
-    ensures { result ≡ cells_note (note_of place.entry) }
+fn count_cells(kind: EventKind<'_>) -> u64
+    ensures { result ≡ cells_note (note_of kind.entry) }
 {
-    match place {
-        Place::Cells { count } => count,
+    match kind {
+        EventKind::Cells { count } => count,
         _ => 0,
     }
 }
 
 /// How much an event adds.
-pub(crate) fn added_at(signals: &SignalTable, place: Place<'_>) -> Counted
-    ensures { amounts_of result ≡ adds (kind_in signals.now.kinds.now) (note_of place.entry) }
+pub(crate) fn added_at(signals: &SignalTable, kind: EventKind<'_>) -> Counted
+    ensures { amounts_of result ≡ adds (kind_in signals.now.kinds.now) (note_of kind.entry) }
 {
     Counted {
-        signals: count_signals(place),
-        blocks: count_blocks(place),
-        entries: count_entries(signals, place.begun()),
-        statements: count_statements(place),
-        cells: count_cells(place),
+        signals: count_signals(kind),
+        blocks: count_blocks(kind),
+        entries: count_entries(signals, kind.begun()),
+        statements: count_statements(kind),
+        cells: count_cells(kind),
     }
 }
 

@@ -13,7 +13,7 @@ use crate::names::NameSet;
 use indexmap::{IndexMap, IndexSet};
 use plex_num::{Memory, Seed};
 use std::alloc::Global;
-use text_events::{Event, Meaning, Place};
+use text_events::{Event, EventKind, Meaning};
 use token_grammar::KeptName;
 
 /// The names that are declared so far.
@@ -44,10 +44,10 @@ impl Declared {
     }
 
     #[tactic(auto, using(crate::proofs::BlockSteps::see_declared))]
-    pub(crate) fn see(&mut self, place: Place<'_>) -> Result<(), Memory>
-        ensures { OnOk result ((n : List ℕ) → get bytes_eq self.new.names n ≡ or_else (meaning_of_note n (note_of place.entry)) (get bytes_eq self.old.names n)) }
+    pub(crate) fn see(&mut self, kind: EventKind<'_>) -> Result<(), Memory>
+        ensures { OnOk result ((n : List ℕ) → get bytes_eq self.new.names n ≡ or_else (meaning_of_note n (note_of kind.entry)) (get bytes_eq self.old.names n)) }
     {
-        if let Place::Declares { name, meaning } = place {
+        if let EventKind::Declares { name, meaning } = kind {
             let kept = name.again(*self.names.allocator())?;
             match self.names.insert(kept, meaning) {
                 Ok(_) => {}
@@ -59,13 +59,13 @@ impl Declared {
 }
 
 // The statement whose operand stands at a place.
-pub(crate) fn operand_of(place: Place<'_>) -> Option<u32>
-    ensures { result ≡ operand_of (note_of place.entry) }
+pub(crate) fn operand_of(kind: EventKind<'_>) -> Option<u32>
+    ensures { result ≡ operand_of (note_of kind.entry) }
 {
-    match place {
-        Place::Counts { owner } => Some(owner),
-        Place::Reads { owner, .. } => Some(owner),
-        Place::Refers { owner, .. } => Some(owner),
+    match kind {
+        EventKind::Counts { owner } => Some(owner),
+        EventKind::Reads { owner, .. } => Some(owner),
+        EventKind::Refers { owner, .. } => Some(owner),
         _ => None,
     }
 }
@@ -98,10 +98,10 @@ impl Chosen {
         self.numbers.contains(&pair)
     }
 
-    pub(crate) fn see(&mut self, place: Place<'_>) -> Result<(), Memory>
-        ensures { OnOk result ((o n : ℕ) → has_choice self.new.numbers.keys o n ≡ (has_choice self.old.numbers.keys o n || chooses_note o n (note_of place.entry))) }
+    pub(crate) fn see(&mut self, kind: EventKind<'_>) -> Result<(), Memory>
+        ensures { OnOk result ((o n : ℕ) → has_choice self.new.numbers.keys o n ≡ (has_choice self.old.numbers.keys o n || chooses_note o n (note_of kind.entry))) }
     {
-        if let Place::Chooses { owner, number } = place {
+        if let EventKind::Chooses { owner, number } = kind {
             match self.numbers.insert((owner, number)) {
                 Ok(_) => {}
                 Err(_) => return Err(Memory),
@@ -111,11 +111,11 @@ impl Chosen {
     }
 }
 
-fn see_label(names: &mut NameSet, place: Place<'_>) -> Result<(), Memory>
-    ensures { OnOk result ((n : List ℕ) → contains bytes_eq names.new.names n ≡ (contains bytes_eq names.old.names n || labels_note n (note_of place.entry))) }
+fn see_label(names: &mut NameSet, kind: EventKind<'_>) -> Result<(), Memory>
+    ensures { OnOk result ((n : List ℕ) → contains bytes_eq names.new.names n ≡ (contains bytes_eq names.old.names n || labels_note n (note_of kind.entry))) }
 {
-    match place {
-        Place::Declares {
+    match kind {
+        EventKind::Declares {
             name,
             meaning: Meaning::Label(_),
         } => names.add(name),
@@ -130,7 +130,7 @@ pub(crate) fn labels_of(alloc: Global, events: &[Event<'_>], seed: Seed) -> Resu
 {
     let mut labels = NameSet::new(alloc, seed);
     for event in events {
-        see_label(&mut labels, event.place())?;
+        see_label(&mut labels, event.kind())?;
     }
     Ok(labels)
 }

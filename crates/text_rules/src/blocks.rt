@@ -21,7 +21,7 @@ use plex_limits::{MOST_OPERANDS, MOST_RECORDS, MOST_TEMPORARIES};
 use plex_num::{Memory, Seed, Seq};
 use signal_types::{SignalTable, count_of_signal};
 use std::alloc::Global;
-use text_events::{Event, Head, Meaning, Need, Place, Role};
+use text_events::{Event, EventKind, Head, Meaning, Need, Role};
 use token_grammar::KeptName;
 
 // Whether a value is not below 2^bits.
@@ -220,12 +220,12 @@ impl Tables {
     }
 
     /// Takes in one event more.
-    fn see(&mut self, place: Place<'_>) -> Result<(), Memory>
-        ensures { OnOk result ((a : AnAround) → Sees (known_in self.old a) (note_of place.entry) (known_in self.new a)) }
+    fn see(&mut self, kind: EventKind<'_>) -> Result<(), Memory>
+        ensures { OnOk result ((a : AnAround) → Sees (known_in self.old a) (note_of kind.entry) (known_in self.new a)) }
     {
-        self.declared.see(place)?;
-        self.counts.see(place)?;
-        self.chosen.see(place)?;
+        self.declared.see(kind)?;
+        self.counts.see(kind)?;
+        self.chosen.see(kind)?;
         Ok(())
     }
 
@@ -251,72 +251,72 @@ impl Tables {
         }
     }
 
-    fn is_broken(&self, around: &Around<'_>, rule: BlockRule, place: Place<'_>) -> bool
-        ensures { result ≡ broken rule (known_in self.now around.now) (note_of place.entry) }
+    fn is_broken(&self, around: &Around<'_>, rule: BlockRule, kind: EventKind<'_>) -> bool
+        ensures { result ≡ broken rule (known_in self.now around.now) (note_of kind.entry) }
     {
         match rule {
-            BlockRule::DeclaredTwice => match place {
-                Place::Declares { name, .. } => self.declared.meaning(name).is_some(),
+            BlockRule::DeclaredTwice => match kind {
+                EventKind::Declares { name, .. } => self.declared.meaning(name).is_some(),
                 _ => false,
             },
-            BlockRule::Width => match place {
-                Place::Width { bits } => bits == 0 || bits > 32,
+            BlockRule::Width => match kind {
+                EventKind::Width { bits } => bits == 0 || bits > 32,
                 _ => false,
             },
-            BlockRule::Init => match place {
-                Place::Init { value, bits } => is_too_large(value, bits),
+            BlockRule::Init => match kind {
+                EventKind::Init { value, bits } => is_too_large(value, bits),
                 _ => false,
             },
-            BlockRule::Size => match place {
-                Place::Size { records } => records == 0 || records as usize > MOST_RECORDS,
+            BlockRule::Size => match kind {
+                EventKind::Size { records } => records == 0 || records as usize > MOST_RECORDS,
                 _ => false,
             },
-            BlockRule::Temporaries => match place {
-                Place::Declares {
+            BlockRule::Temporaries => match kind {
+                EventKind::Declares {
                     name: _,
                     meaning: Meaning::Temporary(number),
                 } => number as usize == MOST_TEMPORARIES,
                 _ => false,
             },
-            BlockRule::WrongName => match place {
-                Place::Uses { name, need } => !serves(need, self.declared.meaning(name)),
-                Place::Reads { name, need, .. } => !serves(need, self.declared.meaning(name)),
+            BlockRule::WrongName => match kind {
+                EventKind::Uses { name, need } => !serves(need, self.declared.meaning(name)),
+                EventKind::Reads { name, need, .. } => !serves(need, self.declared.meaning(name)),
                 _ => false,
             },
-            BlockRule::NoLabel => match place {
-                Place::Goes { label } => !around.labels.has(label),
+            BlockRule::NoLabel => match kind {
+                EventKind::Goes { label } => !around.labels.has(label),
                 _ => false,
             },
-            BlockRule::NotSearched => match place {
-                Place::Searches { file } => !is_plain_file(self.declared.meaning(file)),
-                Place::Compares { field, file } => {
+            BlockRule::NotSearched => match kind {
+                EventKind::Searches { file } => !is_plain_file(self.declared.meaning(file)),
+                EventKind::Compares { field, file } => {
                     !is_field_of(self.declared.meaning(file), self.declared.meaning(field))
                 }
                 _ => false,
             },
-            BlockRule::NotHeld => match place {
-                Place::Holds { file } => !is_forlopp_file(self.declared.meaning(file)),
+            BlockRule::NotHeld => match kind {
+                EventKind::Holds { file } => !is_forlopp_file(self.declared.meaning(file)),
                 _ => false,
             },
-            BlockRule::WrongSignal => match place {
-                Place::Names { signal, role } => is_misplaced(around.signals, signal, role),
+            BlockRule::WrongSignal => match kind {
+                EventKind::Names { signal, role } => is_misplaced(around.signals, signal, role),
                 _ => false,
             },
-            BlockRule::WrongCount => self.has_wrong_count(around, place.begun()),
+            BlockRule::WrongCount => self.has_wrong_count(around, kind.begun()),
             BlockRule::Apart => {
-                stands_apart(around.signals, place.begun(), place.before(), place.after())
+                stands_apart(around.signals, kind.begun(), kind.before(), kind.after())
             }
-            BlockRule::Operands => match operand_of(place) {
+            BlockRule::Operands => match operand_of(kind) {
                 Some(owner) => self.counts.count(owner) == MOST_OPERANDS as u64,
                 None => false,
             },
-            BlockRule::WrongFresh => self.has_wrong_fresh(around, place.begun()),
-            BlockRule::ChosenTwice => match place {
-                Place::Chooses { owner, number } => self.chosen.has(owner, number),
+            BlockRule::WrongFresh => self.has_wrong_fresh(around, kind.begun()),
+            BlockRule::ChosenTwice => match kind {
+                EventKind::Chooses { owner, number } => self.chosen.has(owner, number),
                 _ => false,
             },
-            BlockRule::NoBlock => match place {
-                Place::Refers { block, .. } => around.blocks.number(block).is_none(),
+            BlockRule::NoBlock => match kind {
+                EventKind::Refers { block, .. } => around.blocks.number(block).is_none(),
                 _ => false,
             },
         }
@@ -328,9 +328,9 @@ impl Tables {
     fn rule_at(&self, around: &Around<'_>, event: &Event<'_>) -> Option<BlockRule>
         ensures { result ≡ first_broken (λ r k e. broken r k e.note) all_rules (known_in self.now around.now) event.now }
     {
-        let place = event.place();
+        let kind = event.kind();
         for rule in RULES {
-            if self.is_broken(around, rule, place) {
+            if self.is_broken(around, rule, kind) {
                 return Some(rule);
             }
         }
@@ -373,7 +373,7 @@ fn check_block(
             let line = event.line();
             return Err(Fault::Rule { rule, line });
         }
-        match tables.see(event.place()) {
+        match tables.see(event.kind()) {
             Ok(()) => {}
             Err(_) => return Err(Fault::Memory),
         }

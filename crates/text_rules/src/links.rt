@@ -21,7 +21,7 @@ use plex_ast::{Block, Item, ItemKind, Survey, SurveyKind};
 use plex_num::{Memory, Seed, Seq};
 use signal_types::SignalTable;
 use std::alloc::Global;
-use text_events::{Event, Head, Place, Way};
+use text_events::{Event, EventKind, Head, Way};
 use token_grammar::KeptName;
 
 /// The signals that a block receives, sends and enters.
@@ -188,51 +188,51 @@ impl Before {
     }
 
     /// Takes in one event more.
-    fn see(&mut self, links: &Links<'_>, place: Place<'_>) -> Result<(), Memory>
-        ensures entered { OnOk result ((s : List ℕ) → contains bytes_eq self.new.entered.names s ≡ (contains bytes_eq self.old.entered.names s || head_enters s (begun (note_of place.entry)))) }
-        ensures counted { OnOk result (amounts_of self.new.counted ≡ plus (amounts_of self.old.counted) (adds (kind_in links.now.signals.now.kinds.now) (note_of place.entry))) }
+    fn see(&mut self, links: &Links<'_>, kind: EventKind<'_>) -> Result<(), Memory>
+        ensures entered { OnOk result ((s : List ℕ) → contains bytes_eq self.new.entered.names s ≡ (contains bytes_eq self.old.entered.names s || head_enters s (begun (note_of kind.entry)))) }
+        ensures counted { OnOk result (amounts_of self.new.counted ≡ plus (amounts_of self.old.counted) (adds (kind_in links.now.signals.now.kinds.now) (note_of kind.entry))) }
     {
-        self.counted = self.counted.plus(added_at(links.signals, place))?;
-        match place.begun() {
+        self.counted = self.counted.plus(added_at(links.signals, kind))?;
+        match kind.begun() {
             Head::Enters { signal, .. } => self.entered.add(signal),
             _ => Ok(()),
         }
     }
 
-    fn is_broken(&self, links: &Links<'_>, rule: LinkRule, place: Place<'_>) -> bool
-        ensures { result ≡ broken rule (links_in self.now links.now) (note_of place.entry) }
+    fn is_broken(&self, links: &Links<'_>, rule: LinkRule, kind: EventKind<'_>) -> bool
+        ensures { result ≡ broken rule (links_in self.now links.now) (note_of kind.entry) }
     {
         match rule {
-            LinkRule::NoReceiver => match place.begun() {
+            LinkRule::NoReceiver => match kind.begun() {
                 Head::Sends { signal, .. } => self.has_no_receiver(links, signal),
                 Head::Transfers { signal, .. } => self.has_no_receiver(links, signal),
                 _ => false,
             },
-            LinkRule::NeedsReference => match place.begun() {
+            LinkRule::NeedsReference => match kind.begun() {
                 Head::Sends { signal, way, .. } => self.needs_reference(links, signal, way),
                 Head::Transfers { signal, way } => self.needs_reference(links, signal, way),
                 _ => false,
             },
-            LinkRule::NotReceived => match place.begun() {
+            LinkRule::NotReceived => match kind.begun() {
                 Head::Sends { signal, way, .. } => self.is_not_received(links, signal, way),
                 Head::Transfers { signal, way } => self.is_not_received(links, signal, way),
                 _ => false,
             },
-            LinkRule::NotInSurvey => match place.begun() {
+            LinkRule::NotInSurvey => match kind.begun() {
                 Head::Sends { signal, .. } => !links.own.sent.has(signal),
                 Head::Transfers { signal, .. } => !links.own.sent.has(signal),
                 Head::Enters { signal, .. } => !links.own.received.has(signal),
                 _ => false,
             },
-            LinkRule::TwoEnters => match place.begun() {
+            LinkRule::TwoEnters => match kind.begun() {
                 Head::Enters { signal, .. } => self.entered.has(signal),
                 _ => false,
             },
-            LinkRule::NoEnter => match place {
-                Place::Receives { signal } => !links.own.entered.has(signal),
+            LinkRule::NoEnter => match kind {
+                EventKind::Receives { signal } => !links.own.entered.has(signal),
                 _ => false,
             },
-            LinkRule::Limit => self.counted.goes_over(added_at(links.signals, place)),
+            LinkRule::Limit => self.counted.goes_over(added_at(links.signals, kind)),
         }
     }
 
@@ -240,9 +240,9 @@ impl Before {
     fn rule_at(&self, links: &Links<'_>, event: &Event<'_>) -> Option<LinkRule>
         ensures { result ≡ first_broken (λ r k e. broken r k e.note) all_rules (links_in self.now links.now) event.now }
     {
-        let place = event.place();
+        let kind = event.kind();
         for rule in RULES {
-            if self.is_broken(links, rule, place) {
+            if self.is_broken(links, rule, kind) {
                 return Some(rule);
             }
         }
@@ -314,7 +314,7 @@ pub fn check_links<'a>(
                 let line = event.line();
                 return Err(Fault::Rule { rule, line });
             }
-            match before.see(&links, event.place()) {
+            match before.see(&links, event.kind()) {
                 Ok(()) => {}
                 Err(_) => return Err(Fault::Memory),
             }

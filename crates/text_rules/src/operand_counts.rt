@@ -6,7 +6,7 @@ ghost use Rattle.text_rules.specs.Blocks.{count_in, is_owner, operand_of};
 use crate::block_tables::operand_of;
 use plex_num::Memory;
 use std::alloc::Global;
-use text_events::Place;
+use text_events::EventKind;
 
 /// How many operands each statement has so far, by the number that names it: a byte for each number, since the 65th operand
 /// of a statement breaks a rule and is not counted.
@@ -71,13 +71,13 @@ impl Operands {
         Ok(())
     }
 
-    pub(crate) fn see(&mut self, place: Place<'_>) -> Result<(), Memory>
+    pub(crate) fn see(&mut self, kind: EventKind<'_>) -> Result<(), Memory>
         ensures { OnOk result
             ((o : ℕ) → count_in self.new.of.items o
             ≡ count_in self.old.of.items o
-            + (if is_owner o (operand_of (note_of place.entry)) then 1 else 0)) }
+            + (if is_owner o (operand_of (note_of kind.entry)) then 1 else 0)) }
     {
-        if let Some(owner) = operand_of(place) {
+        if let Some(owner) = operand_of(kind) {
             self.add(owner)?;
         }
         Ok(())

@@ -12,7 +12,7 @@ use crate::rule::SignalRule;
 use plex_limits::MOST_VALUES;
 use plex_num::{Memory, Seed, Seq};
 use std::alloc::Global;
-use text_events::{Event, Place};
+use text_events::{Event, EventKind};
 
 /// The names of signals with their answers, and those of blocks, before an event.
 #[derive(Drop)]
@@ -32,27 +32,27 @@ impl Seen {
     }
 
     /// Takes in one event more.
-    fn see(&mut self, place: Place<'_>) -> Result<(), Memory>
-        ensures { OnOk result (Sees (names_in self.old) (note_of place.entry) (names_in self.new)) }
+    fn see(&mut self, kind: EventKind<'_>) -> Result<(), Memory>
+        ensures { OnOk result (Sees (names_in self.old) (note_of kind.entry) (names_in self.new)) }
     {
-        match place {
-            Place::Signal { name } => self.signals.add(name),
-            Place::BlockName { name } => self.blocks.add(name),
+        match kind {
+            EventKind::Signal { name } => self.signals.add(name),
+            EventKind::BlockName { name } => self.blocks.add(name),
             _ => Ok(()),
         }
     }
 
-    fn is_broken(&self, rule: SignalRule, place: Place<'_>) -> bool
-        ensures { result ≡ broken rule (names_in self.now) (note_of place.entry) }
+    fn is_broken(&self, rule: SignalRule, kind: EventKind<'_>) -> bool
+        ensures { result ≡ broken rule (names_in self.now) (note_of kind.entry) }
     {
         match rule {
-            SignalRule::Once => match place {
-                Place::Signal { name } => self.signals.has(name),
-                Place::BlockName { name } => self.blocks.has(name),
+            SignalRule::Once => match kind {
+                EventKind::Signal { name } => self.signals.has(name),
+                EventKind::BlockName { name } => self.blocks.has(name),
                 _ => false,
             },
-            SignalRule::FewValues => match place {
-                Place::Carries { count } => count as usize > MOST_VALUES,
+            SignalRule::FewValues => match kind {
+                EventKind::Carries { count } => count as usize > MOST_VALUES,
                 _ => false,
             },
         }
@@ -62,11 +62,11 @@ impl Seen {
     fn rule_at(&self, event: &Event<'_>) -> Option<SignalRule>
         ensures { result ≡ first_broken (λ r k e. broken r k e.note) all_rules (names_in self.now) event.now }
     {
-        let place = event.place();
-        if self.is_broken(SignalRule::Once, place) {
+        let kind = event.kind();
+        if self.is_broken(SignalRule::Once, kind) {
             return Some(SignalRule::Once);
         }
-        if self.is_broken(SignalRule::FewValues, place) {
+        if self.is_broken(SignalRule::FewValues, kind) {
             return Some(SignalRule::FewValues);
         }
         None
@@ -89,7 +89,7 @@ pub fn check_signals(
                 let line = event.line();
                 return Err(Fault::Rule { rule, line });
             }
-            match seen.see(event.place()) {
+            match seen.see(event.kind()) {
                 Ok(()) => {}
                 Err(_) => return Err(Fault::Memory),
             }

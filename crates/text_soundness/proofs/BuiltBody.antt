@@ -56,7 +56,8 @@ use Rattle.exchange_model.proofs.Everywhere.{everywhere-built}
 use Rattle.text_soundness.specs.Shares.{PartsStand}
 use Rattle.text_soundness.specs.Blocks.{IsBuilt}
 use Rattle.text_soundness.proofs.BuiltText.{statement_in, statements_in, begin_total, Begin, begin_all, begin_then, begin_add, Sound, sound_front, sound_last, sound_whole}
-use Rattle.text_events.proofs.Layers.{opened as opened_walk, kind_walk-out, stmt_walk-out}
+use Rattle.text_events.proofs.Layers.{opened as opened_walk, kind_walk-out}
+use Rattle.text_events.proofs.Steps.{stmt_head}
 use Rattle.resolved_block.proofs.Turns.{typed_kind-out}
 use Rattle.text_soundness.proofs.BuiltLists.{text, KindMade, StmtSound, StmtMade, ListSound, IsMade, AreMade, list_made, is_made}
 use Rattle.text_soundness.proofs.BuiltKinds.{env, layer_made, begin_names}
@@ -81,9 +82,6 @@ same_head (tree.Transfer n r) = refl
 same_head (tree.Seize n file l) = refl
 same_head (tree.Free n file) = refl
 same_head tree.Exit = refl
-
-head_is : (x : Stmt) → (stmt_walk x).head ≡ head_of x
-head_is x = ap (λ w. w.head) (stmt_walk-out x) ∙ ap (λ w. w.head) (kind_walk-out x.kind) ∙ same_head (out-StmtKind x.kind)
 
 not_finish : (l : Layer) → is_inner l ≡ true → IsNotFinish l
 not_finish layer.Finish h = cc
@@ -220,9 +218,9 @@ module _ (s : Scope) (whole : List Event) (blocks : List Block) where
           omega (arith, none, begin_total (entry_told) out next (made.begins before (first_item xs) out), rest.entries number (k + 0) (head_of x) next sound);
       sound = λ k before out sound meet.
           let next = (stmt_walk x).walk before (first_item xs) out in
-          let here = subst (λ h. StmtSound s whole blocks h m before (first_item xs)) (head_is x) (made.sound before (first_item xs) out (sound_front (text s whole blocks) next _ (rest.begins (k + 0) (head_of x) next) sound)) in
+          let here = subst (λ h. StmtSound s whole blocks h m before (first_item xs)) (stmt_head x) (made.sound before (first_item xs) out (sound_front (text s whole blocks) next _ (rest.begins (k + 0) (head_of x) next) sound)) in
           let others = rest.sound (k + 0) (head_of x) next sound (meets_next s.signals (head_of x) before (first_item xs) here.together) in
-          record { list = step (head_of x) before (first_item xs) m ms here (made.retrieves ∙ ap (retrieved_by s.signals) (head_is x)) meet others.list; labels = others.labels };
+          record { list = step (head_of x) before (first_item xs) m ms here (made.retrieves ∙ ap (retrieved_by s.signals) (stmt_head x)) meet others.list; labels = others.labels };
     }
 
     entry_count : (o : Option SignalKind) (number signal point : ℕ) (more : List Entry) → length (cons_option (entry_of o number signal point) more) ≤ one_if (is_buffered o) + length more

@@ -1,11 +1,12 @@
 -- What the rules say of each number and each signal that a block declares with.
-use Rattle.std.proofs.Common.{◌≡◌, ℕ, ◌+◌, ◌<◌, ◌≤◌, ◌^◌, zero, suc, Bool, false, not, List, [], ◌∷◌, ◌++◌, map, take, get_or, Option, Some, None, refl, sym, ap, subst, arith, slice_get}
+use Rattle.std.proofs.Common.{◌≡◌, ℕ, ◌+◌, ◌<◌, ◌≤◌, ◌^◌, zero, suc, Bool, false, not, List, [], ◌∷◌, map, take, get_or, Option, Some, None, refl, sym, ap, subst, arith, slice_get}
 use Rattle.std.specs.Prelude.{if◌then◌else◌, nat_eq, nat_lt}
 use Rattle.std.specs.List.{AllByRecursion}
 use Rattle.std.proofs.lemmas.Nat.{pow_pos}
 use Rattle.std.proofs.lemmas.Option.{slice_get-get_or}
 use Rattle.std.proofs.lemmas.Bool.{eqb-false, ltb-true, ltb-false, lt-ltb, or_parts, not-false}
 use Rattle.std.proofs.lemmas.List.Elements.{recursion_from_All}
+use Rattle.plex_num.proofs.Lists.{all_left, all_last}
 use Rattle.token_grammar.specs.declared.named.Named.{Named}
 use Rattle.token_grammar.specs.declared.named.Numbered.{Numbered}
 use Rattle.plex_ast.specs.declared.block.Block.{Block as TreeBlock}
@@ -61,22 +62,14 @@ all_right signals blocks b fine = recursion_from_All (Right signals) (block_even
       kind = kind_right text (take k whole) e.note (fine.fine.each k e rule.WrongSignal at);
     })
 
-pub all_front : {X : Type 0} (P : X → Type 0) (xs ys : List X) → AllByRecursion P (xs ++ ys) → AllByRecursion P xs
-all_front P [] ys h = tt
-all_front P (x ∷ rest) ys h = (h.0, all_front P rest ys h.1)
-
-pub all_last : {X : Type 0} (P : X → Type 0) (xs : List X) (y : X) → AllByRecursion P (xs ++ y ∷ []) → P y
-all_last P [] y h = h.0
-all_last P (x ∷ rest) y h = all_last P rest y h.1
-
 pub before_add : (signals : List SignalKind) (line : ℕ) (said : Note) (out : List Event) → AllRight signals (add line said out) → AllRight signals out
-before_add signals line said out h = all_front (Right signals) out (record { line = line; note = said } ∷ []) h
+before_add signals line said out h = all_left (Right signals) out (record { line = line; note = said } ∷ []) h
 
 pub at_add : (signals : List SignalKind) (line : ℕ) (said : Note) (out : List Event) → AllRight signals (add line said out) → Right signals (record { line = line; note = said })
 at_add signals line said out h = all_last (Right signals) out (record { line = line; note = said }) h
 
 pub before_adds : (signals : List SignalKind) (out new : List Event) (saids : List Said) → Adds out new saids → AllRight signals new → AllRight signals out
-before_adds signals out new saids adds h = all_front (Right signals) out adds.more (subst (AllRight signals) adds.same h)
+before_adds signals out new saids adds h = all_left (Right signals) out adds.more (subst (AllRight signals) adds.same h)
 
 -- widths
 

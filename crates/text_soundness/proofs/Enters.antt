@@ -41,12 +41,14 @@ use Rattle.text_soundness.proofs.BuiltText.{Begin, begin_all, begin_then, begin_
 use Rattle.text_soundness.proofs.BuiltBody.{body_is_sound, entered_by, entered_numbers}
 use Rattle.text_soundness.proofs.BuiltKinds.{begin_names}
 use Rattle.text_soundness.proofs.Choices.{any_front}
-use Rattle.text_soundness.proofs.DeclaredRights.{all_front, all_last}
-use Rattle.text_soundness.proofs.FineParts.{found_here, before_here}
+use Rattle.text_soundness.proofs.FineParts.{before_here}
 use Rattle.text_soundness.proofs.MeaningsBlocks.{item_adds, items_add, surveys_quiet}
 use Rattle.text_soundness.proofs.ServedSaid.{said_of}
 use Rattle.text_soundness.proofs.SignalsOnce.{none_of}
 use Rattle.plex_num.proofs.Booleans.{or_false}
+use Rattle.plex_num.proofs.Lists.{all_left, all_last, slice_get-append_seam}
+use Rattle.plex_num.proofs.Members.{found_in}
+use Rattle.plex_num.proofs.Names.{same_bytes}
 
 -- numbers of signals
 
@@ -89,7 +91,7 @@ linked_front text own done a b x s = record { each = λ before after e r is. s.e
 linked_whole : (text : Text) (own : Block) (done : List Event) → AreFineLinks text own done → Linked text own done text.whole
 linked_whole text own done f = record {
   each = λ before after e r is.
-      let at : slice_get text.whole (length before) ≡ Some e = ap (λ w. slice_get w (length before)) is ∙ found_here before e after in
+      let at : slice_get text.whole (length before) ≡ Some e = ap (λ w. slice_get w (length before)) is ∙ slice_get-append_seam before e after in
       let front = ap (take (length before)) is ∙ before_here before (e ∷ after) in
       subst (λ b. link_broken_at r (links_known text own done b) e ≡ false) front (f.each (length before) e r at);
 }
@@ -212,15 +214,12 @@ entered_once signals blocks b fine =
 
 -- a signal that is entered has its number there
 
-same_name : (m n : List ℕ) → bytes_eq m n ≡ true → m ≡ n
-same_name m n h = (bytes_eq-Decides m n).0 h
-
 pub entered_there : (signals : List SignalKind) (n : List ℕ) (xs : List Item) → any (item_enters n) xs ≡ true → list_any (nat_eq (number_of_name signals n)) (numbers_entered signals xs) ≡ true
 entered_there signals n [] h = cc
 entered_there signals n (x ∷ xs) h = here x.kind h (entered_there signals n xs)
   where
     chosen : (m : List ℕ) (u : Bool) → bytes_eq m n ≡ u → (u || any (item_enters n) xs) ≡ true → (any (item_enters n) xs ≡ true → list_any (nat_eq (number_of_name signals n)) (numbers_entered signals xs) ≡ true) → list_any (nat_eq (number_of_name signals n)) (number_of_name signals m ∷ numbers_entered signals xs) ≡ true
-    chosen m true is h more = ap (λ u. u || list_any (nat_eq (number_of_name signals n)) (numbers_entered signals xs)) (eq-eqb _ _ (ap (number_of_name signals) (sym (same_name m n is))))
+    chosen m true is h more = ap (λ u. u || list_any (nat_eq (number_of_name signals n)) (numbers_entered signals xs)) (eq-eqb _ _ (ap (number_of_name signals) (sym (same_bytes m n is))))
     chosen m false is h more = ap (λ u. nat_eq (number_of_name signals n) (number_of_name signals m) || u) (more h) ∙ or_last (nat_eq (number_of_name signals n) (number_of_name signals m))
       where
         or_last : (b : Bool) → (b || true) ≡ true
@@ -240,8 +239,8 @@ module _ (signals : List SignalKind) (blocks : List Block) (b : Block) (n : List
 
   survey_received : (kind : SurveyKind) (line : ℕ) (out : List Event) → AllByRecursion SaidHere (survey_walk_at kind line out) → kind_receives n kind ≡ true → enters n b ≡ true
   survey_received (survey.Receive m) line out all h =
-      let here = all_last SaidHere out (record { line = line; note = note.Receives m.name }) (all_front SaidHere (add line (note.Receives m.name) out) (record { line = m.line; note = note.Names m.name role.Received } ∷ []) all) in
-      subst (λ x. enters x b ≡ true) (same_name m.name n h) here
+      let here = all_last SaidHere out (record { line = line; note = note.Receives m.name }) (all_left SaidHere (add line (note.Receives m.name) out) (record { line = m.line; note = note.Names m.name role.Received } ∷ []) all) in
+      subst (λ x. enters x b ≡ true) (same_bytes m.name n h) here
   survey_received (survey.Send m) line out all h = cc
 
   surveys_received : (ss : List Survey) (out : List Event) → AllByRecursion SaidHere (in_turn (map survey_walk ss) out) → any (line_receives n) ss ≡ true → enters n b ≡ true
@@ -251,15 +250,15 @@ module _ (signals : List SignalKind) (blocks : List Block) (b : Block) (n : List
       here : (u : Bool) → line_receives n s ≡ u → (u || any (line_receives n) rest) ≡ true → (any (line_receives n) rest ≡ true → enters n b ≡ true) → enters n b ≡ true
       here true is h later =
           let more = surveys_quiet rest (survey_walk s out) in
-          survey_received s.kind s.line out (all_front SaidHere (survey_walk s out) more.more (subst (AllByRecursion SaidHere) more.same all)) is
+          survey_received s.kind s.line out (all_left SaidHere (survey_walk s out) more.more (subst (AllByRecursion SaidHere) more.same all)) is
       here false is h later = later h
 
   pub received_is_entered : IsFineBlock signals blocks b → receives n b ≡ true → enters n b ≡ true
   received_is_entered fine h =
       let surveyed = in_turn (map survey_walk b.surveys) (decls_walk b.decls 0 0 0 (block_head b)) in
       let body = items_add b.items 0 note.Nothing surveyed in
-      let whole = all_front SaidHere (block_body b) (record { line = b.end_line; note = note.Ends } ∷ []) (said_of signals blocks b fine) in
-      surveys_received b.surveys (decls_walk b.decls 0 0 0 (block_head b)) (all_front SaidHere surveyed body.more (subst (AllByRecursion SaidHere) body.same whole)) h
+      let whole = all_left SaidHere (block_body b) (record { line = b.end_line; note = note.Ends } ∷ []) (said_of signals blocks b fine) in
+      surveys_received b.surveys (decls_walk b.decls 0 0 0 (block_head b)) (all_left SaidHere surveyed body.more (subst (AllByRecursion SaidHere) body.same whole)) h
 
 -- a signal that a survey sends is in the sending table
 
@@ -292,23 +291,12 @@ mentions_keep x (n ∷ ns) seen h = mentions_keep x ns (joined_once seen n) (her
     here : (a b c : Bool) → (a || (b || c)) ≡ true → ((a || b) ≡ true → list_any (nat_eq x) (joined_once seen n) ≡ true) → (list_any (nat_eq x) (joined_once seen n) || c) ≡ true
     here a b c h keeps = grind arith
 
-pub contains_any : (x : ℕ) (xs : List ℕ) → list_any (nat_eq x) xs ≡ true → Contains xs x
-contains_any x [] h = cc
-contains_any x (y ∷ ys) h = here (nat_eq x y) refl h (contains_any x ys)
-  where
-    same : nat_eq x y ≡ true → y ≡ x
-    same is = grind arith
-
-    here : (u : Bool) → nat_eq x y ≡ u → (u || list_any (nat_eq x) ys) ≡ true → (list_any (nat_eq x) ys ≡ true → Contains ys x) → Contains (y ∷ ys) x
-    here true is h more = (0, omega arith, same is)
-    here false is h more = let found = more h in (suc found.0, omega (arith, found.1), found.2)
-
 sent_there : (env : Env) (n : List ℕ) (ss : List Survey) → any (line_sends n) ss ≡ true → list_any (nat_eq (number_of_name env.signals n)) (filter_map (sent_in env) ss) ≡ true
 sent_there env n [] h = cc
 sent_there env n (s ∷ rest) h = here s.kind h (sent_there env n rest)
   where
     chosen : (m : List ℕ) (u : Bool) → bytes_eq m n ≡ u → (u || any (line_sends n) rest) ≡ true → (any (line_sends n) rest ≡ true → list_any (nat_eq (number_of_name env.signals n)) (filter_map (sent_in env) rest) ≡ true) → list_any (nat_eq (number_of_name env.signals n)) (number_of_name env.signals m ∷ filter_map (sent_in env) rest) ≡ true
-    chosen m true is h more = ap (λ u. u || list_any (nat_eq (number_of_name env.signals n)) (filter_map (sent_in env) rest)) (eq-eqb _ _ (ap (number_of_name env.signals) (sym (same_name m n is))))
+    chosen m true is h more = ap (λ u. u || list_any (nat_eq (number_of_name env.signals n)) (filter_map (sent_in env) rest)) (eq-eqb _ _ (ap (number_of_name env.signals) (sym (same_bytes m n is))))
     chosen m false is h more = ap (λ u. nat_eq (number_of_name env.signals n) (number_of_name env.signals m) || u) (more h) ∙ or_last (nat_eq (number_of_name env.signals n) (number_of_name env.signals m))
       where
         or_last : (b : Bool) → (b || true) ≡ true
@@ -323,4 +311,4 @@ pub sent_is_announced : (env : Env) (b : Block) (n : List ℕ) → sends n b ≡
 sent_is_announced env b n h =
     let x = number_of_name env.signals n in
     let named = filter_map (sent_in env) b.surveys in
-    contains_any x (first_mentions named) (mentions_keep x named [] (sent_there env n b.surveys h))
+    found_in x (first_mentions named) (mentions_keep x named [] (sent_there env n b.surveys h))

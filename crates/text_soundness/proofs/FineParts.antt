@@ -1,6 +1,6 @@
 -- A text that breaks no rule: what that says of each part, and of each of its blocks.
 use Rattle.std.proofs.Common.{◌≡◌, ℕ, zero, suc, Bool, false, List, [], ◌∷◌, ◌++◌, length, map, take, Option, Some, None, slice_get, refl, ◌∙◌, ap, subst}
-use Rattle.std.proofs.lemmas.Option.{same_Some}
+use Rattle.plex_num.proofs.Lists.{got_map, slice_get-append_seam}
 use Rattle.first_fault.specs.First.{or_else, IsFine, breaks_at}
 use Rattle.first_fault.specs.Told.{AreFine, IsSo}
 use Rattle.first_fault.proofs.Tells.{tells_parts}
@@ -26,10 +26,10 @@ use Rattle.text_soundness.specs.Fine.{IsFineBlock, link_broken_at}
 
 -- the three phases
 
-abbrev pub signal_broken : SignalRule → signals.Known → Event → Bool
+abbrev pub signal_broken : SignalRule → signals.KnownNames → Event → Bool
 signal_broken r k e = signals.broken r k e.note
 
-abbrev pub block_broken : BlockRule → blocks.Known → Event → Bool
+abbrev pub block_broken : BlockRule → blocks.KnownInBlock → Event → Bool
 block_broken r k e = blocks.broken r k e.note
 
 pub record FineParts (t : Tree) : Type 0 where
@@ -69,10 +69,6 @@ fine_parts t h =
 
 -- a part of a text
 
-pub found_here : {X : Type 0} (before : List X) (x : X) (rest : List X) → slice_get (before ++ x ∷ rest) (length before) ≡ Some x
-found_here [] x rest = refl
-found_here (y ∷ before) x rest = found_here before x rest
-
 pub before_here : {X : Type 0} (before rest : List X) → take (length before) (before ++ rest) ≡ before
 before_here [] rest = refl
 before_here (x ∷ before) rest = ap (λ xs. x ∷ xs) (before_here before rest)
@@ -81,18 +77,13 @@ before_here (x ∷ before) rest = ap (λ xs. x ∷ xs) (before_here before rest)
 pub fine_event : {E K R : Type 0} (broken : R → K → E → Bool) (number : R → ℕ) (line : E → ℕ) (known : List (List E) → List E → List E → K) (parts : List (List E)) → AreFine broken number line known parts
     → (done rest : List (List E)) (own before after : List E) (e : E) (r : R) → parts ≡ done ++ own ∷ rest → own ≡ before ++ e ∷ after → broken r (known done own before) e ≡ false
 fine_event broken number line known parts fine done rest own before after e r is here =
-    let part = fine.each (length done) own (ap (λ p. slice_get p (length done)) is ∙ found_here done own rest) in
-    let at : slice_get own (length before) ≡ Some e = ap (λ w. slice_get w (length before)) here ∙ found_here before e after in
+    let part = fine.each (length done) own (ap (λ p. slice_get p (length done)) is ∙ slice_get-append_seam done own rest) in
+    let at : slice_get own (length before) ≡ Some e = ap (λ w. slice_get w (length before)) here ∙ slice_get-append_seam before e after in
     let done_is : take (length done) parts ≡ done = ap (take (length done)) is ∙ before_here done (own ∷ rest) in
     let before_is : take (length before) own ≡ before = ap (take (length before)) here ∙ before_here before (e ∷ after) in
     subst (λ b. broken r (known done own b) e ≡ false) before_is (subst (λ d. broken r (known d own (take (length before) own)) e ≡ false) done_is (part.each (length before) e r at))
 
 -- a block of a text
-
-pub map_at : {X Y : Type 0} (f : X → Y) (xs : List X) (i : ℕ) (x : X) → slice_get xs i ≡ Some x → slice_get (map f xs) i ≡ Some (f x)
-map_at f [] i x h = cc
-map_at f (y ∷ xs) zero x h = ap (λ z. Some (f z)) (same_Some y x h)
-map_at f (y ∷ xs) (suc i) x h = map_at f xs i x h
 
 long_map : {X Y : Type 0} (f : X → Y) (xs : List X) (i : ℕ) (x : X) → slice_get xs i ≡ Some x → length (take i (map f xs)) ≡ i
 long_map f [] i x h = cc
@@ -105,7 +96,7 @@ fine_block t f b k at =
     let parts = text_events t in
     let own = block_events k in
     let done = signal_events t ∷ take b (map block_events t.blocks) in
-    let there : slice_get parts (suc b) ≡ Some own = map_at block_events t.blocks b k at in
+    let there : slice_get parts (suc b) ≡ Some own = got_map block_events t.blocks b k at in
     let long : length done ≡ suc b = ap suc (long_map block_events t.blocks b k at) in
     let is : links.block_of t.blocks (length done) ≡ Some k = ap (links.block_of t.blocks) long ∙ at in
     record {

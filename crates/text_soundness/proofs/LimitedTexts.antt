@@ -6,6 +6,7 @@ use Rattle.std.proofs.lemmas.List.Elements.{recursion_from_All}
 use Rattle.std.proofs.lemmas.Option.{slice_get-get_or}
 use Rattle.first_fault.specs.First.{total}
 use Rattle.plex_limits.specs.declared.limits.TheConstants.{MOST_SIGNALS, MOST_BLOCKS, MOST_WHENS}
+use Rattle.plex_num.proofs.Lists.{all_both}
 use Rattle.exchange_model.specs.declared.signal.SignalKind.{SignalKind}
 use Rattle.exchange_model.specs.declared.block.Block.{Block}
 use Rattle.exchange_model.specs.Inside.{joined}
@@ -34,13 +35,9 @@ keeps_all : (list : List TreeBlock) → Every (KeepsBlock 6 12) list → AllByRe
 keeps_all [] h = tt
 keeps_all (b ∷ rest) h = (h.0, keeps_all rest h.1)
 
-both_all : {X : Type 0} (P Q : X → Type 0) (list : List X) → AllByRecursion P list → AllByRecursion Q list → AllByRecursion (λ x. P x × Q x) list
-both_all P Q [] p q = tt
-both_all P Q (x ∷ rest) p q = ((p.0, q.0), both_all P Q rest p.1 q.1)
-
 pub all_kept : (t : Tree) → FineParts t → Every (KeepsBlock 6 12) t.blocks → AllByRecursion (Kept (signals_of t) t.blocks) t.blocks
 all_kept t f keeps =
-    both_all _ (KeepsBlock 6 12) t.blocks (recursion_from_All _ t.blocks (λ k d inside. fine_block t f k _ (slice_get-get_or t.blocks k d inside))) (keeps_all t.blocks keeps)
+    all_both _ (KeepsBlock 6 12) t.blocks (recursion_from_All _ t.blocks (λ k d inside. fine_block t f k _ (slice_get-get_or t.blocks k d inside))) (keeps_all t.blocks keeps)
 
 -- all events are those of the signals and those of the blocks
 split : (t : Tree) (amount : Event → ℕ) → total amount (joined (text_events t)) ≡ total amount (signal_events t) + total amount (joined (map block_events t.blocks))

@@ -1,8 +1,9 @@
 -- A total that goes over its limit nowhere in a text is within it.
-use Rattle.std.proofs.Common.{◌≡◌, ℕ, ◌+◌, ◌≤◌, false, ◌||◌, List, [], ◌∷◌, ◌++◌, refl, sym, ◌∙◌, ap, subst, arith, append-nil, append_assoc}
+use Rattle.std.proofs.Common.{◌≡◌, ℕ, ◌+◌, ◌≤◌, false, ◌||◌, List, [], ◌∷◌, ◌++◌, refl, sym, ◌∙◌, subst, arith, append-nil, append_assoc}
 use Rattle.std.proofs.lemmas.Bool.{or_parts}
 use Rattle.first_fault.specs.First.{total}
 use Rattle.exchange_model.specs.Inside.{joined}
+use Rattle.exchange_model.proofs.Lists.{joined_push}
 use Rattle.plex_limits.specs.declared.limits.TheConstants.{MOST_SIGNALS, MOST_BLOCKS, MOST_ENTRIES, MOST_STATEMENTS, MOST_CELLS}
 use Rattle.plex_ast.specs.declared.tree.Tree.{Tree}
 use Rattle.signal_types.specs.Signals.{signals_of}
@@ -18,10 +19,6 @@ use Rattle.text_soundness.proofs.FineParts.{FineParts, fine_event}
 
 stays_within : (limit before more : ℕ) → goes_over limit before more ≡ false → before ≤ limit → before + more ≤ limit
 stays_within limit before more h le = grind arith
-
-joined_push : {X : Type 0} (parts : List (List X)) (own : List X) → joined (parts ++ own ∷ []) ≡ joined parts ++ own
-joined_push [] own = append-nil own
-joined_push (x ∷ parts) own = ap (λ r. x ++ r) (joined_push parts own) ∙ sym (append_assoc x (joined parts) own)
 
 -- what is not over
 pub record Stays (a more : Amounts) : Type 0 where

@@ -10,7 +10,7 @@ use Rattle.text_events.specs.declared.role.Meaning.{Meaning}
 use Rattle.text_events.specs.Note.{Note}
 use Rattle.text_events.specs.Note.{Declares}
 use Rattle.text_events.specs.Named.{meaning_of_note, naming_of}
-use Rattle.text_events.specs.Walk.{Walk, OwnWalk, add, in_turn, each_walk}
+use Rattle.text_events.specs.Walk.{EventWalk, OwnWalk, add, in_turn, each_walk}
 
 -- a name with what it is declared to stand for
 pub record Said : Type 0 where
@@ -74,7 +74,7 @@ adds_then a b c s t g h = record {
 
 -- a walk that declares nothing
 
-abbrev pub Quiet : Walk → Type 0
+abbrev pub Quiet : EventWalk → Type 0
 Quiet w = (out : List Event) → Adds out (w out) []
 
 abbrev pub QuietOwn : OwnWalk → Type 0
@@ -83,7 +83,7 @@ QuietOwn w = (owner : ℕ) → Quiet (w owner)
 pub quiet_none : Quiet (λ out. out)
 quiet_none out = adds_none out
 
-pub quiet_then : (w v : Walk) → Quiet w → Quiet v → Quiet (λ out. v (w out))
+pub quiet_then : (w v : EventWalk) → Quiet w → Quiet v → Quiet (λ out. v (w out))
 quiet_then w v g h out = adds_then out (w out) (v (w out)) [] [] (g out) (h (w out))
 
 pub each_quiet : {X : Type 0} (f : X → OwnWalk) (xs : List ((x : X) × QuietOwn (f x))) → QuietOwn (each_walk (map f (map (λ (p : (x : X) × QuietOwn (f x)). p.0) xs)))
@@ -94,6 +94,6 @@ pub all_each_quiet : {X : Type 0} (f : X → OwnWalk) → ((x : X) → QuietOwn 
 all_each_quiet f h [] owner = quiet_none
 all_each_quiet f h (x ∷ rest) owner = quiet_then (f x owner) (each_walk (map f rest) owner) (h x owner) (all_each_quiet f h rest owner)
 
-pub in_turn_quiet : {X : Type 0} (f : X → Walk) → ((x : X) → Quiet (f x)) → (xs : List X) → Quiet (in_turn (map f xs))
+pub in_turn_quiet : {X : Type 0} (f : X → EventWalk) → ((x : X) → Quiet (f x)) → (xs : List X) → Quiet (in_turn (map f xs))
 in_turn_quiet f h [] = quiet_none
 in_turn_quiet f h (x ∷ rest) = quiet_then (f x) (in_turn (map f rest)) (h x) (in_turn_quiet f h rest)

@@ -17,7 +17,7 @@ use Rattle.text_events.specs.declared.role.Meaning.TheVariants as meaning
 use Rattle.text_events.specs.Note.{Note}
 use Rattle.text_events.specs.Note.{Begins, Declares, Names}
 use Rattle.text_events.specs.declared.role.Role.TheVariants as role
-use Rattle.text_events.specs.Walk.{Walk, add, first_head, list_walk, body_walk, kind_head, kind_own, stmt_walk, names_of}
+use Rattle.text_events.specs.Walk.{EventWalk, add, first_head, list_walk, body_walk, kind_head, kind_own, stmt_walk, names_of}
 use Rattle.text_events.specs.Blocks.{labels_of, item_head_at, item_walk_at, first_item, items_walk}
 use Rattle.text_rules.specs.Blocks.{stands, other_data}
 use Rattle.signal_types.specs.Found.{number_in, kind_in}
@@ -44,7 +44,7 @@ module _ (s : Scope) (first : ℕ) (events : List Event) (blocks : List TreeBloc
 
   module _ (b : ℕ) (B : List Stmt → Type 0) (body : (xs : List Stmt) → B xs → (p : ℕ) → Tells Is (body_walk (map stmt_walk xs)) (AllIn (NamesStand s) (typed_list around xs p).0)) where
     -- the walk of a statement, by the layer of its kind
-    abbrev laid : (x : Stmt) (before after : Head) → Walk
+    abbrev laid : (x : Stmt) (before after : Head) → EventWalk
     laid x before after out = kind_own (opened (out-StmtKind x.kind)) (length out) (add x.line (Begins (kind_head (opened (out-StmtKind x.kind))) before after) out)
 
     laid_tells : (x : Stmt) → KeepsStmtWith b B x → (before after : Head) (p : ℕ) → Tells Is (laid x before after) (Fine s (typed_stmt around x p).0.kind)

@@ -1,6 +1,7 @@
 -- Each block of the exchange is a typed block of the tree, and its files stand in the exchange.
 use Rattle.std.proofs.Common.{◌≡◌, ℕ, zero, suc, ◌+◌, List, [], ◌∷◌, ◌++◌, length, Some, slice_get, refl, sym, ◌∙◌, ap, arith, zero-add, add-zero}
 use Rattle.std.proofs.lemmas.Option.{none-some, same_Some}
+use Rattle.plex_num.proofs.Lists.{got_more, get_after}
 use Rattle.plex_ast.specs.declared.block.Block.{Block as TreeBlock}
 use Rattle.plex_ast.specs.declared.tree.Tree.{Tree}
 use Rattle.exchange_model.specs.declared.signal.SignalKind.{SignalKind}
@@ -8,6 +9,7 @@ use Rattle.exchange_model.specs.declared.block.Block.{Block}
 use Rattle.exchange_model.specs.declared.block.File.{File}
 use Rattle.exchange_model.specs.Cells.{Placed, file_cells, block_cells, placed_in, placed_from, placed_files}
 use Rattle.exchange_model.specs.Kept.{scope_of}
+use Rattle.exchange_model.proofs.Places.{length-placed_in}
 use Rattle.text_soundness.specs.Blocks.{IsPlaced}
 use Rattle.resolved_block.specs.Texts.{none_before, typed_from, typed_blocks, exchange_of, exchange_of_tree}
 use Rattle.signal_types.specs.Signals.{signals_of}
@@ -16,17 +18,6 @@ use Rattle.resolved_block.specs.Blocks.{typed_of}
 use Rattle.text_soundness.proofs.NumberedFiles.{next_file}
 
 -- places in two lists, one after the other
-
-at_left : {X : Type 0} (xs ys : List X) (i : ℕ) (x : X) → slice_get xs i ≡ Some x → slice_get (xs ++ ys) i ≡ Some x
-at_left [] ys i x h = absurd (none-some x h)
-at_left (y ∷ xs) ys zero x h = h
-at_left (y ∷ xs) ys (suc i) x h = at_left xs ys i x h
-
-at_right : {X : Type 0} (xs ys : List X) (i : ℕ) → slice_get (xs ++ ys) (length xs + i) ≡ slice_get ys i
-at_right [] ys i = rw (zero-add i) refl
-at_right (x ∷ xs) ys i =
-    let e : suc (length xs) + i ≡ suc (length xs + i) = omega arith in
-    rw e (at_right xs ys i)
 
 -- a file of a block among those that are placed
 record At (files : List Placed) (place block : ℕ) (f : File) : Type 0 where
@@ -37,10 +28,6 @@ in_block : (block cell : ℕ) (files : List File) (i : ℕ) (f : File) → slice
 in_block block cell [] i f h = absurd (none-some f h)
 in_block block cell (g ∷ fs) zero f h = record { first = cell; there = ap (λ (x : File). Some (record { block = block; file = x; first = cell })) (same_Some g f h) }
 in_block block cell (g ∷ fs) (suc i) f h = let more = in_block block (cell + file_cells g) fs i f h in record { first = more.first; there = more.there }
-
-length_in : (block cell : ℕ) (files : List File) → length (placed_in block cell files) ≡ length files
-length_in block cell [] = refl
-length_in block cell (f ∷ fs) = ap suc (length_in block (cell + file_cells f) fs)
 
 -- the block of a place: its tree block, what it begins with, and where its files stand
 record Found (signals : List SignalKind) (blocks : List TreeBlock) (start : First) (list : List TreeBlock) (files : List Placed) (b number : ℕ) (k : Block) : Type 0 where
@@ -69,14 +56,14 @@ found signals blocks start (tb ∷ rest) number cell zero k h =
       from = sym (add-zero start.file);
       files_at = λ i f at.
           let x = in_block number (cell + length t.block.variables) t.block.files i f (ap (λ (y : Block). slice_get y.files i) same ∙ at) in
-          rw (zero-add i, add-zero number) (record { first = x.first; there = at_left here others i _ x.there });
+          rw (zero-add i, add-zero number) (record { first = x.first; there = got_more here others i _ x.there });
     }
 found signals blocks start (tb ∷ rest) number cell (suc b) k h =
     let t = typed_of signals blocks start tb in
     let here = placed_in number (cell + length t.block.variables) t.block.files in
     let others = placed_from (number + 1) (cell + block_cells t.block) (typed_from signals blocks t.next rest) in
     let more = found signals blocks t.next rest (number + 1) (cell + block_cells t.block) b k h in
-    let long = length_in number (cell + length t.block.variables) t.block.files in
+    let long = length-placed_in number (cell + length t.block.variables) t.block.files in
     let next : number + 1 + b ≡ number + suc b = omega arith in
     record {
       tree = more.tree;
@@ -88,7 +75,7 @@ found signals blocks start (tb ∷ rest) number cell (suc b) k h =
       files_at = λ i f at.
           let x = more.files_at i f at in
           let place : length here + more.offset + i ≡ length here + (more.offset + i) = omega arith in
-          record { first = x.first; there = ap (slice_get (here ++ others)) place ∙ at_right here others (more.offset + i) ∙ x.there ∙ ap (λ n. Some (record { block = n; file = f; first = x.first })) next };
+          record { first = x.first; there = ap (slice_get (here ++ others)) place ∙ get_after here others (more.offset + i) ∙ x.there ∙ ap (λ n. Some (record { block = n; file = f; first = x.first })) next };
     }
 
 -- the b-th block of an exchange: its tree block, the numbers that it begins with, and that its files stand from there on

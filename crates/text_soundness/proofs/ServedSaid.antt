@@ -8,7 +8,7 @@ use Rattle.text_events.specs.declared.role.Meaning.{Meaning}
 use Rattle.text_events.specs.declared.role.Meaning.TheVariants.{Variable, Temporary, File, Field, Label}
 use Rattle.text_events.specs.declared.role.Need.{Need}
 use Rattle.text_events.specs.declared.role.Need.TheVariants as need
-use Rattle.text_events.specs.Note.{Event, Note, Head, Way, Open, To, Held, Declares, Signals, Signal, Carries, Block as BlockNote, BlockName, Cells, Width, Init, Size, Receives, Names, Begins, Uses, Reads, Counts, Refers, Goes, Searches, Compares, Holds, Chooses, Ends}
+use Rattle.text_events.specs.Note.{Event, Note, Head, SignalWay, Open, To, Held, Declares, Signals, Signal, Carries, Block as BlockNote, BlockName, Cells, Width, Init, Size, Receives, Names, Begins, Uses, Reads, Counts, Refers, Goes, Searches, Compares, Holds, Chooses, Ends}
 use Rattle.text_events.specs.Note as note
 use Rattle.text_events.specs.Named.{naming_of}
 use Rattle.plex_ast.specs.declared.block.Block.{Block}
@@ -41,7 +41,7 @@ false_and true b h o = cc
 false_and false b h o = h
 
 module _ (text : Text) (own : Block) (done : List Event) (f : IsFineText text) (g : AreFineLinks text own done) where
-  way_leads : (s : List ℕ) (way : Way) (before : List Event) → is_wrong_way (links_known text own done before) s way ≡ false → WayLeads text.blocks s way
+  way_leads : (s : List ℕ) (way : SignalWay) (before : List Event) → is_wrong_way (links_known text own done before) s way ≡ false → WayLeads text.blocks s way
   way_leads s Open before h = tt
   way_leads s Held before h = tt
   way_leads s (To n) before h = here (block_named text.blocks n) refl h
@@ -50,7 +50,7 @@ module _ (text : Text) (own : Block) (done : List Event) (f : IsFineText text) (
       here None is h = absurd cc
       here (Some b) is h = (b, is, opposite text f (receives_at text.blocks b s) h)
 
-  sending : (s : List ℕ) (way : Way) (before : List Event) → no_receiver (links_known text own done before) s way ≡ false → not_received (links_known text own done before) s way ≡ false → not (sends s own) ≡ false → IsSending text.signals text.blocks own s way
+  sending : (s : List ℕ) (way : SignalWay) (before : List Event) → no_receiver (links_known text own done before) s way ≡ false → not_received (links_known text own done before) s way ≡ false → not (sends s own) ≡ false → IsSending text.signals text.blocks own s way
   sending s way before none wrong out = record {
     sent = opposite text f (sends s own) out;
     arrives = λ inside. record {

@@ -4,14 +4,14 @@ use Rattle.std.specs.List.{AllByRecursion}
 use Rattle.kept_trees.specs.Keeps.{Every}
 use Rattle.text_events.specs.Note.{Event}
 use Rattle.text_events.specs.Note.{Note}
-use Rattle.text_events.specs.Walk.{Walk, OwnWalk, add, in_turn, each_walk}
+use Rattle.text_events.specs.Walk.{EventWalk, OwnWalk, add, in_turn, each_walk}
 
 -- all notes of these events are so
 unfoldable pub AllSo : (Note → Type 0) → List Event → Type 0
 AllSo P events = AllByRecursion (λ (e : Event). P e.note) events
 
 -- where all is so after a walk, all was so before it, and what it tells is so
-pub record Tells (P : Note → Type 0) (w : Walk) (X : Type 0) : Type 0 where
+pub record Tells (P : Note → Type 0) (w : EventWalk) (X : Type 0) : Type 0 where
   pub sound : (out : List Event) → AllSo P (w out) → AllSo P out × X
 
 push_so : (P : Note → Type 0) (out : List Event) (e : Event) → AllByRecursion (λ (e : Event). P e.note) (out ++ e ∷ []) → AllByRecursion (λ (e : Event). P e.note) out × P e.note
@@ -25,17 +25,17 @@ tells_add P line note = record { sound = λ out all. push_so P out (record { lin
 pub tells_none : (P : Note → Type 0) → Tells P (λ out. out) (Unit {0})
 tells_none P = record { sound = λ out all. (all, tt) }
 
-pub tells_then : (P : Note → Type 0) (w v : Walk) (X Y : Type 0) → Tells P w X → Tells P v Y → Tells P (λ out. v (w out)) (X × Y)
+pub tells_then : (P : Note → Type 0) (w v : EventWalk) (X Y : Type 0) → Tells P w X → Tells P v Y → Tells P (λ out. v (w out)) (X × Y)
 tells_then P w v X Y g h = record { sound = λ out all. let last = h.sound (w out) all in let first = g.sound out last.0 in (first.0, (first.1, last.1)) }
 
-pub tells_so : (P : Note → Type 0) (w : Walk) (X Y : Type 0) → (X → Y) → Tells P w X → Tells P w Y
+pub tells_so : (P : Note → Type 0) (w : EventWalk) (X Y : Type 0) → (X → Y) → Tells P w X → Tells P w Y
 tells_so P w X Y f g = record { sound = λ out all. let told = g.sound out all in (told.0, f told.1) }
 
-pub tells_same : (P : Note → Type 0) (v w : Walk) (X : Type 0) → ((out : List Event) → v out ≡ w out) → Tells P w X → Tells P v X
+pub tells_same : (P : Note → Type 0) (v w : EventWalk) (X : Type 0) → ((out : List Event) → v out ≡ w out) → Tells P w X → Tells P v X
 tells_same P v w X e g = record { sound = λ out all. g.sound out (subst (AllSo P) (e out) all) }
 
 -- walks in turn
-pub tells_in_turn : {A : Type 0} (P : Note → Type 0) (w : A → Walk) (X : A → Type 0) (xs : List A) → ((x : A) → Tells P (w x) (X x)) → Tells P (in_turn (map w xs)) (AllByRecursion X xs)
+pub tells_in_turn : {A : Type 0} (P : Note → Type 0) (w : A → EventWalk) (X : A → Type 0) (xs : List A) → ((x : A) → Tells P (w x) (X x)) → Tells P (in_turn (map w xs)) (AllByRecursion X xs)
 tells_in_turn P w X [] each = tells_none P
 tells_in_turn P w X (x ∷ xs) each = tells_then P (w x) (in_turn (map w xs)) (X x) (AllByRecursion X xs) (each x) (tells_in_turn P w X xs each)
 

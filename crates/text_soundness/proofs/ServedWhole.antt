@@ -12,11 +12,11 @@ use Rattle.text_events.specs.declared.role.Meaning.TheVariants.{Variable, Tempor
 use Rattle.text_events.specs.Note.{Event, Note, Declares, Signals, Signal, Carries, Block, BlockName, Cells, Width, Init, Size, Receives, Names, Begins, Uses, Reads, Counts, Refers, Goes, Searches, Compares, Holds, Chooses, Ends}
 use Rattle.text_events.specs.Named.{meaning_in, meaning_of_note, naming_of}
 use Rattle.text_rules.specs.declared.rule.BlockRule.TheVariants as rule
-use Rattle.text_rules.specs.Blocks.{Known, declared_twice, labels, labels_note}
+use Rattle.text_rules.specs.Blocks.{KnownInBlock, declared_twice, labels, labels_note}
 use Rattle.text_soundness.specs.Served.{IsLabelled}
 use Rattle.text_soundness.specs.Fine.{Text, known_of, IsFineText}
 
-twice_is : (k : Known) (note : Note) (n : List ℕ) (m : Meaning) → meaning_of_note n note ≡ Some m → declared_twice k note ≡ is_some (k.declared n)
+twice_is : (k : KnownInBlock) (note : Note) (n : List ℕ) (m : Meaning) → meaning_of_note n note ≡ Some m → declared_twice k note ≡ is_some (k.declared n)
 twice_is k (Declares x meaning) n m h = here (bytes_eq x n) refl h
   where
     here : (b : Bool) → bytes_eq x n ≡ b → (if b then Some meaning else None) ≡ Some m → is_some (k.declared x) ≡ is_some (k.declared n)

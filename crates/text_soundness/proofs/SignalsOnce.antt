@@ -20,7 +20,7 @@ use Rattle.text_events.specs.Walk.{in_turn}
 use Rattle.text_events.specs.Blocks.{block_events, block_head}
 use Rattle.text_events.specs.Texts.{shape_walk, signal_walk, signals_made, signal_events, text_events}
 use Rattle.text_rules.specs.declared.rule.SignalRule.TheVariants.{Once, FewValues}
-use Rattle.text_rules.specs.Signals.{Known, known_of, known_in_part, twice, many_values, signal_note, names_signal, names_block, number_of}
+use Rattle.text_rules.specs.Signals.{KnownNames, known_of, known_in_part, twice, many_values, signal_note, names_signal, names_block, number_of}
 use Rattle.text_rules.specs.Texts.{line_of}
 use Rattle.signal_types.specs.Signals.{kinds_of, shape_kinds, signals_from, signals_of}
 use Rattle.text_soundness.proofs.BuiltText.{total_append}
@@ -117,7 +117,7 @@ any_same : {E : Type 0} (f g : E → Bool) → ((e : E) → f e ≡ g e) → (li
 any_same f g h [] = refl
 any_same f g h (e ∷ rest) = rw (h e, any_same f g h rest) refl
 
-signal_twice : (k : Known) (e : Note) (n : List ℕ) → signal_in e ≡ Some n → twice k e ≡ k.signal n
+signal_twice : (k : KnownNames) (e : Note) (n : List ℕ) → signal_in e ≡ Some n → twice k e ≡ k.signal n
 signal_twice k (note.Signal m) n is = ap k.signal (same_Some m n is)
 signal_twice k _ n is = cc
 

@@ -3,6 +3,7 @@ use Rattle.std.proofs.Common.{◌≡◌, ℕ, true, List, [], ◌∷◌, Option,
 use Rattle.std.specs.Prelude.{Contains}
 use Rattle.std.specs.List.{AllByRecursion, IsDistinct}
 use Rattle.std.proofs.lemmas.Option.{same_Some}
+use Rattle.plex_num.proofs.Members.{found_in}
 use Rattle.exchange_model.specs.declared.block.Block.{Block}
 use Rattle.exchange_model.specs.declared.block.Enter.{Enter as Row}
 use Rattle.exchange_model.specs.declared.stmt.Stmt.{Stmt}
@@ -26,7 +27,7 @@ use Rattle.text_soundness.specs.Meanings.{Suits}
 use Rattle.text_soundness.specs.Shares.{NamesStand, NamesOf, PartsStand, ChoosesOnce}
 use Rattle.text_soundness.proofs.BuiltBody.{fine_blocks, block_made, body_is}
 use Rattle.text_soundness.proofs.Declared.{blocks_are_declared}
-use Rattle.text_soundness.proofs.Enters.{number_of_name, numbers_entered, numbers_are, entered_once, entered_there, received_is_entered, contains_any, sent_is_announced}
+use Rattle.text_soundness.proofs.Enters.{number_of_name, numbers_entered, numbers_are, entered_once, entered_there, received_is_entered, sent_is_announced}
 use Rattle.text_soundness.proofs.FineParts.{FineParts, fine_parts, fine_block}
 use Rattle.text_soundness.proofs.Joined.{all_joined}
 use Rattle.text_soundness.proofs.LimitedTexts.{signals_few, blocks_few, limited, names_apart}
@@ -127,7 +128,7 @@ module _ (t : Tree) (spelled : Every (KeepsBlock 6 12) t.blocks) (f : FineParts 
           let kinds = signals_of t in
           let typed = typed_at kinds t.blocks t.blocks none_before c tree at in
           let entered = received_is_entered kinds t.blocks tree n (fine_block t f c tree at) h in
-          let has = contains_any (number_of_name kinds n) (numbers_entered kinds tree.items) (entered_there kinds n tree.items entered) in
+          let has = found_in (number_of_name kinds n) (numbers_entered kinds tree.items) (entered_there kinds n tree.items entered) in
           let numbers = enter_numbers kinds t.blocks typed.first tree (keeps_at t.blocks c tree spelled at) in
           record {
             receiver = (typed_of kinds t.blocks typed.first tree).block;

@@ -26,10 +26,10 @@ text_of signals others b = record { whole = block_events b; signals = signals; b
 
 -- the rules of a block
 
-abbrev pub broken_at : BlockRule → blocks.Known → Event → Bool
+abbrev pub broken_at : BlockRule → blocks.KnownInBlock → Event → Bool
 broken_at r k e = blocks.broken r k e.note
 
-abbrev pub known_of : Text → List Event → blocks.Known
+abbrev pub known_of : Text → List Event → blocks.KnownInBlock
 known_of text before = blocks.known_of text.signals text.blocks text.whole before
 
 abbrev pub IsFineText : Text → Type 0
@@ -37,10 +37,10 @@ IsFineText text = IsFine (breaks_at broken_at (known_of text) text.whole) text.w
 
 -- the link rules in a block, after these events
 
-abbrev pub link_broken_at : LinkRule → links.Known → Event → Bool
+abbrev pub link_broken_at : LinkRule → links.KnownForLinks → Event → Bool
 link_broken_at r k e = links.broken r k e.note
 
-abbrev pub links_known : Text → Block → List Event → List Event → links.Known
+abbrev pub links_known : Text → Block → List Event → List Event → links.KnownForLinks
 links_known text own done before = links.known_of text.signals text.blocks (Some own) (done ++ before) before
 
 abbrev pub AreFineLinks : Text → Block → List Event → Type 0

@@ -7,7 +7,7 @@ use Rattle.exchange_model.specs.declared.signal.SignalKind.{SignalKind}
 use Rattle.signal_types.specs.Found.{kind_in}
 use Rattle.text_events.specs.declared.role.Meaning.{Meaning}
 use Rattle.text_events.specs.declared.role.Meaning.TheVariants.{Label}
-use Rattle.text_events.specs.Note.{Event, Note, Head, Way, To, Uses, Reads, Refers, Goes, Searches, Compares, Holds, Names, Receives, Begins, Enters, Sends, Retrieves, Returns, Transfers}
+use Rattle.text_events.specs.Note.{Event, Note, Head, SignalWay, To, Uses, Reads, Refers, Goes, Searches, Compares, Holds, Names, Receives, Begins, Enters, Sends, Retrieves, Returns, Transfers}
 use Rattle.text_events.specs.Named.{naming_of}
 use Rattle.text_events.specs.Blocks.{block_events}
 use Rattle.text_rules.specs.Surveys.{block_named, receiver_count, receives_at, sends, enters}
@@ -20,17 +20,17 @@ pub record IsLabelled (names : List ℕ → Option Meaning) (n : List ℕ) : Typ
   pub stands : names n ≡ Some (Label number)
 
 -- the block that a way names receives the signal
-abbrev pub WayLeads : List Block → List ℕ → Way → Type 0
+abbrev pub WayLeads : List Block → List ℕ → SignalWay → Type 0
 WayLeads blocks s (To n) = (b : ℕ) × (block_named blocks n ≡ Some b) × (receives_at blocks b s ≡ true)
 WayLeads blocks s _ = Unit {0}
 
 -- some block receives what is sent, and the one that is named does
-pub record IsSent (blocks : List Block) (s : List ℕ) (way : Way) : Type 0 where
+pub record IsSent (blocks : List Block) (s : List ℕ) (way : SignalWay) : Type 0 where
   pub received : nat_eq (receiver_count blocks s) 0 ≡ false
   pub leads : WayLeads blocks s way
 
 -- the own survey sends it, and it arrives unless it leaves the exchange
-pub record IsSending (signals : List SignalKind) (blocks : List Block) (own : Block) (s : List ℕ) (way : Way) : Type 0 where
+pub record IsSending (signals : List SignalKind) (blocks : List Block) (own : Block) (s : List ℕ) (way : SignalWay) : Type 0 where
   pub sent : sends s own ≡ true
   pub arrives : is_outside (kind_in signals s) ≡ false → IsSent blocks s way
 

@@ -1,13 +1,12 @@
 -- Readers that are exact, with one token of sight: choices, lists, and what a parser's loops rest on.
 use Rattle.std.proofs.Common.{◌≡◌, ℕ, zero, suc, ◌<◌, ◌≤◌, Bool, true, false, cond, List, [], ◌∷◌, ◌++◌, length, Ok, Err, Result, Option, Some, None, refl, sym, ◌∙◌, ap, subst, inl, inr, append_assoc, arith, ◌⊎◌, nat_lt}
-use Rattle.std.proofs.lemmas.Bool.Decides.{nat_tests}
 use Rattle.std.proofs.lemmas.List.{length-append, append-nil}
-use Rattle.std.proofs.lemmas.Bool.{false≢true}
+use Rattle.std.proofs.lemmas.Bool.{cases_Bool, false≢true, lt-ltb, ltb-true}
 use Rattle.plex_lexer.specs.declared.token.Token.{Token}
 use Rattle.token_grammar.specs.Language.{class, mem, Lang, ◌·◌, word, each, maybe, flag}
 use Rattle.token_grammar.specs.Reading.{Stuck, Reader, ◌>>=◌, with_front, shorter, done, optional, flag_read, after, ended, closed, pair, at, word_of, up_to, many, both, branch, halt, lined}
 pub use Rattle.token_grammar.proofs.Sequences.{Both, Exact, Exact-both, Exact-lined, Exact-same, Exact-word, Lined, SameHead, SameHead-refl, at_append, at_both, dot_left, dot_right, mem_split, one, then_to, three_left, three_right}
-use Rattle.token_grammar.proofs.Sequences.{Bad, Begins, Good, SameHead-append, apart, apart_mem, at_same, begins_right, both_bad1, both_good, both_second, either, firsts, lasts, lined_bad, mem_left, within, within_mem, word_bad, word_end}
+use Rattle.token_grammar.proofs.Sequences.{Bad, Begins, Good, SameHead-append, apart, apart_mem, at_same, begins_right, both_bad1, both_good, both_second, firsts, lasts, lined_bad, mem_left, within, within_mem, word_bad, word_end}
 
 -- one of two, told by the next token
 
@@ -67,7 +66,7 @@ module _ {X : Type 0} (L N L' N' : X → Lang) (r q s p : Reader X) where
 
 pub Exact-branch : {X : Type 0} (cs : List ℕ) {L L' N N' : X → Lang} {f1 f2 l1 l2 : List ℕ} {e2 : Bool} {r q s p : Reader X} → Exact L L' f1 false l1 r q → Exact N N' f2 e2 l2 s p → within f1 cs ≡ true → apart f2 cs ≡ true → Exact (Either L N) (Either L' N') (f1 ++ f2) e2 (cond e2 (cs ++ (l1 ++ l2)) (l1 ++ l2)) (branch cs r s) (branch cs q p)
 Exact-branch {X} cs {L} {L'} {N} {N'} {f1} {f2} {l1} {l2} {e2} {r} {q} {s} {p} E F d1 d2 = record {
-  runs = λ w. elim (either (at cs w)) [
+  runs = λ w. elim (cases_Bool (at cs w)) [
     | inl y ↦
         let e1 : (z : List Token) → SameHead w z → branch cs r s z ≡ r z = λ z d. branch_then cs r s z (at_same cs w z d ∙ y) in
         let e2 : (z : List Token) → SameHead w z → branch cs q p z ≡ q z = λ z d. branch_then cs q p z (at_same cs w z d ∙ y) in
@@ -102,7 +101,7 @@ Exact-branch {X} cs {L} {L'} {N} {N'} {f1} {f2} {l1} {l2} {e2} {r} {q} {s} {p} E
 
 pub Exact-halt : {X : Type 0} (cs ks : List ℕ) {L L' : X → Lang} (N' : X → Lang) {f1 l1 : List ℕ} {r q : Reader X} (p : Reader X) → Exact L L' f1 false l1 r q → within f1 cs ≡ true → ((w : List Token) → at ks w ≡ false → p w ≡ Err (record { left = length w; deep = false })) → ((t : Token) → mem (class t) ks ≡ true → (x : X) × (v : List Token) × N' x (t ∷ v)) → Exact L (Either L' N') f1 false l1 (branch cs r (halt ks)) (branch cs q p)
 Exact-halt {X} cs ks {L} {L'} N' {f1} {l1} {r} {q} p E d1 stops opens = record {
-  runs = λ w. elim (either (at cs w)) [
+  runs = λ w. elim (cases_Bool (at cs w)) [
     | inl y ↦
         let e1 : (z : List Token) → SameHead w z → branch cs r (halt ks) z ≡ r z = λ z d. branch_then cs r (halt ks) z (at_same cs w z d ∙ y) in
         let e2 : (z : List Token) → SameHead w z → branch cs q p z ≡ q z = λ z d. branch_then cs q p z (at_same cs w z d ∙ y) in
@@ -144,12 +143,6 @@ guarded : {Z : Type 0} (b : Bool) (x y z : Z) → (b ≡ true → x ≡ y) → c
 guarded true x y z e = e refl
 guarded false x y z e = refl
 
-lt_of : (a b : ℕ) → nat_lt a b ≡ true → a < b
-lt_of a b h = grind (arith, nat_tests)
-
-lt_to : (a b : ℕ) → a < b → nat_lt a b ≡ true
-lt_to a b h = grind (arith, nat_tests)
-
 module _ {X : Type 0} (cs : List ℕ) (r : Reader X) where
   next : ℕ → X × List Token → Result (List X × List Token) Stuck
   next n x = up_to n cs r x.1 >>= λ xs. Ok (x.0 ∷ xs.0, xs.1)
@@ -165,7 +158,7 @@ module _ {X : Type 0} (cs : List ℕ) (r : Reader X) where
       let inner : (z : Result (X × List Token) Stuck) → (z >>= λ x. shorter x.1 w (next m x)) ≡ (z >>= λ x. shorter x.1 w (next n x)) =
       λ z. elim z as (λ z. (z >>= λ x. shorter x.1 w (next m x)) ≡ (z >>= λ x. shorter x.1 w (next n x))) [
         | Ok x ↦ guarded (nat_lt (length x.1) (length w)) (next m x) (next n x) (Err (record { left = length w; deep = false }))
-            (λ e. let k : length x.1 < length w = lt_of (length x.1) (length w) e in ap (λ z. z >>= λ xs. Ok (x.0 ∷ xs.0, xs.1)) (enough m n x.1 (omega arith) (omega arith)))
+            (λ e. let k : length x.1 < length w = ltb-true (length x.1) (length w) e in ap (λ z. z >>= λ xs. Ok (x.0 ∷ xs.0, xs.1)) (enough m n x.1 (omega arith) (omega arith)))
         | Err e ↦ refl
       ] in
       ap (λ z. cond (at cs w) z (Ok ([], w))) (inner (r w))
@@ -182,7 +175,7 @@ module _ {X : Type 0} (cs : List ℕ) (r : Reader X) where
   many_then (t ∷ ts) rest x h e l =
       ap (λ b. cond b (r (t ∷ ts) >>= λ x. shorter x.1 (t ∷ ts) (up_to (length ts) cs r x.1 >>= λ xs. Ok (x.0 ∷ xs.0, xs.1))) (Ok ([], t ∷ ts))) h
       ∙ ap (λ z. z >>= λ x. shorter x.1 (t ∷ ts) (up_to (length ts) cs r x.1 >>= λ xs. Ok (x.0 ∷ xs.0, xs.1))) e
-      ∙ ap (λ b. cond b (up_to (length ts) cs r rest >>= λ xs. Ok (x ∷ xs.0, xs.1)) (Err (record { left = length (t ∷ ts); deep = false }))) (lt_to (length rest) (length (t ∷ ts)) l)
+      ∙ ap (λ b. cond b (up_to (length ts) cs r rest >>= λ xs. Ok (x ∷ xs.0, xs.1)) (Err (record { left = length (t ∷ ts); deep = false }))) (lt-ltb (length rest) (length (t ∷ ts)) l)
       ∙ ap (λ z. z >>= λ xs. Ok (x ∷ xs.0, xs.1)) (enough (length ts) (length rest) rest (omega arith) (omega arith))
 
   pub many_bad : (w : List Token) (e : Stuck) → at cs w ≡ true → r w ≡ Err e → many cs r w ≡ Err e
@@ -290,7 +283,7 @@ module _ {X : Type 0} (L M : X → Lang) (f l : List ℕ) (r q : Reader X) (E : 
   many_runs : (n : ℕ) (w : List Token) → length w ≤ n → Good (each L) (many f r) (many f q) w ⊎ Bad (each L) (each M) (many f r) (many f q) w
   many_runs zero [] fuel = inl (end_good [] refl)
   many_runs zero (t ∷ ts) fuel = absurd (omega arith)
-  many_runs (suc n) w fuel = elim (either (at f w)) [
+  many_runs (suc n) w fuel = elim (cases_Bool (at f w)) [
     | inl h ↦ elim (E.runs w) [
       | inl g ↦
           let less : length g.rest < length w = subst (λ y. length g.rest < length y) (sym g.cut) (longer f g.u g.rest (E.begins g.x g.u g.spells)) in
@@ -385,7 +378,7 @@ Exact-weak {X} {L} {L'} {f} {l} {e} {r} {q} g m E d k = record {
 
     stops : (w : List Token) → at m w ≡ false → at l w ≡ false
     stops [] h = refl
-    stops (t ∷ w) h = elim (either (mem (class t) l)) [ inl y ↦ absurd (false≢true (sym h ∙ within_mem l m (class t) k y)) | inr y ↦ y ]
+    stops (t ∷ w) h = elim (cases_Bool (mem (class t) l)) [ inl y ↦ absurd (false≢true (sym h ∙ within_mem l m (class t) k y)) | inr y ↦ y ]
 
 pub Exact-optional : {X : Type 0} (cs : List ℕ) {L L' : X → Lang} {f l : List ℕ} {r q : Reader X} → Exact L L' f false l r q → within f cs ≡ true → Exact (maybe L) (maybe L') (f ++ []) true (cs ++ (l ++ [])) (optional cs r) (optional cs q)
 Exact-optional {X} cs {L} {L'} {f} {l} {r} {q} E d =

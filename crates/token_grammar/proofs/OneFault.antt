@@ -1,5 +1,6 @@
 -- A list of tokens has at most one fault, and none where it is a sentence.
-use Rattle.std.proofs.Common.{◌≡◌, ℕ, zero, suc, ◌+◌, ◌<◌, ◌≤◌, List, [], ◌∷◌, ◌++◌, take, refl, sym, ap, subst, inl, inr, append_assoc, arith, ◌⊎◌}
+use Rattle.std.proofs.Common.{◌≡◌, ℕ, zero, suc, ◌+◌, ◌<◌, ◌≤◌, List, [], ◌∷◌, ◌++◌, take, refl, sym, ap, subst, inl, inr, append_assoc, arith}
+use Rattle.std.proofs.lemmas.Bool.{cases_order}
 use Rattle.std.proofs.lemmas.List.{append-nil}
 use Rattle.plex_lexer.specs.declared.token.Token.{Token}
 use Rattle.token_grammar.specs.Language.{Lang}
@@ -31,15 +32,9 @@ module _ {X : Type 0} (L : X → Lang) where
   later : (w : List Token) (i j : ℕ) → i < j → First L w i → First L w j → ⊥
   later w i j h f g = let k = split_at (i + 1) j w (omega arith) in f.past (begun_front (take (i + 1) w) k.0 (subst (Begun L) k.1 g.front))
 
-  order : (i j : ℕ) → (i < j) ⊎ ((i ≡ j) ⊎ (j < i))
-  order zero zero = inr (inl refl)
-  order zero (suc j) = inl (omega arith)
-  order (suc i) zero = inr (inr (omega arith))
-  order (suc i) (suc j) = elim (order i j) [ inl h ↦ inl (omega arith) | inr h ↦ elim h [ inl e ↦ inr (inl (ap suc e)) | inr k ↦ inr (inr (omega arith)) ] ]
-
   -- the first token at fault stands at one place
   pub one_first : (w : List Token) (i j : ℕ) → First L w i → First L w j → i ≡ j
-  one_first w i j f g = elim (order i j) [ inl h ↦ absurd (later w i j h f g) | inr h ↦ elim h [ inl e ↦ e | inr k ↦ absurd (later w j i k g f) ] ]
+  one_first w i j f g = elim (cases_order i j) [ inl e ↦ e | inr h ↦ elim h [ inl k ↦ absurd (later w i j k f g) | inr k ↦ absurd (later w j i k g f) ] ]
 
 module _ {X : Type 0} (L : ℕ → ℕ → X → Lang) (b s : ℕ) (w : List Token) where
   pub not_both : (i j : ℕ) → IsUnexpected L b s w i → IsTooDeep L b s w j → ⊥

@@ -1,6 +1,7 @@
 -- Readers that are exact, with one token of sight: what that means, one token, and one thing after the other.
 use Rattle.std.proofs.Common.{◌≡◌, ℕ, Bool, true, false, cond, ◌||◌, eqb, List, [], ◌∷◌, ◌++◌, length, Ok, Err, refl, sym, ◌∙◌, ap, subst, inl, inr, append_assoc, ◌⊎◌, eqb-true}
-use Rattle.std.proofs.lemmas.Bool.{false≢true}
+use Rattle.std.proofs.Math.Bool.{or_assoc}
+use Rattle.std.proofs.lemmas.Bool.{cases_Bool, false≢true}
 use Rattle.plex_lexer.specs.declared.token.Token.{Token}
 use Rattle.token_grammar.specs.Language.{class, mem, Lang, ◌·◌, line_at}
 use Rattle.token_grammar.specs.Reading.{Stuck, Reader, ◌>>=◌, at, word_of, both, lined}
@@ -102,17 +103,9 @@ cond_true : (b y : Bool) → cond b y false ≡ true → (b ≡ true) × (y ≡ 
 cond_true true y h = (refl, h)
 cond_true false y h = cc
 
-pub either : (b : Bool) → (b ≡ true) ⊎ (b ≡ false)
-either true = inl refl
-either false = inr refl
-
 mem_append : (c : ℕ) (xs ys : List ℕ) → mem c (xs ++ ys) ≡ (mem c xs || mem c ys)
 mem_append c [] ys = refl
-mem_append c (x ∷ xs) ys = ap (λ b. eqb c x || b) (mem_append c xs ys) ∙ or_assoc (eqb c x) (mem c xs) (mem c ys)
-  where
-    or_assoc : (a b d : Bool) → (a || (b || d)) ≡ ((a || b) || d)
-    or_assoc true b d = refl
-    or_assoc false b d = refl
+mem_append c (x ∷ xs) ys = ap (λ b. eqb c x || b) (mem_append c xs ys) ∙ sym (or_assoc (eqb c x) (mem c xs) (mem c ys))
 
 pub mem_left : (c : ℕ) (xs ys : List ℕ) → mem c xs ≡ true → mem c (xs ++ ys) ≡ true
 mem_left c xs ys h = mem_append c xs ys ∙ or_left (mem c xs) (mem c ys) h
@@ -175,7 +168,7 @@ Exact-word cs t k = record {
 
     runs : (w : List Token) → Good (one cs) (word_of cs) (word_of cs) w ⊎ Bad (one cs) (one cs) (word_of cs) (word_of cs) w
     runs [] = inr (fall [] (λ s h. elim s as (λ s. SameHead [] s → word_of cs s ≡ Err (record { left = length s; deep = false })) [ [] ↦ λ _. word_end cs | y ∷ ys ↦ λ h. absurd h ] h))
-    runs (y ∷ ys) = elim (either (mem (class y) cs)) [
+    runs (y ∷ ys) = elim (cases_Bool (mem (class y) cs)) [
       | inl e ↦ inl (record { x = y; u = y ∷ []; rest = ys; cut = refl; spells = (refl, e); again = λ s h. word_ok cs y s e; wide = λ s h. word_ok cs y s e })
       | inr e ↦ inr (fall (y ∷ ys) (λ s h. elim s as (λ s. SameHead (y ∷ ys) s → word_of cs s ≡ Err (record { left = length s; deep = false })) [ [] ↦ λ h. absurd h | z ∷ zs ↦ λ h. word_bad cs z zs (ap (λ a. mem (class a) cs) (sym h) ∙ e) ] h))
     ]

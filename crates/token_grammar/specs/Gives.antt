@@ -11,9 +11,9 @@ Fails faults.Memory read = Unit {0}
 Fails (faults.Stuck left deep) read = read ≡ Err (record { left = left; deep = deep })
 
 -- it read this, or it stopped there, or no memory was found
-abbrev pub Gives : {X Y : Type 0} → (X → Y) → Result X Fault → Result Y Stuck → Type 0
-Gives view (Ok x) read = read ≡ Ok (view x)
-Gives view (Err e) read = Fails e read
+abbrev pub GivesOrStops : {X Y : Type 0} → (X → Y) → Result X Fault → Result Y Stuck → Type 0
+GivesOrStops view (Ok x) read = read ≡ Ok (view x)
+GivesOrStops view (Err e) read = Fails e read
 
 abbrev pub IsGiven : {X : Type 0} → X → Result X Fault → Type 0
 IsGiven x (Ok y) = y ≡ x
@@ -22,4 +22,4 @@ IsGiven x (Err (faults.Stuck left deep)) = ⊥
 
 -- a function of the parser does what a reader does with the tokens ahead
 abbrev pub Reads : {Y : Type 0} → Result (Y × Cursor) Fault → Reader Y → Cursor → Type 0
-Reads result reader tokens = Gives (λ x. (x.0, ahead x.1)) result (reader (ahead tokens))
+Reads result reader tokens = GivesOrStops (λ x. (x.0, ahead x.1)) result (reader (ahead tokens))

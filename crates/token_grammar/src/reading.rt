@@ -4,7 +4,7 @@ ghost use Rattle.std.specs.Str.{bytes_eq};
 ghost use Rattle.plex_lexer.specs.Cursors.{ahead, token};
 ghost use Rattle.token_grammar.specs.Language.{class, line_at, mem, name_class, LEVEL, NAME};
 ghost use Rattle.token_grammar.specs.Reading.{at, level_of, level_read, name_in, name_read, number_read, word_of};
-ghost use Rattle.token_grammar.specs.Gives.{Gives, Reads};
+ghost use Rattle.token_grammar.specs.Gives.{GivesOrStops, Reads};
 
 use crate::fault::Fault;
 use crate::kept_name::KeptName;
@@ -110,7 +110,7 @@ fn is_name(class: u64) -> bool
 /// A word of this class and the tokens after it, or the place where it lacks.
 #[tactic(auto, unfolding(crate::specs::Reading::word_of))]
 pub fn word(tokens: Cursor<'_>, want: u64) -> Result<(Found<'_>, Cursor<'_>), Fault>
-    ensures { Gives (λ x. (token x.0, ahead x.1)) result
+    ensures { GivesOrStops (λ x. (token x.0, ahead x.1)) result
         (word_of (want ∷ []) (ahead tokens.entry)) }
 {
     match tokens.split_first() {

@@ -6,7 +6,7 @@ use crate::naming::Naming;
 use exchange_model::Exchange;
 use job_runner::run_in_place;
 use machine_code::Code;
-use plex_io::{Gate, Place};
+use plex_io::{Gate, Moment};
 use register_machine::JobRun;
 use shared_store::{JobSeat, SharedStore};
 use std::marker::{Model, PhantomData};
@@ -74,9 +74,9 @@ impl<B: Naming> Task<B> {
             job,
             of: _,
         } = self;
-        gate.at(job, Place::Before);
+        gate.at(job, Moment::Before);
         let seat = run_in_place(exchange, store, seat, &mut run, code);
-        gate.at(job, Place::After { steps: run.steps() });
+        gate.at(job, Moment::After { steps: run.steps() });
         Ended {
             ticket,
             seat,

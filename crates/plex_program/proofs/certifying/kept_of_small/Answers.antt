@@ -1,4 +1,4 @@
-use Rattle.plex_program.proofs.Certified.{text_kept}
+use Rattle.plex_program.proofs.Stages.{text_kept}
 use Rattle.plex_program.proofs.certifying.kept_of_small.Goals as goal
 
 pub returns-in-Ok : goal.returns-in-Ok

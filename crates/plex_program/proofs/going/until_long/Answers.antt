@@ -1,5 +1,5 @@
 use Rattle.exchange_run.proofs.Resting.{way_over}
-use Rattle.plex_program.proofs.Opened.{come_among, come_over}
+use Rattle.plex_program.proofs.Answering.{come_among, come_over}
 use Rattle.plex_program.proofs.going.until_long.Goals as goal
 
 pub returns-in-Over : goal.returns-in-Over

@@ -1,4 +1,4 @@
-use Rattle.plex_program.proofs.WrittenOut.{timed_is_run}
+use Rattle.plex_program.proofs.Tables.{timed_is_run}
 use Rattle.plex_program.proofs.laws.timed_runs_are_runs.Goals as goal
 
 pub returns : goal.returns

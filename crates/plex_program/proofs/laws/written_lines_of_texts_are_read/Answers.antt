@@ -1,4 +1,4 @@
-use Rattle.plex_program.proofs.WrittenOut.{lines_of_text, merged_again}
+use Rattle.plex_program.proofs.Tables.{lines_of_text, merged_again}
 use Rattle.plex_program.proofs.laws.written_lines_of_texts_are_read.Goals as goal
 
 pub returns-clause-lines : goal.returns-clause-lines

@@ -1,4 +1,4 @@
-use Rattle.plex_program.proofs.Faults.{all_spelled}
+use Rattle.plex_program.proofs.Accepted.{all_spelled}
 use Rattle.plex_program.proofs.reading.tree_of.Goals as goal
 
 pub returns-in-Ok-clause-spelled : goal.returns-in-Ok-clause-spelled

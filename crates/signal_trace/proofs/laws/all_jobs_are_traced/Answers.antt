@@ -1,4 +1,4 @@
-use Rattle.signal_trace.proofs.Numbered.{all_numbered}
+use Rattle.signal_trace.proofs.Tracing.{all_numbered}
 use Rattle.signal_trace.proofs.laws.all_jobs_are_traced.Goals as goal
 
 pub returns : goal.returns

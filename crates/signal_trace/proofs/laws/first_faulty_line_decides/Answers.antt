@@ -1,5 +1,5 @@
 use Rattle.signal_trace.specs.Filter.{names_of}
-use Rattle.signal_trace.proofs.Deciding.{first_faulty}
+use Rattle.signal_trace.proofs.Behind.{first_faulty}
 use Rattle.signal_trace.proofs.laws.first_faulty_line_decides.Goals as goal
 
 pub returns : goal.returns

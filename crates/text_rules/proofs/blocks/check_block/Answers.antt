@@ -18,7 +18,7 @@ loop-event-preserved c =
     let own = c.args.events.now in
     let known = known_of c.args.around.now.signals.now.kinds.now c.args.around.now.blocks.now.blocks.now own in
     let inside : c.loop-event.event-index < length own = omega arith in
-    let sees : Sees (known_in c.loop-event.tables c.args.around.now) c.event-item.result.note (known_in c.see.new.self c.args.around.now) = subst (λ n. Sees (known_in c.loop-event.tables c.args.around.now) n (known_in c.see.new.self c.args.around.now)) c.place.ensures (c.in-Ok.ensures c.args.around.now) in
+    let sees : Sees (known_in c.loop-event.tables c.args.around.now) c.event-item.result.note (known_in c.see.new.self c.args.around.now) = subst (λ n. Sees (known_in c.loop-event.tables c.args.around.now) n (known_in c.see.new.self c.args.around.now)) c.kind.ensures (c.in-Ok.ensures c.args.around.now) in
     record {
       known = known_more _ _ own _ _ (take c.loop-event.event-index own) c.event-item.result c.loop-event.invariant.known sees ∙ ap known (sym (more_events own _ c.event-item.result inside c.event-item.is));
       passed = passed_more (λ r k e. broken r k e.note) all_rules line_of known own _ _ _ inside c.event-item.is c.loop-event.invariant.known (sym c.in_default.is ∙ c.rule_at.ensures) c.loop-event.invariant.passed;

@@ -47,8 +47,8 @@ loop-event-preserved c =
     let far : c.loop-part.part ≡ length done = sym (length-take-le c.loop-part.part c.args.parts.now (omega arith)) in
     record {
       known = known_more _ (λ s. contains bytes_eq c.see.new.self.entered.names s) (amounts_of c.see.new.self.counted) signals blocks (block_of blocks c.loop-part.part) (joined done ++ take at own) (take at own) e c.loop-event.invariant.known
-          (λ s. c.in-Ok-see.ensures.entered s ∙ ap (λ n. contains bytes_eq c.loop-event.before.entered.names s || head_enters s (begun n)) c.place.ensures)
-          (c.in-Ok-see.ensures.counted ∙ ap (λ n. plus (amounts_of c.loop-event.before.counted) (adds (kind_in c.in-Ok.links.signals.now.kinds.now) n)) c.place.ensures ∙ ap (λ g. plus (amounts_of c.loop-event.before.counted) (adds (kind_in g) e.note)) c.in-Ok.ensures.signals)
+          (λ s. c.in-Ok-see.ensures.entered s ∙ ap (λ n. contains bytes_eq c.loop-event.before.entered.names s || head_enters s (begun n)) c.kind.ensures)
+          (c.in-Ok-see.ensures.counted ∙ ap (λ n. plus (amounts_of c.loop-event.before.counted) (adds (kind_in c.in-Ok.links.signals.now.kinds.now) n)) c.kind.ensures ∙ ap (λ g. plus (amounts_of c.loop-event.before.counted) (adds (kind_in g) e.note)) c.in-Ok.ensures.signals)
           ∙ ap (λ l. known_of signals blocks (block_of blocks c.loop-part.part) l (take at own ++ e ∷ [])) (so_far_more done own at e inside c.event-item.is)
           ∙ ap (λ l. known_of signals blocks (block_of blocks c.loop-part.part) (joined done ++ take (at + 1) own) l) (sym (more_events own at e inside c.event-item.is));
       passed = passed_more (λ r k e. broken r k e.note) all_rules line_of (known_in_part signals blocks done own) own _ _ e inside c.event-item.is

@@ -25,7 +25,7 @@ loop-event-preserved c =
     let own = c.as_slice-event-items.result.now in
     let done = take c.loop-part.part-index c.args.parts.now in
     let inside : c.loop-event.event-index < length own = omega arith in
-    let sees : Sees (names_in c.loop-event.seen) c.event-item.result.note (names_in c.see.new.self) = subst (λ n. Sees (names_in c.loop-event.seen) n (names_in c.see.new.self)) c.place.ensures c.in-Ok.ensures in
+    let sees : Sees (names_in c.loop-event.seen) c.event-item.result.note (names_in c.see.new.self) = subst (λ n. Sees (names_in c.loop-event.seen) n (names_in c.see.new.self)) c.kind.ensures c.in-Ok.ensures in
     record {
       known = known_more _ _ (joined done ++ take c.loop-event.event-index own) c.event-item.result c.loop-event.invariant.known sees ∙ ap known_of (so_far_more done own _ _ inside c.event-item.is);
       passed = passed_more (λ r k e. broken r k e.note) all_rules line_of (known_in_part done own) own _ _ _ inside c.event-item.is c.loop-event.invariant.known (sym c.in_default.is ∙ c.rule_at.ensures) c.loop-event.invariant.passed;

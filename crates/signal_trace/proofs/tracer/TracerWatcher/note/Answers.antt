@@ -4,7 +4,7 @@ use Rattle.text_parts.proofs.Joined.{put_back}
 use Rattle.signal_trace.specs.declared.tracer.TracedJob.{TracedJob}
 use Rattle.signal_trace.specs.Text.{job_text}
 use Rattle.signal_trace.specs.Trace.{traced}
-use Rattle.signal_trace.proofs.Telling.{told_none, told_one}
+use Rattle.signal_trace.proofs.Tracing.{told_none, told_one}
 use Rattle.signal_trace.proofs.tracer.TracerWatcher.note.Goals as goal
 
 pub returns-then-not-is_shown : goal.returns-then-not-is_shown

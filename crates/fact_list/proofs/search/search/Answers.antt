@@ -1,5 +1,5 @@
 use Rattle.fact_list.proofs.Searching.{span_found, span_missing}
-use Rattle.fact_list.proofs.search.span_of.Goals as goal
+use Rattle.fact_list.proofs.search.search.Goals as goal
 
 pub returns-in-Ok : goal.returns-in-Ok
 returns-in-Ok c = span_found c.args.facts.now c.args.fact c.requires c.in-Ok.place c.in-Ok.ensures.bound c.in-Ok.ensures.ok
