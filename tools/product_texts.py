@@ -9,6 +9,7 @@ CALL = "SIGNAL CALL SINGLE BUFFERED B DATA 1;\n"
 GET = "SIGNAL GET COMBINED DATA 1 ANSWER GOT DATA 1;\n"
 ONCE, ONE_CALL = "AFTER 0 GO K NEW\n", "AFTER 0 CALL K 3 NONE\n"
 IN_SUM, CONSTANTS, ENTRIES, RECEIVERS = 60, 255, 256, 64
+NUMBER = b"FACT 0 %d T0 CONST %d\n"
 
 
 def each(piece, count, first=0):
@@ -46,13 +47,15 @@ def frees(fields, count):
     return GO + block(declared, "RECEIVE GO;", program)
 
 
+def receivers(blocks):
+    """Blocks that receive a direct signal, one fewer than the text has."""
+    return "".join(block("TEMPORARY T;", "RECEIVE S;", "ENTER S WITH T;", f"K{number}") for number in range(1, blocks))
+
+
 def held_sends(count, blocks):
     signals = GO + "SIGNAL S SINGLE DIRECT DATA 1;\n"
     program = "ENTER GO;\n" + "SEND S REFERENCE (T) WITH 1;\n" * count + "EXIT;\nENTER S WITH T;"
-    others = "".join(
-        block("TEMPORARY T;", "RECEIVE S;", "ENTER S WITH T;", f"K{number}") for number in range(1, blocks)
-    )
-    return signals + block("TEMPORARY T;", "RECEIVE GO; SEND S; RECEIVE S;", program) + others
+    return signals + block("TEMPORARY T;", "RECEIVE GO; SEND S; RECEIVE S;", program) + receivers(blocks)
 
 
 def choices(count, entries, constants):
@@ -143,24 +146,84 @@ def reads_of_many(statements, constants):
     return CALL + block(declared, "RECEIVE CALL;", "ENTER CALL WITH U;\n" + one_of(constants) + reads + "EXIT;")
 
 
+def exits(count):
+    """A CASE whose choices all have a statement."""
+    case = "CASE T IS\n" + each("WHEN {} DO EXIT;\n", count) + "OTHERWISE DO ESAC;"
+    return GO + block("TEMPORARY T;", "RECEIVE GO;", "ENTER GO;\n" + case)
+
+
+def asks_of_one(count):
+    """Many askers of one RETURN."""
+    first = block("TEMPORARY T;", "RECEIVE GET;", "ENTER GET WITH T;\nRETURN GOT WITH T;", "LIB")
+    program = "ENTER GO;\n" + "SEND GET WITH 0; RETRIEVE GOT WITH T;\n" * count + "EXIT;"
+    return GO + GET + first + block("TEMPORARY T;", "RECEIVE GO; SEND GET;", program)
+
+
+def returns(count, constants):
+    """As many askers as there are RETURNs, and each RETURN hands on what all of them ask with, which are few numbers."""
+    sends = (f"SEND GET WITH {number % constants}; RETRIEVE GOT WITH T;\n" for number in range(count))
+    answers = "ENTER GET WITH T;\nCASE T IS\n" + each("WHEN {} DO RETURN GOT WITH T;\n", count) + "OTHERWISE DO ESAC;"
+    first = block("TEMPORARY T;", "RECEIVE CALL; SEND GET;", "ENTER CALL WITH T;\n" + "".join(sends) + "EXIT;")
+    return CALL + GET + first + block("TEMPORARY T;", "RECEIVE GET;", answers, "LIB")
+
+
+def held_send(blocks):
+    program = "ENTER GO;\nSEND S REFERENCE (U) WITH T;\nENTER S WITH T;"
+    first = block("TEMPORARY T; TEMPORARY U;", "RECEIVE GO; SEND S; RECEIVE S;", program)
+    return GO + "SIGNAL S SINGLE DIRECT DATA 1;\n" + first + receivers(blocks)
+
+
 def calls(count):
     return each("AFTER 0 G0 K {} NEW\n", 100) * (count // 100)
 
 
+class MoreFacts:
+    """More facts than the least ones, in jobs of the first entry: so many numbers from 0 on, before some points, for
+    the first temporary, of which a certificate says there that it has 0. Told is the fact that then is missing, or
+    nothing where all that follows is there.
+    """
+
+    def __init__(self, points, count, missing=lambda size: b""):
+        self.points, self.count, self.missing = points, count, missing
+
+    def added(self, certificate, size):
+        """The certificate with these facts."""
+        more = {NUMBER % (point, 0): point for point in self.points(size)}
+        return b"".join(
+            self.numbers(more[line], size) if line in more else line for line in certificate.splitlines(keepends=True)
+        )
+
+    def numbers(self, point, size):
+        return b"".join(NUMBER % (point, number) for number in range(self.count(size)))
+
+
 class Product:
-    """A text of a size, two sizes, one for the gate and one near the limits, and the signal lines of a size.
+    """A text of a size, two sizes, one for the gate and one near the limits, the signal lines of a size, and what is
+    added to its certificate, if anything is.
 
     Where a run would not end by itself, its size is the number of its jobs.
     """
 
-    def __init__(self, name, text, sizes, signals=lambda size: "", is_endless=False):
+    def __init__(self, name, text, sizes, signals=lambda size: "", is_endless=False, more=None):
         self.name, self.text, self.sizes, self.signals, self.is_endless = name, text, sizes, signals, is_endless
+        self.more = more
 
     def files(self, size):
         return {"E": self.text(size).encode(), "S": self.signals(size).encode()}
 
     def limit(self, size):
         return ["--jobs", str(size)] if self.is_endless else []
+
+
+def many_at(missing):
+    """Ten thousand facts more before the second point of a text, and the fact that is missing then."""
+    return MoreFacts(lambda size: [1], lambda size: 10000, lambda size: missing)
+
+
+def at_choices(lacking):
+    """As many facts as there are choices, before the CASE and where it leads to, but for the last of these points."""
+    missing = lambda size: NUMBER % (size + 2, 1) if lacking else b""  # noqa: E731
+    return MoreFacts(lambda size: range(1, size + 3 - lacking), lambda size: size, missing)
 
 
 def once(size):
@@ -190,4 +253,10 @@ PRODUCTS = [
     Product("askers of a long text", lambda size: asks_of_long(size, 200), (2500, 10000), one_call),
     Product("jumps to a long text", lambda size: jumps_to_long(size, CONSTANTS), (4500, 18000), one_call),
     Product("reads of many records", lambda size: reads_of_many(size, CONSTANTS), (750, 3000), one_call),
+    Product("RETURNs as many as RETRIEVEs", lambda size: returns(size, 20), (1250, 5000), one_call),
+    Product("facts at a CASE", exits, (2500, 10000), once, more=many_at(b"FACT 0 2 T0 CONST 1\n")),
+    Product("facts where a CASE leads to", exits, (400, 750), once, more=at_choices(0)),
+    Product("facts where a CASE leads to, but for the last", exits, (400, 750), once, more=at_choices(1)),
+    Product("facts at a RETURN", asks_of_one, (1000, 4000), once, more=many_at(b"FACT 0 5 A0 CONST 1\n")),
+    Product("facts at a held SEND", held_send, (16, RECEIVERS), once, more=many_at(b"FACT 0 2 E0 CONST 1\n")),
 ]

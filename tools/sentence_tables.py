@@ -19,7 +19,7 @@ TABLES = {
     "read_reason": ("On the standard error", 1),
     "write_reason": ("On the standard error", 2),
 }
-TABLE = re.compile(r"^pub static (\w+): \[Row; \d+\] = \[\n(.*?)^\];$", re.M | re.S)
+TABLE = re.compile(r"^pub static (\w+): \[Row; \d+\] = \[(.*?)\];$", re.M | re.S)
 ROW = re.compile(r'\(\s*"(\w+)",\s*"([^"]*)",?\s*\)')
 REASONS = re.compile(r"^pub fn (\w+_reason)\(.*?^}$", re.M | re.S)
 REASON = re.compile(r'=> "([^"]*)"')

@@ -102,7 +102,7 @@ facts_begin x facts none = subst (FactsGo x 0) (sym none) (record {
   rising = sorted_none fact_order;
 })
 
-entry_less : (f g : Fact) → f.entry < g.entry → fact_order f g ≡ Less
+pub entry_less : (f g : Fact) → f.entry < g.entry → fact_order f g ≡ Less
 entry_less f g lt = ap (λ o. ordering_then o (ordering_then (nat_cmp f.point g.point) (ordering_then (slots.ghosts.cmp f.slot g.slot) (values.ghosts.cmp f.value g.value)))) (nat_less f.entry g.entry lt)
 
 pub below_or_last : (m n : ℕ) → m < n + 1 → (m < n) ⊎ (m ≡ n)

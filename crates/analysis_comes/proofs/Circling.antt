@@ -1,6 +1,6 @@
 -- Whether a job may count too many statements, or send too many signals, is decided.
-use Rattle.std.proofs.Common.{◌≡◌, ◌⊎◌, inl, inr, ℕ, ◌<◌, ◌≤◌, Bool, true, false, nat_eq, List, [], ◌∷◌, length, Option, Some, Contains, slice_get, refl, sym, subst, arith}
-use Rattle.std.proofs.lemmas.Bool.{eqb-true, eqb-false}
+use Rattle.std.proofs.Common.{◌≡◌, ◌⊎◌, inl, inr, ℕ, ◌<◌, false, nat_eq, List, [], ◌∷◌, length, Option, Some, Contains, slice_get, refl, sym, subst, arith}
+use Rattle.std.proofs.lemmas.Bool.{ne_eqb}
 use Rattle.std.specs.List.{AllByRecursion, IsDistinct}
 use Rattle.plex_limits.specs.declared.limits.TheConstants.{MOST_SENT}
 use Rattle.plex_num.proofs.Members.{first_is, first_or_later, later_is, none_in}
@@ -9,14 +9,14 @@ use Rattle.exchange_model.specs.declared.signal.SignalKind.{SignalKind}
 use Rattle.exchange_model.specs.declared.signal.SignalKind.TheVariants.{Buffered, Outside}
 use Rattle.exchange_model.specs.declared.stmt.StmtKind.TheOpen as stmt
 use Rattle.source_meaning.specs.Named.{Layer}
-use Rattle.source_meaning.proofs.Lists.{all_contained}
 use Rattle.flow_points.specs.declared.fact.Fact.{Fact}
 use Rattle.flow_points.specs.declared.flow.Passing.{Passing}
 use Rattle.flow_points.specs.Facts.{Facts, Reached}
 use Rattle.flow_points.specs.Flows.{LeadsTo}
 use Rattle.flow_points.specs.Places.{IsPlace, Place}
 use Rattle.entry_summary.specs.Faults.{GoesRound, FlowLeads, JoinsOutbox, MayFault, Once, Posts, PostsAt, Then, TooManySends, Walk}
-use Rattle.finite_facts.proofs.Closing.{Closed, IsBuilt, Without, closing, without}
+use Rattle.finite_facts.proofs.Closing.{Closed, IsBuilt, closing}
+use Rattle.entry_faults.proofs.Sending.{no_more}
 use Rattle.analysis_comes.proofs.Faulting.{some_faults}
 use Rattle.finite_facts.proofs.Finite.{Decided, Listed, both, certain, decided_as, either, impossible, is_in, less, listed_as, listed_in, listed_map, listed_one, listed_or, listed_then, listed_when, no, same_number, some_case, yes}
 use Rattle.finite_facts.proofs.Giving.{is_reached}
@@ -31,16 +31,9 @@ record EachOnce (xs : List ℕ) : Type 0 where
   has : (n : ℕ) → Contains xs n → Contains items n
   from : (n : ℕ) → Contains items n → Contains xs n
 
-other : (m n : ℕ) → (m ≡ n → ⊥) → nat_eq m n ≡ false
-other m n differ = by (nat_eq m n) refl
-  where
-    by : (b : Bool) → nat_eq m n ≡ b → b ≡ false
-    by true is = absurd (differ (eqb-true m n is))
-    by false is = refl
-
 all_other : (m : ℕ) (ns : List ℕ) → (Contains ns m → ⊥) → AllByRecursion (λ n. nat_eq m n ≡ false) ns
 all_other m [] new = tt
-all_other m (n ∷ ns) new = (other m n (λ is. new (subst (Contains (n ∷ ns)) (sym is) (first_is n ns))), all_other m ns (λ c. new (later_is n m ns c)))
+all_other m (n ∷ ns) new = (ne_eqb m n (λ is. new (subst (Contains (n ∷ ns)) (sym is) (first_is n ns))), all_other m ns (λ c. new (later_is n m ns c)))
 
 each_once : (xs : List ℕ) → EachOnce xs
 unfolding IsDistinct
@@ -65,19 +58,6 @@ each_once (x ∷ xs) = by (each_once xs)
 
     by : EachOnce xs → EachOnce (x ∷ xs)
     by o = at o (is_in same_number o.items x)
-
--- so many of them are no more than the list
-no_more : (ns xs : List ℕ) → IsDistinct nat_eq ns → ((n : ℕ) → Contains ns n → Contains xs n) → length ns ≤ length xs
-unfolding IsDistinct
-no_more [] xs once within = omega arith
-no_more (m ∷ ns) xs once within = by (without m xs (within m (first_is m ns))) (no_more ns)
-  where
-    left : (w : Without m xs) (n : ℕ) → Contains ns n → (n ≡ m) ⊎ Contains w.others n → Contains w.others n
-    left w n c (inl is) = absurd (eqb-false m n (all_contained (λ k. nat_eq m k ≡ false) ns n once.0 c) (sym is))
-    left w n c (inr d) = d
-
-    by : Without m xs → ((ys : List ℕ) → IsDistinct nat_eq ns → ((n : ℕ) → Contains ns n → Contains ys n) → length ns ≤ length ys) → length (m ∷ ns) ≤ length xs
-    by w more = (let few = more w.others once.1 (λ n c. left w n c (w.left n (within n (later_is m n ns c)))) in let short = w.shorter in omega (arith, few, short))
 
 module _ (x : Exchange) (known : List Fact) (e : ℕ) where
   abbrev P : Facts

@@ -1,6 +1,5 @@
 -- The text of an analysis comes.
-use Rattle.std.proofs.Common.{◌≡◌, ◌⊎◌, inl, inr, ℕ, zero, suc, ◌+◌, ◌<◌, true, List, [], ◌∷◌, ◌++◌, length, map, Option, None, Some, Contains, slice_get, refl, sym, ap, subst, arith, codes, rules}
-use Rattle.std.specs.declared.cmp.Ordering.TheVariants.{Equal}
+use Rattle.std.proofs.Common.{◌≡◌, ◌⊎◌, inl, inr, ℕ, zero, suc, ◌+◌, ◌<◌, true, List, [], ◌∷◌, ◌++◌, length, map, Option, None, Some, Contains, slice_get, refl, sym, ap, subst, arith, codes}
 use Rattle.plex_num.proofs.Members.{first_is, first_or_later, later_is, none_in}
 use Rattle.plex_num.specs.declared.level.Level.{Level}
 use Rattle.exchange_model.specs.declared.exchange.Exchange.{Exchange}
@@ -9,7 +8,6 @@ use Rattle.entry_summary.specs.declared.summary.Summary.{Summary}
 use Rattle.pair_tests.specs.declared.pair.Conflict.{Conflict}
 use Rattle.pair_tests.specs.declared.pair.Test.{Test}
 use Rattle.pair_tests.specs.declared.pair.Test.TheVariants as test
-use Rattle.pair_tests.specs.contracts.pair.TestPartialEq.TheImpl as equal
 use Rattle.pair_tests.specs.contracts.pair.TestOrd.TheImpl.Laws as order_laws
 use Rattle.pair_tests.specs.Asked.{Asked, AskedRelease, AskedSeizing, asked_of, release_test}
 use Rattle.pair_tests.specs.Clashes.{Clashes, ClashesAbove, IsLeastConflict, IsSooner, above_of, clash_of}
@@ -18,7 +16,7 @@ use Rattle.pair_tests.specs.Pairs.{IsConflict, IsTest}
 use Rattle.pair_tests.proofs.Conflicting.{conflict_cases, of_accesses, of_level}
 use Rattle.pair_tests.proofs.Leasts.{least_joined, least_none, least_one, least_same}
 use Rattle.pair_tests.proofs.Preceding.{After, Before, Ranked, Same, none_before_itself, precedes_trans, ranked}
-use Rattle.pair_tests.proofs.Tested.{of_asked, of_release, test_cases}
+use Rattle.pair_tests.proofs.Tested.{of_asked, of_release, test_cases, tests_equal}
 use Rattle.analysis_text.specs.declared.names.Names.{Names}
 use Rattle.analysis_text.specs.Analysis.{IsAnalysis}
 use Rattle.analysis_text.specs.Lines.{entries_text, if_line, never_line, text_of, written}
@@ -123,14 +121,8 @@ module _ (first later : Summary) where
       listed_as (λ t. Asked first.accesses later.accesses t ⊎ AskedRelease first.fault later.accesses t) (IsTest first later) test_from (test_cases first later)
       (listed_or (Asked first.accesses later.accesses) (AskedRelease first.fault later.accesses) asked release)
 
-  same_test : (s t : Test) → equal.ghosts.eq s t ≡ true → s ≡ t
-  same_test s t is = search (rules, is)
-
-  tied : (s t : Test) → test_order s t ≡ Equal → s ≡ t
-  tied s t even = same_test s t (search (rules, order_laws.matches_eq-law, even))
-
   tests : (ts : List Test) × AreTests first later ts
-  tests = (let r = in_order test_order order_laws.total-law tied (IsTest first later) all_tests in (r.listed.items, record { exact = λ t. (r.listed.each t, r.listed.all t); rising = r.rising }))
+  tests = (let r = in_order test_order order_laws.total-law tests_equal (IsTest first later) all_tests in (r.listed.items, record { exact = λ t. (r.listed.each t, r.listed.all t); rising = r.rising }))
 
   -- the text of the two
   pair_text : (names : Names) (i j : ℕ) → (text : List ℕ) × IsPairText names i j first later text

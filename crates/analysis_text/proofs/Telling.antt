@@ -1,8 +1,7 @@
 -- What is told at places: nothing at first, and of a pair once it is kept.
 use Rattle.std.proofs.Common.{◌≡◌, ◌<◌, ⊎_elim, ℕ, Bool, true, false, eqb, List, [], ◌∷◌, ◌++◌, length, Option, Some, None, slice_get, slice_set, refl, sym, ap, ◌∙◌, subst}
-use Rattle.std.proofs.lemmas.Bool.{eqb-true, eq-eqb}
+use Rattle.std.proofs.lemmas.Bool.{eqb-true, eq-eqb, both_ways}
 use Rattle.std.proofs.lemmas.Option.{none-some, same_Some}
-use Rattle.plex_num.proofs.Booleans.{true_not_false}
 use Rattle.plex_num.proofs.Lists.{get_push, get_set_same, get_set_other}
 use Rattle.entry_summary.specs.declared.summary.Summary.{Summary}
 use Rattle.analysis_text.specs.declared.told.ToldPair.{ToldPair}
@@ -31,4 +30,4 @@ kept_told summaries pairs i one inside all told place pair there = by (eqb place
     by true same =
         let is : Some (Some pair) ≡ Some (Some one) = sym there ∙ ap (slice_get (slice_set pairs i (Some one))) (eqb-true place i same) ∙ get_set_same pairs i (Some one) inside in
         subst (IsToldPair summaries) (sym (same_Some pair one (same_Some (Some pair) (Some one) is))) told
-    by false other = all place pair (sym (get_set_other pairs i place (Some one) (λ e. true_not_false (eqb place i) (eq-eqb place i e) other)) ∙ there)
+    by false other = all place pair (sym (get_set_other pairs i place (Some one) (λ e. both_ways (eqb place i) other (eq-eqb place i e))) ∙ there)

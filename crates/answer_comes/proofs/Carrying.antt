@@ -47,14 +47,14 @@ module _ (x y : Exchange) (store : List ℕ) (records : List Held) where
 
   carried_words : IsExchange y → AreCarriedWords x y store records words
   unfolding words word
-  carried_words kept = record { whole = long word 0 y.cells; each = each }
-    where
-      each : (c : Cell) → IsCell y.blocks c → slice_index words (cell_number y.blocks c) ≡ carried_value x y store records c
-      each c is =
-          let below = cell_number-below y.blocks c is in
-          let cells = kept.numbered.cells in
-          let first : 0 + cell_number y.blocks c ≡ cell_number y.blocks c = omega arith in
-          at word 0 y.cells (cell_number y.blocks c) (omega (arith, below, cells)) ∙ ap word first ∙ value_is c is (less (cell_number y.blocks c) (cell_count y.blocks))
+  carried_words kept = record {
+    whole = long word 0 y.cells;
+    each = λ c is.
+        let below = cell_number-below y.blocks c is in
+        let cells = kept.numbered.cells in
+        let first : 0 + cell_number y.blocks c ≡ cell_number y.blocks c = omega arith in
+        at word 0 y.cells (cell_number y.blocks c) (omega (arith, below, cells)) ∙ ap word first ∙ value_is c is (less (cell_number y.blocks c) (cell_count y.blocks));
+  }
 
 -- the state, carried over
 pub carried : (x y : Exchange) (s : State) → IsExchange y → (t : State) × IsCarried x y s t

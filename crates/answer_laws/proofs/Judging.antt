@@ -2,15 +2,14 @@
 use Rattle.std.proofs.Common.{◌≡◌, ℕ, List, Option, Some, None, Ok, refl, ap, subst}
 use Rattle.exchange_model.specs.declared.exchange.Exchange.{Exchange}
 use Rattle.certificate_text.specs.declared.certificate.Certificate.{Certificate}
-use Rattle.certificate_text.specs.declared.fault.TextFault.TheVariants as text_fault
 use Rattle.certificate_text.specs.Lines.{HasBadLine, IsTextOf}
 use Rattle.certificate_text.proofs.Once.{bad_line_told, one_certificate, one_line}
 use Rattle.checked.specs.declared.fault.CertFault.TheVariants as fault
 use Rattle.checked.proofs.Checking.{never_closed}
 use Rattle.analysis_laws.proofs.Refusing.{refused_once}
-use Rattle.plex_program.specs.Certificates.{IsJudged, Judges, large, bad, read}
-use Rattle.plex_program.specs.declared.fault.CertificateFault.{CertificateFault}
-use Rattle.plex_program.specs.declared.fault.CertificateFault.TheVariants.{TooLarge, BadText, WrongExchange, Strange, Missing}
+use Rattle.command_answers.specs.Certificates.{IsJudged, Judges, large, bad, read}
+use Rattle.command_answers.specs.declared.fault.CertificateFault.{CertificateFault}
+use Rattle.command_answers.specs.declared.fault.CertificateFault.TheVariants.{TooLarge, BadText, WrongExchange, Strange, Missing}
 
 -- a text with a bad line is that of no certificate
 

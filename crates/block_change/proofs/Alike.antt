@@ -4,7 +4,7 @@ use Rattle.std.specs.Prelude.{nat_le}
 use Rattle.std.specs.List.{IsDistinct, find, position_or_len}
 use Rattle.std.specs.Option.{option_and_then, option_map_or, option_or}
 use Rattle.std.specs.Str.{bytes_eq}
-use Rattle.std.proofs.lemmas.Bool.{eqb-true, lt-ltb, not-false}
+use Rattle.std.proofs.lemmas.Bool.{eqb-true, lt-ltb, not-false, and_parts, both_ways}
 use Rattle.std.proofs.lemmas.Bool.Decides.{nat_tests}
 use Rattle.std.proofs.lemmas.List.Quantifiers.{position-Some}
 use Rattle.std.proofs.lemmas.Option.{get_or_from_slice_get, none-some, same_Some}
@@ -25,7 +25,6 @@ use Rattle.job_types.specs.declared.chain.Held.{Held}
 use Rattle.exchange_model.specs.Names.{level_of, signal_level}
 use Rattle.source_meaning.specs.Config.{files_of}
 use Rattle.source_meaning.specs.Valid.{IsRecord, entry_count}
-use Rattle.plex_num.proofs.Booleans.{and_true, true_not_false}
 use Rattle.block_change.specs.Carried.{carried_held, new_entries, new_entry, new_file, number_for}
 use Rattle.block_change.specs.Misfits.{agree, entry_signal, first_lacking, first_misfit, has_entry, lacking, lacks, misfit, rank, takes}
 use Rattle.block_change.specs.Names.{file_names, place_of}
@@ -133,7 +132,7 @@ pub record IsNewEntry (x y : Exchange) (e : ℕ) : Type 0 where
 entry_by : (x y : Exchange) (e : ℕ) (r : Entry) → slice_get x.entries e ≡ Some r → (o : Option ℕ) → same_entry x y r ≡ o → option_map_or (λ n. agree (slice_get x.signals r.signal) (entry_signal y n)) o false ≡ true → IsNewEntry x y e
 entry_by x y e r at None same there = absurd (cc)
 entry_by x y e r at (Some n) same there =
-    let parts = and_true (nat_eq (rank (signal_level (slice_get x.signals r.signal))) (rank (signal_level (entry_signal y n)))) (nat_eq (option_map_or signal_count (slice_get x.signals r.signal) 0) (option_map_or signal_count (entry_signal y n) 0)) there in
+    let parts = and_parts (nat_eq (rank (signal_level (slice_get x.signals r.signal))) (rank (signal_level (entry_signal y n)))) (nat_eq (option_map_or signal_count (slice_get x.signals r.signal) 0) (option_map_or signal_count (entry_signal y n) 0)) there in
     let number : new_entry x y e ≡ n =
     get_or_from_slice_get (new_entries x y) e (number_for x y r) 0 (got_map (number_for x y) x.entries e r at) ∙ ap (λ o. unwrap_or o 0) same in
     let old_level : level_of x e ≡ signal_level (slice_get x.signals r.signal) = ap (λ o. option_map_or (λ (d : Entry). signal_level (slice_get x.signals d.signal)) o B) at in
@@ -176,7 +175,7 @@ pub record IsNewFile (x y : Exchange) (f : ℕ) (p : Placed) : Type 0 where
 
 pub taken : (g f : File) → takes (Some g) f ≡ true → (g.forlopp ≡ true) × (f.size ≤ g.size)
 taken g f is =
-    let parts = and_true g.forlopp (nat_le f.size g.size) is in
+    let parts = and_parts g.forlopp (nat_le f.size g.size) is in
     let small = parts.1 in
     (parts.0, grind (arith, nat_tests, small))
 
@@ -244,8 +243,8 @@ pub once_there : (ns : List (List ℕ)) (i j : ℕ) (n : List ℕ) → IsDistinc
 unfolding IsDistinct
 once_there [] i j n apart at at2 = absurd (none-some n at)
 once_there (m ∷ ns) zero zero n apart at at2 = refl
-once_there (m ∷ ns) zero (suc j) n apart at at2 = absurd (true_not_false (bytes_eq m n) ((bytes_eq-Decides m n).1 (same_Some m n at)) (all_at (λ l. bytes_eq m l ≡ false) ns j n apart.0 at2))
-once_there (m ∷ ns) (suc i) zero n apart at at2 = absurd (true_not_false (bytes_eq m n) ((bytes_eq-Decides m n).1 (same_Some m n at2)) (all_at (λ l. bytes_eq m l ≡ false) ns i n apart.0 at))
+once_there (m ∷ ns) zero (suc j) n apart at at2 = absurd (both_ways (bytes_eq m n) (all_at (λ l. bytes_eq m l ≡ false) ns j n apart.0 at2) ((bytes_eq-Decides m n).1 (same_Some m n at)))
+once_there (m ∷ ns) (suc i) zero n apart at at2 = absurd (both_ways (bytes_eq m n) (all_at (λ l. bytes_eq m l ≡ false) ns i n apart.0 at) ((bytes_eq-Decides m n).1 (same_Some m n at2)))
 once_there (m ∷ ns) (suc i) (suc j) n apart at at2 = ap suc (once_there ns i j n apart.1 at at2)
 
 pub named_once : {X : Type 0} (name_of : X → List ℕ) (xs : List X) (i j : ℕ) (a b : X) → IsDistinct bytes_eq (map name_of xs) → slice_get xs i ≡ Some a → slice_get xs j ≡ Some b → name_of a ≡ name_of b → i ≡ j
@@ -277,7 +276,7 @@ place_self : (ns : List (List ℕ)) (i : ℕ) (n : List ℕ) → IsDistinct byte
 place_self ns i n apart at = by (place_of n ns) refl
   where
     by : (o : Option ℕ) → place_of n ns ≡ o → o ≡ Some i
-    by None is = absurd (true_not_false (bytes_eq n n) ((bytes_eq-Decides n n).1 refl) (position_none (bytes_eq n) ns is i n at))
+    by None is = absurd (both_ways (bytes_eq n n) (position_none (bytes_eq n) ns is i n at) ((bytes_eq-Decides n n).1 refl))
     by (Some j) is = ap Some (once_there ns j i n apart (stands_at n ns j is).there at)
 
 pub named_self : {X : Type 0} (name_of : X → List ℕ) (xs : List X) (i : ℕ) (a : X) → IsDistinct bytes_eq (map name_of xs) → slice_get xs i ≡ Some a → place_of (name_of a) (map name_of xs) ≡ Some i

@@ -9,7 +9,7 @@ use Rattle.std.specs.FinMap.{nat_cmp-IsAntisymmetric}
 use Rattle.std.specs.FinMap.Entries.{below_all, is_sorted, find}
 use Rattle.std.specs.List.{AllByRecursion, IsDistinct, list_any}
 use Rattle.std.specs.Option.{option_map}
-use Rattle.std.proofs.lemmas.Bool.{eq-eqb, eqb-true, ne_eqb}
+use Rattle.std.proofs.lemmas.Bool.{eq-eqb, eqb-true, ne_eqb, both_ways, or_parts}
 use Rattle.std.proofs.lemmas.List.{take_all, take_more}
 use Rattle.std.proofs.lemmas.List.Folds.{list_any-append}
 use Rattle.plex_num.proofs.Options.{split}
@@ -18,7 +18,6 @@ use Rattle.job_types.specs.declared.chain.Held.{Held}
 use Rattle.job_types.specs.Forlopps.{ChainMap, chain_at, is_dead, with_chain}
 use Rattle.job_types.proofs.ChainMaps.{get-with_chain}
 use Rattle.forlopp_chain.specs.Chains.{Forlopps, IsSound, NoneEmpty}
-use Rattle.plex_num.proofs.Booleans.{or_false, true_not_false}
 use Rattle.retire_order.proofs.Parted.{not_equal}
 use Rattle.block_change.specs.Carried.{carried_chain, carried_chains}
 
@@ -43,7 +42,7 @@ keys_apart m = keys_of_sorted (fin.entries m) (fin.entries_sorted m)
 
 apart_at : (k n i : ℕ) (ns : List ℕ) → AllByRecursion (λ l. nat_eq k l ≡ false) ns → i < length ns → n ≡ get_or ns i n → nat_eq n k ≡ false
 apart_at k n i [] all inside is = absurd (omega arith)
-apart_at k n zero (l ∷ ns) all inside is = ne_eqb n k (λ same. true_not_false (nat_eq k l) (eq-eqb k l (sym same ∙ is)) all.0)
+apart_at k n zero (l ∷ ns) all inside is = ne_eqb n k (λ same. both_ways (nat_eq k l) all.0 (eq-eqb k l (sym same ∙ is)))
 apart_at k n (suc i) (l ∷ ns) all inside is = apart_at k n i ns all.1 (omega (arith, inside)) is
 
 new_number : (n i : ℕ) (ns : List ℕ) → IsDistinct nat_eq ns → i < length ns → n ≡ get_or ns i n → list_any (nat_eq n) (take i ns) ≡ false
@@ -150,8 +149,8 @@ chains_more x y old now ready new numbers i n chain all inside is sound made rea
 
     by_left : (q : ℕ) → (list_any (nat_eq q) (take i numbers) || (nat_eq q n || false)) ≡ false → fin.get new.chains q ≡ fin.get old.chains q
     by_left q none =
-        let parts = or_false (list_any (nat_eq q) (take i numbers)) (nat_eq q n || false) none in
-        let other = (or_false (nat_eq q n) false parts.1).0 in
+        let parts = or_parts (list_any (nat_eq q) (take i numbers)) (nat_eq q n || false) none in
+        let other = (or_parts (nat_eq q n) false parts.1).0 in
         got q ∙ ap (λ b. cond b (Some chain) (fin.get now.chains q)) other ∙ before.left q parts.0
 
 -- ## All

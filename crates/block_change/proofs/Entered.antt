@@ -2,7 +2,7 @@
 use Rattle.std.proofs.Common.{◌≡◌, inl, inr, ℕ, zero, suc, ◌+◌, ◌<◌, ◌≤◌, Bool, true, false, ◌&&◌, nat_eq, List, [], ◌∷◌, ◌++◌, length, map, position, Option, Some, None, slice_get, refl, sym, ap, ◌∙◌, subst, arith}
 use Rattle.std.specs.Prelude.{slice_index_or}
 use Rattle.std.specs.List.{AllByRecursion, IsDistinct, cons_option}
-use Rattle.std.proofs.lemmas.Bool.{cases_order, eq-eqb, eqb-true, ne_eqb, and_left, and_right}
+use Rattle.std.proofs.lemmas.Bool.{cases_order, eq-eqb, eqb-true, ne_eqb, and_left, and_right, and_parts, both_ways}
 use Rattle.std.proofs.lemmas.List.Quantifiers.{position-Some}
 use Rattle.std.proofs.lemmas.Option.{none-some, same_Some, slice_get-get_or}
 use Rattle.plex_num.proofs.Lists.{all_append, all_at, all_from as every, some_at, all_weaker}
@@ -16,7 +16,6 @@ use Rattle.exchange_model.specs.declared.stmt.Stmt.{Stmt}
 use Rattle.exchange_model.specs.declared.stmt.StmtKind.{out-StmtKind}
 use Rattle.exchange_model.specs.Index.{is_entry}
 use Rattle.exchange_model.specs.Kept.{IsExchange, entered, enters_from, entries_from, entries_in, entry_at, entry_of, row_at}
-use Rattle.plex_num.proofs.Booleans.{and_true, true_not_false}
 use Rattle.block_change.proofs.Alike.{position_none}
 
 -- two entries are of one block and one signal
@@ -77,7 +76,7 @@ entries_hold signals b place (s ∷ rest) P all = by (entered (out-StmtKind s.ki
 -- ## Within a block
 
 differ : (e f : Entry) (n : ℕ) → e.signal ≡ n → nat_eq n f.signal ≡ false → same_place e f ≡ false
-differ e f n is other = and_right (nat_eq f.block e.block) (nat_eq f.signal e.signal) (ne_eqb f.signal e.signal (λ same. true_not_false (nat_eq n f.signal) (eq-eqb n f.signal (sym (same ∙ is))) other))
+differ e f n is other = and_right (nat_eq f.block e.block) (nat_eq f.signal e.signal) (ne_eqb f.signal e.signal (λ same. both_ways (nat_eq n f.signal) other (eq-eqb n f.signal (sym (same ∙ is)))))
 
 apart_in : (signals : List SignalKind) (b place : ℕ) (body : List Stmt) → IsDistinct nat_eq (signals_of (enters_from place body)) → IsDistinct same_place (entries_in signals b body)
 unfolding enters_from IsDistinct
@@ -163,7 +162,7 @@ distinct_at (e ∷ xs) (suc i) (suc j) a b apart at at2 lt = distinct_at xs i j 
 
 same_turned : (e f : Entry) → same_place e f ≡ true → same_place f e ≡ true
 same_turned e f is =
-    let parts = and_true (nat_eq f.block e.block) (nat_eq f.signal e.signal) is in
+    let parts = and_parts (nat_eq f.block e.block) (nat_eq f.signal e.signal) is in
     let block : nat_eq e.block f.block ≡ true = eq-eqb e.block f.block (sym (eqb-true f.block e.block parts.0)) in
     ap (λ c. c && nat_eq e.signal f.signal) block ∙ eq-eqb e.signal f.signal (sym (eqb-true f.signal e.signal parts.1))
 
@@ -178,14 +177,14 @@ entry_once x kept e r at = by (position (is_entry r.block r.signal) x.entries) r
     apart = subst (IsDistinct same_place) (sym kept.numbered.entries) (apart_from x.signals 0 x.blocks (keeps_enters x kept))
 
     by : (o : Option ℕ) → position (is_entry r.block r.signal) x.entries ≡ o → o ≡ Some e
-    by None is = absurd (true_not_false (same_place r r) (same_itself r) (position_none (is_entry r.block r.signal) x.entries is e r at))
+    by None is = absurd (both_ways (same_place r r) (position_none (is_entry r.block r.signal) x.entries is e r at) (same_itself r))
     by (Some i) is =
         let first = position-Some (is_entry r.block r.signal) x.entries i r is in
         let there = slice_get-get_or x.entries i r first.0 in
         elim (cases_order i e) [
           | inl same ↦ ap Some same
-          | inr (inl before) ↦ absurd (true_not_false (same_place (slice_index_or x.entries i r) r) (same_turned r (slice_index_or x.entries i r) first.1) (distinct_at x.entries i e (slice_index_or x.entries i r) r apart there at before))
-          | inr (inr after) ↦ absurd (true_not_false (same_place r (slice_index_or x.entries i r)) first.1 (distinct_at x.entries e i r (slice_index_or x.entries i r) apart at there after))
+          | inr (inl before) ↦ absurd (both_ways (same_place (slice_index_or x.entries i r) r) (distinct_at x.entries i e (slice_index_or x.entries i r) r apart there at before) (same_turned r (slice_index_or x.entries i r) first.1))
+          | inr (inr after) ↦ absurd (both_ways (same_place r (slice_index_or x.entries i r)) (distinct_at x.entries e i r (slice_index_or x.entries i r) apart at there after) first.1)
         ]
 
 -- its block and its signal are there

@@ -3,7 +3,7 @@ use Rattle.std.proofs.Common.{◌≡◌, ◌↔◌, ◌⊎◌, inl, inr, ℕ, ze
 use Rattle.std.specs.Prelude.{nat_le}
 use Rattle.std.specs.List.{find}
 use Rattle.std.specs.Option.{option_and_then, option_map_or, option_or}
-use Rattle.std.proofs.lemmas.Bool.{eq-eqb, eqb-true, le-leb, not-false, not-true}
+use Rattle.std.proofs.lemmas.Bool.{eq-eqb, eqb-true, le-leb, not-false, not-true, and_parts, both_ways}
 use Rattle.std.proofs.lemmas.List.Quantifiers.{position-Some}
 use Rattle.std.proofs.lemmas.Option.{get_or_from_slice_get, none-some, same_Some, slice_get-get_or}
 use Rattle.exchange_model.specs.declared.block.Block.{Block}
@@ -14,7 +14,6 @@ use Rattle.exchange_model.specs.declared.signal.SignalKind.{SignalKind}
 use Rattle.exchange_model.specs.Index.{is_entry}
 use Rattle.exchange_model.specs.Kept.{IsExchange, signal_count, signal_name}
 use Rattle.exchange_model.specs.Names.{names_of_blocks, names_of_signals, signal_level}
-use Rattle.plex_num.proofs.Booleans.{and_true, true_not_false}
 use Rattle.block_change.specs.declared.misfit.Misfit.{Misfit}
 use Rattle.block_change.specs.declared.misfit.Misfit.TheVariants.{Entry as EntryMisfit, File as FileMisfit}
 use Rattle.block_change.specs.Counterparts.{Fits, HasEntry, HasFile, IsFirstEntry, IsFirstFile, IsFirstMisfit}
@@ -43,13 +42,13 @@ has_from x y r is = by (same_entry x y r) refl is
         let found = position-Some (is_entry b.0 s.0) y.entries n r s.2 in
         let q : Entry = get_or y.entries n r in
         let at : slice_get y.entries n ≡ Some q = slice_get-get_or y.entries n r found.0 in
-        let parts = and_true (nat_eq q.block b.0) (nat_eq q.signal s.0) found.1 in
+        let parts = and_parts (nat_eq q.block b.0) (nat_eq q.signal s.0) found.1 in
         let block : q.block ≡ b.0 = eqb-true q.block b.0 parts.0 in
         let signal : q.signal ≡ s.0 = eqb-true q.signal s.0 parts.1 in
         let like_at : slice_get y.signals q.signal ≡ Some like.0 = ap (slice_get y.signals) signal ∙ like.1 in
         let known : entry_signal y n ≡ Some like.0 = then_is (λ (d : Entry). slice_get y.signals d.signal) (slice_get y.entries n) q (Some like.0) at like_at in
         let agreed : agree (Some g.0) (Some like.0) ≡ true = sym (ap (λ o. agree o (entry_signal y n)) g.1 ∙ ap (agree (Some g.0)) known) ∙ there in
-        let both = and_true (nat_eq (rank (signal_level (Some g.0))) (rank (signal_level (Some like.0)))) (nat_eq (signal_count g.0) (signal_count like.0)) agreed in
+        let both = and_parts (nat_eq (rank (signal_level (Some g.0))) (rank (signal_level (Some like.0)))) (nat_eq (signal_count g.0) (signal_count like.0)) agreed in
         record {
           signal = g.0;
           signal_there = g.1;
@@ -145,8 +144,8 @@ record IsLacked (y : Exchange) (block : List ℕ) (f : File) : Type 0 where
 
 lacked_is : (y : Exchange) → IsExchange y → (block : List ℕ) (f : File) → lacks y block f ≡ true → IsLacked y block f
 lacked_is y kept block f is =
-    let parts = and_true f.forlopp (not (takes (file_named y.blocks block f.name) f)) is in
-    record { kind = parts.0; lacked = λ h. true_not_false (takes (file_named y.blocks block f.name) f) (file_back y kept block f h) (not-true (takes (file_named y.blocks block f.name) f) parts.1) }
+    let parts = and_parts f.forlopp (not (takes (file_named y.blocks block f.name) f)) is in
+    record { kind = parts.0; lacked = λ h. both_ways (takes (file_named y.blocks block f.name) f) (not-true (takes (file_named y.blocks block f.name) f) parts.1) (file_back y kept block f h) }
 
 -- ## No misfit
 
@@ -157,7 +156,7 @@ none_found {X} p xs d each = by (position p xs) refl
     by None is = refl
     by (Some i) is =
         let found = position-Some p xs i d is in
-        absurd (true_not_false (p (get_or xs i d)) found.1 (each i (get_or xs i d) (slice_get-get_or xs i d found.0)))
+        absurd (both_ways (p (get_or xs i d)) (each i (get_or xs i d) (slice_get-get_or xs i d found.0)) found.1)
 
 find_nothing : {X : Type 0} (p : X → Bool) (xs : List X) → ((i : ℕ) (a : X) → slice_get xs i ≡ Some a → p a ≡ false) → find p xs ≡ None
 find_nothing p [] each = refl
@@ -195,7 +194,7 @@ first_entry x y kept e is =
     record {
       entry = r;
       there = slice_get-get_or x.entries e no_entry found.0;
-      lacked = λ h. true_not_false (has_entry x y r) (has_back x y kept r h) (not-true (has_entry x y r) found.1);
+      lacked = λ h. both_ways (has_entry x y r) (not-true (has_entry x y r) found.1) (has_back x y kept r h);
       before = λ i q less at.
           let same : get_or x.entries i no_entry ≡ q = get_or_from_slice_get x.entries i q no_entry at in
           has_from x y q (not-false (has_entry x y q) (ap (λ s. not (has_entry x y s)) (sym same) ∙ found.2 i less));

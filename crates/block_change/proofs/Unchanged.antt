@@ -7,7 +7,7 @@ use Rattle.std.specs.FinMap.{nat_cmp-IsAntisymmetric}
 use Rattle.std.specs.List.{AllByRecursion, IsDistinct}
 use Rattle.std.specs.Option.{option_and_then, option_map, option_map_or}
 use Rattle.std.specs.Str.{bytes_eq}
-use Rattle.std.proofs.lemmas.Bool.{lt-ltb}
+use Rattle.std.proofs.lemmas.Bool.{lt-ltb, both_ways, cases_Bool, or_right}
 use Rattle.std.proofs.lemmas.Option.{get_or_from_slice_get}
 use Rattle.plex_num.proofs.Lists.{all_at as every_at, all_left, all_right, some_at, got_map, all_weaker}
 use Rattle.exchange_model.specs.declared.block.Block.{Block}
@@ -37,7 +37,6 @@ use Rattle.retire_order.proofs.Parted.{alike, silent}
 use Rattle.source_meaning.specs.Config.{files_of}
 use Rattle.source_meaning.specs.State.{Arrived, Coming, State}
 use Rattle.source_meaning.specs.Valid.{HoldsRecord, IsRecord, IsValid, LinesFit, WaitsAt}
-use Rattle.plex_num.proofs.Booleans.{bool_cases, or_right, true_not_false}
 use Rattle.source_meaning.proofs.Chains.{record_is, record_itself}
 use Rattle.source_meaning.proofs.Maps.{all_records_fit, held_among_all}
 use Rattle.block_change.specs.Carried.{AreCarriedWords, IsCarried, carried_arrived, carried_chain, carried_chains, carried_held, carried_line, carried_value, carried_waiting, carried_with, kept_value, mark_value, new_entries, new_entry, new_file, number_for, old_value}
@@ -142,15 +141,15 @@ module _ (x : Exchange) (kept : IsExchange x) where
             (all.0.forlopp, subst (HoldsRecord s all.0.forlopp) one all.0.held)
 
     no_chain : (f n m : ℕ) → holds (all_records s.chains) f n ≡ false → holds (chain_at s.chains m) f n ≡ false
-    no_chain f n m none = by (bool_cases (holds (chain_at s.chains m) f n))
+    no_chain f n m none = by (cases_Bool (holds (chain_at s.chains m) f n))
       where
         by : (holds (chain_at s.chains m) f n ≡ true) ⊎ (holds (chain_at s.chains m) f n ≡ false) → holds (chain_at s.chains m) f n ≡ false
         by (inr absent) = absent
-        by (inl there) = absurd (true_not_false (holds (all_records s.chains) f n) (held_among_all s.chains m f n there) none)
+        by (inl there) = absurd (both_ways (holds (all_records s.chains) f n) none (held_among_all s.chains m f n there))
 
     mark_self : (f n : ℕ) (p : Placed) → slice_get (placed_files x.blocks) f ≡ Some p → n < p.file.size → p.file.forlopp ≡ true → mark_value (holds (all_records s.chains) f n) ≡ slice_index s.store (mark_cell p n)
     unfolding files_of
-    mark_self f n p at within kind = by (bool_cases (holds (all_records s.chains) f n))
+    mark_self f n p at within kind = by (cases_Bool (holds (all_records s.chains) f n))
       where
         by : (holds (all_records s.chains) f n ≡ true) ⊎ (holds (all_records s.chains) f n ≡ false) → mark_value (holds (all_records s.chains) f n) ≡ slice_index s.store (mark_cell p n)
         by (inl there) =

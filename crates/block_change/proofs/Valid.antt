@@ -6,6 +6,7 @@ use Rattle.std.specs.Option.{option_and_then, option_map_or}
 use Rattle.std.proofs.lemmas.Bool.Decides.{nat_tests}
 use Rattle.std.proofs.lemmas.List.{length-map, map-append}
 use Rattle.std.proofs.lemmas.Option.{same_Some, slice_get_within}
+use Rattle.std.proofs.lemmas.Bool.{both_ways, cases_Bool, or_right}
 use Rattle.plex_num.specs.declared.level.Level.{Level}
 use Rattle.plex_num.specs.declared.level.Level.TheVariants.{A, B, C, D}
 use Rattle.plex_num.proofs.Lists.{got_map, all_weaker}
@@ -24,7 +25,6 @@ use Rattle.job_types.specs.Forlopps.{all_records, chain_at}
 use Rattle.source_meaning.specs.Config.{files_of}
 use Rattle.source_meaning.specs.State.{Arrived, Bare, Coming, Fresh, Origin, Same, State}
 use Rattle.source_meaning.specs.Valid.{ChainsFit, HasRecords, HoldsRecord, IsJob, IsLive, IsOnce, IsRecord, IsValid, LineFits, LinesFit, MarksFit, MayBe, NamesEarlier, NumbersFit, StoreFits, WaitingFits, WaitsAt}
-use Rattle.plex_num.proofs.Booleans.{bool_cases, or_right, true_not_false}
 use Rattle.source_meaning.proofs.Chains.{record_is, record_itself}
 use Rattle.source_meaning.proofs.Maps.{all_records_fit, held_among_all}
 use Rattle.block_change.specs.Carried.{AreCarriedWords, IsCarried, carried_arrived, carried_chain, carried_chains, carried_held, carried_line, carried_with, kept_value, mark_value, new_entries, new_file, old_value}
@@ -100,7 +100,7 @@ module _ (x y : Exchange) (kept_x : IsExchange x) (kept_y : IsExchange y) (fits 
 
   once_carried : (chain : List Held) → AllByRecursion (IsRecord x) chain → IsOnce chain → IsOnce (carried_chain x y chain)
   once_carried [] all once = tt
-  once_carried (h ∷ rest) all once = (by (bool_cases (holds (carried_chain x y rest) (new_file x y h.file) h.number)), once_carried rest all.1 once.1)
+  once_carried (h ∷ rest) all once = (by (cases_Bool (holds (carried_chain x y rest) (new_file x y h.file) h.number)), once_carried rest all.1 once.1)
     where
       by : (holds (carried_chain x y rest) (new_file x y h.file) h.number ≡ true) ⊎ (holds (carried_chain x y rest) (new_file x y h.file) h.number ≡ false) → holds (carried_chain x y rest) (new_file x y h.file) h.number ≡ false
       by (inr none) = none
@@ -109,7 +109,7 @@ module _ (x y : Exchange) (kept_x : IsExchange x) (kept_y : IsExchange y) (fits 
           let file : c.old.file ≡ h.file = new_once c.old h c.fits all.0 c.file in
           let same : holds rest c.old.file c.old.number ≡ holds rest h.file h.number = λ i. holds rest (file i) (c.number i) in
           let again : holds rest h.file h.number ≡ true = sym same ∙ c.held in
-          absurd (true_not_false (holds rest h.file h.number) again once.0)
+          absurd (both_ways (holds rest h.file h.number) once.0 again)
 
   module _ (s : State) (valid : IsValid x s) (words : List ℕ) where
     abbrev t : State

@@ -2,7 +2,7 @@
 use Rattle.std.proofs.Common.{◌≡◌, ℕ, ◌+◌, ◌<◌, ◌≤◌, ◌^◌, ◌↔◌, Bool, true, false, nat_eq, nat_lt, inl, inr, List, [], ◌∷◌, ◌++◌, length, take, map, get_or, Option, Some, None, slice_get, slice_set, refl, sym, ap, ◌∙◌, subst, arith, length-append, if◌then◌else◌}
 use Rattle.std.specs.Prelude.{IsTrue, slice_index, ◌||◌}
 use Rattle.std.specs.Option.{option_and_then, option_map, option_map_or}
-use Rattle.std.proofs.lemmas.Bool.{cases_lt, eqb-true, eq-eqb, lt-ltb}
+use Rattle.std.proofs.lemmas.Bool.{cases_lt, eqb-true, eq-eqb, lt-ltb, both_ways}
 use Rattle.std.proofs.lemmas.Bool.Decides.{nat_tests}
 use Rattle.std.proofs.lemmas.List.{get_or-set_other, get_or-set_same, length-set, take_all, take_more}
 use Rattle.std.proofs.lemmas.Option.{get_or_from_slice_get}
@@ -18,7 +18,6 @@ use Rattle.exchange_model.specs.Kept.{IsExchange, variable_names}
 use Rattle.exchange_model.proofs.Numbers.{cell_number-below, cell_number-once, field_is_cell, mark_is_cell, variable_is_cell}
 use Rattle.job_types.specs.declared.chain.Held.{Held}
 use Rattle.job_types.specs.Chain.{holds, is_record}
-use Rattle.plex_num.proofs.Booleans.{true_not_false}
 use Rattle.source_meaning.proofs.Chains.{holds_last, record_is, record_itself}
 use Rattle.source_meaning.specs.Config.{files_of}
 use Rattle.source_meaning.specs.Valid.{IsRecord}
@@ -208,7 +207,7 @@ marked x y store old rs h kept whole fits before = record {
         let same : mark ≡ c = cell_number-once y.blocks mark c here there (sym number) in
         ap (slice_index (slice_set old (cell_number y.blocks mark) 1)) number ∙ one ∙ sym held ∙ ap (carried_value x y store (rs ++ h ∷ [])) same
     by c there false is =
-        let apart : cell_number y.blocks c ≡ cell_number y.blocks mark → ⊥ = λ same. absurd (true_not_false (nat_eq (cell_number y.blocks c) (cell_number y.blocks mark)) (eq-eqb (cell_number y.blocks c) (cell_number y.blocks mark) same) is) in
+        let apart : cell_number y.blocks c ≡ cell_number y.blocks mark → ⊥ = λ same. both_ways (nat_eq (cell_number y.blocks c) (cell_number y.blocks mark)) is (eq-eqb (cell_number y.blocks c) (cell_number y.blocks mark) same) in
         get_or-set_other old (cell_number y.blocks mark) (cell_number y.blocks c) 1 0 apart ∙ before.each c there ∙ sym (other_value x y store rs h c there apart)
 
 pub marks_more : (y : Exchange) (first old new : List ℕ) (records : List Held) (i word : ℕ) (h : Held) → IsExchange y → i < length records → h ≡ get_or records i h → IsRecord y h → word ≡ cell_number y.blocks (Mark h.file h.number) → new ≡ slice_set old word 1 → MarksUpTo y first old (take i records) → MarksUpTo y first new (take (i + 1) records)

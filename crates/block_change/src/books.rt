@@ -3,10 +3,9 @@ ghost use Rattle.std.specs.Prelude.{◌≡◌, ◌≤◌, IfOk, OnOk, length, ma
 ghost use Rattle.plex_limits.specs.declared.limits.TheConstants.{MOST_HELD};
 ghost use Rattle.std.specs.FinMap as fin;
 ghost use Rattle.block_change.specs.Carried.{carried_chain, carried_chains, carried_held, new_entries, new_file, number_for};
-ghost use Rattle.block_change.specs.Names.{IsDirectory};
 ghost use Rattle.block_change.specs.Renamed.{AreAtLevels, job_with, line_with, waiting_with};
 
-use crate::same::{Known, same_entry, same_file};
+use crate::same::{Named, same_entry, same_file};
 use exchange_model::{Entry, Exchange};
 use forlopp_chain::Chains;
 use job_buffers::Buffers;
@@ -19,9 +18,8 @@ use std::alloc::Global;
 pub(crate) fn new_entries(
     alloc: Global,
     old: &Exchange,
-    new: &Known<'_>,
+    new: &Named<'_>,
 ) -> Result<Seq<u32>, Memory>
-    requires { IsDirectory new.now.exchange.now new.now.names }
     ensures { IfOk result (λ numbers. numbers ≡ new_entries old.now new.now.exchange.now) }
 {
     numbers_of(alloc, old, old.entries.as_slice(), new)
@@ -32,9 +30,8 @@ fn numbers_of(
     alloc: Global,
     old: &Exchange,
     entries: &[Entry],
-    new: &Known<'_>,
+    new: &Named<'_>,
 ) -> Result<Seq<u32>, Memory>
-    requires { IsDirectory new.now.exchange.now new.now.names }
     ensures { IfOk result (λ numbers.
         numbers ≡ map (number_for old.now new.now.exchange.now) entries.now) }
 {
@@ -46,8 +43,7 @@ fn numbers_of(
 }
 
 /// The number of the entry of the same names; 0 where there is none.
-fn number_for(old: &Exchange, new: &Known<'_>, entry: Entry) -> u32
-    requires { IsDirectory new.now.exchange.now new.now.names }
+fn number_for(old: &Exchange, new: &Named<'_>, entry: Entry) -> u32
     ensures { result ≡ number_for old.now new.now.exchange.now entry }
 {
     match same_entry(old, new, entry) {
@@ -131,9 +127,8 @@ fn carried_line(line: &Line, entries: &[u32]) -> Line
 pub(crate) fn carry_chains(
     chains: &mut Chains,
     old: &Exchange,
-    new: &Known<'_>,
+    new: &Named<'_>,
 ) -> Result<(), Memory>
-    requires { IsDirectory new.now.exchange.now new.now.names }
     ensures chains { OnOk result (chains.new.chains
         ≡ carried_chains old.now new.now.exchange.now chains.old.chains) }
     ensures dead { OnOk result (chains.new.dead ≡ chains.old.dead) }
@@ -148,9 +143,8 @@ fn carry_each(
     chains: &mut Chains,
     numbers: &[u64],
     old: &Exchange,
-    new: &Known<'_>,
+    new: &Named<'_>,
 ) -> Result<(), Memory>
-    requires names { IsDirectory new.now.exchange.now new.now.names }
     requires numbers { numbers.now ≡ fin.keys chains.old.chains }
     ensures chains { OnOk result (chains.new.chains
         ≡ carried_chains old.now new.now.exchange.now chains.old.chains) }
@@ -165,8 +159,7 @@ fn carry_each(
 }
 
 /// The records, each in the file of the same names.
-fn carried_chain(old: &Exchange, new: &Known<'_>, chain: &[Held]) -> Chain
-    requires names { IsDirectory new.now.exchange.now new.now.names }
+fn carried_chain(old: &Exchange, new: &Named<'_>, chain: &[Held]) -> Chain
     requires few { length chain.now ≤ MOST_HELD }
     ensures { result ≡ carried_chain old.now new.now.exchange.now chain.now }
 {
@@ -178,8 +171,7 @@ fn carried_chain(old: &Exchange, new: &Known<'_>, chain: &[Held]) -> Chain
 }
 
 /// The record of the same number in the file of the same names.
-fn carried_held(old: &Exchange, new: &Known<'_>, held: Held) -> Held
-    requires { IsDirectory new.now.exchange.now new.now.names }
+fn carried_held(old: &Exchange, new: &Named<'_>, held: Held) -> Held
     ensures { result ≡ carried_held old.now new.now.exchange.now held }
 {
     Held {
@@ -189,8 +181,7 @@ fn carried_held(old: &Exchange, new: &Known<'_>, held: Held) -> Held
 }
 
 /// The number of the file of the same names; 0 where there is none.
-fn new_file(old: &Exchange, new: &Known<'_>, file: u32) -> u32
-    requires { IsDirectory new.now.exchange.now new.now.names }
+fn new_file(old: &Exchange, new: &Named<'_>, file: u32) -> u32
     ensures { result ≡ new_file old.now new.now.exchange.now file }
 {
     match same_file(old, new, file) {

@@ -4,12 +4,11 @@ ghost use Rattle.store_layout.specs.Laid.{IsLayout};
 ghost use Rattle.block_change.specs.Carried.{AreStanding, IsCarried, state_with};
 ghost use Rattle.block_change.specs.Misfits.{misfit};
 ghost use Rattle.block_change.specs.Moves.{AreMoved};
-ghost use Rattle.block_change.specs.Names.{IsDirectory};
 ghost use Rattle.block_change.specs.Renamed.{AreAtLevels};
 
 use crate::books::{carried_lines, carried_waiting, carry_chains, new_entries};
 use crate::directory::directory_of;
-use crate::same::Known;
+use crate::same::Named;
 use crate::words::all_words;
 use exchange_model::Exchange;
 use plex_num::{Memory, Seq};
@@ -24,36 +23,32 @@ use store_layout::Layout;
 pub fn carry(
     alloc: Global,
     old: &Exchange,
-    new: &Exchange,
+    new: &Named<'_>,
     old_layout: &Layout,
     new_layout: &Layout,
     parts: BookParts,
     words: &Seq<u32>,
 ) -> Result<(BookParts, Seq<u32>), Memory>
-    requires fits { misfit old.now new.now ≡ None }
+    requires fits { misfit old.now new.now.exchange.now ≡ None }
     requires standing { AreStanding old.now parts words.now }
     requires old_layout { IsLayout old.now.blocks old_layout.now }
-    requires new_layout { IsLayout new.now.blocks new_layout.now }
+    requires new_layout { IsLayout new.now.exchange.now.blocks new_layout.now }
     ensures limit { IfOk result (λ r. r.0.limit ≡ parts.limit) }
     ensures carried { IfOk result (λ r.
-        IsCarried old.now new.now (state_with parts words.now) (state_with r.0 r.1)) }
-    ensures standing { IfOk result (λ r. AreStanding new.now r.0 r.1) }
+        IsCarried old.now new.now.exchange.now (state_with parts words.now) (state_with r.0 r.1)) }
+    ensures standing { IfOk result (λ r. AreStanding new.now.exchange.now r.0 r.1) }
 {
     old.kept();
-    new.kept();
-    let from = Known {
+    new.exchange.kept();
+    let from = Named {
         exchange: old,
         names: directory_of(alloc, old)?,
     };
-    let to = Known {
-        exchange: new,
-        names: directory_of(alloc, new)?,
-    };
-    let moved = carried_parts(alloc, old, &to, parts)?;
+    let moved = carried_parts(alloc, old, new, parts)?;
     let carried = all_words(
         alloc,
         &from,
-        new,
+        new.exchange,
         old_layout,
         new_layout,
         &moved.chains,
@@ -66,10 +61,9 @@ pub fn carry(
 fn carried_parts(
     alloc: Global,
     old: &Exchange,
-    new: &Known<'_>,
+    new: &Named<'_>,
     parts: BookParts,
 ) -> Result<BookParts, Memory>
-    requires names { IsDirectory new.now.exchange.now new.now.names }
     requires levels { AreAtLevels parts.buffers.waiting }
     ensures { IfOk result (λ moved. AreMoved old.now new.now.exchange.now parts moved) }
 {

@@ -16,3 +16,4 @@ mod words;
 
 pub use carrying::carry;
 pub use misfit::{Misfit, misfit_of};
+pub use same::Named;

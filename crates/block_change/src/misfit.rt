@@ -1,17 +1,14 @@
 // Whether another exchange fits.
-ghost use Rattle.std.specs.Prelude.{◌≡◌, ◌<◌, IfOk, IfSome, Some, length, not, position};
+ghost use Rattle.std.specs.Prelude.{◌≡◌, ◌<◌, IfSome, Some, length, not, position};
 ghost use Rattle.std.specs.Option.{option_copied};
 ghost use Rattle.exchange_model.specs.Names.{signal_level};
 ghost use Rattle.exchange_model.specs.Kept.{signal_count};
 ghost use Rattle.std.specs.Option.{option_map_or};
 ghost use Rattle.block_change.specs.Misfits.{agree, entry_signal, first_lacking, has_entry, lacking, lacks, misfit, rank, takes};
-ghost use Rattle.block_change.specs.Names.{IsDirectory};
 
-use crate::directory::directory_of;
-use crate::same::{FileInside, Known, file_at, same_entry};
+use crate::same::{FileInside, Named, file_at, same_entry};
 use exchange_model::{Block, Entry, Exchange, File, SignalKind};
-use plex_num::{Level, Memory, Name};
-use std::alloc::Global;
+use plex_num::{Level, Name};
 
 /// What an exchange has and the one that is to take its place has not: an entry of the same signal and block names, level and
 /// number of values, or a FORLOPP FILE of the same names and at least its size. Both by their numbers in the first exchange.
@@ -22,26 +19,20 @@ pub enum Misfit {
 }
 
 /// The first misfit: that of an entry, or where there is none, that of a file. `None` exactly where the new exchange fits.
-/// Memory is the only reason for an error.
-pub fn misfit_of(alloc: Global, old: &Exchange, new: &Exchange) -> Result<Option<Misfit>, Memory>
-    ensures { IfOk result (λ found. found ≡ misfit old.now new.now) }
+pub fn misfit_of(old: &Exchange, new: &Named<'_>) -> Option<Misfit>
+    ensures { result ≡ misfit old.now new.now.exchange.now }
 {
-    let known = Known {
-        exchange: new,
-        names: directory_of(alloc, new)?,
-    };
-    if let Some(entry) = missing_entry(old, &known) {
-        return Ok(Some(Misfit::Entry { entry }));
+    if let Some(entry) = missing_entry(old, new) {
+        return Some(Misfit::Entry { entry });
     }
-    if let Some(file) = missing_file(old.blocks.as_slice(), &known) {
-        return Ok(Some(Misfit::File { file: file.number }));
+    if let Some(file) = missing_file(old.blocks.as_slice(), new) {
+        return Some(Misfit::File { file: file.number });
     }
-    Ok(None)
+    None
 }
 
 /// The first entry that the new exchange has not.
-fn missing_entry(old: &Exchange, new: &Known<'_>) -> Option<u32>
-    requires { IsDirectory new.now.exchange.now new.now.names }
+fn missing_entry(old: &Exchange, new: &Named<'_>) -> Option<u32>
     ensures { result
         ≡ position (λ e. not (has_entry old.now new.now.exchange.now e)) old.now.entries }
 {
@@ -52,8 +43,7 @@ fn missing_entry(old: &Exchange, new: &Known<'_>) -> Option<u32>
 }
 
 /// The place of the first of these that the new exchange has not.
-fn missing_place(old: &Exchange, entries: &[Entry], new: &Known<'_>) -> Option<usize>
-    requires { IsDirectory new.now.exchange.now new.now.names }
+fn missing_place(old: &Exchange, entries: &[Entry], new: &Named<'_>) -> Option<usize>
     ensures place { result
         ≡ position (λ e. not (has_entry old.now new.now.exchange.now e)) entries.now }
     ensures within { IfSome result (λ i. i < length entries.now) }
@@ -64,8 +54,7 @@ fn missing_place(old: &Exchange, entries: &[Entry], new: &Known<'_>) -> Option<u
 }
 
 /// Whether the new exchange has an entry.
-fn has_entry(old: &Exchange, new: &Known<'_>, entry: Entry) -> bool
-    requires { IsDirectory new.now.exchange.now new.now.names }
+fn has_entry(old: &Exchange, new: &Named<'_>, entry: Entry) -> bool
     ensures { result ≡ has_entry old.now new.now.exchange.now entry }
 {
     let Some(number) = same_entry(old, new, entry) else {
@@ -126,8 +115,7 @@ fn count(signal: Option<&SignalKind>) -> u8
 
 /// The first FORLOPP FILE that the new exchange has not.
 #[tactic(auto, using(crate::proofs::Misfitting::lacking_begin, crate::proofs::Misfitting::lacking_more, crate::proofs::Misfitting::lacking_found, crate::proofs::Misfitting::lacking_end))]
-fn missing_file<'a>(blocks: &'a [Block], new: &Known<'_>) -> Option<&'a File>
-    requires { IsDirectory new.now.exchange.now new.now.names }
+fn missing_file<'a>(blocks: &'a [Block], new: &Named<'_>) -> Option<&'a File>
     ensures { option_copied result ≡ first_lacking new.now.exchange.now blocks.now }
 {
     for block in blocks {
@@ -139,8 +127,7 @@ fn missing_file<'a>(blocks: &'a [Block], new: &Known<'_>) -> Option<&'a File>
 }
 
 /// The first of a block.
-fn lacking<'a>(block: &'a Block, new: &Known<'_>) -> Option<&'a File>
-    requires { IsDirectory new.now.exchange.now new.now.names }
+fn lacking<'a>(block: &'a Block, new: &Named<'_>) -> Option<&'a File>
     ensures { option_copied result ≡ lacking new.now.exchange.now block.now }
 {
     block
@@ -151,8 +138,7 @@ fn lacking<'a>(block: &'a Block, new: &Known<'_>) -> Option<&'a File>
 }
 
 /// Whether the new exchange lacks a FORLOPP FILE of a block.
-fn lacks(block: &Name, file: &File, new: &Known<'_>) -> bool
-    requires { IsDirectory new.now.exchange.now new.now.names }
+fn lacks(block: &Name, file: &File, new: &Named<'_>) -> bool
     ensures { result ≡ lacks new.now.exchange.now block.now file.now }
 {
     if !file.forlopp {

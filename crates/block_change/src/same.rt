@@ -1,21 +1,33 @@
 // What is the same in two exchanges, by names.
-ghost use Rattle.std.specs.Prelude.{◌≡◌, MatchOption, Some, None, slice_get};
+ghost use Rattle.std.specs.Prelude.{◌≡◌, IfOk, MatchOption, Some, None, slice_get};
 ghost use Rattle.std.specs.Option.{option_copied};
 ghost use Rattle.exchange_model.specs.Kept.{variable_names};
 ghost use Rattle.exchange_model.specs.declared.entry.Cell.TheVariants.{Variable as VariableCell, Field as FieldCell};
 ghost use Rattle.block_change.specs.Names.{IsDirectory, names_of};
 ghost use Rattle.block_change.specs.Same.{cell_variable, field_at, field_cell_in, file_at, same_block, same_cell, same_entry, same_file, same_signal, variable_at, variable_cell_at};
 
-use crate::directory::{BlockNames, Directory};
+use crate::directory::{BlockNames, Directory, directory_of};
 use crate::names::Names;
 use exchange_model::{Block, Cell, Entry, Exchange, File, Variable};
-use plex_num::Name;
+use plex_num::{Memory, Name};
+use std::alloc::Global;
 
-/// An exchange, and what it has by its names.
+/// An exchange, and all that it has by its names.
 #[derive(Drop)]
-pub(crate) struct Known<'a> {
-    pub(crate) exchange: &'a Exchange,
+pub struct Named<'a> {
+    pub exchange: &'a Exchange,
     pub(crate) names: Directory,
+    pub(crate) ghost named: { IsDirectory exchange.now names },
+}
+
+impl<'a> Named<'a> {
+    /// The exchange, with its directory. Memory is the only reason for an error.
+    pub fn of(alloc: Global, exchange: &'a Exchange) -> Result<Named<'a>, Memory>
+        ensures { IfOk result (λ named. named.exchange.now ≡ exchange.now) }
+    {
+        let names = directory_of(alloc, exchange)?;
+        Ok(Named { exchange, names })
+    }
 }
 
 /// A block, and the names of what stands in it.
@@ -33,8 +45,7 @@ pub(crate) struct FileInside<'a> {
 }
 
 /// The block of `to` that has the name of this block of `from`.
-pub(crate) fn same_block(from: &Exchange, to: &Known<'_>, block: u32) -> Option<u32>
-    requires { IsDirectory to.now.exchange.now to.now.names }
+pub(crate) fn same_block(from: &Exchange, to: &Named<'_>, block: u32) -> Option<u32>
     ensures { result ≡ same_block from.now.blocks to.now.exchange.now.blocks block }
 {
     let Some(found) = from.blocks.as_slice().get(block as usize) else {
@@ -44,8 +55,7 @@ pub(crate) fn same_block(from: &Exchange, to: &Known<'_>, block: u32) -> Option<
 }
 
 /// The signal of `to` that has the name of this signal of `from`.
-fn same_signal(from: &Exchange, to: &Known<'_>, signal: u32) -> Option<u32>
-    requires { IsDirectory to.now.exchange.now to.now.names }
+fn same_signal(from: &Exchange, to: &Named<'_>, signal: u32) -> Option<u32>
     ensures { result ≡ same_signal from.now.signals to.now.exchange.now.signals signal }
 {
     let Some(found) = from.signals.as_slice().get(signal as usize) else {
@@ -55,8 +65,7 @@ fn same_signal(from: &Exchange, to: &Known<'_>, signal: u32) -> Option<u32>
 }
 
 /// The entry of `to` at the block and for the signal of the same names.
-pub(crate) fn same_entry(from: &Exchange, to: &Known<'_>, entry: Entry) -> Option<u32>
-    requires { IsDirectory to.now.exchange.now to.now.names }
+pub(crate) fn same_entry(from: &Exchange, to: &Named<'_>, entry: Entry) -> Option<u32>
     ensures { result ≡ same_entry from.now to.now.exchange.now entry }
 {
     let Some(block) = same_block(from, to, entry.block) else {
@@ -70,8 +79,7 @@ pub(crate) fn same_entry(from: &Exchange, to: &Known<'_>, entry: Entry) -> Optio
 
 /// The block of this number.
 #[tactic(auto, using(crate::proofs::Lists::names_there))]
-fn inside_of<'a>(to: &'a Known<'_>, block: u32) -> Option<Inside<'a>>
-    requires { IsDirectory to.now.exchange.now to.now.names }
+fn inside_of<'a>(to: &'a Named<'_>, block: u32) -> Option<Inside<'a>>
     ensures { MatchOption result
         (slice_get to.now.exchange.now.blocks block ≡ None)
         (λ i. (slice_get to.now.exchange.now.blocks block ≡ Some i.block.now)
@@ -92,8 +100,7 @@ fn inside_of<'a>(to: &'a Known<'_>, block: u32) -> Option<Inside<'a>>
 
 /// The file of this name in a block.
 #[tactic(auto, using(crate::proofs::Lists::fields_there))]
-pub(crate) fn file_at<'a>(to: &'a Known<'_>, name: &Name, block: u32) -> Option<FileInside<'a>>
-    requires { IsDirectory to.now.exchange.now to.now.names }
+pub(crate) fn file_at<'a>(to: &'a Named<'_>, name: &Name, block: u32) -> Option<FileInside<'a>>
     ensures { MatchOption result
         (file_at to.now.exchange.now.blocks name.now block ≡ None)
         (λ f. (file_at to.now.exchange.now.blocks name.now block ≡ Some f.file.now)
@@ -115,8 +122,7 @@ pub(crate) fn file_at<'a>(to: &'a Known<'_>, name: &Name, block: u32) -> Option<
 }
 
 /// The file of `to` that has the names of this file of `from`.
-pub(crate) fn same_file<'a>(from: &Exchange, to: &'a Known<'_>, file: u32) -> Option<FileInside<'a>>
-    requires { IsDirectory to.now.exchange.now to.now.names }
+pub(crate) fn same_file<'a>(from: &Exchange, to: &'a Named<'_>, file: u32) -> Option<FileInside<'a>>
     ensures { MatchOption result
         (same_file from.now.blocks to.now.exchange.now.blocks file ≡ None)
         (λ f. (same_file from.now.blocks to.now.exchange.now.blocks file ≡ Some f.file.now)
@@ -167,8 +173,7 @@ pub(crate) fn cell_variable(exchange: &Exchange, cell: Cell) -> Option<&Variable
 }
 
 /// The cell of this variable in a block.
-fn variable_cell_at(to: &Known<'_>, name: &Name, block: u32) -> Option<Cell>
-    requires { IsDirectory to.now.exchange.now to.now.names }
+fn variable_cell_at(to: &Named<'_>, name: &Name, block: u32) -> Option<Cell>
     ensures { result ≡ variable_cell_at to.now.exchange.now.blocks name.now block }
 {
     let Some(inside) = inside_of(to, block) else {
@@ -199,8 +204,7 @@ fn field_cell_in(found: &FileInside<'_>, name: &Name, number: u32) -> Option<Cel
 }
 
 /// The cell of `to` that has the names of a variable's cell of `from`.
-fn same_variable(from: &Exchange, to: &Known<'_>, block: u32, index: u32) -> Option<Cell>
-    requires { IsDirectory to.now.exchange.now to.now.names }
+fn same_variable(from: &Exchange, to: &Named<'_>, block: u32, index: u32) -> Option<Cell>
     ensures { result ≡ same_cell from.now.blocks to.now.exchange.now.blocks
         (VariableCell block index) }
 {
@@ -214,8 +218,7 @@ fn same_variable(from: &Exchange, to: &Known<'_>, block: u32, index: u32) -> Opt
 }
 
 /// The cell of `to` that has the names of a field's cell of `from`, in the same record.
-fn same_field(from: &Exchange, to: &Known<'_>, file: u32, number: u32, field: u32) -> Option<Cell>
-    requires { IsDirectory to.now.exchange.now to.now.names }
+fn same_field(from: &Exchange, to: &Named<'_>, file: u32, number: u32, field: u32) -> Option<Cell>
     ensures { result ≡ same_cell from.now.blocks to.now.exchange.now.blocks
         (FieldCell file number field) }
 {
@@ -229,8 +232,7 @@ fn same_field(from: &Exchange, to: &Known<'_>, file: u32, number: u32, field: u3
 }
 
 /// The cell of `to` that has the names and the record of this cell of `from`.
-pub(crate) fn same_cell(from: &Exchange, to: &Known<'_>, cell: Cell) -> Option<Cell>
-    requires { IsDirectory to.now.exchange.now to.now.names }
+pub(crate) fn same_cell(from: &Exchange, to: &Named<'_>, cell: Cell) -> Option<Cell>
     ensures { result ≡ same_cell from.now.blocks to.now.exchange.now.blocks cell }
 {
     match cell {

@@ -6,9 +6,8 @@ ghost use Rattle.job_types.specs.Forlopps.{all_records};
 ghost use Rattle.source_meaning.specs.Valid.{IsRecord};
 ghost use Rattle.store_layout.specs.Laid.{IsLayout};
 ghost use Rattle.block_change.specs.Carried.{AreCarriedWords, carried_value, kept_value, old_value};
-ghost use Rattle.block_change.specs.Names.{IsDirectory};
 
-use crate::same::{Known, cell_variable, same_cell};
+use crate::same::{Named, cell_variable, same_cell};
 use exchange_model::{Cell, Exchange, Variable};
 use forlopp_chain::Chains;
 use job_types::Held;
@@ -19,14 +18,13 @@ use store_layout::{Layout, cell_of, word_of};
 /// The words of the new exchange, in which the records of these chains are held.
 pub(crate) fn all_words(
     alloc: Global,
-    old: &Known<'_>,
+    old: &Named<'_>,
     new: &Exchange,
     old_layout: &Layout,
     new_layout: &Layout,
     chains: &Chains,
     words: &[u32],
 ) -> Result<Seq<u32>, Memory>
-    requires names { IsDirectory old.now.exchange.now old.now.names }
     requires old_layout { IsLayout old.now.exchange.now.blocks old_layout.now }
     requires new_layout { IsLayout new.now.blocks new_layout.now }
     requires whole { length words.now ≡ old.now.exchange.now.cells }
@@ -44,13 +42,12 @@ pub(crate) fn all_words(
 #[tactic(auto, using(crate::proofs::Wording::words_begin))]
 fn carried_words(
     alloc: Global,
-    old: &Known<'_>,
+    old: &Named<'_>,
     new: &Exchange,
     old_layout: &Layout,
     new_layout: &Layout,
     words: &[u32],
 ) -> Result<Seq<u32>, Memory>
-    requires names { IsDirectory old.now.exchange.now old.now.names }
     requires old_layout { IsLayout old.now.exchange.now.blocks old_layout.now }
     requires new_layout { IsLayout new.now.blocks new_layout.now }
     requires whole { length words.now ≡ old.now.exchange.now.cells }
@@ -69,8 +66,7 @@ fn carried_words(
 
 /// The value of a cell of the new exchange in which no record is held.
 #[tactic(auto, using(crate::proofs::Wording::value_none, crate::proofs::Wording::value_some))]
-fn carried_value(old: &Known<'_>, new: &Exchange, layout: &Layout, words: &[u32], cell: Cell) -> u32
-    requires names { IsDirectory old.now.exchange.now old.now.names }
+fn carried_value(old: &Named<'_>, new: &Exchange, layout: &Layout, words: &[u32], cell: Cell) -> u32
     requires layout { IsLayout old.now.exchange.now.blocks layout.now }
     requires whole { length words.now ≡ old.now.exchange.now.cells }
     ensures { result ≡ carried_value old.now.exchange.now new.now words.now [] cell }
@@ -84,13 +80,12 @@ fn carried_value(old: &Known<'_>, new: &Exchange, layout: &Layout, words: &[u32]
 /// The value of the old exchange's cell of the same names, if there is one.
 #[tactic(auto, using(crate::proofs::Wording::has_cell))]
 fn old_value(
-    old: &Known<'_>,
+    old: &Named<'_>,
     new: &Exchange,
     layout: &Layout,
     words: &[u32],
     cell: Cell,
 ) -> Option<u32>
-    requires names { IsDirectory old.now.exchange.now old.now.names }
     requires layout { IsLayout old.now.exchange.now.blocks layout.now }
     requires whole { length words.now ≡ old.now.exchange.now.cells }
     ensures { result ≡ old_value old.now.exchange.now new.now words.now cell }

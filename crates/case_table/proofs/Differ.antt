@@ -5,7 +5,7 @@ use Rattle.std.proofs.lemmas.Map.Made.{AllPairs-from_IsDistinct, IsDistinct-from
 use Rattle.std.specs.Bool.{Decides}
 use Rattle.std.specs.Set.{distinct_count}
 use Rattle.std.specs.Cmp.Lexicographic.{same_text}
-use Rattle.case_table.specs.Names.{keyword_names, operation_names, fault_names}
+use Rattle.case_table.specs.Names.{keyword_names, operation_names}
 use Rattle.case_table.specs.Rows.{same_bytes, NamesDiffer}
 use Rattle.case_table.proofs.Places.{same_bytes-self}
 
@@ -21,6 +21,3 @@ keyword_names_differ = differ_from_count keyword_names refl
 
 pub operation_names_differ : NamesDiffer operation_names
 operation_names_differ = differ_from_count operation_names refl
-
-pub fault_names_differ : NamesDiffer fault_names
-fault_names_differ = differ_from_count fault_names refl

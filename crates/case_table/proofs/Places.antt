@@ -1,23 +1,19 @@
 -- Where a name stands among the names of rows.
-use Rattle.std.proofs.Common.{true≢false, ◌≡◌, ◌≢◌, ◌↔◌, ℕ, ◌+◌, ◌<◌, ◌≤◌, Bool, true, false, not, cond, nat_lt, List, [], ◌∷◌, length, map, refl, sym, ◌∙◌, ap, arith, Option, Some, None, get_or, slice_get}
+use Rattle.std.proofs.Common.{true≢false, ◌≡◌, ◌≢◌, ◌↔◌, ℕ, ◌+◌, ◌<◌, ◌≤◌, Bool, true, false, not, cond, nat_lt, List, [], length, map, refl, sym, ◌∙◌, ap, arith, Option, Some, None, get_or, slice_get}
 use Rattle.std.specs.List.{position, position_or_len}
 use Rattle.std.specs.Cmp.Lexicographic.{same_text, other_text}
 use Rattle.std.proofs.lemmas.List.{length-map}
 use Rattle.std.proofs.lemmas.List.Quantifiers.{position-Some}
+use Rattle.std.proofs.lemmas.List.Recursion.{same_from_clauses}
 use Rattle.std.proofs.lemmas.List.Sums.{position_or_len_is, prefix_len_passes}
 use Rattle.std.proofs.lemmas.Bool.{lt-ltb, ltb-false}
 use Rattle.std.proofs.lemmas.Option.{slice_get_within, slice_get-get_or, get_or_from_slice_get}
 use Rattle.case_table.specs.Rows.{place_of, same_bytes, NamesDiffer}
 
-position_or_len-map : {X Y : Type 0} (f : X → Y) (p : Y → Bool) (xs : List X) → position_or_len p (map f xs) ≡ position_or_len (λ x. p (f x)) xs
-position_or_len-map f p [] = refl
-position_or_len-map f p (x ∷ xs) = ap (λ n. cond (not (p (f x))) (1 + n) 0) (position_or_len-map f p xs)
-
-position-map : {X Y : Type 0} (f : X → Y) (p : Y → Bool) (xs : List X) → position p (map f xs) ≡ position (λ x. p (f x)) xs
-position-map f p xs = rw (position_or_len-map f p xs, length-map xs f) refl
-
 pub place_of_rows : {R : Type 0} (text : R → List ℕ) (rows : List R) (name : List ℕ) → place_of (map text rows) name ≡ position (λ r. same_bytes (text r) name) rows
-place_of_rows text rows name = position-map text (λ n. same_bytes n name) rows
+place_of_rows {R = R} text rows name =
+    let same = same_from_clauses (λ (rs : List R). position_or_len (λ n. same_bytes n name) (map text rs)) (position_or_len (λ (r : R). same_bytes (text r) name)) (λ (r : R) (n : ℕ). cond (not (same_bytes (text r) name)) (1 + n) 0) refl (λ r rs. refl) (λ r rs. refl) rows in
+    rw (same, length-map rows text) refl
 
 -- a test of two names tells whether they are the same
 pub same_bytes-self : (a b : List ℕ) (t : Bool) → a ≡ b → same_bytes a b ≡ t → t ≡ true

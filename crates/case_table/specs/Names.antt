@@ -1,4 +1,4 @@
--- The names of the three tables, each in its order.
+-- The names of the two tables, each in its order.
 use Rattle.std.specs.Prelude.{ℕ, List, [], ◌∷◌, codes}
 
 -- the keywords of the language
@@ -22,9 +22,3 @@ operation_names =
     codes "GE" ∷ codes "AND" ∷ codes "OR" ∷ codes "JMP" ∷ codes "JZ" ∷ codes "LDW" ∷ codes "STW" ∷ codes "CKW" ∷
     codes "CKP" ∷ codes "OWN" ∷ codes "LDX" ∷ codes "STX" ∷ codes "CKF" ∷ codes "CHN" ∷ codes "UNC" ∷ codes "ARG" ∷
     codes "SND" ∷ codes "DIR" ∷ codes "CALL" ∷ codes "RET" ∷ codes "TRF" ∷ codes "END" ∷ []
-
--- the faults that end a job
-abbrev pub fault_names : List (List ℕ)
-fault_names =
-    codes "POINTER" ∷ codes "RANGE" ∷ codes "DIVIDE" ∷ codes "NOTOWN" ∷ codes "NOFORLOPP" ∷ codes "CHAIN" ∷
-    codes "BADEND" ∷ codes "DEPTH" ∷ codes "SENDS" ∷ codes "BUDGET" ∷ []

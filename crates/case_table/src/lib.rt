@@ -1,5 +1,5 @@
-// Tables of rows with names: the keywords of the language, the instructions of the machine and the
-// faults that end a job, and the two ways to look in a table, by name and by place.
+// Tables of rows with names: the keywords of the language and the instructions of the machine, and
+// the two ways to look in a table, by name and by place.
 //
 // The lexer stands on the contract of `find`, which says the place of the first row of a name; those
 // who write names stand on that of `name_of`. It knows nothing of texts.
@@ -11,4 +11,4 @@ mod tables;
 
 pub use laws::{absent_where_none, found_is_first, found_where_it_stands};
 pub use row::{Named, Row, find, name_of};
-pub use tables::{faults, keywords, operations};
+pub use tables::{keywords, operations};

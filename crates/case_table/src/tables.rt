@@ -1,8 +1,8 @@
-// The three tables. A row's code is its place.
+// The two tables. A row's code is its place.
 ghost use Rattle.std.specs.Prelude.{◌≡◌};
 ghost use Rattle.std.specs.List.{range_with_len};
 ghost use Rattle.case_table.specs.Rows.{names_of, codes_of, NamesDiffer};
-ghost use Rattle.case_table.specs.Names.{keyword_names, operation_names, fault_names};
+ghost use Rattle.case_table.specs.Names.{keyword_names, operation_names};
 
 use crate::row::Row;
 
@@ -41,20 +41,5 @@ pub fn operations() -> [Row; 38]
         b"REM" 10, b"EQ" 11, b"NE" 12, b"LT" 13, b"LE" 14, b"GT" 15, b"GE" 16, b"AND" 17, b"OR" 18, b"JMP" 19,
         b"JZ" 20, b"LDW" 21, b"STW" 22, b"CKW" 23, b"CKP" 24, b"OWN" 25, b"LDX" 26, b"STX" 27, b"CKF" 28, b"CHN" 29,
         b"UNC" 30, b"ARG" 31, b"SND" 32, b"DIR" 33, b"CALL" 34, b"RET" 35, b"TRF" 36, b"END" 37
-    )
-}
-
-/// The names of the faults that end a job, each numbered by its place.
-pub fn faults() -> [Row; 10]
-    ensures names { names_of result ≡ fault_names }
-    ensures codes { codes_of result ≡ range_with_len 0 10 }
-    ensures differ { NamesDiffer (names_of result) }
-{
-    macro_rules! rows {
-        ($($name:literal $code:literal),*) => { [$(Row { name: $name, code: $code }),*] };
-    }
-    rows!(
-        b"POINTER" 0, b"RANGE" 1, b"DIVIDE" 2, b"NOTOWN" 3, b"NOFORLOPP" 4, b"CHAIN" 5, b"BADEND" 6, b"DEPTH" 7,
-        b"SENDS" 8, b"BUDGET" 9
     )
 }

@@ -138,7 +138,7 @@ point_added x e p k facts given text new know tells up same grown = record {
 pub points_begin : (x : Exchange) (e : ℕ) (text : List ℕ) → AddsLines (LeastBefore x e 0) text text
 points_begin x e text = none_added (LeastBefore x e 0) text (λ f l. let lt = l.0 in omega (arith, lt))
 
-point_less : (f g : Fact) → f.entry ≡ g.entry → f.point < g.point → fact_order f g ≡ Less
+pub point_less : (f g : Fact) → f.entry ≡ g.entry → f.point < g.point → fact_order f g ≡ Less
 point_less f g same lt =
     let tied : nat_cmp f.entry g.entry ≡ Equal = subst (λ (n : ℕ). nat_cmp f.entry n ≡ Equal) same (tied_itself nat_cmp_total f.entry) in
     ap (λ o. ordering_then o (ordering_then (nat_cmp f.point g.point) (ordering_then (slots.ghosts.cmp f.slot g.slot) (values.ghosts.cmp f.value g.value)))) tied

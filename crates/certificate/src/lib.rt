@@ -11,7 +11,9 @@ mod certified_text;
 mod missing;
 mod order;
 mod point_facts;
+mod reached;
 mod references;
+mod returned;
 mod shape;
 mod strange;
 

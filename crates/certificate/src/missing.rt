@@ -1,18 +1,27 @@
 // The least fact that facts give and that is not among them.
-ghost use Rattle.std.specs.Prelude.{◌≡◌, ◌<◌, ◌↔◌, All, Contains, IfOk, IsTrue, false, length};
+ghost use Rattle.std.specs.Prelude.{◌≡◌, ◌<◌, ◌↔◌, All, Contains, IfOk, IsTrue, Some, length};
+ghost use Rattle.std.specs.List.{AllByRecursion};
 ghost use Rattle.flow_points.specs.declared.fact.Fact.{Fact};
-ghost use Rattle.flow_points.specs.declared.fact.Slot.TheVariants.{Depth};
-ghost use Rattle.flow_points.specs.Facts.{Gives};
+ghost use Rattle.flow_points.specs.Facts.{Gives, Reached};
+ghost use Rattle.flow_table.specs.declared.way.Way.{Way};
 ghost use Rattle.flow_table.specs.Rows.{IsFlowTable};
-ghost use Rattle.certificate.specs.Missing.{Among, IsLowerMissing, IsLowestOf, IsOfPoint, LeastIn, Looks, Misses, SoFar, StartsBelow, lower};
-ghost use Rattle.fact_flows.specs.Given.{GivenAt, GivenAtStart};
+ghost use Rattle.flow_table.specs.Small.{IsSmall};
+ghost use Rattle.fact_flows.specs.Flows.{FlowsTo, OneGives, WayGives};
+ghost use Rattle.fact_flows.specs.Given.{GivenAtStart};
+ghost use Rattle.least_facts.specs.Answers.{AreAnswers};
+ghost use Rattle.least_facts.specs.Growing.{answer_way};
+ghost use Rattle.certificate.specs.Missing.{IsBefore, IsLowerMissing, IsLowestOf, LeastIn, Misses, StartsBelow, lower};
+ghost use Rattle.certificate.specs.Returned.{AreReturned, IsAnsweredAt, PointSends, WaySends, given_about};
 ghost use Rattle.certificate.specs.Strange.{AreListed, IsOfExchange};
 
+use crate::reached::reached_by;
+use crate::returned::{push_answered, returned_from};
 use exchange_model::Exchange;
-use fact_flows::{push_given_at, push_given_at_start};
+use fact_flows::{push_flow_to, push_given_at_start};
 use fact_list::FactList;
-use flow_points::{Fact, Slot};
-use flow_table::{FlowTable, KnownFacts};
+use flow_points::{Fact, Passing};
+use flow_table::{Ends, FlowTable, KnownFacts, Way};
+use least_facts::{AnswerTable, answers_of, awaited_in, gives_answer};
 use plex_num::{Memory, Seq};
 use std::alloc::Global;
 
@@ -29,16 +38,14 @@ impl ListedFacts for FactList {
     }
 }
 
-/// The fact that was looked at last, and the least so far that is missing.
-#[derive(Clone, Copy)]
-struct Look {
-    last: Option<Fact>,
-    least: Option<Fact>,
-}
-
 /// The least fact that one rule gives from these facts and that is not among them; `None` exactly where they are closed. The facts
 /// are those that are known, in an order in which those of one point stand together.
-#[tactic(auto, using(crate::proofs::Lowered::all_given))]
+///
+/// What one flow gives is listed at a time. A flow to a point behind that of the least fact so far gives nothing lower, and is left
+/// out. What another one gives is known where it leads to, or the least falls, which it does few times for each point, since the
+/// ends of a way rise. What RETURNs give is joined first, so that each RETRIEVE gets it once. So in all few times as much is listed as
+/// is known, however many flows lead from a point and to it.
+
 pub fn least_missing<K: ListedFacts>(
     alloc: Global,
     exchange: &Exchange,
@@ -52,8 +59,15 @@ pub fn least_missing<K: ListedFacts>(
     requires fit { All (IsOfExchange exchange.now) facts.now }
     ensures { IfOk result (LeastIn (K.knows known.now) (Gives exchange.now (K.knows known.now))) }
 {
+    exchange.kept();
     let first = first_at_starts(alloc, exchange, table, known)?;
-    let least = first_of_flows(alloc, exchange, table, known, facts, first)?;
+    let answers = answers_of(alloc, exchange)?;
+    let reached = reached_by(alloc, facts)?;
+    let points = reached.as_slice();
+    let joined = returned_from(alloc, exchange, table, known, points)?;
+    let least = lowest_of_points(
+        alloc, exchange, table, known, &answers, &joined, points, first,
+    )?;
     Ok(least)
 }
 
@@ -96,104 +110,293 @@ fn lowest_at_start<K: ListedFacts>(
     Ok(lowest(known, least, given.as_slice()))
 }
 
-/// The least of what the starts give, which is the first, and of what flows give from a point that a fact of the list reaches.
-fn first_of_flows<K: ListedFacts>(
+/// The least of this one, which is the first, and of what is given from the points of these facts and, by answers, to them.
+fn lowest_of_points<K: ListedFacts>(
     alloc: Global,
     exchange: &Exchange,
     table: &FlowTable,
     known: &K,
-    facts: &[Fact],
+    answers: &AnswerTable,
+    joined: &FactList,
+    reached: &[Fact],
     first: Option<Fact>,
 ) -> Result<Option<Fact>, Memory>
     requires table { IsFlowTable exchange.now table.now }
-    requires listed { AreListed exchange.now }
-    requires fit { All (IsOfExchange exchange.now) facts.now }
-    requires starts { LeastIn (K.knows known.now)
-        (StartsBelow exchange.now (K.knows known.now) (length exchange.now.entries)) first }
-    ensures { IfOk result (LeastIn (K.knows known.now)
-        (SoFar exchange.now (K.knows known.now) facts.now (length facts.now))) }
+    requires answers { AreAnswers exchange.now answers.now }
+    requires joined { AreReturned exchange.now table.now (K.knows known.now) joined.now }
+    requires missing { Misses (K.knows known.now) first }
+    ensures { IfOk result (IsLowestOf (K.knows known.now)
+        (OneGives (given_about exchange.now table.now (K.knows known.now)) reached.now) first) }
 {
-    let mut look = Look {
-        last: None,
-        least: first,
-    };
-    for fact in facts {
-        look = look_at(alloc, exchange, table, known, look, *fact)?;
+    let mut least = first;
+    for fact in reached {
+        least = lowest_about(alloc, exchange, table, known, answers, joined, *fact, least)?;
     }
-    Ok(look.least)
+    Ok(least)
 }
 
-/// Looks at the point of a fact, where the fact reaches it and it is not the one that was looked at last.
-fn look_at<K: ListedFacts>(
+/// The least of this one and of what is given from the point of a fact, and to it by answers.
+fn lowest_about<K: ListedFacts>(
     alloc: Global,
     exchange: &Exchange,
     table: &FlowTable,
     known: &K,
-    look: Look,
-    fact: Fact,
-) -> Result<Look, Memory>
-    requires table { IsFlowTable exchange.now table.now }
-    requires stands { fact.point < length exchange.now.points }
-    requires missing { Misses (K.knows known.now) look.least }
-    ensures { IfOk result (Looks (K.knows known.now)
-        (GivenAt exchange.now (K.knows known.now) fact.entry fact.point) look fact) }
-{
-    if !is_next(look.last, fact) {
-        return Ok(look);
-    }
-    let least = lowest_at(alloc, exchange, table, known, fact, look.least)?;
-    Ok(Look {
-        last: Some(fact),
-        least,
-    })
-}
-
-/// The least of this one and of what flows give from the point of a fact.
-fn lowest_at<K: ListedFacts>(
-    alloc: Global,
-    exchange: &Exchange,
-    table: &FlowTable,
-    known: &K,
+    answers: &AnswerTable,
+    joined: &FactList,
     fact: Fact,
     least: Option<Fact>,
 ) -> Result<Option<Fact>, Memory>
     requires table { IsFlowTable exchange.now table.now }
-    requires stands { fact.point < length exchange.now.points }
+    requires answers { AreAnswers exchange.now answers.now }
+    requires joined { AreReturned exchange.now table.now (K.knows known.now) joined.now }
     requires missing { Misses (K.knows known.now) least }
     ensures { IfOk result (IsLowestOf (K.knows known.now)
-        (GivenAt exchange.now (K.knows known.now) fact.entry fact.point) least) }
+        (given_about exchange.now table.now (K.knows known.now) fact) least) }
 {
+    if !known.is_reached(fact.entry, fact.point) {
+        return Ok(least);
+    }
+    let sent = lowest_sent(alloc, exchange, table, known, fact.entry, fact.point, least)?;
+    let lowest = lowest_answered(
+        alloc, exchange, table, known, answers, joined, fact.entry, fact.point, sent,
+    )?;
+    Ok(lowest)
+}
+
+/// The least of this one and of what RETURNs give to a point that is reached, if it is one of a RETRIEVE.
+fn lowest_answered<K: ListedFacts>(
+    alloc: Global,
+    exchange: &Exchange,
+    table: &FlowTable,
+    known: &K,
+    answers: &AnswerTable,
+    joined: &FactList,
+    entry: u32,
+    point: u32,
+    least: Option<Fact>,
+) -> Result<Option<Fact>, Memory>
+    requires answers { AreAnswers exchange.now answers.now }
+    requires joined { AreReturned exchange.now table.now (K.knows known.now) joined.now }
+    requires reached { Reached (K.knows known.now) entry point }
+    requires missing { Misses (K.knows known.now) least }
+    ensures { IfOk result (IsLowestOf (K.knows known.now)
+        (IsAnsweredAt exchange.now table.now (K.knows known.now) entry point) least) }
+{
+    exchange.kept();
+    let _ = &table.rows;
+    if is_before(least, entry, point) {
+        return Ok(least);
+    }
+    match awaited_in(answers, point) {
+        Some(answer) => {
+            let mut given = Seq::new(alloc);
+            push_answered(alloc, exchange, joined, entry, answer, point, &mut given)?;
+            Ok(lowest(known, least, given.as_slice()))
+        }
+        None => Ok(least),
+    }
+}
+
+/// The least of this one and of what other ways than answers give from a point that is reached.
+fn lowest_sent<K: ListedFacts>(
+    alloc: Global,
+    exchange: &Exchange,
+    table: &FlowTable,
+    known: &K,
+    entry: u32,
+    point: u32,
+    least: Option<Fact>,
+) -> Result<Option<Fact>, Memory>
+    requires table { IsFlowTable exchange.now table.now }
+    requires reached { Reached (K.knows known.now) entry point }
+    requires missing { Misses (K.knows known.now) least }
+    ensures { IfOk result (IsLowestOf (K.knows known.now)
+        (PointSends exchange.now table.now (K.knows known.now) entry point) least) }
+{
+    exchange.kept();
+    match table.rows.get(point as usize) {
+        Some(row) => {
+            let ways = row.ways.as_slice();
+            let lower = lowest_of_ways(alloc, exchange, table, known, entry, point, ways, least)?;
+            Ok(lower)
+        }
+        None => Ok(least),
+    }
+}
+
+/// The least of this one, which is the first, and of what those of these ways give from a point that is reached that are
+/// none of an answer.
+fn lowest_of_ways<K: ListedFacts>(
+    alloc: Global,
+    exchange: &Exchange,
+    table: &FlowTable,
+    known: &K,
+    entry: u32,
+    point: u32,
+    ways: &[Way],
+    first: Option<Fact>,
+) -> Result<Option<Fact>, Memory>
+    requires table { IsFlowTable exchange.now table.now }
+    requires small { AllByRecursion (λ (w : Way). IsSmall w.how) ways.now }
+    requires missing { Misses (K.knows known.now) first }
+    ensures { IfOk result (IsLowestOf (K.knows known.now)
+        (OneGives (WaySends exchange.now (K.knows known.now) entry point) ways.now) first) }
+{
+    let mut least = first;
+    for way in ways {
+        least = lowest_of_way(alloc, exchange, table, known, entry, point, way, least)?;
+    }
+    Ok(least)
+}
+
+/// The least of this one and of what a way gives from a point that is reached, if it is none of an answer.
+fn lowest_of_way<K: ListedFacts>(
+    alloc: Global,
+    exchange: &Exchange,
+    table: &FlowTable,
+    known: &K,
+    entry: u32,
+    point: u32,
+    way: &Way,
+    least: Option<Fact>,
+) -> Result<Option<Fact>, Memory>
+    requires table { IsFlowTable exchange.now table.now }
+    requires small { IsSmall way.now.how }
+    requires missing { Misses (K.knows known.now) least }
+    ensures { IfOk result (IsLowestOf (K.knows known.now)
+        (WaySends exchange.now (K.knows known.now) entry point way.now) least) }
+{
+    exchange.kept();
+    let how = &way.how;
+    match &way.ends {
+        Ends::Points(points) => {
+            let ends = points.as_slice();
+            let lower = lowest_of_flows(
+                alloc, exchange, table, known, entry, point, how, ends, least,
+            )?;
+            Ok(lower)
+        }
+        Ends::Retrieves(answer) => {
+            if gives_answer(how) {
+                return Ok(least);
+            }
+            let all = lowest_at_retrieves(
+                alloc, exchange, table, known, entry, point, how, *answer, least,
+            )?;
+            Ok(all)
+        }
+    }
+}
+
+/// The least of this one and of what flows from a point that is reached to the RETRIEVEs of an answer.
+fn lowest_at_retrieves<K: ListedFacts>(
+    alloc: Global,
+    exchange: &Exchange,
+    table: &FlowTable,
+    known: &K,
+    entry: u32,
+    point: u32,
+    how: &Passing,
+    answer: u32,
+    least: Option<Fact>,
+) -> Result<Option<Fact>, Memory>
+    requires table { IsFlowTable exchange.now table.now }
+    requires small { IsSmall how.now }
+    requires missing { Misses (K.knows known.now) least }
+    ensures { IfOk result (IsLowestOf (K.knows known.now)
+        (WayGives exchange.now (K.knows known.now) entry point (answer_way how.now answer)) least) }
+{
+    exchange.kept();
+    match table.retrieves.get(answer as usize) {
+        Some(points) => {
+            let ends = points.as_slice();
+            let lower = lowest_of_flows(
+                alloc, exchange, table, known, entry, point, how, ends, least,
+            )?;
+            Ok(lower)
+        }
+        None => Ok(least),
+    }
+}
+
+/// The least of this one, which is the first, and of what flows give from a point that is reached to these points.
+fn lowest_of_flows<K: ListedFacts>(
+    alloc: Global,
+    exchange: &Exchange,
+    table: &FlowTable,
+    known: &K,
+    entry: u32,
+    point: u32,
+    how: &Passing,
+    ends: &[u32],
+    first: Option<Fact>,
+) -> Result<Option<Fact>, Memory>
+    requires table { IsFlowTable exchange.now table.now }
+    requires small { IsSmall how.now }
+    requires missing { Misses (K.knows known.now) first }
+    ensures { IfOk result (IsLowestOf (K.knows known.now)
+        (OneGives (FlowsTo exchange.now (K.knows known.now) entry point how.now) ends.now)
+        first) }
+{
+    let mut least = first;
+    for to in ends {
+        least = lowest_of_flow(alloc, exchange, table, known, entry, point, how, *to, least)?;
+    }
+    Ok(least)
+}
+
+/// The least of this one and of what flows from a point that is reached to another one, which is listed unless this one comes before
+/// all that could be.
+fn lowest_of_flow<K: ListedFacts>(
+    alloc: Global,
+    exchange: &Exchange,
+    table: &FlowTable,
+    known: &K,
+    entry: u32,
+    point: u32,
+    how: &Passing,
+    to: u32,
+    least: Option<Fact>,
+) -> Result<Option<Fact>, Memory>
+    requires table { IsFlowTable exchange.now table.now }
+    requires small { IsSmall how.now }
+    requires missing { Misses (K.knows known.now) least }
+    ensures { IfOk result (IsLowestOf (K.knows known.now)
+        (FlowsTo exchange.now (K.knows known.now) entry point how.now to) least) }
+{
+    if is_before(least, entry, to) {
+        return Ok(least);
+    }
     let mut given = Seq::new(alloc);
-    push_given_at(
-        alloc, exchange, table, known, fact.entry, fact.point, &mut given,
+    push_flow_to(
+        alloc, exchange, table, known, entry, point, how, to, &mut given,
     )?;
     Ok(lowest(known, least, given.as_slice()))
 }
 
-/// Whether a fact reaches a point at which the last one that was looked at does not stand.
-fn is_next(last: Option<Fact>, fact: Fact) -> bool
-    ensures reaches { IsTrue result → fact.slot ≡ Depth }
-    ensures other { result ≡ false → fact.slot ≡ Depth → IsOfPoint last fact }
+/// Whether a fact comes before all those of an entry at a point.
+fn is_before(least: Option<Fact>, entry: u32, point: u32) -> bool
+    ensures { IsTrue result → IsBefore least entry point }
 {
-    match fact.slot {
-        Slot::Depth => !is_of_point(last, fact),
-        _ => false,
+    match least {
+        Some(least) => comes_before(least, entry, point),
+        None => false,
     }
 }
 
-fn is_of_point(last: Option<Fact>, fact: Fact) -> bool
-    ensures { IsTrue result ↔ IsOfPoint last fact }
+fn comes_before(least: Fact, entry: u32, point: u32) -> bool
+    ensures { IsTrue result → IsBefore (Some least) entry point }
 {
-    match last {
-        Some(last) => last.entry == fact.entry && last.point == fact.point,
-        None => false,
+    if least.entry == entry {
+        return least.point < point;
     }
+    least.entry < entry
 }
 
 /// The least of these that is not known: the first, which is not, and those of the list.
 fn lowest<K: ListedFacts>(known: &K, first: Option<Fact>, given: &[Fact]) -> Option<Fact>
     requires { Misses (K.knows known.now) first }
-    ensures { LeastIn (K.knows known.now) (Among first given.now) result }
+    ensures { IsLowestOf (K.knows known.now) (Contains given.now) first result }
 {
     let mut least = first;
     for fact in given {

@@ -29,7 +29,7 @@ use Rattle.flow_points.specs.declared.flow.Source.TheVariants.{Of, Is, Deeper, N
 use Rattle.flow_points.specs.Facts.{Facts, IsClosed, IsLeast, SourceGives, fact}
 use Rattle.flow_points.specs.Flows.{LeadsTo}
 use Rattle.flow_points.specs.Places.{Place}
-use Rattle.flow_points.specs.Sources.{alone, at_place, expr_source, named, source_of, start_source}
+use Rattle.flow_points.specs.Sources.{at_place, expr_source, lone_source, named, source_of, start_source}
 use Rattle.flow_points.proofs.Least.{gives_more, least_closed, least_in}
 use Rattle.flow_table.specs.declared.way.Way.{Way}
 use Rattle.flow_table.specs.Alone.{term_source, joined_source, own_source}
@@ -62,12 +62,12 @@ Carries Nothing = Unit {0}
 
 -- expressions
 
-alone_term : (ts : List Term) → AllByRecursion (λ (t : Term). Carries (term_source t)) ts → Carries (alone (map term_source ts))
+alone_term : (ts : List Term) → AllByRecursion (λ (t : Term). Carries (term_source t)) ts → Carries (lone_source (map term_source ts))
 alone_term [] each = tt
 alone_term (t ∷ []) each = each.0
 alone_term (t ∷ u ∷ ts) each = tt
 
-alone_factor : (js : List Joined) → AllByRecursion (λ (j : Joined). Carries (own_source j.factor)) js → Carries (alone (map joined_source js))
+alone_factor : (js : List Joined) → AllByRecursion (λ (j : Joined). Carries (own_source j.factor)) js → Carries (lone_source (map joined_source js))
 alone_factor [] each = tt
 alone_factor (j ∷ []) each = subst Carries (sym (joined_source-out j)) each.0
 alone_factor (j ∷ k ∷ js) each = tt

@@ -12,7 +12,8 @@ use Rattle.exchange_model.specs.declared.expr.Rel.{Rel}
 use Rattle.exchange_model.specs.Cells.{Placed, record_cells}
 use Rattle.expr_code.specs.Code.{expr_code, pointer_code, rel_op}
 use Rattle.stmt_code.specs.declared.lengths.TheConstants.{LOOK_LENGTH, FOUND_LENGTH, AGAIN_LENGTH}
-use Rattle.stmt_code.specs.StmtCode.{Places, search_code, for_first_code, free_search_code, seize_code, free_code, inits_code}
+use Rattle.stmt_code.specs.StmtCode.{Places}
+use Rattle.stmt_code.specs.RecordCode.{search_code, for_first_code, free_search_code, seize_code, free_code, inits_code}
 use Rattle.code_gen.specs.declared.setting.Setting.{Setting}
 use Rattle.code_gen.specs.Settings.{places_in, placed_of, IsFileIn}
 use Rattle.code_gen.proofs.Parts.{two, three, four, part_more}

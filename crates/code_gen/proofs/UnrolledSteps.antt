@@ -23,7 +23,8 @@ use Rattle.exchange_model.proofs.Layers.{same_kind}
 use Rattle.source_meaning.specs.Config.{files_of}
 use Rattle.expr_code.specs.Code.{own_code}
 use Rattle.stmt_code.specs.declared.lengths.TheConstants.{COMPARE_LENGTH}
-use Rattle.stmt_code.specs.StmtCode.{Places, each_receiver, free_code, inits_code, look_first}
+use Rattle.stmt_code.specs.StmtCode.{Places, each_receiver, look_first}
+use Rattle.stmt_code.specs.RecordCode.{free_code, inits_code}
 use Rattle.stmt_code.proofs.Sizes.{choice_length}
 use Rattle.code_gen.specs.Unrolled.{layer_unrolled, kind_unrolled, stmt_unrolled, when_unrolled, text_unrolled, opened_unrolled}
 

@@ -13,7 +13,8 @@ use Rattle.exchange_model.specs.declared.stmt.When.{When, fold-When}
 use Rattle.exchange_model.specs.declared.stmt.StmtKind.{StmtKind, StmtKind-F, fold-StmtKind, map-StmtKind}
 use Rattle.exchange_model.specs.declared.stmt.StmtKind.TheOpen.{If, Case, On, Send, Transfer, Free}
 use Rattle.exchange_model.specs.Inside.{total}
-use Rattle.stmt_code.specs.StmtCode.{Places, each_receiver, free_code, look_first}
+use Rattle.stmt_code.specs.StmtCode.{Places, each_receiver, look_first}
+use Rattle.stmt_code.specs.RecordCode.{free_code}
 use Rattle.stmt_code.specs.Whole.{no_table, places_of}
 use Rattle.code_gen.specs.Receivers.{arm_code}
 use Rattle.code_gen.specs.declared.receivers.Arm.TheVariants as arm

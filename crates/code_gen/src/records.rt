@@ -2,7 +2,7 @@
 ghost use Rattle.std.specs.Prelude.{◌≡◌, ◌+◌, ◌<◌, ◌^◌, ◌++◌, length, slice_get, OnOk};
 ghost use Rattle.exchange_model.specs.Cells.{record_cells};
 ghost use Rattle.exchange_model.specs.declared.stmt.StmtKind.TheOpen as layer;
-ghost use Rattle.stmt_code.specs.StmtCode.{for_first_code, free_code, free_search_code, inits_code, search_code, seize_code};
+ghost use Rattle.stmt_code.specs.RecordCode.{for_first_code, free_code, free_search_code, inits_code, search_code, seize_code};
 ghost use Rattle.code_gen.specs.Settings.{IsFieldIn, IsIn, IsSetting, code_in, placed_of, places_in};
 
 use crate::addresses::{address_after, address_plus};

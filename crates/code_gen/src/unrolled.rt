@@ -3,7 +3,8 @@ ghost use Rattle.std.specs.Prelude.{◌≡◌, ◌+◌, ◌≤◌, ℕ, length, 
 ghost use Rattle.exchange_model.specs.Cells.{marks};
 ghost use Rattle.exchange_model.specs.Inside.{total};
 ghost use Rattle.source_meaning.specs.Config.{files_of};
-ghost use Rattle.stmt_code.specs.StmtCode.{each_receiver, free_code, look_first};
+ghost use Rattle.stmt_code.specs.StmtCode.{each_receiver, look_first};
+ghost use Rattle.stmt_code.specs.RecordCode.{free_code};
 ghost use Rattle.stmt_code.specs.Whole.{receivers_from};
 ghost use Rattle.code_gen.specs.Receivers.{arm_code};
 ghost use Rattle.code_gen.specs.Unrolled.{choice_length, kind_unrolled, some_places, text_unrolled, unrolled_length, when_unrolled};

@@ -1,3 +1,4 @@
 pub mod Bounded
 pub mod Shapes
+pub mod Status
 pub mod Words

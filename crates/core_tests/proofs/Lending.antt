@@ -3,6 +3,7 @@ use Rattle.std.proofs.Common.{◌≡◌, ℕ, ◌+◌, ◌*◌, ◌<◌, Bool, t
 use Rattle.std.specs.Prelude.{nat_lt}
 use Rattle.std.specs.List.{list_any}
 use Rattle.std.proofs.lemmas.Option.{none-some}
+use Rattle.std.proofs.lemmas.Bool.{or_right}
 use Rattle.plex_num.proofs.Lists.{all_weaker}
 use Rattle.exchange_model.specs.declared.exchange.Exchange.{Exchange}
 use Rattle.exchange_model.specs.Kept.{IsExchange}
@@ -18,7 +19,6 @@ use Rattle.machine_code.proofs.Spanned.{spans_in}
 use Rattle.source_meaning.specs.SingleRun.{next_start}
 use Rattle.source_meaning.specs.Traces.{touched_word, trace_of}
 use Rattle.source_meaning.specs.Valid.{IsValid}
-use Rattle.plex_num.proofs.Booleans.{or_right}
 use Rattle.source_meaning.proofs.Retiring.{start_fits}
 use Rattle.source_meaning.proofs.Touching.{touches_inside}
 use Rattle.retire_order.specs.Accounts.{Account, upcoming, with_words}

@@ -1,5 +1,5 @@
 -- What is made of texts.
-use Rattle.std.proofs.Common.{◌≡◌, ℕ, ◌≤◌, ◌<◌, ◌^◌, true, List, [], length, map, Result, Ok, Err, IfOk, refl, sym, subst, arith}
+use Rattle.std.proofs.Common.{◌≡◌, ℕ, ◌≤◌, ◌<◌, ◌^◌, true, List, [], length, map, Result, Ok, Err, IfOk, refl, sym, subst, ap, ◌∙◌, arith}
 use Rattle.std.specs.List.Sorted.{IsStrictlySortedBy}
 use Rattle.std.proofs.Math.Nat.{le_trans}
 use Rattle.plex_limits.specs.declared.limits.TheConstants.{MOST_BYTES, MOST_WHENS}
@@ -43,8 +43,8 @@ tree_has_few text tokens t fewer small spelled = few_enough MOST_WHENS MOST_BYTE
 
 -- ## Signal lines
 
-pub lines_fit : (x : Exchange) (text : List ℕ) (lines : List Line) → Ok lines ≡ signal_lines x text → LinesFit x [] (map coming_of lines)
-lines_fit x text lines is = signal_lines_fit x text lines (sym is)
+pub lines_fit : (x known : Exchange) (text : List ℕ) (lines : List Line) → Ok lines ≡ signal_lines known text → known ≡ x → LinesFit x [] (map coming_of lines)
+lines_fit x known text lines is same = signal_lines_fit x text lines (sym (is ∙ ap (λ y. signal_lines y text) same))
 
 pub lines_few : (x : Exchange) (text : List ℕ) (lines : List Line) → length text ≤ MOST_BYTES → Ok lines ≡ signal_lines x text → length lines < 2 ^ 32
 lines_few x text lines small is = signal_lines_few x text lines (le_trans small (omega arith)) (sym is)

@@ -3,7 +3,7 @@ ghost use Rattle.store_layout.specs.Laid.{IsLayout};
 ghost use Rattle.register_machine.specs.Faithful.{Faithful};
 ghost use Rattle.checked.specs.Kept.{IsChecked};
 
-use crate::given::{NotMade, core_after, exchange_of, least_of, lines_of};
+use crate::given::{NotMade, Tried, core_after, exchange_of, least_of, lines_of};
 use crate::texts::{LATE_ASKS, LEVELS, PARTS, THREE_ASKS, TWO_ASKS, TWO_WORKS};
 use checked::Checked;
 use code_gen::compile;
@@ -37,8 +37,7 @@ fn told_of_core(
     alloc: Global,
     exchange: &Exchange,
     lines: &str,
-    workers: u32,
-    events: &[CoreEvent],
+    tried: &Tried<'_>,
     layout: &Layout,
     code: &Code,
     checked: &Checked,
@@ -48,9 +47,7 @@ fn told_of_core(
     requires checked { IsChecked exchange.now checked.now }
 {
     let lines = lines_of(alloc, exchange, lines)?;
-    let made = core_after(
-        alloc, exchange, layout, code, checked, lines, workers, events,
-    );
+    let made = core_after(alloc, exchange, layout, code, checked, lines, tried);
     told_of(made)
 }
 
@@ -58,15 +55,12 @@ fn told_on(
     alloc: Global,
     exchange: &Exchange,
     lines: &str,
-    workers: u32,
-    events: &[CoreEvent],
+    tried: &Tried<'_>,
 ) -> Result<Told, NotMade> {
     let layout = layout_of(alloc, exchange)?;
     let code = compile(alloc, exchange, &layout)?;
     let checked = least_of(alloc, exchange)?;
-    told_of_core(
-        alloc, exchange, lines, workers, events, &layout, &code, &checked,
-    )
+    told_of_core(alloc, exchange, lines, tried, &layout, &code, &checked)
 }
 
 /// What is told of events on the exchange of a text, by its own certificate.
@@ -78,7 +72,7 @@ fn told_at(
     events: &[CoreEvent],
 ) -> Result<Told, NotMade> {
     let exchange = exchange_of(alloc, exchange)?;
-    told_on(alloc, &exchange, lines, workers, events)
+    told_on(alloc, &exchange, lines, &Tried { workers, events })
 }
 
 #[test]

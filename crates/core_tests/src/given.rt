@@ -26,7 +26,7 @@ use plex_limits::MOST_BYTES;
 use plex_num::{Memory, Seq};
 use plex_parser::parse;
 use retire_order::{Books, let_arrive};
-use signal_file::{Line, read_signals};
+use signal_file::{Known, Line, read_signals};
 use std::alloc::Global;
 use store_layout::{Layout, opening};
 
@@ -88,7 +88,8 @@ pub fn lines_of(alloc: Global, exchange: &Exchange, text: &str) -> Result<Seq<Li
     if text.len() > MOST_BYTES {
         return Err(NotMade);
     }
-    match read_signals(alloc, exchange, text)? {
+    let known = Known::of(alloc, exchange)?;
+    match read_signals(alloc, &known, text)? {
         Ok(lines) => Ok(lines),
         Err(_) => Err(NotMade),
     }
@@ -148,6 +149,13 @@ pub fn books_of(alloc: Global, exchange: &Exchange, lines: Seq<Line>) -> Result<
     Ok(books)
 }
 
+/// Events to be tried, and how many workers there are.
+#[derive(Clone, Copy)]
+pub struct Tried<'a> {
+    pub workers: u32,
+    pub events: &'a [CoreEvent],
+}
+
 /// What stands after these events, the first of which comes before the first job.
 pub fn core_after(
     alloc: Global,
@@ -156,8 +164,7 @@ pub fn core_after(
     code: &Code,
     checked: &Checked,
     lines: Seq<Line>,
-    workers: u32,
-    events: &[CoreEvent],
+    tried: &Tried<'_>,
 ) -> Result<CoreState, CoreFault>
     requires fit { LinesFit exchange.now [] (map coming_of lines) }
     requires few { length lines < 2 ^ 32 }
@@ -165,6 +172,7 @@ pub fn core_after(
     requires faithful { Faithful exchange.now code.now }
     requires checked { IsChecked exchange.now checked.now }
 {
+    let Tried { workers, events } = *tried;
     let words = opening(alloc, exchange, layout)?;
     let books = books_of(alloc, exchange, lines)?;
     run_events(

@@ -12,7 +12,7 @@ use Rattle.exchange_model.specs.Kept.{IsExchange}
 use Rattle.source_meaning.specs.Config.{files_of}
 use Rattle.source_meaning.specs.Deeds.{IsFileAt}
 use Rattle.entry_summary.specs.declared.summary.Access.{Access}
-use Rattle.entry_summary.specs.declared.summary.Access.TheVariants.{Variable, Field, Own, Seizes, Frees}
+use Rattle.entry_summary.specs.declared.summary.Access.TheVariants.{Own, Frees}
 use Rattle.entry_summary.specs.Numbers.{field_number}
 use Rattle.entry_accesses.specs.Adding.{Adds, OneGives}
 use Rattle.entry_accesses.specs.Numbered.{AreNumbers, HasNumber, placed_count}

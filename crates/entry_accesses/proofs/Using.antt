@@ -1,5 +1,5 @@
 -- What statements do to stored data, step by step.
-use Rattle.std.proofs.Common.{◌≡◌, ℕ, zero, suc, ◌+◌, ◌-◌, ◌<◌, ◌≤◌, ◌^◌, Bool, true, false, List, [], ◌∷◌, ◌++◌, length, map, take, drop, get_or, sum_by, Option, Some, None, slice_get, refl, sym, ap, ◌∙◌, subst, arith, append_assoc, append-nil}
+use Rattle.std.proofs.Common.{◌≡◌, ℕ, zero, suc, ◌+◌, ◌<◌, ◌≤◌, ◌^◌, Bool, false, List, [], ◌∷◌, ◌++◌, length, map, take, drop, get_or, sum_by, Option, Some, None, slice_get, refl, sym, ap, ◌∙◌, subst, arith, append_assoc, append-nil}
 use Rattle.std.specs.List.{AllByRecursion}
 use Rattle.std.proofs.Math.ListN.{drop_of_length-le}
 use Rattle.std.proofs.lemmas.List.Sums.{sum_by_more_le}
@@ -22,7 +22,7 @@ use Rattle.exchange_model.specs.declared.stmt.When.{When}
 use Rattle.exchange_model.specs.declared.stmt.StmtKind.{StmtKind, StmtKind-F, out-StmtKind}
 use Rattle.exchange_model.specs.declared.stmt.StmtKind.TheOpen as layer
 use Rattle.exchange_model.specs.declared.stmt.StmtKind.TheVariants as kind
-use Rattle.exchange_model.specs.Cells.{Placed, placed_files}
+use Rattle.exchange_model.specs.Cells.{placed_files}
 use Rattle.exchange_model.specs.Fits.{ExprFits, IsField, KindNames, SendFits, Reaches, TransferFits}
 use Rattle.exchange_model.specs.Inside.{own_exprs}
 use Rattle.exchange_model.specs.Kept.{IsExchange, scope_of}
@@ -35,7 +35,6 @@ use Rattle.source_meaning.proofs.Fitting.{NamedFits, names_fit}
 use Rattle.entry_summary.specs.Numbers.{field_number}
 use Rattle.entry_accesses.specs.declared.operands.Operand.{Operand}
 use Rattle.entry_accesses.specs.declared.uses.Use.{Use}
-use Rattle.entry_accesses.specs.declared.uses.Use.TheVariants as use_of
 use Rattle.entry_accesses.specs.Numbered.{variable_count, placed_count, IsNumbered}
 use Rattle.entry_accesses.specs.Operands.{HasNames, named, names_in, layer_names}
 use Rattle.entry_accesses.specs.Uses.{field_use, field_uses, named_uses, read_uses, holder_uses, done_uses, layer_uses}

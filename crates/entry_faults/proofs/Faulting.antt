@@ -2,6 +2,7 @@
 use Rattle.std.proofs.Common.{◌≡◌, ◌⊎◌, inl, inr, ⊎_elim, ℕ, ◌+◌, ◌^◌, ◌<◌, ◌≤◌, Bool, true, false, ◌||◌, List, [], ◌∷◌, ◌++◌, length, map, drop, get_or, Option, Some, None, slice_get, refl, sym, ap, ◌∙◌, subst, arith, append-nil, append_assoc, rules, IsPermutation}
 use Rattle.std.specs.Prelude.{◌↔◌}
 use Rattle.std.specs.List.{Contains, dedup, list_any}
+use Rattle.std.specs.Option.{option_to_list}
 use Rattle.std.proofs.Math.ListN.{drop_of_length-le}
 use Rattle.std.proofs.lemmas.List.Elements.{Contains-append_left, Contains-append_right, Contains-append_cases}
 use Rattle.std.proofs.lemmas.Bool.{or_right}
@@ -44,7 +45,7 @@ use Rattle.entry_faults.specs.declared.question.Question.{Question}
 use Rattle.entry_faults.specs.Asking.{MayAnswer}
 use Rattle.entry_faults.specs.Exprs.{expr_seen}
 use Rattle.entry_faults.specs.Fields.{pointer_to, pointers_named, pointers_in}
-use Rattle.entry_faults.specs.Statements.{placed_as, file_at, own_pointer, alone, pointers_at, is_forlopp, points_at_forlopp, size_question, pointer_question, AnyMisses, wide_question, field_question, width_question, held_question, receiver_question, call_question, depth_question, end_question, awaits_question, is_seize, FaultsHere}
+use Rattle.entry_faults.specs.Statements.{placed_as, file_at, own_pointer, pointers_at, is_forlopp, points_at_forlopp, size_question, pointer_question, AnyMisses, wide_question, field_question, width_question, held_question, receiver_question, call_question, depth_question, end_question, awaits_question, is_seize, FaultsHere}
 use Rattle.entry_faults.proofs.Asking.{any_there, there_any}
 
 -- files
@@ -128,11 +129,11 @@ all_in (d ∷ es) q c =
     (Contains-append_cases (pointers_named (named_in d)) (pointers_in es) q c)
 
 points_listed : (l : Layer) (file temp : ℕ) → PointsAt l file temp → Contains (pointers_at l) (pointer_to file temp)
-points_listed l file temp (reads m f field t h) = Contains-append_left (pointers_in (own_exprs l)) (alone (own_pointer l)) (pointer_to file temp) (in_all (own_exprs l) h.expr (pointer_to file temp) h.own (named_pointer (named_in h.expr) file field temp h.named))
-points_listed l file temp (writes f field t value) = Contains-append_right (pointers_in (own_exprs l)) (alone (own_pointer l)) (pointer_to file temp) (first_is (pointer_to file temp) [])
-points_listed l file temp (frees t f) = Contains-append_right (pointers_in (own_exprs l)) (alone (own_pointer l)) (pointer_to file temp) (first_is (pointer_to file temp) [])
+points_listed l file temp (reads m f field t h) = Contains-append_left (pointers_in (own_exprs l)) (option_to_list (own_pointer l)) (pointer_to file temp) (in_all (own_exprs l) h.expr (pointer_to file temp) h.own (named_pointer (named_in h.expr) file field temp h.named))
+points_listed l file temp (writes f field t value) = Contains-append_right (pointers_in (own_exprs l)) (option_to_list (own_pointer l)) (pointer_to file temp) (first_is (pointer_to file temp) [])
+points_listed l file temp (frees t f) = Contains-append_right (pointers_in (own_exprs l)) (option_to_list (own_pointer l)) (pointer_to file temp) (first_is (pointer_to file temp) [])
 
-own_points : (l : Layer) (q : Pointer) → Contains (alone (own_pointer l)) q → PointsAt l q.file q.temp
+own_points : (l : Layer) (q : Pointer) → Contains (option_to_list (own_pointer l)) q → PointsAt l q.file q.temp
 own_points (stmt.SetField file field temp value) q c =
     ⊎_elim
     (λ e. subst (λ (r : Pointer). PointsAt (stmt.SetField file field temp value) r.file r.temp) e (writes file field temp value))
@@ -153,7 +154,7 @@ listed_points l q c =
     let n = pointer_named (named_in h.expr) q h.named in
     reads l q.file n.0 q.temp (record { expr = h.expr; own = h.one; named = n.1 }))
     (λ own. own_points l q own)
-    (Contains-append_cases (pointers_in (own_exprs l)) (alone (own_pointer l)) q c)
+    (Contains-append_cases (pointers_in (own_exprs l)) (option_to_list (own_pointer l)) q c)
 
 -- the faults of a statement
 
@@ -294,7 +295,7 @@ module _ (x : Exchange) (P : Facts) (e b p : ℕ) where
   -- what is found of a statement
   pub record Found (l : Layer) (pointers : List Pointer) (exprs : List ExprAt) (s d f m r w n a t : Bool) : Type 0 where
     pub exprs_are : map expr_seen exprs ≡ own_exprs l
-    pub pointers_are : pointers ≡ pointers_in (map expr_seen exprs) ++ alone (own_pointer l)
+    pub pointers_are : pointers ≡ pointers_in (map expr_seen exprs) ++ option_to_list (own_pointer l)
     pub seizing : s ≡ is_seize l
     pub dividing : d ≡ list_any (λ a. may_divide_by_zero (expr_seen a)) exprs
     pub forlopp : f ≡ list_any (points_at_forlopp x) pointers
@@ -307,7 +308,7 @@ module _ (x : Exchange) (P : Facts) (e b p : ℕ) where
 
   pub faults_is : (l : Layer) (pointers : List Pointer) (exprs : List ExprAt) (s d f m r w n a t : Bool) → Found l pointers exprs s d f m r w n a t → ((((((((((s || d) || f) || m) || r) || w) || n) || a) || t) ≡ true) ↔ FaultsAt x P e b p l)
   faults_is l pointers exprs s d f m r w n a t h =
-      let are : pointers ≡ pointers_at l = h.pointers_are ∙ ap (λ es. pointers_in es ++ alone (own_pointer l)) h.exprs_are in
+      let are : pointers ≡ pointers_at l = h.pointers_are ∙ ap (λ es. pointers_in es ++ option_to_list (own_pointer l)) h.exprs_are in
       let all =
       or_is _ t _ _ (or_is _ a _ _ (or_is _ n _ _ (or_is _ w _ _ (or_is _ r _ _ (or_is _ m _ _ (or_is _ f _ _ (or_is s d (is_seize l ≡ true) (Divides l) (λ so. sym h.seizing ∙ so, λ is. h.seizing ∙ is)
       (divides_is l exprs d h.exprs_are h.dividing)) (forlopp_is l pointers f are h.forlopp)) (subst (λ ps. (m ≡ true) ↔ AnyMisses x P e p ps) are h.missing)) h.lost) h.wide) h.ending) h.awaiting) h.deep
@@ -316,8 +317,8 @@ module _ (x : Exchange) (P : Facts) (e b p : ℕ) where
 
 -- pointers, one after the other
 
-pub none_alone : (old : List Pointer) (o : Option Pointer) → o ≡ None → old ≡ old ++ alone o
-none_alone old o none = sym (append-nil old) ∙ ap (λ p. old ++ alone p) (sym none)
+pub none_added : (old : List Pointer) (o : Option Pointer) → o ≡ None → old ≡ old ++ option_to_list o
+none_added old o none = sym (append-nil old) ∙ ap (λ p. old ++ option_to_list p) (sym none)
 
 pub all_fields_more : (exprs : List ExprAt) (i : ℕ) (one : ExprAt) (now new all : List Pointer) → i < length exprs → one ≡ get_or exprs i one → new ≡ now ++ pointers_named (named_in (expr_seen one)) → now ++ pointers_in (map expr_seen (drop i exprs)) ≡ all → new ++ pointers_in (map expr_seen (drop (i + 1) exprs)) ≡ all
 all_fields_more exprs i one now new all lt is made h =

@@ -25,7 +25,7 @@ use Rattle.flow_table.specs.declared.place.PlaceAt.{PlaceAt}
 use Rattle.flow_table.specs.Texts.{AreReachedAmong, seen}
 use Rattle.flow_table.proofs.Reaching.{of_map}
 use Rattle.flow_table.proofs.Rowing.{seen_at}
-use Rattle.entry_summary.specs.Faults.{JoinsOutbox, Posts, PostsAt, TooManySends}
+use Rattle.entry_summary.specs.Faults.{AllPost, JoinsOutbox, Posts, PostsAt, TooManySends}
 use Rattle.entry_faults.specs.Sends.{joins_outbox, posts, PostsHere, counts}
 use Rattle.entry_faults.proofs.Asking.{any_there}
 
@@ -105,7 +105,7 @@ pub record SendsGo (x : Exchange) (P : Facts) (e : ℕ) (places : List PlaceAt) 
   pub many : length points ≡ sends
   pub once : IsDistinct nat_eq points
   pub from : (p : ℕ) → Contains points p → IsBefore places i p
-  pub each : (p : ℕ) → Contains points p → PostsAt x P e p
+  pub each : AllPost x P e points
   pub all : (at : PlaceAt) → Contains places at → PostsHere x P e at → Contains points at.point ⊎ Contains (drop i places) at
 
 nothing_once : IsDistinct nat_eq []

@@ -17,5 +17,5 @@ exprs_seen (exprs.Condition c) = cond_exprs c.now
 exprs_seen (exprs.Values es) = es.now
 
 -- a list that has these expressions more
-pub record Adds (old new : List ExprAt) (added : List Expr) : Type 0 where
+pub record AddsExprs (old new : List ExprAt) (added : List Expr) : Type 0 where
   pub is : map expr_seen new ≡ map expr_seen old ++ added

@@ -1,6 +1,7 @@
 -- What is asked at a statement, and where one surely may fault: one line for each kind of statement that has it.
 use Rattle.std.specs.Prelude.{ℕ, Bool, true, false, List, [], ◌∷◌, ◌++◌, Option, Some, None, slice_get}
 use Rattle.std.specs.List.{Contains}
+use Rattle.std.specs.Option.{option_to_list}
 use Rattle.plex_limits.specs.declared.limits.TheConstants.{MOST_CALLERS}
 use Rattle.exchange_model.specs.declared.block.FilePlace.{FilePlace}
 use Rattle.exchange_model.specs.declared.exchange.Exchange.{Exchange}
@@ -45,12 +46,8 @@ own_pointer (stmt.SetField file field temp value) = Some (pointer_to file temp)
 own_pointer (stmt.Free temp file) = Some (pointer_to file temp)
 own_pointer _ = None
 
-abbrev pub alone : Option Pointer → List Pointer
-alone None = []
-alone (Some p) = p ∷ []
-
 abbrev pub pointers_at : Layer → List Pointer
-pointers_at l = pointers_in (own_exprs l) ++ alone (own_pointer l)
+pointers_at l = pointers_in (own_exprs l) ++ option_to_list (own_pointer l)
 
 abbrev pub is_forlopp : Option Placed → Bool
 is_forlopp None = false

@@ -2,7 +2,7 @@
 ghost use Rattle.std.specs.Prelude.{◌≡◌, ◌∷◌, ◌++◌, [], map, IfOk, OnOk};
 ghost use Rattle.exchange_model.specs.declared.stmt.StmtKind.{out-StmtKind};
 ghost use Rattle.exchange_model.specs.Inside.{cond_exprs, own_exprs, relation_exprs};
-ghost use Rattle.entry_faults.specs.Exprs.{Adds, expr_seen, exprs_seen};
+ghost use Rattle.entry_faults.specs.Exprs.{AddsExprs, expr_seen, exprs_seen};
 
 use exchange_model::{Cond, Expr, Relation, StmtKind};
 use plex_num::{Memory, Seq};
@@ -59,7 +59,7 @@ pub fn exprs_of(alloc: Global, kind: &StmtKind) -> Result<Seq<ExprAt<'_>>, Memor
 }
 
 fn push_exprs<'a>(found: &Exprs<'a>, exprs: &mut Seq<ExprAt<'a>>) -> Result<(), Memory>
-    ensures { OnOk result (Adds exprs.old exprs.new (exprs_seen found.now)) }
+    ensures { OnOk result (AddsExprs exprs.old exprs.new (exprs_seen found.now)) }
 {
     match found {
         Exprs::None => Ok(()),
@@ -76,14 +76,14 @@ fn push_exprs<'a>(found: &Exprs<'a>, exprs: &mut Seq<ExprAt<'a>>) -> Result<(), 
 
 #[tactic(auto, using(crate::proofs::Listing::adds_one))]
 fn push_expr<'a>(expr: &'a Expr, exprs: &mut Seq<ExprAt<'a>>) -> Result<(), Memory>
-    ensures { OnOk result (Adds exprs.old exprs.new (expr.now ∷ [])) }
+    ensures { OnOk result (AddsExprs exprs.old exprs.new (expr.now ∷ [])) }
 {
     exprs.push(ExprAt { expr })?;
     Ok(())
 }
 
 fn push_values<'a>(values: &'a [Expr], exprs: &mut Seq<ExprAt<'a>>) -> Result<(), Memory>
-    ensures { OnOk result (Adds exprs.old exprs.new values.now) }
+    ensures { OnOk result (AddsExprs exprs.old exprs.new values.now) }
 {
     for value in values {
         push_expr(value, exprs)?;
@@ -92,7 +92,7 @@ fn push_values<'a>(values: &'a [Expr], exprs: &mut Seq<ExprAt<'a>>) -> Result<()
 }
 
 fn push_condition<'a>(cond: &'a Cond, exprs: &mut Seq<ExprAt<'a>>) -> Result<(), Memory>
-    ensures { OnOk result (Adds exprs.old exprs.new (cond_exprs cond.now)) }
+    ensures { OnOk result (AddsExprs exprs.old exprs.new (cond_exprs cond.now)) }
 {
     for relations in cond.any.as_slice() {
         push_relations(relations.as_slice(), exprs)?;
@@ -101,7 +101,7 @@ fn push_condition<'a>(cond: &'a Cond, exprs: &mut Seq<ExprAt<'a>>) -> Result<(),
 }
 
 fn push_relations<'a>(relations: &'a [Relation], exprs: &mut Seq<ExprAt<'a>>) -> Result<(), Memory>
-    ensures { OnOk result (Adds exprs.old exprs.new (relation_exprs relations.now)) }
+    ensures { OnOk result (AddsExprs exprs.old exprs.new (relation_exprs relations.now)) }
 {
     for relation in relations {
         push_expr(&relation.left, exprs)?;

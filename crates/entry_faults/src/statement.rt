@@ -1,6 +1,7 @@
 // Whether a statement that is reached may fault.
 ghost use Rattle.std.specs.Prelude.{◌≡◌, ◌↔◌, ◌++◌, map, true, IfOk, OnOk};
 ghost use Rattle.std.specs.List.{Contains, list_any};
+ghost use Rattle.std.specs.Option.{option_to_list};
 ghost use Rattle.exchange_model.specs.declared.stmt.StmtKind.{out-StmtKind};
 ghost use Rattle.source_meaning.specs.Rests.{IsOfBlock};
 ghost use Rattle.flow_table.specs.Texts.{AreReachedAmong, seen};
@@ -8,7 +9,7 @@ ghost use Rattle.entry_summary.specs.Faults.{FaultsAt, SomeFaults, may_divide_by
 ghost use Rattle.entry_faults.specs.declared.fields.Pointer.{Pointer as PointerType};
 ghost use Rattle.entry_faults.specs.Exprs.{expr_seen};
 ghost use Rattle.entry_faults.specs.Fields.{pointers_in};
-ghost use Rattle.entry_faults.specs.Statements.{AnyMisses, FaultsHere, alone, own_pointer as own_pointer_layer, points_at_forlopp as points_so};
+ghost use Rattle.entry_faults.specs.Statements.{AnyMisses, FaultsHere, own_pointer as own_pointer_layer, points_at_forlopp as points_so};
 
 use crate::asks::{
     awaits_question, depth_question, end_question, is_forlopp, is_seize, own_pointer,
@@ -101,7 +102,7 @@ fn may_fault_at<K: KnownFacts>(
 /// The pointers of a statement, of which these are the expressions: those of the fields that it reads, and its own.
 fn pointers_of(alloc: Global, kind: &StmtKind, exprs: &[ExprAt<'_>]) -> Result<Seq<Pointer>, Memory>
     ensures { IfOk result (λ pointers. pointers ≡ pointers_in (map expr_seen exprs.now)
-        ++ alone (own_pointer_layer (out-StmtKind kind.now))) }
+        ++ option_to_list (own_pointer_layer (out-StmtKind kind.now))) }
 {
     let mut pointers = Seq::new(alloc);
     push_all_fields(exprs, &mut pointers)?;
@@ -119,9 +120,9 @@ fn push_all_fields(exprs: &[ExprAt<'_>], pointers: &mut Seq<Pointer>) -> Result<
     Ok(())
 }
 
-#[tactic(auto, using(crate::proofs::Faulting::none_alone))]
+#[tactic(auto, using(crate::proofs::Faulting::none_added))]
 fn push_own(pointer: Option<Pointer>, pointers: &mut Seq<Pointer>) -> Result<(), Memory>
-    ensures { OnOk result (pointers.new ≡ pointers.old ++ alone pointer) }
+    ensures { OnOk result (pointers.new ≡ pointers.old ++ option_to_list pointer) }
 {
     match pointer {
         Some(pointer) => {

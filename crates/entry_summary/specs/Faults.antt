@@ -136,11 +136,15 @@ pub record PostsAt (x : Exchange) (P : Facts) (e point : ℕ) : Type 0 where
   pub reached : Reached P e point
   pub posts : Posts x at.layer
 
+-- at each of these points there is such a SEND
+abbrev pub AllPost : (x : Exchange) → (P : Facts) → (e : ℕ) → (points : List ℕ) → Type 0
+AllPost x P e points = (p : ℕ) → Contains points p → PostsAt x P e p
+
 -- more such SENDs are reached than a job may make
 pub record TooManySends (x : Exchange) (P : Facts) (e : ℕ) : Type 0 where
   pub points : List ℕ
   pub once : IsDistinct nat_eq points
-  pub each : (p : ℕ) → Contains points p → PostsAt x P e p
+  pub each : AllPost x P e points
   pub many : MOST_SENT < length points
 
 -- too many statements

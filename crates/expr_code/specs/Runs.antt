@@ -40,12 +40,16 @@ pub record Agrees (m : Machine) (s : Sight) : Type 0 where
   pub locals : length m.run.locals ≡ 50
   pub runs : m.run.over ≡ None
 
+-- the registers below r are as before
+abbrev pub KeepsRegisters : (r : ℕ) → (m n : Machine) → Type 0
+KeepsRegisters r m n = (k : ℕ) → k < r → reg n.run k ≡ reg m.run k
+
 -- the machine goes to an address with these loads: the registers below r and the locals below l are as before
 pub record Calc (code : List Op) (m n : Machine) (pc : ℕ) (loads : List Touch) (r l : ℕ) : Type 0 where
   pub goes : Goes code m n
   pub at : n.run.pc ≡ pc
   pub registers : length n.run.regs ≡ length m.run.regs
-  pub low : (k : ℕ) → k < r → reg n.run k ≡ reg m.run k
+  pub low : KeepsRegisters r m n
   pub length_locals : length n.run.locals ≡ length m.run.locals
   pub locals : (k : ℕ) → k < l → slice_index n.run.locals k ≡ slice_index m.run.locals k
   pub out : n.run.out ≡ m.run.out

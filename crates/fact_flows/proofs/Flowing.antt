@@ -5,7 +5,6 @@ use Rattle.std.specs.List.{AllByRecursion, Contains}
 use Rattle.std.proofs.lemmas.Option.{none-some, same_Some, slice_get_past}
 use Rattle.exchange_model.specs.declared.exchange.Exchange.{Exchange}
 use Rattle.exchange_model.specs.declared.entry.Entry.{Entry}
-use Rattle.exchange_model.specs.declared.stmt.StmtKind.TheOpen as stmt
 use Rattle.exchange_model.specs.Kept.{IsExchange}
 use Rattle.source_meaning.specs.Changes.{value_count}
 use Rattle.source_meaning.proofs.Fitting.{answer_below}
@@ -48,38 +47,30 @@ guarded_flow x P e p how q slots old new guarded are h =
 
 -- one way
 
-pub way_of_ends : (x : Exchange) (P : Facts) (e p : ℕ) (w : Way) (points : List ℕ) (old new : List Fact) → ((q : ℕ) → Contains points q ↔ IsWayEnd x w.ends q) → HasGiven old new (OneGives (FlowsTo x P e p w.how) points) → HasGiven old new (WayGives x P e p w)
-way_of_ends x P e p w points old new are h =
-    given_as (OneGives (FlowsTo x P e p w.how) points) (WayGives x P e p w) old new
-    (λ f k. record { end = k.one; ends = (are k.one).0 k.among; flows = k.gives })
-    (λ f k. record { one = k.end; among = (are k.end).1 k.ends; gives = k.flows })
-    h
+way_of_ends : (x : Exchange) (P : Facts) (e p : ℕ) (w : Way) (points : List ℕ) → ((q : ℕ) → Contains points q ↔ IsWayEnd x w.ends q) → (f : Fact) → OneGives (FlowsTo x P e p w.how) points f ↔ WayGives x P e p w f
+way_of_ends x P e p w points are f = (
+  λ k. record { end = k.one; ends = (are k.one).0 k.among; flows = k.gives },
+  λ k. record { one = k.end; among = (are k.end).1 k.ends; gives = k.flows },
+)
 
-pub to_points : (x : Exchange) (P : Facts) (e p : ℕ) (w : Way) (listed points : List ℕ) (old new : List Fact) → w.ends ≡ ends.Points listed → points ≡ listed → HasGiven old new (OneGives (FlowsTo x P e p w.how) points) → HasGiven old new (WayGives x P e p w)
-to_points x P e p w listed points old new is same h =
-    way_of_ends x P e p w points old new (λ q. subst (λ k. Contains points q ↔ IsWayEnd x k q) (sym is) (λ c. subst (λ l. Contains l q) same c, λ c. subst (λ l. Contains l q) (sym same) c)) h
+pub to_points : (x : Exchange) (P : Facts) (e p : ℕ) (w : Way) (listed points : List ℕ) → w.ends ≡ ends.Points listed → points ≡ listed → (f : Fact) → OneGives (FlowsTo x P e p w.how) points f ↔ WayGives x P e p w f
+to_points x P e p w listed points is same =
+    way_of_ends x P e p w points (λ q. subst (λ k. Contains points q ↔ IsWayEnd x k q) (sym is) (λ c. subst (λ l. Contains l q) same c, λ c. subst (λ l. Contains l q) (sym same) c))
 
-pub to_retrieves : (x : Exchange) (t : FlowTable) (P : Facts) (e p : ℕ) (w : Way) (answer : ℕ) (listed points : List ℕ) (old new : List Fact) → IsFlowTable x t → w.ends ≡ ends.Retrieves answer → slice_get t.retrieves answer ≡ Some listed → points ≡ listed → HasGiven old new (OneGives (FlowsTo x P e p w.how) points) → HasGiven old new (WayGives x P e p w)
-to_retrieves x t P e p w answer listed points old new table is there same h =
+pub to_retrieves : (x : Exchange) (t : FlowTable) (P : Facts) (e p : ℕ) (w : Way) (answer : ℕ) (listed points : List ℕ) → IsFlowTable x t → w.ends ≡ ends.Retrieves answer → slice_get t.retrieves answer ≡ Some listed → points ≡ listed → (f : Fact)
+    → OneGives (FlowsTo x P e p w.how) points f ↔ WayGives x P e p w f
+to_retrieves x t P e p w answer listed points table is there same =
     let are = table.retrieves.exact answer listed there in
-    way_of_ends x P e p w points old new
+    way_of_ends x P e p w points
     (λ q. subst (λ k. Contains points q ↔ IsWayEnd x k q) (sym is) (λ c. (are.exact q).0 (subst (λ l. Contains l q) same c), λ r. subst (λ l. Contains l q) (sym same) ((are.exact q).1 r)))
-    h
 
-pub no_retrieves : (x : Exchange) (t : FlowTable) (P : Facts) (e p : ℕ) (w : Way) (answer : ℕ) (old : List Fact) → IsExchange x → IsFlowTable x t → w.ends ≡ ends.Retrieves answer → length t.retrieves ≤ answer → HasGiven old old (WayGives x P e p w)
-no_retrieves x t P e p w answer old kept table is past =
-    given_none (WayGives x P e p w) old (λ f k.
+pub no_retrieves : (x : Exchange) (t : FlowTable) (P : Facts) (e p : ℕ) (w : Way) (answer : ℕ) → IsExchange x → IsFlowTable x t → w.ends ≡ ends.Retrieves answer → length t.retrieves ≤ answer → (f : Fact) → WayGives x P e p w f → ⊥
+no_retrieves x t P e p w answer kept table is past f k =
     let r : IsRetrieveAt x k.end answer = subst (λ o. IsWayEnd x o k.end) is k.ends in
     let many = table.retrieves.each_signal in
-    answer_below x r.place.block r.place.layer answer (omega (arith, many, past)) (place_fits x r.place kept r.stands.place) r.retrieves)
+    answer_below x r.place.block r.place.layer answer (omega (arith, many, past)) (place_fits x r.place kept r.stands.place) r.retrieves
 
 -- all flows from a point
-
-pub not_reached : (x : Exchange) (P : Facts) (e p : ℕ) (b : Bool) (old : List Fact) → (b ≡ true) ↔ Reached P e p → (b ≡ true → ⊥) → HasGiven old old (GivenAt x P e p)
-not_reached x P e p b old test none = given_none (GivenAt x P e p) old (λ f h. none (test.1 (reached f h)))
-  where
-    reached : (f : Fact) → GivenAt x P e p f → Reached P e p
-    reached f h = subst (λ n. Reached P n p) h.entry (subst (λ n. Reached P f.entry n) h.gives.stands.here h.gives.flow.reached)
 
 pub ways_give : (x : Exchange) (P : Facts) (e p : ℕ) (at : Place) (r : Row) → StandsAt x p at → IsRowOf x at r → Reached P e p → (f : Fact) → OneGives (WayGives x P e p) r.ways f → GivenAt x P e p f
 ways_give x P e p at r stands is reached f h =
@@ -127,21 +118,17 @@ of_ways x P e p r is f h =
       };
     }
 
-pub all_ways : (x : Exchange) (t : FlowTable) (P : Facts) (e p : ℕ) (r : Row) (ways : List Way) (old new : List Fact) → IsExchange x → IsFlowTable x t → p < length x.points → slice_get t.rows p ≡ Some r → ways ≡ r.ways → Reached P e p → HasGiven old new (OneGives (WayGives x P e p) ways) → HasGiven old new (GivenAt x P e p)
-all_ways x t P e p r ways old new kept table lt there same reached h =
-    let at = point_stands x kept p lt in
-    given_as (OneGives (WayGives x P e p) r.ways) (GivenAt x P e p) old new
-    (ways_give x P e p at.at r at.stands (row_of x t p r at.at table there at.stands) reached)
-    (of_ways x P e p r (λ place stands. row_of x t p r place table there stands))
-    (subst (λ ws. HasGiven old new (OneGives (WayGives x P e p) ws)) same h)
+pub all_ways : (x : Exchange) (t : FlowTable) (P : Facts) (e p : ℕ) (r : Row) (ways : List Way) → IsExchange x → IsFlowTable x t → p < length x.points → slice_get t.rows p ≡ Some r → ways ≡ r.ways → Reached P e p → (f : Fact) → OneGives (WayGives x P e p) ways f ↔ GivenAt x P e p f
+all_ways x t P e p r ways kept table lt there same reached f =
+    let at = point_stands x kept p lt in (
+      λ o. ways_give x P e p at.at r at.stands (row_of x t p r at.at table there at.stands) reached f (subst (λ ws. OneGives (WayGives x P e p) ws f) same o),
+      λ g. subst (λ ws. OneGives (WayGives x P e p) ws f) (sym same) (of_ways x P e p r (λ place stands. row_of x t p r place table there stands) f g),
+    )
 
 pub ways_small : (x : Exchange) (t : FlowTable) (p : ℕ) (r : Row) (ways : List Way) → IsExchange x → IsFlowTable x t → p < length x.points → slice_get t.rows p ≡ Some r → ways ≡ r.ways → AllByRecursion (λ (w : Way). IsSmall w.how) ways
 ways_small x t p r ways kept table lt there same =
     let at = point_stands x kept p lt in
     subst (AllByRecursion (λ (w : Way). IsSmall w.how)) (sym same) (row_of x t p r at.at table there at.stands).small
-
-pub no_row : {A : Type 0} (x : Exchange) (t : FlowTable) (p : ℕ) → IsFlowTable x t → p < length x.points → length t.rows ≤ p → A
-no_row x t p table lt past = absurd (let e = table.rows.each_point in omega (arith, e, lt, past))
 
 -- the start
 

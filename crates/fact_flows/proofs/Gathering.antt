@@ -36,9 +36,6 @@ gather_more {A} G xs i d old now new lt h g = record {
         (λ more. inr (record { one = o.one; among = more; gives = o.gives }))
         (first_or_later (get_or xs i d) o.one (drop (i + 1) xs) (subst (λ l. Contains l o.one) (drop_more xs i d lt) o.among))
 
-pub gather_item : {A : Type 0} (G : A → Fact → Type 0) (xs : List A) (i : ℕ) (a : A) (old now new : List Fact) → i < length xs → a ≡ get_or xs i a → HasGiven now new (G a) → Gathers G xs old i now → Gathers G xs old (i + 1) new
-gather_item G xs i a old now new lt is h g = gather_more G xs i a old now new lt (subst (λ b. HasGiven now new (G b)) is h) g
-
 pub gather_end : {A : Type 0} (G : A → Fact → Type 0) (xs : List A) (i : ℕ) (old now : List Fact) → length xs ≤ i → Gathers G xs old i now → HasGiven old now (OneGives G xs)
 gather_end G xs i old now past g = record {
   added = g.added;

@@ -45,19 +45,19 @@ all_listed r a b c d e f none temps given answered depth awaits =
 
 -- which slots these are
 
-record IsNumbered (m : Numbered) (n : ℕ) (s : Slot) : Type 0 where
-  number : ℕ
-  below : number < n
-  is : numbered_slot m number ≡ s
+pub record IsNumbered (m : Numbered) (n : ℕ) (s : Slot) : Type 0 where
+  pub number : ℕ
+  pub below : number < n
+  pub is : numbered_slot m number ≡ s
 
-in_numbered : (m : Numbered) (n : ℕ) (s : Slot) → Contains (map (numbered_slot m) (range_with_len 0 n)) s → IsNumbered m n s
+pub in_numbered : (m : Numbered) (n : ℕ) (s : Slot) → Contains (map (numbered_slot m) (range_with_len 0 n)) s → IsNumbered m n s
 in_numbered m n s c =
     let long = length-map-range_with_len (numbered_slot m) 0 n in
     let below : c.0 < n = (let lt = c.1 in omega (arith, long, lt)) in
     let e : 0 + c.0 ≡ c.0 = omega arith in
     record { number = c.0; below = below; is = sym (get_or-map-range_with_len (numbered_slot m) 0 n c.0 c.0 s below e) ∙ c.2 }
 
-numbered_in : (m : Numbered) (n k : ℕ) → k < n → Contains (map (numbered_slot m) (range_with_len 0 n)) (numbered_slot m k)
+pub numbered_in : (m : Numbered) (n k : ℕ) → k < n → Contains (map (numbered_slot m) (range_with_len 0 n)) (numbered_slot m k)
 numbered_in m n k lt =
     let long = length-map-range_with_len (numbered_slot m) 0 n in
     let e : 0 + k ≡ k = omega arith in

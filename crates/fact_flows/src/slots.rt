@@ -52,7 +52,7 @@ fn slots_of(alloc: Global, row: &Row) -> Result<Seq<Slot>, Memory>
 
 /// Appends so many numbered slots.
 #[tactic(auto, using(crate::proofs::Slotting::numbered_begin, crate::proofs::Slotting::numbered_end))]
-fn push_numbered(numbered: Numbered, count: u8, slots: &mut Seq<Slot>) -> Result<(), Memory>
+pub fn push_numbered(numbered: Numbered, count: u8, slots: &mut Seq<Slot>) -> Result<(), Memory>
     ensures { OnOk result
         (slots.new ≡ slots.old ++ map (numbered_slot numbered) (range_with_len 0 count)) }
 {

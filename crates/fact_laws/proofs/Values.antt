@@ -1,6 +1,6 @@
 -- The values of an expression stand for the number that it gives.
 --
--- An expression of one operand alone gives that operand, since it is a number of 32 bits; of all others any number is said.
+-- An expression of one operand lone_source gives that operand, since it is a number of 32 bits; of all others any number is said.
 use Rattle.std.proofs.Common.{◌≡◌, ◌⊎◌, inl, inr, ℕ, ◌+◌, ◌*◌, ◌%◌, ◌^◌, ◌<◌, ◌≤◌, Bool, true, false, List, [], ◌∷◌, map, length, refl, sym, ap, ◌∙◌, subst, arith}
 use Rattle.std.proofs.lemmas.Bool.{ltb-true}
 use Rattle.std.specs.Prelude.{nat_lt, slice_index, if◌then◌else◌}
@@ -29,7 +29,7 @@ use Rattle.flow_points.specs.declared.fact.Value.TheVariants.{Const, Any}
 use Rattle.flow_points.specs.declared.flow.Source.{Source}
 use Rattle.flow_points.specs.declared.flow.Source.TheVariants.{Of, Is}
 use Rattle.flow_points.specs.declared.limits.TheConstants.{SMALL_NUMBERS}
-use Rattle.flow_points.specs.Sources.{alone, expr_source}
+use Rattle.flow_points.specs.Sources.{lone_source, expr_source}
 use Rattle.flow_points.specs.Facts.{Facts}
 use Rattle.flow_table.specs.Alone.{term_source, joined_source, own_source, inside_source}
 use Rattle.flow_table.proofs.Sourcing.{expr_source-out, term_source-out, joined_source-out, own_source-out}
@@ -91,13 +91,13 @@ module _ (P : Facts) (e : ℕ) (args : List ℕ) (p : ℕ) where
     abbrev FactorSourced : Factor → Type 0
     FactorSourced f = FactorOwnFits (scope_of x b k) f → Sourced (own_source f) (factor_value f s)
 
-    sum_sourced : (ts : List Term) → TermsStand ts → AllByRecursion TermSourced ts → AllByRecursion (TermFits (scope_of x b k)) ts → Sourced (alone (map term_source ts)) (sum_value (map summand_of ts) 0 s)
+    sum_sourced : (ts : List Term) → TermsStand ts → AllByRecursion TermSourced ts → AllByRecursion (TermFits (scope_of x b k)) ts → Sourced (lone_source (map term_source ts)) (sum_value (map summand_of ts) 0 s)
     sum_sourced [] stands each fit = absurd stands
     sum_sourced (t ∷ []) stands each fit =
         subst (λ minus. Sourced (term_source t) (with_value (term_value t s) (λ v. Gives [] (summed minus 0 v)))) (sym stands) (plus_sourced (term_source t) (term_value t s) (each.0 fit.0))
     sum_sourced (t ∷ u ∷ ts) stands each fit = any_sourced (sum_value (map summand_of (t ∷ u ∷ ts)) 0 s)
 
-    product_sourced : (js : List Joined) → FactorsStand js → AllByRecursion (λ (j : Joined). FactorSourced j.factor) js → AllByRecursion (JoinedFits (scope_of x b k)) js → Sourced (alone (map joined_source js)) (product_value (map multiplier_of js) 1 s)
+    product_sourced : (js : List Joined) → FactorsStand js → AllByRecursion (λ (j : Joined). FactorSourced j.factor) js → AllByRecursion (JoinedFits (scope_of x b k)) js → Sourced (lone_source (map joined_source js)) (product_value (map multiplier_of js) 1 s)
     product_sourced [] stands each fit = absurd stands
     product_sourced (j ∷ []) stands each fit =
         subst (λ by. Sourced (joined_source j) (with_value (factor_value j.factor s) (λ v. with_value (joined by 1 v) (λ r. Gives [] r)))) (sym stands)

@@ -29,9 +29,13 @@ abbrev pub awaits_of : List Caller → ℕ
 awaits_of [] = 0
 awaits_of (k ∷ ks) = k.awaits + 1
 
+-- before a point a fact stands for each temporary of the block
+abbrev pub CoversTemps : (x : Exchange) → (P : Facts) → (e : ℕ) → (args : List ℕ) → (b p : ℕ) → (temps : List ℕ) → Type 0
+CoversTemps x P e args b p temps = (t : ℕ) → t < temp_count x b → SlotHolds P e args p (Temp t) (slice_index temps t)
+
 -- what is known of an activation in a block before a point; past those of the block its entry values are 0
 pub record Activation (x : Exchange) (P : Facts) (e : ℕ) (args : List ℕ) (b p : ℕ) (temps given : List ℕ) (callers : List Caller) : Type 0 where
-  pub temp : (t : ℕ) → t < temp_count x b → SlotHolds P e args p (Temp t) (slice_index temps t)
+  pub temp : CoversTemps x P e args b p temps
   pub gave : (k : ℕ) → k < given_count x b → SlotHolds P e args p (Given k) (slice_index given k)
   pub past : (k : ℕ) → given_count x b ≤ k → slice_index given k ≡ 0
   pub depth : Known P e p Depth (Const (length callers))

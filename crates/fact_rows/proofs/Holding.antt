@@ -29,7 +29,7 @@ use Rattle.fact_rows.specs.declared.value.TheConstants.{ANY_NUMBER, AWAITED_NUMB
 use Rattle.fact_rows.specs.Numbers.{AreNumbers}
 use Rattle.fact_rows.specs.Places.{Marks, at_spot, counts_of, spot_of, numbers_at}
 use Rattle.fact_rows.specs.Values.{number_in, value_in, numbers_of}
-use Rattle.fact_rows.specs.Known.{BitRows, Knows, Fits, KnowNothing, Adds, missing}
+use Rattle.fact_rows.specs.Known.{BitRows, Knows, Fits, KnowNothing, AddsFact, missing}
 use Rattle.fact_rows.specs.Grids.{IsBlank, IsSetAt, SetsPlane, SetsAwaited, SetsAt}
 use Rattle.fact_rows.specs.Touched.{ArePlaned, IsKept, IsTouched}
 use Rattle.fact_rows.proofs.Laying.{has_spot, numbers_by, spots_apart, plane_slot, await_slot}
@@ -280,7 +280,7 @@ module _ (e : ℕ) (m : Marks) (f : Fact) (added : Bool) (new : Marks) (touched 
       (λ as_was. inr (record { entry = k.entry; value = subst (λ l. Contains (map (value_in g.slot) l) g.value) as_was k.value }))
       (more.others g.point g.slot)
 
-  pub fact_added : Adds f before after
+  pub fact_added : AddsFact f before after
   fact_added = record {
     entry = refl;
     slots = more.slots;
@@ -315,7 +315,7 @@ module _ (e : ℕ) (m : Marks) (f : Fact) (added : Bool) (new : Marks) (touched 
 
 -- what a call that adds a fact leaves
 pub record IsAdded (f : Fact) (old new : BitRows) (added : Bool) : Type 0 where
-  pub adds : Adds f old new
+  pub adds : AddsFact f old new
   pub fresh : IsTrue added ↔ (Knows old f → ⊥)
   pub one : MatchBool added (missing new + 1 ≡ missing old) (new ≡ old)
 

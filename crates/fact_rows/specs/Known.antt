@@ -47,7 +47,7 @@ pub record KnowNothing (entry : ℕ) (slots : List Counts) (k : BitRows) : Type 
   pub nothing : (f : Fact) → Knows k f → ⊥
 
 -- exactly one fact more is known, if it was not known before
-pub record Adds (f : Fact) (old new : BitRows) : Type 0 where
+pub record AddsFact (f : Fact) (old new : BitRows) : Type 0 where
   pub entry : new.entry ≡ old.entry
   pub slots : new.marks.slots ≡ old.marks.slots
   pub knows : (g : Fact) → Knows new g ↔ ((g ≡ f) ⊎ Knows old g)

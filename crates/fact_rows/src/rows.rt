@@ -7,7 +7,7 @@ ghost use Rattle.flow_points.specs.declared.fact.Fact.{Fact};
 ghost use Rattle.flow_points.specs.Facts.{Reached, fact};
 ghost use Rattle.flow_table.specs.Giving.{AreValues};
 ghost use Rattle.fact_rows.specs.Places.{numbers_at};
-ghost use Rattle.fact_rows.specs.Known.{Adds, AreFacts, Fits, HasSpot, Joins, KnowNothing, Knows, missing, slots_of};
+ghost use Rattle.fact_rows.specs.Known.{AddsFact, AreFacts, Fits, HasSpot, Joins, KnowNothing, Knows, missing, slots_of};
 ghost use Rattle.fact_rows.specs.Values.{is_awaits};
 ghost use Rattle.fact_rows.specs.Numbers.{AreNumbers};
 ghost use Rattle.fact_rows.specs.Touched.{IsTouched, facts_at, facts_of, keys_of};
@@ -78,7 +78,7 @@ impl FactRows {
     pub fn add(&mut self, fact: Fact) -> Result<bool, Memory>
         requires entry { fact.entry ≡ self.old.entry }
         requires place { Fits self.old.marks.slots fact }
-        ensures adds { OnOk result (Adds fact self.old self.new) }
+        ensures adds { OnOk result (AddsFact fact self.old self.new) }
         ensures added { IfOk result (λ added. IsTrue added ↔ (Knows self.old fact → ⊥)) }
         ensures counted { IfOk result (λ added. MatchBool added
             (missing self.new + 1 ≡ missing self.old)

@@ -1,6 +1,6 @@
 -- What is told of a text is its first fault, and where nothing is told it has none.
-use Rattle.std.proofs.Common.{⊎_elim, ◌≡◌, ℕ, ◌+◌, ◌<◌, Bool, List, [], ◌∷◌, ◌++◌, length, take, Option, Some, None, refl, sym, ◌∙◌, ap, subst, arith, slice_get, get_or, append_assoc}
-use Rattle.std.proofs.lemmas.Option.{same_Some, slice_get_within}
+use Rattle.std.proofs.Common.{⊎_elim, ◌≡◌, ℕ, ◌<◌, Bool, List, [], ◌∷◌, ◌++◌, length, take, Option, Some, None, refl, sym, ◌∙◌, ap, subst, arith, slice_get, get_or, append_assoc, length-append}
+use Rattle.std.proofs.lemmas.Option.{same_Some, slice_get_read, slice_get_within}
 use Rattle.std.proofs.Math.Seq.{get_or-append_seam, take-append_seam}
 use Rattle.std.proofs.lemmas.List.{append-nil, length_push}
 use Rattle.std.proofs.lemmas.Bool.{cases_lt}
@@ -8,16 +8,18 @@ use Rattle.first_fault.specs.First.{or_else, first_broken, IsFine, IsFirstFault,
 use Rattle.first_fault.specs.Told.{on_line, told_from, told, told_parts_from, told_parts, breaks_in, IsSo as ArePartsSo, HasAll}
 use Rattle.first_fault.proofs.First.{FineBelow, fine_none, fine_more, fine_all, first_fault}
 
--- the item after some others
-found_here : {E : Type 0} (before : List E) (e : E) (rest : List E) → slice_get (before ++ e ∷ rest) (length before) ≡ Some e
-found_here [] e rest = refl
-found_here (x ∷ before) e rest = found_here before e rest
-
 goes_on : {E : Type 0} (whole before rest : List E) (e : E) → whole ≡ before ++ e ∷ rest → whole ≡ (before ++ e ∷ []) ++ rest
 goes_on whole before rest e is = is ∙ sym (append_assoc before (e ∷ []) rest)
 
 inside_here : {E : Type 0} (whole before rest : List E) (e : E) → whole ≡ before ++ e ∷ rest → length before < length whole
-inside_here whole before rest e is = slice_get_within whole (length before) e (ap (λ w. slice_get w (length before)) is ∙ found_here before e rest)
+inside_here whole before rest e is = omega (arith, ap length is, length-append before (e ∷ rest))
+
+-- the item after some others
+item_here : {E : Type 0} (whole before rest : List E) (e : E) → whole ≡ before ++ e ∷ rest → e ≡ get_or whole (length before) e
+item_here whole before rest e is = sym (ap (λ w. get_or w (length before) e) is ∙ get_or-append_seam before e rest e)
+
+stands_here : {E : Type 0} (whole before rest : List E) (e : E) → whole ≡ before ++ e ∷ rest → slice_get whole (length before) ≡ Some e
+stands_here whole before rest e is = slice_get_read whole (length whole) (length before) e refl (inside_here whole before rest e is) (item_here whole before rest e is)
 
 module _ {E K R : Type 0} (broken : R → K → E → Bool) (rules : List R) (number : R → ℕ) (all : HasAll number rules) (line : E → ℕ) where
   module _ (known : List E → K) (whole : List E) where
@@ -34,11 +36,11 @@ module _ {E K R : Type 0} (broken : R → K → E → Bool) (rules : List R) (nu
         at_event : (o : Option R) → first_broken broken rules (known before) e ≡ o → (FineBelow broken number line known whole (length (before ++ e ∷ [])) → IsSo (told_from broken rules line known (before ++ e ∷ []) rest)) → IsSo (or_else (on_line (line e) (first_broken broken rules (known before) e)) (told_from broken rules line known (before ++ e ∷ []) rest))
         at_event (Some rule) h below =
             subst (λ x. IsSo (or_else (on_line (line e) x) (told_from broken rules line known (before ++ e ∷ []) rest))) (sym h)
-            (first_fault broken number line known whole rules (known before) (length before) e rule all (inside_here whole before rest e is) (sym (get_or-append_seam before e rest e) ∙ ap (λ w. get_or w (length before) e) (sym is)) (ap known (sym (ap (take (length before)) is ∙ take-append_seam before (e ∷ rest)))) (sym h) fine)
+            (first_fault broken number line known whole rules (known before) (length before) e rule all (inside_here whole before rest e is) (item_here whole before rest e is) (ap known (sym (ap (take (length before)) is ∙ take-append_seam before (e ∷ rest)))) (sym h) fine)
         at_event None h below =
             subst (λ x. IsSo (or_else (on_line (line e) x) (told_from broken rules line known (before ++ e ∷ []) rest))) (sym h)
             (below (subst (FineBelow broken number line known whole) (sym (length_push before e))
-            (fine_more broken number line known whole rules (known before) (length before) e all (inside_here whole before rest e is) (sym (get_or-append_seam before e rest e) ∙ ap (λ w. get_or w (length before) e) (sym is)) (ap known (sym (ap (take (length before)) is ∙ take-append_seam before (e ∷ rest)))) (sym h) fine)))
+            (fine_more broken number line known whole rules (known before) (length before) e all (inside_here whole before rest e is) (item_here whole before rest e is) (ap known (sym (ap (take (length before)) is ∙ take-append_seam before (e ∷ rest)))) (sym h) fine)))
 
     pub tells : IsSo (told broken rules line known whole)
     tells = tells_from [] whole refl (fine_none broken number line known whole)
@@ -53,7 +55,7 @@ module _ {E K R : Type 0} (broken : R → K → E → Bool) (rules : List R) (nu
       where
         last : (p : ℕ) (x : List E) → p ≡ length done → slice_get parts p ≡ Some x → IsFine (breaks_in broken number line known parts p x) x
         last p x same at =
-            let x_is : own ≡ x = same_Some own x (sym (found_here done own rest) ∙ ap (λ w. slice_get w (length done)) (sym is) ∙ ap (slice_get parts) (sym same) ∙ at) in
+            let x_is : own ≡ x = same_Some own x (sym (stands_here parts done rest own is) ∙ ap (slice_get parts) (sym same) ∙ at) in
             let done_is : done ≡ take p parts = sym (ap (λ q. take q parts) same ∙ ap (take (length done)) is ∙ take-append_seam done (own ∷ rest)) in
             subst (λ y. IsFine (breaks_in broken number line known parts p y) y) x_is (subst (λ d. IsFine (breaks_at broken (known d own) own) own) done_is own_fine)
 
@@ -68,7 +70,7 @@ module _ {E K R : Type 0} (broken : R → K → E → Bool) (rules : List R) (nu
             (record {
               part = length done;
               own = own;
-              at = ap (λ w. slice_get w (length done)) is ∙ found_here done own rest;
+              at = stands_here parts done rest own is;
               before = fine.each;
               first = subst (λ d. IsFirstFault (breaks_at broken (known d own) own) number line own fault.0 fault.1) (sym (ap (take (length done)) is ∙ take-append_seam done (own ∷ rest))) (subst (IsSo (known done own) own) h so);
             })

@@ -1,13 +1,14 @@
 -- A pass over a text tells what the text is refused with.
-use Rattle.std.proofs.Common.{◌≡◌, ℕ, ◌+◌, ◌<◌, ◌≤◌, Bool, List, [], ◌∷◌, ◌++◌, length, take, drop, Some, None, refl, sym, ◌∙◌, ap, get_or, suc, add-one}
-use Rattle.std.proofs.Math.Seq.{drop-cons}
+use Rattle.std.proofs.Common.{◌≡◌, ℕ, ◌+◌, ◌<◌, ◌≤◌, Bool, List, [], ◌∷◌, ◌++◌, length, take, drop, Some, None, refl, sym, ◌∙◌, ap, get_or}
 use Rattle.std.proofs.Math.ListN.{drop_of_length-le}
+use Rattle.std.proofs.lemmas.List.{at_drop_more}
 use Rattle.first_fault.specs.First.{or_else, first_broken}
 use Rattle.first_fault.specs.Told.{on_line, told_at, told_from, told, told_parts_from, told_parts}
 use Rattle.first_fault.proofs.First.{more_events}
 
-pub cut_at : {A : Type 0} (xs : List A) (i : ℕ) (x : A) → i < length xs → x ≡ get_or xs i x → drop i xs ≡ x ∷ drop (i + 1) xs
-cut_at xs i x inside is = rw (add-one, drop-cons xs i x) (ap (λ y. y ∷ drop (suc i) xs) (sym is))
+-- what is told of the rest of a list, by the item with which it begins
+by_next : {A B : Type 0} (tells : List A → B) (xs : List A) (i : ℕ) (x : A) → i < length xs → x ≡ get_or xs i x → tells (drop i xs) ≡ tells (x ∷ drop (i + 1) xs)
+by_next tells xs i x inside is = at_drop_more tells xs i x inside ∙ ap (λ y. tells (y ∷ drop (i + 1) xs)) (sym is)
 
 module _ {E K R : Type 0} (broken : R → K → E → Bool) (rules : List R) (line : E → ℕ) where
   module _ (known : List E → K) (whole : List E) where
@@ -21,7 +22,7 @@ module _ {E K R : Type 0} (broken : R → K → E → Bool) (rules : List R) (li
     from_here : (i : ℕ) (k : K) (e : E) → i < length whole → e ≡ get_or whole i e → k ≡ known (take i whole) → Passed i → told broken rules line known whole ≡ or_else (told_at broken rules line k e) (told_from broken rules line known (take (i + 1) whole) (drop (i + 1) whole))
     unfolding told_from
     from_here i k e inside is t p =
-        p.same ∙ ap (told_from broken rules line known (take i whole)) (cut_at whole i e inside is)
+        p.same ∙ by_next (told_from broken rules line known (take i whole)) whole i e inside is
         ∙ ap (λ x. or_else (told_at broken rules line x e) (told_from broken rules line known (take i whole ++ e ∷ []) (drop (i + 1) whole))) (sym t)
         ∙ ap (λ b. or_else (told_at broken rules line k e) (told_from broken rules line known b (drop (i + 1) whole))) (sym (more_events whole i e inside is))
 
@@ -46,7 +47,7 @@ module _ {E K R : Type 0} (broken : R → K → E → Bool) (rules : List R) (li
     from_part : (i : ℕ) (own : List E) → i < length parts → own ≡ get_or parts i own → PartsPassed i → told_parts broken rules line known parts ≡ or_else (told broken rules line (known (take i parts) own) own) (told_parts_from broken rules line known (take (i + 1) parts) (drop (i + 1) parts))
     unfolding told_parts_from
     from_part i own inside is p =
-        p.same ∙ ap (told_parts_from broken rules line known (take i parts)) (cut_at parts i own inside is)
+        p.same ∙ by_next (told_parts_from broken rules line known (take i parts)) parts i own inside is
         ∙ ap (λ b. or_else (told broken rules line (known (take i parts) own) own) (told_parts_from broken rules line known b (drop (i + 1) parts))) (sym (more_events parts i own inside is))
 
     pub parts_more : (i : ℕ) (own : List E) → i < length parts → own ≡ get_or parts i own → told broken rules line (known (take i parts) own) own ≡ None → PartsPassed i → PartsPassed (i + 1)

@@ -11,12 +11,12 @@ use Rattle.flow_points.specs.declared.flow.Passing.{Passing}
 use Rattle.flow_points.specs.declared.flow.Passing.TheVariants.{Kept, Sets, Takes, Retrieves, Begins, Passes, Calls, Answers}
 use Rattle.flow_points.specs.declared.limits.TheConstants.{SMALL_NUMBERS}
 
--- expressions: a small number alone, a reference alone and a temporary alone are known; a bracket alone has what is in it; and
+-- expressions: a small number lone_source, a reference lone_source and a temporary lone_source are known; a bracket lone_source has what is in it; and
 -- everything else may be any number
 
-abbrev pub alone : List Source → Source
-alone (s ∷ []) = s
-alone _ = Is Any
+abbrev pub lone_source : List Source → Source
+lone_source (s ∷ []) = s
+lone_source _ = Is Any
 
 abbrev pub factor_source : {E J T : Type 0} → Factor-F E Source J T → Source
 factor_source (Number n) = (if nat_lt n SMALL_NUMBERS then Is (Const n) else Is Any)
@@ -26,7 +26,7 @@ factor_source (Reference b) = Is (Const (b + 1))
 factor_source _ = Is Any
 
 unfoldable pub expr_source : Expr → Source
-expr_source = fold-Expr Source Source Source Source factor_source (λ e. alone e.terms) (λ j. j.factor) (λ t. alone t.factors)
+expr_source = fold-Expr Source Source Source Source factor_source (λ e. lone_source e.terms) (λ j. j.factor) (λ t. lone_source t.factors)
 
 -- the start of a job, whose signal has so many values
 

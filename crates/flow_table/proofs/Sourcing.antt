@@ -1,4 +1,4 @@
--- The values of an expression come from its only factor, if it has one alone.
+-- The values of an expression come from its only factor, if it has one lone_source.
 use Rattle.std.proofs.Common.{◌≡◌, ℕ, ◌+◌, ◌^◌, ◌<◌, ◌≤◌, List, [], ◌∷◌, length, map, get_or, refl, sym, ap, ◌∙◌, subst, arith}
 use Rattle.std.specs.List.{AllByRecursion}
 use Rattle.exchange_model.specs.declared.expr.Expr.{Expr, out-Expr, fold_out-Expr}
@@ -12,20 +12,20 @@ use Rattle.exchange_model.proofs.Layers.{expr_fits-out, term_fits-out, joined_fi
 use Rattle.flow_points.specs.declared.fact.Value.TheVariants.{Any}
 use Rattle.flow_points.specs.declared.flow.Source.{Source}
 use Rattle.flow_points.specs.declared.flow.Source.TheVariants.{Is}
-use Rattle.flow_points.specs.Sources.{alone, factor_source, expr_source}
+use Rattle.flow_points.specs.Sources.{lone_source, factor_source, expr_source}
 use Rattle.flow_table.specs.Alone.{term_source, joined_source, own_source, inside_source, IsExprIn, IsTermIn, IsFactorIn}
 
-pub expr_source-out : (e : Expr) → expr_source e ≡ alone (map term_source (out-Expr e).terms)
+pub expr_source-out : (e : Expr) → expr_source e ≡ lone_source (map term_source (out-Expr e).terms)
 unfolding expr_source term_source
-expr_source-out e = fold_out-Expr Source Source Source Source factor_source (λ e. alone e.terms) (λ j. j.factor) (λ t. alone t.factors) e
+expr_source-out e = fold_out-Expr Source Source Source Source factor_source (λ e. lone_source e.terms) (λ j. j.factor) (λ t. lone_source t.factors) e
 
-pub term_source-out : (t : Term) → term_source t ≡ alone (map joined_source (out-Term t).factors)
+pub term_source-out : (t : Term) → term_source t ≡ lone_source (map joined_source (out-Term t).factors)
 unfolding term_source joined_source
-term_source-out t = fold_out-Term Source Source Source Source factor_source (λ e. alone e.terms) (λ j. j.factor) (λ t. alone t.factors) t
+term_source-out t = fold_out-Term Source Source Source Source factor_source (λ e. lone_source e.terms) (λ j. j.factor) (λ t. lone_source t.factors) t
 
 pub joined_source-out : (j : Joined) → joined_source j ≡ own_source j.factor
 unfolding joined_source own_source
-joined_source-out j = fold_out-Joined Source Source Source Source factor_source (λ e. alone e.terms) (λ j. j.factor) (λ t. alone t.factors) j
+joined_source-out j = fold_out-Joined Source Source Source Source factor_source (λ e. lone_source e.terms) (λ j. j.factor) (λ t. lone_source t.factors) j
 
 source_inside : (l : Factor-F Factor Expr Joined Term) → factor_source (map-Factor Factor Expr Joined Term Source Source Source Source own_source expr_source joined_source term_source l) ≡ inside_source l
 source_inside (Number n) = refl
@@ -37,25 +37,25 @@ source_inside (Reference b) = refl
 
 pub own_source-out : (f : Factor) → own_source f ≡ inside_source (out-Factor f)
 unfolding own_source expr_source joined_source term_source
-own_source-out f = fold_out-Factor Source Source Source Source factor_source (λ e. alone e.terms) (λ j. j.factor) (λ t. alone t.factors) f ∙ source_inside (out-Factor f)
+own_source-out f = fold_out-Factor Source Source Source Source factor_source (λ e. lone_source e.terms) (λ j. j.factor) (λ t. lone_source t.factors) f ∙ source_inside (out-Factor f)
 
 -- one item, or not
-alone_more : {A : Type 0} (f : A → Source) (xs : List A) → (length xs ≡ 1 → ⊥) → alone (map f xs) ≡ Is Any
+alone_more : {A : Type 0} (f : A → Source) (xs : List A) → (length xs ≡ 1 → ⊥) → lone_source (map f xs) ≡ Is Any
 alone_more f [] no_one = refl
 alone_more f (x ∷ []) no_one = absurd (no_one refl)
 alone_more f (x ∷ y ∷ xs) no_one = refl
 
 pub one_term : (e : Expr) (terms : List Term) (t : Term) → terms ≡ (out-Expr e).terms → terms ≡ t ∷ [] → term_source t ≡ expr_source e
-one_term e terms t same is = sym (expr_source-out e ∙ ap (λ l. alone (map term_source l)) (sym same ∙ is))
+one_term e terms t same is = sym (expr_source-out e ∙ ap (λ l. lone_source (map term_source l)) (sym same ∙ is))
 
 pub no_term : (e : Expr) (terms : List Term) → terms ≡ (out-Expr e).terms → (length terms ≡ 1 → ⊥) → Is Any ≡ expr_source e
-no_term e terms same no_one = sym (expr_source-out e ∙ ap (λ l. alone (map term_source l)) (sym same) ∙ alone_more term_source terms no_one)
+no_term e terms same no_one = sym (expr_source-out e ∙ ap (λ l. lone_source (map term_source l)) (sym same) ∙ alone_more term_source terms no_one)
 
 pub one_factor : (t : Term) (factors : List Joined) (j : Joined) → factors ≡ (out-Term t).factors → factors ≡ j ∷ [] → own_source j.factor ≡ term_source t
-one_factor t factors j same is = sym (term_source-out t ∙ ap (λ l. alone (map joined_source l)) (sym same ∙ is) ∙ joined_source-out j)
+one_factor t factors j same is = sym (term_source-out t ∙ ap (λ l. lone_source (map joined_source l)) (sym same ∙ is) ∙ joined_source-out j)
 
 pub no_factor : (t : Term) (factors : List Joined) → factors ≡ (out-Term t).factors → (length factors ≡ 1 → ⊥) → Is Any ≡ term_source t
-no_factor t factors same no_one = sym (term_source-out t ∙ ap (λ l. alone (map joined_source l)) (sym same) ∙ alone_more joined_source factors no_one)
+no_factor t factors same no_one = sym (term_source-out t ∙ ap (λ l. lone_source (map joined_source l)) (sym same) ∙ alone_more joined_source factors no_one)
 
 -- parts are of the exchange too
 

@@ -12,16 +12,16 @@ use Rattle.flow_points.specs.declared.fact.Slot.TheVariants.{Temp}
 use Rattle.flow_points.specs.declared.fact.Value.TheVariants.{Const, Any}
 use Rattle.flow_points.specs.declared.flow.Source.{Source}
 use Rattle.flow_points.specs.declared.flow.Source.TheVariants.{Of, Is}
-use Rattle.flow_points.specs.Sources.{alone, factor_source, expr_source}
+use Rattle.flow_points.specs.Sources.{lone_source, factor_source, expr_source}
 
 unfoldable pub term_source : Term → Source
-term_source = fold-Term Source Source Source Source factor_source (λ e. alone e.terms) (λ j. j.factor) (λ t. alone t.factors)
+term_source = fold-Term Source Source Source Source factor_source (λ e. lone_source e.terms) (λ j. j.factor) (λ t. lone_source t.factors)
 
 unfoldable pub joined_source : Joined → Source
-joined_source = fold-Joined Source Source Source Source factor_source (λ e. alone e.terms) (λ j. j.factor) (λ t. alone t.factors)
+joined_source = fold-Joined Source Source Source Source factor_source (λ e. lone_source e.terms) (λ j. j.factor) (λ t. lone_source t.factors)
 
 unfoldable pub own_source : Factor → Source
-own_source = fold-Factor Source Source Source Source factor_source (λ e. alone e.terms) (λ j. j.factor) (λ t. alone t.factors)
+own_source = fold-Factor Source Source Source Source factor_source (λ e. lone_source e.terms) (λ j. j.factor) (λ t. lone_source t.factors)
 
 abbrev pub small : ℕ → Source
 small n = (if nat_lt n SMALL_NUMBERS then Is (Const n) else Is Any)

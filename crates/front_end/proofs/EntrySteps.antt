@@ -3,13 +3,13 @@ use Rattle.std.proofs.Common.{◌≡◌, ℕ, ◌+◌, ◌<◌, ◌≤◌, List,
 use Rattle.std.specs.List.{cons_option}
 use Rattle.std.proofs.Math.ListN.{drop_of_length-le}
 use Rattle.std.proofs.lemmas.List.{append_assoc, append-nil}
+use Rattle.plex_num.proofs.Lists.{opens}
 use Rattle.exchange_model.specs.declared.block.Block.{Block}
 use Rattle.exchange_model.specs.declared.entry.Entry.{Entry}
 use Rattle.exchange_model.specs.declared.signal.SignalKind.{SignalKind}
 use Rattle.exchange_model.specs.declared.stmt.Stmt.{Stmt}
 use Rattle.exchange_model.specs.declared.stmt.StmtKind.{out-StmtKind}
 use Rattle.exchange_model.specs.Kept.{entered, entry_at, entries_in, entries_from}
-use Rattle.first_fault.proofs.Told.{cut_at}
 
 abbrev pub entry_here : List SignalKind → ℕ → Stmt → Option Entry
 entry_here signals b s = entry_at signals (entered (out-StmtKind s.kind)) b s.point
@@ -22,7 +22,7 @@ pub body_begin : (signals : List SignalKind) (b : ℕ) (body : List Stmt) (old :
 body_begin signals b body old = record { all = refl }
 
 next_entry : (signals : List SignalKind) (b : ℕ) (body : List Stmt) (i : ℕ) (s : Stmt) → i < length body → s ≡ get_or body i s → entries_in signals b (drop i body) ≡ cons_option (entry_here signals b s) (entries_in signals b (drop (i + 1) body))
-next_entry signals b body i s inside is = ap (entries_in signals b) (cut_at body i s inside is)
+next_entry signals b body i s inside is = ap (entries_in signals b) (opens body i s inside is)
 
 pub body_none : (signals : List SignalKind) (b : ℕ) (body : List Stmt) (i : ℕ) (s : Stmt) (now old : List Entry) → i < length body → s ≡ get_or body i s → None ≡ entry_here signals b s → BodyEntered signals b body i now old → BodyEntered signals b body (i + 1) now old
 body_none signals b body i s now old inside is none g = record {
@@ -53,7 +53,7 @@ pub entries_step : (signals : List SignalKind) (blocks : List Block) (i : ℕ) (
 unfolding entries_from
 entries_step signals blocks i k list new inside is h g = record {
   all = ap (λ l. l ++ entries_from signals (i + 1) (drop (i + 1) blocks)) h ∙ append_assoc list (entries_in signals i k.body) (entries_from signals (i + 1) (drop (i + 1) blocks))
-      ∙ ap (λ l. list ++ entries_from signals i l) (sym (cut_at blocks i k inside is)) ∙ g.all;
+      ∙ ap (λ l. list ++ entries_from signals i l) (sym (opens blocks i k inside is)) ∙ g.all;
 }
 
 pub entries_end : (signals : List SignalKind) (blocks : List Block) (i : ℕ) (list : List Entry) → length blocks ≤ i → Entered signals blocks i list → list ≡ entries_from signals 0 blocks

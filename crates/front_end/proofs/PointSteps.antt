@@ -3,6 +3,7 @@ use Rattle.std.proofs.Common.{◌≡◌, ℕ, ◌+◌, ◌<◌, ◌≤◌, List,
 use Rattle.std.specs.List.{flat_map}
 use Rattle.std.proofs.Math.ListN.{drop_of_length-le}
 use Rattle.std.proofs.lemmas.List.{append_assoc, append-nil, map-append}
+use Rattle.plex_num.proofs.Lists.{opens}
 use Rattle.exchange_model.specs.declared.block.Block.{Block}
 use Rattle.exchange_model.specs.declared.entry.PointInfo.{PointInfo}
 use Rattle.exchange_model.specs.declared.expr.Cond.{Cond}
@@ -17,7 +18,6 @@ use Rattle.exchange_model.specs.Kept.{points_from}
 use Rattle.exchange_model.specs.PartCounts.{stmt_spots, when_spots, parts_spots}
 use Rattle.exchange_model.proofs.Counted.{inner_spots-out}
 use Rattle.front_end.specs.Points.{point_of, stmt_points, kind_points, when_points, body_points}
-use Rattle.first_fault.proofs.Told.{cut_at}
 use Rattle.exchange_model.proofs.Layers.{same_kind}
 
 -- lists that are joined first, or of which each is mapped first
@@ -80,7 +80,7 @@ pub points_step : (blocks : List Block) (i : ℕ) (k : Block) (list new : List P
 unfolding points_from
 points_step blocks i k list new inside is h g = record {
   all = ap (λ l. l ++ points_from (i + 1) (drop (i + 1) blocks)) h ∙ append_assoc list (body_points i k.body) (points_from (i + 1) (drop (i + 1) blocks))
-      ∙ ap (λ l. list ++ (l ++ points_from (i + 1) (drop (i + 1) blocks))) (sym (body_is i k.body)) ∙ ap (λ l. list ++ points_from i l) (sym (cut_at blocks i k inside is)) ∙ g.all;
+      ∙ ap (λ l. list ++ (l ++ points_from (i + 1) (drop (i + 1) blocks))) (sym (body_is i k.body)) ∙ ap (λ l. list ++ points_from i l) (sym (opens blocks i k inside is)) ∙ g.all;
 }
 
 pub points_end : (blocks : List Block) (i : ℕ) (list : List PointInfo) → length blocks ≤ i → Pointed blocks i list → list ≡ points_from 0 blocks

@@ -4,21 +4,17 @@ use Rattle.exchange_model.specs.declared.exchange.Exchange.{Exchange}
 use Rattle.exchange_model.specs.Kept.{IsExchange}
 use Rattle.source_meaning.specs.State.{State}
 use Rattle.source_meaning.specs.Traces.{trace_of}
-use Rattle.source_meaning.specs.Valid.{IsFitting, IsJob, IsValid}
-use Rattle.order_laws.specs.Windows.{MakesWay}
+use Rattle.source_meaning.specs.Valid.{IsFitting, IsValid}
 use Rattle.pair_laws.specs.Pairs.{MayRunAtOnce}
-use Rattle.pair_laws.proofs.Joining.{make_way, run_together}
+use Rattle.pair_laws.proofs.Joining.{run_together}
 use Rattle.pair_laws.proofs.Keeping.{keeps_to}
 use Rattle.pair_laws.proofs.Touching.{touched_read}
 use Rattle.checked.specs.Kept.{IsChecked, KeptSummaries}
+use Rattle.interference_check.proofs.Following.{makes}
 use Rattle.interleave_core.specs.Allowed.{MayFollow}
 use Rattle.interleave_core.proofs.Joining.{PairGives, PairsGive}
 
 module _ (x : Exchange) (kept : IsExchange x) (facts : KeptSummaries) (checked : IsChecked x facts) (a b : JobStart) (p : MayFollow facts a b) where
-  makes_way : IsJob x b.job → MakesWay x a b
-  makes_way is_job =
-      make_way x checked.facts p.one p.other a b kept checked.closed (checked.by_facts.is a.job.entry p.one p.of_first) (checked.by_facts.is b.job.entry p.other p.of_later) is_job p.holds
-
   pair_gives : (s : State) → IsValid x s → IsFitting x s a → IsFitting x s b → PairGives x s a b
   pair_gives s v first_fits later_fits =
       let told = checked.by_facts.is b.job.entry p.other p.of_later in
@@ -40,6 +36,6 @@ module _ (x : Exchange) (kept : IsExchange x) (facts : KeptSummaries) (checked :
 
 pub pairs_give : (x : Exchange) (facts : KeptSummaries) → IsExchange x → IsChecked x facts → PairsGive x (MayFollow facts)
 pairs_give x facts kept checked = record {
-  way = λ a b is_job p. makes_way x kept facts checked a b p is_job;
+  way = λ a b is_job p. makes facts p.one p.other a b p.of_first p.of_later p.holds x kept checked is_job;
   gives = λ a b p s v first_fits later_fits. pair_gives x kept facts checked a b p s v first_fits later_fits;
 }

@@ -1,6 +1,6 @@
 -- Lines that are written out are read again.
 use Rattle.std.proofs.Common.{◌≡◌, ℕ, zero, suc, ◌+◌, ◌-◌, ◌<◌, ◌≤◌, ◌^◌, true, false, ◌||◌, nat_eq, List, [], ◌∷◌, ◌++◌, length, map, codes, decimal, position, slice_get, Option, Some, None, Ok, refl, sym, ap, subst, ◌∙◌, append_assoc, length-append, arith}
-use Rattle.std.specs.Prelude.{if◌then◌else◌, nat_le}
+use Rattle.std.specs.Prelude.{if◌then◌else◌}
 use Rattle.std.specs.List.{AllByRecursion, cons_option}
 use Rattle.std.specs.Option.{option_map_or}
 use Rattle.std.specs.Str.Lines.{lines}
@@ -19,14 +19,15 @@ use Rattle.exchange_model.specs.Index.{is_entry}
 use Rattle.exchange_model.specs.Kept.{IsExchange, signal_count, signal_name}
 use Rattle.signal_file.specs.declared.before.Before.{Before}
 use Rattle.signal_file.specs.declared.directory.Signal.{Signal}
-use Rattle.signal_file.specs.declared.fault.SignalsRule.TheVariants.{BadAs, FallingCount, UnknownBlock, UnknownSignal, WrongData}
 use Rattle.signal_file.specs.declared.line.Line.{Line}
 use Rattle.signal_file.specs.declared.line.LineKind.{LineKind}
 use Rattle.signal_file.specs.declared.line.LineKind.TheVariants.{Bare, Fresh, Same}
 use Rattle.signal_file.specs.Form.{Saying, closing, said_in, with}
 use Rattle.text_lines.specs.Words.{has_no_word, is_comment, is_skipped, words}
 use Rattle.signal_file.specs.Lines.{lines_behind, signal_lines}
-use Rattle.signal_file.specs.Rules.{added, and_then, before_of, breach, count_or, entry_of, gives, gives_forlopp, has_origin, if_buffered, is_origin, is_true, last_count, meaning, need, need_that, next_number, says, signal_of, told}
+use Rattle.signal_file.specs.Rules.{added, and_then, before_of, count_or, entry_of, gives, gives_forlopp, has_origin, if_buffered, is_origin, is_true, last_count, meaning, next_number, says, signal_of, tests, told}
+use Rattle.signal_file.proofs.Meant.{keeps}
+use Rattle.signal_file.proofs.Tests.{AllHold}
 use Rattle.exchange_model.specs.Names.{names_of_blocks, names_of_signals}
 use Rattle.source_meaning.specs.State.{Coming}
 use Rattle.source_meaning.specs.Valid.{HasOrigin, LinesFit, NamesEarlier, entry_count}
@@ -37,7 +38,6 @@ use Rattle.exchange_model.specs.Names.{name_of_block, name_of_entry, name_of_sig
 use Rattle.retire_order.proofs.Fitting.{counts_more, before_is}
 use Rattle.job_table.proofs.Entries.{HasNames, IsBuffered, entry_named, name_found}
 use Rattle.job_table.proofs.Fit.{giver_gives, lines_of_coming}
-use Rattle.job_table.proofs.Signals.{after_block, after_signal}
 use Rattle.job_table.proofs.Words.{AllAbove, AreSmall, HasSmall, NoEnds, decimal_plain, line_first, low_all, plain_after, tail_is, tail_read, tail_words, word_first}
 
 -- ---- one line
@@ -136,19 +136,17 @@ not_skipped x l r = ap (λ ws. has_no_word ws || is_comment (line_words x l)) (w
 says_is : (x : Exchange) (l : Line) (r : IsReady x l) → says (line_words x l) ≡ Some (saying_of x l r)
 says_is x l r = ap (λ t. if t then None else said_in (words (line_words x l))) (not_skipped x l r) ∙ said_is x l r
 
+-- a line that is merged keeps each rule of a signal file
+keeps_rules : (b : Before) (l : Line) (signal : Signal) → length l.values ≡ signal.count → b.last ≤ l.after → has_origin b l.kind ≡ true → AllHold (tests b signal l.after (length l.values) l.kind)
+keeps_rules b l signal many no_less origin = (eq-eqb (length l.values) signal.count many, (le-leb b.last l.after no_less, (origin, tt)))
+
 meaning_is : (x : Exchange) (b : Before) (l : Line) (r : IsReady x l) → next_number b ≡ l.number → b.last ≤ l.after → has_origin b l.kind ≡ true → meaning x b (saying_of x l r) ≡ Ok l
-unfolding meaning saying_of
+unfolding saying_of
 meaning_is x b l r number no_less origin =
     let w = r.written in
-    let n = next_number b in
     let s : Saying = record { after = l.after; signal = w.name; block = w.block; values = l.values; kind = l.kind } in
-    let line : ℕ → Line = λ m. record { number = m; after = l.after; entry = l.entry; values = l.values; kind = l.kind } in
-    ap (λ o. need (breach UnknownSignal n) o (after_signal x b s)) w.found
-    ∙ ap (λ o. need (breach UnknownBlock n) o (after_block x b s w.signal)) w.entry
-    ∙ ap (λ t. need_that (breach WrongData n) t (need_that (breach FallingCount n) (nat_le b.last l.after) (need_that (breach BadAs n) (has_origin b l.kind) (Ok (line n))))) (eq-eqb (length l.values) w.signal.count w.many)
-    ∙ ap (λ t. need_that (breach FallingCount n) t (need_that (breach BadAs n) (has_origin b l.kind) (Ok (line n)))) (le-leb b.last l.after no_less)
-    ∙ ap (λ t. need_that (breach BadAs n) t (Ok (line n))) origin
-    ∙ ap (λ m. Ok (line m)) number
+    keeps x b s w.signal l.entry w.found w.entry (keeps_rules b l w.signal w.many no_less origin)
+    ∙ ap (λ m. Ok (record { number = m; after = l.after; entry = l.entry; values = l.values; kind = l.kind })) number
 
 added_is : (x : Exchange) (b : Before) (l : Line) → IsReady x l → next_number b ≡ l.number → b.last ≤ l.after → has_origin b l.kind ≡ true → added x b (line_words x l) ≡ Ok (Some l)
 unfolding added

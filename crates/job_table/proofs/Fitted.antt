@@ -1,5 +1,5 @@
 -- What is known of each period of a table.
-use Rattle.std.proofs.Common.{◌≡◌, ℕ, ◌+◌, ◌<◌, ◌^◌, Bool, List, [], ◌∷◌, length, sum_by, Option, Some, None, Result, Ok, Err, refl, sym, ap, subst, ◌∙◌, arith}
+use Rattle.std.proofs.Common.{◌≡◌, ℕ, ◌+◌, ◌<◌, ◌^◌, Bool, List, [], ◌∷◌, length, sum_by, Option, Some, None, Ok, refl, sym, ap, subst, ◌∙◌, arith}
 use Rattle.std.specs.List.{AllByRecursion, cons_option}
 use Rattle.std.specs.Str.Lines.{lines}
 use Rattle.std.proofs.lemmas.List.Sums.{sum_by-cons}
@@ -10,8 +10,7 @@ use Rattle.signal_file.specs.declared.line.Line.{Line}
 use Rattle.signal_file.specs.Form.{Closing, closing, with}
 use Rattle.text_lines.specs.Words.{words}
 use Rattle.source_meaning.specs.Valid.{IsWord, entry_count}
-use Rattle.retire_order.proofs.Fitting.{closing_words, entry_there}
-use Rattle.job_table.specs.declared.fault.TableFault.{TableFault}
+use Rattle.retire_order.proofs.Fitting.{closing_words, entry_there, went}
 use Rattle.job_table.specs.declared.meaning.Before.{Before}
 use Rattle.job_table.specs.declared.period.Period.{Period}
 use Rattle.job_table.specs.Form.{Numbered, Saying, fresh_of, numbered, said_in, signal_in}
@@ -20,13 +19,10 @@ use Rattle.signal_file.specs.Rules.{and_then}
 use Rattle.signal_file.proofs.Behind.{ok_first}
 use Rattle.job_table.specs.Rules.{added, behind, signals_in}
 use Rattle.job_table.specs.Table.{periods_behind, table_periods}
-use Rattle.job_table.proofs.Told.{Adds, says, skips, IsMeant, added_few, adds}
+use Rattle.job_table.proofs.Meant.{IsMeant}
+use Rattle.job_table.proofs.Told.{Adds, says, skips, added_few, adds}
 
 -- the values of a line are numbers of 32 bits
-
-with_numbered : (o : Option Numbered) (go : Numbered → Option Saying) (s : Saying) → with o go ≡ Some s → (n : Numbered) × (go n ≡ Some s)
-with_numbered None go s e = absurd (cc)
-with_numbered (Some n) go s e = (n, e)
 
 said_values : (every from times : ℕ) (signal block : List ℕ) (o : Option Closing) (s : Saying) → ((c : Closing) → o ≡ Some c → AllByRecursion IsWord c.values)
     → with o (λ c. with (fresh_of c.kind) (λ fresh. Some (record { every = every; from = from; times = times; signal = signal; block = block; values = c.values; fresh = fresh }))) ≡ Some s → AllByRecursion IsWord s.values
@@ -42,13 +38,13 @@ signal_values every from times [] s e = absurd (cc)
 signal_values every from times (signal ∷ []) s e = absurd (cc)
 signal_values every from times (signal ∷ block ∷ rest) s e = said_values every from times signal block (closing rest) s (λ c is. closing_words rest c is) e
 
-said_words : (ws : List (List ℕ)) (s : Saying) → said_in ws ≡ Some s → AllByRecursion IsWord s.values
+line_words : (line : List ℕ) (s : Saying) → said_in (words line) ≡ Some s → AllByRecursion IsWord s.values
 unfolding said_in
-said_words ws s e =
+line_words line s e =
     let from_of : Numbered → Numbered → Option Saying = λ every from. with (numbered (codes "TIMES") from.rest) (λ times. signal_in every.number from.number times.number times.rest) in
-    let every = with_numbered (numbered (codes "EVERY") ws) (λ every. with (numbered (codes "FROM") every.rest) (from_of every)) s e in
-    let from = with_numbered (numbered (codes "FROM") every.0.rest) (from_of every.0) s every.1 in
-    let times = with_numbered (numbered (codes "TIMES") from.0.rest) (λ times. signal_in every.0.number from.0.number times.number times.rest) s from.1 in
+    let every = went (numbered (codes "EVERY") (words line)) (λ every. with (numbered (codes "FROM") every.rest) (from_of every)) s e in
+    let from = went (numbered (codes "FROM") every.0.rest) (from_of every.0) s every.1 in
+    let times = went (numbered (codes "TIMES") from.0.rest) (λ times. signal_in every.0.number from.0.number times.number times.rest) s from.1 in
     signal_values every.0.number from.0.number times.0.number times.0.rest s times.1
 
 -- a period fits an exchange
@@ -70,7 +66,7 @@ meant_fits x b s p all m =
 
 joined : {x : Exchange} {b : Before} {line : List ℕ} {first : Option Period} (ps : List Period) → Adds x b line first → AllByRecursion (PeriodFits x) ps → AllByRecursion (PeriodFits x) (cons_option first ps)
 joined ps skips all = all
-joined {x = x} {b = b} {line = line} ps (says s p said m) all = (meant_fits x b s p (said_words (words line) s said) m, all)
+joined {x = x} {b = b} {line = line} ps (says s p said m) all = (meant_fits x b s p (line_words line s said) m, all)
 
 periods_behind_fit : (x : Exchange) (b : Before) (rest : List (List ℕ)) (list : List Period) → periods_behind x b rest ≡ Ok list → AllByRecursion (PeriodFits x) list
 unfolding periods_behind

@@ -1,3 +1,7 @@
+// The faults of a table, and the words of its rules.
+ghost use Rattle.std.specs.Prelude.{◌≡◌};
+ghost use Rattle.job_table.specs.Rules.{table_rule_name};
+
 /// The first fault of a table: its first faulty line, and the first rule that this line breaks.
 #[derive(Clone, Copy, Debug)]
 pub struct TableFault {
@@ -23,4 +27,21 @@ pub enum TableRule {
     BadRange,
     /// With the signals of this line there are over 1,000,000 in the signal file and the table.
     TooMany,
+}
+
+impl TableRule {
+    /// The word of the rule in what is told of a fault.
+    pub fn word(self) -> &'static [u8]
+        ensures { result.now ≡ table_rule_name self }
+    {
+        match self {
+            TableRule::TooLarge => b"TOOLARGE",
+            TableRule::BadLine => b"BADLINE",
+            TableRule::UnknownSignal => b"UNKNOWNSIGNAL",
+            TableRule::UnknownBlock => b"UNKNOWNBLOCK",
+            TableRule::WrongData => b"WRONGDATA",
+            TableRule::BadRange => b"BADRANGE",
+            TableRule::TooMany => b"TOOMANY",
+        }
+    }
 }

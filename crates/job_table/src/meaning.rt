@@ -1,14 +1,14 @@
 // What a line of a table means in an exchange, or its first fault.
 ghost use Rattle.std.specs.Prelude.{◌≡◌, ◌+◌, ◌<◌, ◌^◌};
-ghost use Rattle.signal_file.specs.Rules.{IsDirectory};
 ghost use Rattle.job_table.specs.Form.{IsRead, Saying};
+ghost use Rattle.signal_file.specs.Rules.{rule_broken};
 ghost use Rattle.job_table.specs.Rules.{added, behind, breach, is_in_range, last_count, meaning};
+ghost use Rattle.job_table.specs.Rules.{tests};
 
 use crate::fault::{TableFault, TableRule};
 use crate::form::{Said, said_of};
 use crate::period::{MOST_LINES, Period};
-use exchange_model::Exchange;
-use signal_file::{Directory, entry_of, signal_of};
+use signal_file::{Known, Signal};
 use text_lines::is_skipped;
 
 /// What counts of the lines before a line: how many lines of the table there are, and how many signals in the signal file and in
@@ -39,16 +39,10 @@ impl Before {
 
 /// What a line adds behind those before, `None` where it is skipped; or its first fault.
 #[tactic(auto, unfolding(crate::specs::Rules::added))]
-pub fn added(
-    exchange: &Exchange,
-    directory: &Directory,
-    before: Before,
-    line: &[u8],
-) -> Result<Option<Period>, TableFault>
-    requires directory { IsDirectory exchange.now directory.now }
+pub fn added(known: &Known<'_>, before: Before, line: &[u8]) -> Result<Option<Period>, TableFault>
     requires lines { before.lines < 2 ^ 24 }
     requires signals { before.signals < 2 ^ 32 }
-    ensures { result ≡ added exchange.now before line.now }
+    ensures { result ≡ added known.now.exchange.now before line.now }
 {
     if is_skipped(line) {
         return Ok(None);
@@ -56,7 +50,7 @@ pub fn added(
     let Some(said) = said_of(line) else {
         return Err(breach(before.lines + 1, TableRule::BadLine));
     };
-    match meaning(exchange, directory, before, &said) {
+    match meaning(known, before, &said) {
         Ok(period) => Ok(Some(period)),
         Err(fault) => Err(fault),
     }
@@ -64,32 +58,20 @@ pub fn added(
 
 /// What a line of the form means, or its first fault.
 #[tactic(auto, using(crate::proofs::Meant::line_meant))]
-fn meaning(
-    exchange: &Exchange,
-    directory: &Directory,
-    before: Before,
-    said: &Said<'_>,
-) -> Result<Period, TableFault>
-    requires directory { IsDirectory exchange.now directory.now }
+fn meaning(known: &Known<'_>, before: Before, said: &Said<'_>) -> Result<Period, TableFault>
     requires lines { before.lines < 2 ^ 24 }
     requires signals { before.signals < 2 ^ 32 }
-    ensures { (s : Saying) → IsRead s said.now → result ≡ meaning exchange.now before s }
+    ensures { (s : Saying) → IsRead s said.now → result ≡ meaning known.now.exchange.now before s }
 {
     let line = before.lines + 1;
-    let Some(signal) = signal_of(exchange, directory, said.signal) else {
+    let Some(signal) = known.signal_of(said.signal) else {
         return Err(breach(line, TableRule::UnknownSignal));
     };
-    let Some(entry) = entry_of(exchange, directory, signal.number, said.block) else {
+    let Some(entry) = known.entry_of(signal.number, said.block) else {
         return Err(breach(line, TableRule::UnknownBlock));
     };
-    if said.count != usize::from(signal.count) {
-        return Err(breach(line, TableRule::WrongData));
-    }
-    if !is_in_range(said.every, said.from, said.times) {
-        return Err(breach(line, TableRule::BadRange));
-    }
-    if before.signals + u64::from(said.times) > MOST_LINES {
-        return Err(breach(line, TableRule::TooMany));
+    if let Some(rule) = rule_broken(before, said, signal) {
+        return Err(breach(line, rule));
     }
     Ok(Period {
         number: line,
@@ -100,6 +82,24 @@ fn meaning(
         values: said.values.copy(),
         fresh: said.fresh,
     })
+}
+
+/// The first rule that a line of this signal breaks, `None` where it keeps them all.
+fn rule_broken(before: Before, said: &Said<'_>, signal: Signal) -> Option<TableRule>
+    requires { before.signals < 2 ^ 32 }
+    ensures { result ≡ rule_broken
+        (tests before signal said.now.count said.now.every said.now.from said.now.times) }
+{
+    if said.count != usize::from(signal.count) {
+        return Some(TableRule::WrongData);
+    }
+    if !is_in_range(said.every, said.from, said.times) {
+        return Some(TableRule::BadRange);
+    }
+    if before.signals + u64::from(said.times) > MOST_LINES {
+        return Some(TableRule::TooMany);
+    }
+    None
 }
 
 /// The fault of a line that breaks this rule.

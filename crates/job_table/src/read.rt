@@ -8,9 +8,8 @@ ghost use Rattle.job_table.specs.Table.{table_periods};
 use crate::fault::TableFault;
 use crate::meaning::{Before, added};
 use crate::period::Period;
-use exchange_model::Exchange;
 use plex_num::{Memory, Seq};
-use signal_file::{Line, directory_of};
+use signal_file::{Known, Line};
 use std::alloc::Global;
 use text_lines::next_line;
 
@@ -19,19 +18,18 @@ use text_lines::next_line;
 #[tactic(auto, using(crate::proofs::Tabled::table_read, crate::proofs::Fitted::table_fits))]
 pub fn read_table(
     alloc: Global,
-    exchange: &Exchange,
+    known: &Known<'_>,
     lines: &Seq<Line>,
     text: &[u8],
 ) -> Result<Result<Seq<Period>, TableFault>, Memory>
     requires few { length lines.now < 2 ^ 32 }
     requires short { length text.now ≤ 2 ^ 24 }
     ensures told { IfOk result (λ told. told
-        ≡ table_periods exchange.now (length lines.now) text.now) }
+        ≡ table_periods known.now.exchange.now (length lines.now) text.now) }
     ensures ranges { IfOk result (λ told. IfOk told (λ periods. AllByRecursion IsInRange periods)) }
     ensures few { IfOk result (λ told. IfOk told
         (λ periods. line_count lines.now periods < 2 ^ 32)) }
 {
-    let directory = directory_of(alloc, exchange)?;
     let mut before = Before {
         lines: 0,
         signals: lines.len() as u64,
@@ -39,7 +37,7 @@ pub fn read_table(
     let mut list = Seq::new(alloc);
     let mut rest = text;
     while let Some((line, after)) = next_line(rest) {
-        match added(exchange, &directory, before, line) {
+        match added(known, before, line) {
             Ok(period) => {
                 before = before.with(&period);
                 push_some(&mut list, period)?;

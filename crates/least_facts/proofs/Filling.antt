@@ -25,7 +25,7 @@ use Rattle.flow_table.specs.Giving.{AreValues, SlotGives}
 use Rattle.flow_table.specs.Rows.{IsFlowTable}
 use Rattle.fact_flows.specs.Flows.{FlowsTo}
 use Rattle.fact_rows.specs.declared.place.Counts.{Counts}
-use Rattle.fact_rows.specs.Known.{Adds, Fits, HasSpot, Joins, Knows, BitRows, missing}
+use Rattle.fact_rows.specs.Known.{AddsFact, Fits, HasSpot, Joins, Knows, BitRows, missing}
 use Rattle.fact_rows.specs.Touched.{key}
 use Rattle.fact_rows.specs.Values.{HasNumber, is_awaits}
 use Rattle.least_facts.specs.Fit.{Awaited, NumberedSource, SourceFits}
@@ -62,7 +62,7 @@ item_there xs i d lt = (i, lt, get_or_default xs i (get_or xs i d) d lt)
 pub spot_fits : (slots : List Counts) (e q : ℕ) (s : Slot) (v : Value) → HasSpot slots q s → HasNumber s v → Fits slots (fact e q s v)
 spot_fits slots e q s v spot number = record { counts = spot.counts; there = spot.there; slot = spot.slot; number = number }
 
-pub fact_given : (k new : BitRows) (g : Fact) (grown : Bool) → Adds g k new → MatchBool grown (missing new + 1 ≡ missing k) (new ≡ k) → Gives k (IsFact g) grown new
+pub fact_given : (k new : BitRows) (g : Fact) (grown : Bool) → AddsFact g k new → MatchBool grown (missing new + 1 ≡ missing k) (new ≡ k) → Gives k (IsFact g) grown new
 fact_given k new g grown adds counted = record { entry = adds.entry; slots = adds.slots; knows = adds.knows; counted = by grown counted }
   where
     by : (b : Bool) → MatchBool b (missing new + 1 ≡ missing k) (new ≡ k) → MatchBool b (missing new < missing k) (new ≡ k)

@@ -39,7 +39,7 @@ use Rattle.fact_flows.specs.Flows.{FlowsTo, OneGives, WayGives}
 use Rattle.fact_flows.specs.Slots.{AreSlots}
 use Rattle.fact_flows.proofs.Flowing.{ways_give, ways_small}
 use Rattle.fact_flows.proofs.Peopled.{point_stands}
-use Rattle.fact_rows.specs.Known.{Adds, Fits, Knows, BitRows, missing}
+use Rattle.fact_rows.specs.Known.{AddsFact, Fits, Knows, BitRows, missing}
 use Rattle.least_facts.specs.declared.answers.AnswerTable.{AnswerTable}
 use Rattle.least_facts.specs.Answers.{AreAnswers, awaited_at, known_answer}
 use Rattle.least_facts.specs.Fit.{NumberedSource}
@@ -73,7 +73,7 @@ slots_there x q all slots exact same s c = (exact.exact s).0 (subst (λ l. Conta
 
 -- a fact is added
 pub added : (x : Exchange) (t : FlowTable) (a : AnswerTable) (e : ℕ) (kept : IsExchange x) (are : AreAnswers x a) (s : Search) (stands : IsLeastSoFar x t e s) (f : Fact) (least : IsOwnLeast x e f) (grown reached : Bool) (k : BitRows) (m : List ℕ) (firsts : List (Option ℕ)) → (IsTrue reached ↔ Reached (Knows s.rows) e f.point)
-    → Adds f s.rows k → MatchBool grown (missing k + 1 ≡ missing s.rows) (k ≡ s.rows) → Settles a k e grown reached f.point s.marks s.firsts m firsts → Went x t a e (IsFact f) s (record { rows = k; marks = m; firsts = firsts })
+    → AddsFact f s.rows k → MatchBool grown (missing k + 1 ≡ missing s.rows) (k ≡ s.rows) → Settles a k e grown reached f.point s.marks s.firsts m firsts → Went x t a e (IsFact f) s (record { rows = k; marks = m; firsts = firsts })
 added x t a e kept are s stands f least grown reached k m firsts test adds counted settles = record {
   goes = settled_goes x t a e kept are s k f.point stands m firsts grown reached
       (fills_given x f.point s.rows k (IsFact f) grown (fact_given s.rows k f grown adds counted) (λ h is. (ap (λ (z : Fact). z.point) is, subst (IsLeast x) (sym is) least.least))) test settles;

@@ -31,7 +31,7 @@ use Rattle.flow_points.specs.declared.flow.Passing.TheVariants.{Kept, Sets, Take
 use Rattle.flow_points.specs.declared.flow.Source.{Source}
 use Rattle.flow_points.specs.declared.flow.Source.TheVariants.{Of, Is, Nothing}
 use Rattle.flow_points.specs.Flows.{Leads}
-use Rattle.flow_points.specs.Sources.{alone, at_place, expr_source, kept, named, source_of, start_source}
+use Rattle.flow_points.specs.Sources.{at_place, expr_source, kept, lone_source, named, source_of, start_source}
 use Rattle.flow_table.specs.declared.way.Way.{Way}
 use Rattle.flow_table.specs.Alone.{term_source, joined_source, own_source}
 use Rattle.flow_table.specs.Shapes.{Shape, Stays, Assigns, Finds, TakesGiven, TakesAnswer, Starts, Transfers, Asks, GivesAnswer}
@@ -55,12 +55,12 @@ module _ (s : Scope) (few : length s.blocks ≤ MOST_BLOCKS) where
   abbrev FactorNumbered : Factor → Type 0
   FactorNumbered f = FactorOwnFits s f → NumberedSource (own_source f)
 
-  alone_term : (ts : List Term) → AllByRecursion TermNumbered ts → AllByRecursion (TermFits s) ts → NumberedSource (alone (map term_source ts))
+  alone_term : (ts : List Term) → AllByRecursion TermNumbered ts → AllByRecursion (TermFits s) ts → NumberedSource (lone_source (map term_source ts))
   alone_term [] each fit = tt
   alone_term (t ∷ []) each fit = each.0 fit.0
   alone_term (t ∷ u ∷ ts) each fit = tt
 
-  alone_factor : (js : List Joined) → AllByRecursion (λ (j : Joined). FactorNumbered j.factor) js → AllByRecursion (JoinedFits s) js → NumberedSource (alone (map joined_source js))
+  alone_factor : (js : List Joined) → AllByRecursion (λ (j : Joined). FactorNumbered j.factor) js → AllByRecursion (JoinedFits s) js → NumberedSource (lone_source (map joined_source js))
   alone_factor [] each fit = tt
   alone_factor (j ∷ []) each fit = subst NumberedSource (sym (joined_source-out j)) (each.0 (joined_fits-out s j fit.0))
   alone_factor (j ∷ k ∷ js) each fit = tt

@@ -280,7 +280,7 @@ fn send(
 }
 
 /// Whether an answer is given.
-fn gives_answer(how: &Passing) -> bool
+pub fn gives_answer(how: &Passing) -> bool
     ensures { result ≡ is_answer_of how.now }
 {
     match how {

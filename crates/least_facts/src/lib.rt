@@ -16,4 +16,6 @@ mod order;
 
 pub use analyser::{Analyser, facts_of};
 pub use answers::{AnswerTable, answers_of};
+pub use finding::gives_answer;
 pub use looks::Looked;
+pub use marks::awaited_in;

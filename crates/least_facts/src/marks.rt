@@ -143,7 +143,7 @@ fn mark_returns(
 
 /// The answer that the statement at a point awaits, if it is a RETRIEVE.
 #[tactic(auto, using(crate::proofs::Marking::known_some, crate::proofs::Marking::known_none))]
-pub(crate) fn awaited_in(answers: &AnswerTable, point: u32) -> Option<u32>
+pub fn awaited_in(answers: &AnswerTable, point: u32) -> Option<u32>
     ensures { result ≡ awaited_at answers.now point }
 {
     match answers.awaited.get(point as usize) {

@@ -15,7 +15,7 @@ use Rattle.listing.specs.declared.statement.Statement.TheVariants.{Entry, Instru
 use Rattle.listing.specs.Faults.{BeginForm, BeginListing, HasBadLine, HasBadOperand, TellsListing, whole}
 use Rattle.listing.specs.Forms.{EachFrom, HasEntryForm, HasOpForm, IsEntryLine, IsOpLine}
 use Rattle.listing.specs.Listing.{CodeFits, IsListing, entry_line, entry_lines, first_line, inner_lines, last_line, op_line}
-use Rattle.listing.specs.Statements.{Adds, HasBadNumber, HasNoForm, ReadsStatement, fault_at}
+use Rattle.listing.specs.Statements.{AddsStatement, HasBadNumber, HasNoForm, ReadsStatement, fault_at}
 use Rattle.listing.proofs.Apart.{entries_are_lines, entries_have_form, forms_apart, lines_apart, ops_are_lines, ops_have_form}
 use Rattle.listing.proofs.Fronts.{closing, line_last, line_next}
 use Rattle.listing.proofs.Texts.{code_text-lines, ended_has, lines_in-open, some_line}
@@ -234,7 +234,7 @@ read_op text rest line after ops more entries number op r next (fit, is) pushed 
     let last : map op_line more ≡ map op_line ops ++ line ∷ [] = ap (map op_line) pushed ∙ map-append op_line ops (op ∷ []) ∙ ap (λ (l : List ℕ). map op_line ops ++ l ∷ []) (sym is) in
     goes_on text rest line after ops more entries entries number r next fits (ap (λ (ls : List (List ℕ)). es ++ ls) last ∙ sym (append_assoc es (map op_line ops) (line ∷ [])))
 
-pub read_more : (text rest line after : List ℕ) (ops new_ops : List Op) (entries new_entries : List ℕ) (number : ℕ) (at_entries : Bool) (said : Statement) → Read text rest ops entries number → IsCut 10 rest line after → at_entries ≡ nat_eq (length ops) 0 → ReadsStatement (length entries) at_entries line (Ok said) → length text ≤ 2 ^ 24 → Adds said ops entries new_ops new_entries → Read text after new_ops new_entries (number + 1)
+pub read_more : (text rest line after : List ℕ) (ops new_ops : List Op) (entries new_entries : List ℕ) (number : ℕ) (at_entries : Bool) (said : Statement) → Read text rest ops entries number → IsCut 10 rest line after → at_entries ≡ nat_eq (length ops) 0 → ReadsStatement (length entries) at_entries line (Ok said) → length text ≤ 2 ^ 24 → AddsStatement said ops entries new_ops new_entries → Read text after new_ops new_entries (number + 1)
 read_more text rest line after ops new_ops entries new_entries number at_entries (Entry address) r next at reads small adds =
     subst (λ (os : List Op). Read text after os new_entries (number + 1)) (sym adds.0) (read_entry text rest line after ops entries new_entries number address at_entries r next at reads small adds.1)
 read_more text rest line after ops new_ops entries new_entries number at_entries (Instruction op) r next at reads small adds =

@@ -90,8 +90,8 @@ ReadsStatement i at_entries line (Err Form) = HasNoForm i at_entries line
 ReadsStatement i at_entries line (Err Operand) = HasBadNumber i at_entries line
 
 -- instructions and entries with one more
-abbrev pub Adds : Statement → List Op → List ℕ → List Op → List ℕ → Type 0
-Adds (Entry address) ops entries new_ops new_entries =
+abbrev pub AddsStatement : Statement → List Op → List ℕ → List Op → List ℕ → Type 0
+AddsStatement (Entry address) ops entries new_ops new_entries =
     (new_ops ≡ ops) × (new_entries ≡ entries ++ address ∷ [])
-Adds (Instruction op) ops entries new_ops new_entries =
+AddsStatement (Instruction op) ops entries new_ops new_entries =
     (new_ops ≡ ops ++ op ∷ []) × (new_entries ≡ entries)

@@ -2,7 +2,7 @@
 ghost use Rattle.std.specs.Prelude.{◌≡◌, ◌≤◌, ◌^◌, ℕ, Ok, Err, OnOk, length};
 ghost use Rattle.listing.specs.Faults.{HasBadLine, HasBadOperand, IsUnlessMemory, TellsListing};
 ghost use Rattle.listing.specs.Listing.{IsListing, first_line};
-ghost use Rattle.listing.specs.Statements.{Adds};
+ghost use Rattle.listing.specs.Statements.{AddsStatement};
 ghost use Rattle.machine_code.specs.Coded.{Code};
 ghost use Rattle.text_lines.specs.Parts.{IsCut};
 
@@ -86,7 +86,7 @@ fn code_of(alloc: Global, ops: Seq<Op>, entries: Seq<u32>) -> Result<Code, ListF
 
 /// Adds an instruction or an entry.
 fn add(said: Statement, ops: &mut Seq<Op>, entries: &mut Seq<u32>) -> Result<(), Memory>
-    ensures { OnOk result (Adds said ops.old entries.old ops.new entries.new) }
+    ensures { OnOk result (AddsStatement said ops.old entries.old ops.new entries.new) }
 {
     match said {
         Statement::Entry(address) => entries.push(address),

@@ -5,13 +5,13 @@ use Rattle.exchange_model.specs.declared.exchange.Exchange.{Exchange}
 use Rattle.signal_file.specs.declared.line.Line.{Line}
 use Rattle.job_table.specs.Writing.{written_out}
 use Rattle.command_words.specs.Words.{Word}
-use Rattle.plex_program.specs.Outcome.{Out, goes_on}
-use Rattle.plex_program.specs.Given.{exchange_at, lines_at}
-use Rattle.plex_program.specs.TimedAnswer.{merged_at}
-use Rattle.plex_program.specs.Answer.{answer_of}
-use Rattle.plex_program.specs.Text.{LF}
-use Rattle.plex_program.specs.declared.perform.Answer.{Answer}
-use Rattle.plex_program.specs.declared.program.Status.TheVariants as status
+use Rattle.command_answers.specs.Outcome.{Out, goes_on}
+use Rattle.command_answers.specs.Given.{exchange_at, lines_at}
+use Rattle.command_answers.specs.TimedAnswer.{merged_at}
+use Rattle.command_answers.specs.Answer.{answer_of}
+use Rattle.command_answers.specs.Text.{LF}
+use Rattle.command_answers.specs.declared.answer.Answer.{Answer}
+use Rattle.command_words.specs.declared.status.Status.TheVariants as status
 
 -- the usage line
 unfoldable pub usage_text : List ℕ

@@ -2,11 +2,11 @@
 ghost use Rattle.std.specs.Prelude.{◌≡◌, ◌≤◌, List, [], ◌∷◌, Some, length};
 ghost use Rattle.plex_limits.specs.declared.limits.TheConstants.{MOST_BYTES};
 ghost use Rattle.plex_io.specs.Files.{Files};
-ghost use Rattle.plex_program.specs.Given.{exchange_at};
-ghost use Rattle.plex_program.specs.RunAnswer.{run_of};
-ghost use Rattle.plex_program.specs.TimedAnswer.{timed_of};
-ghost use Rattle.plex_program.specs.declared.perform.Answer.{Answer};
-ghost use Rattle.plex_program.specs.declared.program.Status.TheVariants.{Done};
+ghost use Rattle.command_answers.specs.Given.{exchange_at};
+ghost use Rattle.command_answers.specs.RunAnswer.{run_of};
+ghost use Rattle.command_answers.specs.TimedAnswer.{timed_of};
+ghost use Rattle.command_answers.specs.declared.answer.Answer.{Answer};
+ghost use Rattle.command_words.specs.declared.status.Status.TheVariants.{Done};
 ghost use Rattle.command_words.specs.Words.{Word};
 ghost use Rattle.command_words.specs.declared.command.TimedWords.{TimedWords};
 ghost use Rattle.merge_program.specs.Merge.{IsMergeAnswer};

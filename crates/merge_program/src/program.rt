@@ -1,17 +1,19 @@
 // The program as one call.
 ghost use Rattle.std.specs.Prelude.{◌≡◌, Ok, IfOk, IfSome};
-ghost use Rattle.plex_program.specs.Stages.{Comes, ReadAs};
-ghost use Rattle.plex_program.specs.Program.{Answers, ProcessEnds, ProcessEndsAs, IsComplete, IsEnding};
-ghost use Rattle.plex_program.specs.Program.{Makes, ReadCause, WriteCause};
+ghost use Rattle.command_answers.specs.Stages.{Comes, ReadAs};
+ghost use Rattle.command_answers.specs.Program.{Answers, ProcessEnds, ProcessEndsAs, IsComplete};
+ghost use Rattle.command_answers.specs.Program.{IsEnding};
+ghost use Rattle.command_answers.specs.Program.{Makes, ReadCause, WriteCause};
 ghost use Rattle.merge_program.specs.Merge.{AreOthers, IsMergeAnswer, lines_answer, merge_of};
 ghost use Rattle.merge_program.specs.Merge.{usage_answer, usage_text};
 
+use command_answers::{Answer, Stop, directory_of, exchange_in, lines_in, merged_in, write_answer};
+use command_words::Status;
 use exchange_model::Exchange;
 use job_table::write_out;
 use plex_io::{Shelf, Sink, Word};
 use plex_num::Seq;
-use plex_program::{Answer, Status, Stop, exchange_in, lines_in, merged_in, write_answer};
-use signal_file::Line;
+use signal_file::{Known, Line};
 use std::alloc::Global;
 use text_parts::Text;
 
@@ -21,7 +23,7 @@ use text_parts::Text;
 /// status and the text are those of the answer (`IsMergeAnswer`), but for `Read` where a read failed,
 /// `Write` where the sink failed or is full, and then a proper front of the text was written, and
 /// `Memory`.
-#[tactic(auto, using(plex_program::proofs::Endings::ending))]
+#[tactic(auto, using(command_answers::proofs::Endings::ending))]
 pub fn plex_merge<S: Shelf, K: Sink>(
     alloc: Global,
     words: &[Word],
@@ -66,7 +68,7 @@ fn answered<S: Shelf>(alloc: Global, words: &[Word], shelf: &mut S) -> Result<An
 }
 
 /// What the files of these names come to.
-#[tactic(auto, using(plex_program::proofs::Stages::comes_rules))]
+#[tactic(auto, using(command_answers::proofs::Stages::comes_rules))]
 fn merge_files<S: Shelf>(
     alloc: Global,
     shelf: &mut S,
@@ -79,8 +81,12 @@ fn merge_files<S: Shelf>(
     ensures ending { IfOk result (λ a. IsEnding a.status) }
 {
     let exchange = exchange_in(alloc, shelf, exchange)?;
-    let lines = lines_in(alloc, shelf, &exchange, signals)?;
-    let all = merged_in(alloc, shelf, &exchange, &lines, table)?;
+    let known = Known {
+        exchange: &exchange,
+        names: directory_of(alloc, &exchange)?,
+    };
+    let lines = lines_in(alloc, shelf, &known, signals)?;
+    let all = merged_in(alloc, shelf, &known, &lines, table)?;
     lines_answer(alloc, &exchange, &all)
 }
 

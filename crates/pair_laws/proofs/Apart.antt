@@ -1,7 +1,7 @@
 -- No cell that one of two jobs may write is one that the other may read.
-use Rattle.std.proofs.Common.{◌≡◌, ◌≢◌, inl, inr, ℕ, zero, suc, ◌<◌, ◌≤◌, Bool, true, ◌||◌, List, [], refl, sym, ◌∙◌, subst, arith}
+use Rattle.std.proofs.Common.{◌≡◌, ◌≢◌, inl, inr, ℕ, zero, suc, ◌<◌, ◌≤◌, Bool, true, ◌||◌, List, refl, sym, ◌∙◌, subst, arith}
 use Rattle.std.specs.List.{Contains}
-use Rattle.std.proofs.lemmas.Bool.{cases_lt}
+use Rattle.std.proofs.lemmas.Bool.{cases_lt, both_ways, false≢true, or_right}
 use Rattle.plex_num.specs.declared.level.Level.{Level}
 use Rattle.job_types.specs.declared.chain.Held.{Held}
 use Rattle.job_types.specs.declared.job.JobStart.{JobStart}
@@ -13,7 +13,6 @@ use Rattle.exchange_model.specs.declared.exchange.Exchange.{Exchange}
 use Rattle.exchange_model.proofs.Numbers.{cell_number-once}
 use Rattle.source_meaning.specs.State.{State, chain_in}
 use Rattle.source_meaning.specs.Valid.{IsFitting}
-use Rattle.plex_num.proofs.Booleans.{true_not_false, or_right}
 use Rattle.source_meaning.proofs.Chains.{holds_all}
 use Rattle.source_meaning.proofs.Lists.{all_members}
 use Rattle.flow_points.specs.declared.fact.Fact.{Fact}
@@ -33,7 +32,7 @@ use Rattle.pair_laws.proofs.Cells.{AllFit, CellLet, WordLet, read, written}
 -- chains
 
 held_in : (s : State) (n file number : ℕ) → holds (chain_in s n) file number ≡ true → (n ≢ 0) × (holds (chain_at s.chains n) file number ≡ true)
-held_in s zero file number h = true_not_false (holds [] file number) h refl
+held_in s zero file number h = absurd (false≢true h)
 held_in s (suc n) file number h = (λ none. (let e : suc n ≡ 0 = none in omega (arith, e)), h)
 
 -- a record that a job holds at its start stands in the chain of its forlopp
@@ -43,7 +42,7 @@ held_at_start x s start file number fit h = held_in s start.job.forlopp file num
 -- and is not free
 pub held_not_free : (x : Exchange) (s : State) (start : JobStart) (file number : ℕ) → IsFitting x s start → holds start.chain file number ≡ true → IsFree s.chains file number → ⊥
 held_not_free x s start file number fit h free =
-    true_not_false (holds (chain_at s.chains start.job.forlopp) file number) (held_at_start x s start file number fit h).1 (free start.job.forlopp)
+    both_ways (holds (chain_at s.chains start.job.forlopp) file number) (free start.job.forlopp) (held_at_start x s start file number fit h).1
 
 -- forlopps and levels
 

@@ -4,7 +4,7 @@
 use Rattle.std.proofs.Common.{◌≡◌, ◌≢◌, ◌⊎◌, inl, inr, ⊎_elim, ℕ, true, false, List, [], ◌∷◌, sym, ap, ◌∙◌, subst, arith}
 use Rattle.std.specs.Prelude.{slice_index}
 use Rattle.std.specs.List.{AllByRecursion, Contains}
-use Rattle.std.proofs.lemmas.Bool.{cases_eq}
+use Rattle.std.proofs.lemmas.Bool.{cases_eq, both_ways, cases_Bool}
 use Rattle.job_types.specs.declared.job.JobStart.{JobStart}
 use Rattle.job_types.specs.declared.touch.Touch.{Touch}
 use Rattle.job_types.specs.declared.touch.Touch.TheVariants.{Load, Store}
@@ -23,7 +23,6 @@ use Rattle.source_meaning.specs.State.{State}
 use Rattle.source_meaning.specs.Traces.{trace_of}
 use Rattle.source_meaning.specs.Valid.{IsFitting, IsLive, IsRecord, IsValid}
 use Rattle.source_meaning.proofs.Agreeing.{job_keeps}
-use Rattle.plex_num.proofs.Booleans.{bool_cases, true_not_false}
 use Rattle.source_meaning.proofs.Chains.{holds_all}
 use Rattle.source_meaning.proofs.Freeing.{put_chain, put_same, put_other}
 use Rattle.source_meaning.proofs.Holding.{HoldsOn}
@@ -82,10 +81,10 @@ module _ (x : Exchange) (facts : List Fact) (s : State) (m : Summary) (start : J
   was_free file number h none n =
       ⊎_elim
       (λ there. elim (cases_eq n f) [
-        | inl same ↦ true_not_false (holds start.chain file number) (in_start file number (subst (λ k. holds (chain_at s.chains k) file number ≡ true) same there)) none
+        | inl same ↦ absurd (both_ways (holds start.chain file number) none (in_start file number (subst (λ k. holds (chain_at s.chains k) file number ≡ true) same there)))
         | inr other ↦ absurd (other (ended_so.books.apart n f file number (in_other n file number other there) (in_end file number h)))
       ])
-      (λ out. out) (bool_cases (holds (chain_at s.chains n) file number))
+      (λ out. out) (cases_Bool (holds (chain_at s.chains n) file number))
 
   -- and one that it held at its start and does not hold at its end is free then
   is_free : (file number : ℕ) → holds start.chain file number ≡ true → holds end.own.chain file number ≡ false → (n : ℕ) → holds (put_chain (chain_at s.chains) f end.own.chain n) file number ≡ false
@@ -96,7 +95,7 @@ module _ (x : Exchange) (facts : List Fact) (s : State) (m : Summary) (start : J
             ap (λ chain. holds chain file number) (put_other (chain_at s.chains) f end.own.chain n other)
             ∙ ⊎_elim
             (λ there. absurd (other (valid.chains.apart n f (record { file = file; number = number }) there (held_at_start x s start file number fits h).1)))
-            (λ out. out) (bool_cases (holds (chain_at s.chains n) file number))
+            (λ out. out) (cases_Bool (holds (chain_at s.chains n) file number))
       ]
 
   module _ (told : IsSummary x (Contains facts) start.job.entry m) (keeps : KeepsTo x s m start) where
@@ -134,7 +133,7 @@ module _ (x : Exchange) (facts : List Fact) (s : State) (m : Summary) (start : J
         let before : slice_index s.store (mark_cell r.placed number) ≡ 0 = valid.marks.free file number r.placed r.here r.kind free in
         let after : slice_index end.world.store (mark_cell r.placed number) ≡ 1 = ended_so.books.held f file number r.placed r.here.there (in_end file number h) in
         taken file number free (mark_let file number r (λ same. (let e : 1 ≡ 0 = sym after ∙ same ∙ before in omega (arith, e)))))
-        (bool_cases (holds start.chain file number))
+        (cases_Bool (holds start.chain file number))
 
     end_let_go : (file number : ℕ) → holds start.chain file number ≡ true → holds end.own.chain file number ≡ false → Contains m.accesses (Frees file)
     end_let_go file number h none =

@@ -1,7 +1,7 @@
 -- The accesses of a summary are of the exchange: a field that is selected is of a plain file, and one of a record that is held is of
 -- a forlopp file, as is a record that is seized or freed.
 use Rattle.std.proofs.Common.{◌≡◌, inl, inr, ℕ, ◌+◌, ◌<◌, Bool, true, false, List, ◌∷◌, take, length, sum_by, Some, slice_get, refl, sym, ap, ◌∙◌, subst, arith}
-use Rattle.std.proofs.lemmas.Bool.{cases_order}
+use Rattle.std.proofs.lemmas.Bool.{cases_order, both_ways}
 use Rattle.std.proofs.lemmas.Option.{same_Some}
 use Rattle.exchange_model.specs.declared.exchange.Exchange.{Exchange}
 use Rattle.exchange_model.specs.declared.block.Block.{Block}
@@ -15,7 +15,6 @@ use Rattle.source_meaning.specs.Config.{files_of}
 use Rattle.source_meaning.specs.Deeds.{IsFileAt}
 use Rattle.source_meaning.specs.Named.{Layer, NamedField, named_in}
 use Rattle.source_meaning.specs.Rests.{IsOfBlock}
-use Rattle.plex_num.proofs.Booleans.{true_not_false}
 use Rattle.source_meaning.proofs.Fitting.{NamedFits, names_fit, row_fits}
 use Rattle.source_meaning.proofs.Lists.{all_contained}
 use Rattle.source_meaning.proofs.Touching.{field_of}
@@ -129,4 +128,4 @@ forlopp_placed x file p f there = subst (λ (q : Placed). q.file.forlopp ≡ tru
 
 -- and of no other kind
 pub kinds_apart : (x : Exchange) (file : ℕ) → IsPlain x file → IsForlopp x file → ⊥
-kinds_apart x file p f = true_not_false p.placed.file.forlopp (forlopp_placed x file p.placed f p.there) p.plain
+kinds_apart x file p f = both_ways p.placed.file.forlopp p.plain (forlopp_placed x file p.placed f p.there)

@@ -1,5 +1,6 @@
 -- What the retirement of the first job leaves of the chains.
 use Rattle.std.proofs.Common.{◌≡◌, inl, inr, ℕ, zero, suc, ◌+◌, true, false, List, [], refl, sym, ap, ◌∙◌, subst}
+use Rattle.std.proofs.lemmas.Bool.{false≢true}
 use Rattle.job_types.specs.declared.job.JobStart.{JobStart}
 use Rattle.job_types.specs.declared.outcome.JobDone.{JobDone}
 use Rattle.job_types.specs.declared.outcome.Outcome.{Outcome}
@@ -10,7 +11,6 @@ use Rattle.job_types.proofs.ChainMaps.{chain_same, chain_other}
 use Rattle.exchange_model.specs.declared.exchange.Exchange.{Exchange}
 use Rattle.source_meaning.specs.Retirement.{all_delivered, keeps_chain, retires, with_outcome}
 use Rattle.source_meaning.specs.State.{State}
-use Rattle.plex_num.proofs.Booleans.{true_not_false}
 use Rattle.source_meaning.proofs.Delivering.{all_delivered_chains}
 use Rattle.flow_points.specs.declared.fact.Fact.{Fact}
 use Rattle.entry_summary.specs.declared.summary.Summary.{Summary}
@@ -41,7 +41,7 @@ module _ (x : Exchange) (facts : List Fact) (s : State) (first later : Summary) 
       let own : chain_at (with_chain kept (suc k) []) a.job.forlopp ≡ [] = ap (chain_at (with_chain kept (suc k) [])) (sym is) ∙ chain_same kept (suc k) [] in
       record {
         others = λ n other. chain_other kept (suc k) n [] (λ e. other (e ∙ is)) ∙ chain_other t.chains (suc k) n done.chain (λ e. other (e ∙ is)) ∙ ap (λ (m : ChainMap). chain_at m n) same;
-        own = λ file number held. true_not_false (holds [] file number) (subst (λ chain. holds chain file number ≡ true) own held) refl;
+        own = λ file number held. absurd (false≢true (subst (λ chain. holds chain file number ≡ true) own held));
         let_go = λ file number held gone. inr (d.fault (subst IsFaulted (sym how) tt));
       }
 

@@ -1,8 +1,8 @@
 -- What the later job may read and write is the same whichever way the first one leaves the chains.
-use Rattle.std.proofs.Common.{◌≡◌, ◌⊎◌, inl, inr, ⊎_elim, ℕ, zero, suc, Bool, true, false, List, [], ◌∷◌, refl, sym, ap, ◌∙◌, subst, arith}
+use Rattle.std.proofs.Common.{◌≡◌, ◌⊎◌, inl, inr, ⊎_elim, ℕ, zero, suc, Bool, true, false, List, [], ◌∷◌, sym, ap, ◌∙◌, subst, arith}
 use Rattle.std.specs.Prelude.{◌↔◌}
 use Rattle.std.specs.List.{Contains}
-use Rattle.std.proofs.lemmas.Bool.{cases_eq}
+use Rattle.std.proofs.lemmas.Bool.{cases_eq, cases_Bool, false≢true}
 use Rattle.job_types.specs.declared.chain.Held.{Held}
 use Rattle.job_types.specs.declared.job.JobStart.{JobStart}
 use Rattle.job_types.specs.Chain.{holds}
@@ -10,7 +10,6 @@ use Rattle.job_types.specs.Forlopps.{ChainMap, chain_at}
 use Rattle.exchange_model.specs.declared.exchange.Exchange.{Exchange}
 use Rattle.source_meaning.specs.State.{State, chain_in}
 use Rattle.source_meaning.specs.Valid.{HasRecords, IsValid}
-use Rattle.plex_num.proofs.Booleans.{bool_cases, true_not_false}
 use Rattle.flow_points.specs.declared.fact.Fact.{Fact}
 use Rattle.entry_summary.specs.declared.summary.Access.{Access}
 use Rattle.entry_summary.specs.declared.summary.Access.TheVariants.{Variable, Field, Own, Seizes, Frees}
@@ -62,7 +61,7 @@ module _ (x : Exchange) (all : List Access) (start : JobStart) (before after : C
 -- chains of a valid state
 
 has_records : (chain : List Held) (file number : ℕ) → holds chain file number ≡ true → HasRecords chain
-has_records [] file number h = true_not_false (holds [] file number) h refl
+has_records [] file number h = absurd (false≢true h)
 has_records (r ∷ rest) file number h = tt
 
 -- no record stands in the chain of no forlopp
@@ -82,7 +81,7 @@ module _ (x : Exchange) (facts : List Fact) (s : State) (first later : Summary) 
 
   free_own : (file number : ℕ) → Contains later.accesses (Seizes file) → IsFree s.chains file number → holds (chain_at chains a.job.forlopp) file number ≡ false
   free_own file number seizes free =
-      ⊎_elim (λ held. absurd (not_taken file number seizes free (leaves.own file number held))) (λ none. none) (bool_cases (holds (chain_at chains a.job.forlopp) file number))
+      ⊎_elim (λ held. absurd (not_taken file number seizes free (leaves.own file number held))) (λ none. none) (cases_Bool (holds (chain_at chains a.job.forlopp) file number))
 
   pub free_after : (file number : ℕ) → Contains later.accesses (Seizes file) → IsFree s.chains file number → IsFree chains file number
   free_after file number seizes free n =
@@ -102,7 +101,7 @@ module _ (x : Exchange) (facts : List Fact) (s : State) (first later : Summary) 
       ⊎_elim
       (λ there. (let held : holds a.chain file number ≡ true = subst (λ chain. holds chain file number ≡ true) (sym h.first_fits.chain) (chain_of x s a.job.forlopp file number h.state there) in
       absurd (not_let_go file number seizes held (leaves.let_go file number held gone))))
-      (λ none. none) (bool_cases (holds (chain_at s.chains a.job.forlopp) file number))
+      (λ none. none) (cases_Bool (holds (chain_at s.chains a.job.forlopp) file number))
 
   pub free_before : (file number : ℕ) → Contains later.accesses (Seizes file) → IsFree chains file number → IsFree s.chains file number
   free_before file number seizes free n =

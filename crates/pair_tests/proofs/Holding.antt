@@ -6,8 +6,7 @@ use Rattle.std.specs.List.{All, Contains}
 use Rattle.std.proofs.lemmas.List.{take_all, take_more}
 use Rattle.std.proofs.lemmas.List.Elements.{All-contains, Contains-get_or}
 use Rattle.std.proofs.lemmas.Option.{none-some, same_Some}
-use Rattle.std.proofs.lemmas.Bool.{false≢true}
-use Rattle.plex_num.proofs.Booleans.{true_not_false}
+use Rattle.std.proofs.lemmas.Bool.{false≢true, both_ways}
 use Rattle.plex_num.proofs.Members.{none_in}
 use Rattle.job_types.specs.declared.chain.Held.{Held}
 use Rattle.job_types.specs.declared.job.JobStart.{JobStart}
@@ -134,7 +133,7 @@ module _ (a b : JobStart) where
   -- a first job that may fault
 
   pub no_fault : (fault : Bool) (others : List Access) → fault ≡ false → IsTrue true ↔ AllHold (AskedRelease fault others) a b
-  no_fault fault others e = (λ h. none_hold (AskedRelease fault others) (λ t k. true_not_false fault k.fault_may e), λ h. refl)
+  no_fault fault others e = (λ h. none_hold (AskedRelease fault others) (λ t k. both_ways fault e k.fault_may), λ h. refl)
 
   pub no_forlopp : (fault : Bool) (others : List Access) → fault ≡ true → a.job.forlopp ≡ 0 → IsTrue false ↔ AllHold (AskedRelease fault others) a b
   no_forlopp fault others e zero = (λ h. absurd (false≢true h), λ h. absurd (h.each test.InForlopp (record { fault_may = e; asks = inl refl }) zero))

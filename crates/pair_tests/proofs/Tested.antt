@@ -13,7 +13,7 @@ use Rattle.std.proofs.lemmas.List.Sorted.{Contains-permutation, IsPermutation-sy
 use Rattle.std.proofs.lemmas.List.{take_all, take_more}
 use Rattle.std.proofs.lemmas.List.Elements.{Contains-append_left, Contains-push, Contains-push_cases}
 use Rattle.std.proofs.lemmas.Option.{none-some, same_Some}
-use Rattle.plex_num.proofs.Booleans.{true_not_false}
+use Rattle.std.proofs.lemmas.Bool.{both_ways}
 use Rattle.plex_num.proofs.Members.{none_in}
 use Rattle.plex_num.proofs.Numbers.{nat_same}
 use Rattle.flow_points.specs.declared.fact.Value.{Value}
@@ -26,7 +26,7 @@ use Rattle.pair_tests.specs.declared.pair.Test.TheVariants as test
 use Rattle.pair_tests.specs.contracts.pair.TestOrd.TheImpl.Laws.{total-law}
 use Rattle.pair_tests.specs.Orders.{test_order}
 use Rattle.pair_tests.specs.Clashes.{share}
-use Rattle.pair_tests.specs.Asked.{selector_test, asked_of, asks as ask, release_test, AskedWith, Asked, AskedSeizing, AskedRelease, Adds}
+use Rattle.pair_tests.specs.Asked.{selector_test, asked_of, asks as ask, release_test, AskedWith, Asked, AskedSeizing, AskedRelease, AddsTests}
 use Rattle.pair_tests.specs.Nearby.{passes_reads, AreNear}
 use Rattle.pair_tests.specs.Pairs.{ShareField, IsTest, two_values, first_value, later_value, in_forlopp, holds_none}
 use Rattle.pair_tests.proofs.Conflicting.{shared, sharing}
@@ -100,11 +100,11 @@ asked_all one v all some n t h = record { other = h.other; there = n.each h.othe
 
 -- lists that grow by tests
 
-pub adds_nothing : (P : Test → Type 0) (old : List Test) → ((t : Test) → P t → ⊥) → Adds P old old
+pub adds_nothing : (P : Test → Type 0) (old : List Test) → ((t : Test) → P t → ⊥) → AddsTests P old old
 adds_nothing P old none = record { kept = λ t c. c; added = λ t h. absurd (none t h); each = λ t c. inl c }
 
 pub adds_joined : (P Q R : Test → Type 0) → ((t : Test) → P t → R t) → ((t : Test) → Q t → R t) → ((t : Test) → R t → P t ⊎ Q t)
-    → (old now new : List Test) → Adds P old now → Adds Q now new → Adds R old new
+    → (old now new : List Test) → AddsTests P old now → AddsTests Q now new → AddsTests R old new
 adds_joined P Q R from_p from_q cases old now new p q = record {
   kept = λ t c. q.kept t (p.kept t c);
   added = λ t h. ⊎_elim (λ k. q.kept t (p.added t k)) (λ k. q.added t k) (cases t h);
@@ -114,38 +114,38 @@ adds_joined P Q R from_p from_q cases old now new p q = record {
       (q.each t c);
 }
 
-pub adds_none : (old : List Test) → Adds (λ t. None ≡ Some t) old old
+pub adds_none : (old : List Test) → AddsTests (λ t. None ≡ Some t) old old
 adds_none old = adds_nothing (λ t. None ≡ Some t) old (λ t e. none-some t e)
 
-pub adds_one : (x : Test) (old new : List Test) → new ≡ old ++ x ∷ [] → Adds (λ t. Some x ≡ Some t) old new
+pub adds_one : (x : Test) (old new : List Test) → new ≡ old ++ x ∷ [] → AddsTests (λ t. Some x ≡ Some t) old new
 adds_one x old new is =
-    subst (Adds (λ t. Some x ≡ Some t) old) (sym is)
+    subst (AddsTests (λ t. Some x ≡ Some t) old) (sym is)
     (record {
       kept = λ t c. Contains-append_left old (x ∷ []) t c;
       added = λ t e. subst (Contains (old ++ x ∷ [])) (same_Some x t e) (Contains-push old x);
       each = λ t c. ⊎_elim (λ o. inl o) (λ e. inr (ap Some e)) (Contains-push_cases old x t c);
     })
 
-pub with_begin : (one : Access) (old : List Test) → Adds (AskedWith one []) old old
+pub with_begin : (one : Access) (old : List Test) → AddsTests (AskedWith one []) old old
 with_begin one old = adds_nothing (AskedWith one []) old (λ t h. none_in h.other h.there)
 
 pub with_more : (one : Access) (others : List Access) (i : ℕ) (d : Access) (o : Option Test) (old now new : List Test) → i < length others
-    → o ≡ asked_of one (get_or others i d) → Adds (AskedWith one (take i others)) old now → Adds (λ t. o ≡ Some t) now new
-    → Adds (AskedWith one (take (i + 1) others)) old new
+    → o ≡ asked_of one (get_or others i d) → AddsTests (AskedWith one (take i others)) old now → AddsTests (λ t. o ≡ Some t) now new
+    → AddsTests (AskedWith one (take (i + 1) others)) old new
 with_more one others i d o old now new lt same before one_more =
-    subst (λ l. Adds (AskedWith one l) old new) (sym (take_more others i d lt))
+    subst (λ l. AddsTests (AskedWith one l) old new) (sym (take_more others i d lt))
     (adds_joined (AskedWith one (take i others)) (λ t. asked_of one (get_or others i d) ≡ Some t) (AskedWith one (take i others ++ get_or others i d ∷ []))
     (with_done one (take i others) (get_or others i d)) (with_new one (take i others) (get_or others i d)) (with_pushed one (take i others) (get_or others i d))
-    old now new before (subst (λ p. Adds (λ t. p ≡ Some t) now new) same one_more))
+    old now new before (subst (λ p. AddsTests (λ t. p ≡ Some t) now new) same one_more))
 
-pub with_end : (one : Access) (others : List Access) (i : ℕ) (old new : List Test) → length others ≤ i → Adds (AskedWith one (take i others)) old new → Adds (AskedWith one others) old new
-with_end one others i old new past h = subst (λ l. Adds (AskedWith one l) old new) (take_all i others past) h
+pub with_end : (one : Access) (others : List Access) (i : ℕ) (old new : List Test) → length others ≤ i → AddsTests (AskedWith one (take i others)) old new → AddsTests (AskedWith one others) old new
+with_end one others i old new past h = subst (λ l. AddsTests (AskedWith one l) old new) (take_all i others past) h
 
-pub with_none : (one : Access) (all : List Access) (old : List Test) → ask one ≡ false → Adds (AskedWith one all) old old
+pub with_none : (one : Access) (all : List Access) (old : List Test) → ask one ≡ false → AddsTests (AskedWith one all) old old
 with_none one all old nothing = adds_nothing (AskedWith one all) old (λ t h. none_asked_with one all t nothing h)
 
 pub with_writes : (one : Access) (all writes : List Access) (old new : List Test) → passes_reads one ≡ true → AreNear one true all writes
-    → Adds (AskedWith one writes) old new → Adds (AskedWith one all) old new
+    → AddsTests (AskedWith one writes) old new → AddsTests (AskedWith one all) old new
 with_writes one all writes old new reads w h = record {
   kept = h.kept;
   added = λ t k. h.added t (writes_asked one all writes reads w t k);
@@ -153,7 +153,7 @@ with_writes one all writes old new reads w h = record {
 }
 
 pub with_near : (one : Access) (all reads writes : List Access) (old now new : List Test) → AreNear one false all reads → AreNear one true all writes
-    → Adds (AskedWith one writes) old now → Adds (AskedWith one reads) now new → Adds (AskedWith one all) old new
+    → AddsTests (AskedWith one writes) old now → AddsTests (AskedWith one reads) now new → AddsTests (AskedWith one all) old new
 with_near one all reads writes old now new r w first second =
     adds_joined (AskedWith one writes) (AskedWith one reads) (AskedWith one all)
     (asked_all one true all writes w) (asked_all one false all reads r) (λ t h. swapped (near_asked one all reads writes r w t h)) old now new first second
@@ -162,41 +162,41 @@ with_near one all reads writes old now new r w first second =
     swapped (inl a) = inr a
     swapped (inr b) = inl b
 
-pub all_begin : (others : List Access) (old : List Test) → Adds (Asked [] others) old old
+pub all_begin : (others : List Access) (old : List Test) → AddsTests (Asked [] others) old old
 all_begin others old = adds_nothing (Asked [] others) old (λ t h. none_in h.one h.there)
 
 pub all_more : (ones others : List Access) (i : ℕ) (d : Access) (old now new : List Test) → i < length ones
-    → Adds (Asked (take i ones) others) old now → Adds (AskedWith (get_or ones i d) others) now new
-    → Adds (Asked (take (i + 1) ones) others) old new
+    → AddsTests (Asked (take i ones) others) old now → AddsTests (AskedWith (get_or ones i d) others) now new
+    → AddsTests (Asked (take (i + 1) ones) others) old new
 all_more ones others i d old now new lt before one_more =
-    subst (λ l. Adds (Asked l others) old new) (sym (take_more ones i d lt))
+    subst (λ l. AddsTests (Asked l others) old new) (sym (take_more ones i d lt))
     (adds_joined (Asked (take i ones) others) (AskedWith (get_or ones i d) others) (Asked (take i ones ++ get_or ones i d ∷ []) others)
     (all_done (take i ones) others (get_or ones i d)) (all_new (take i ones) others (get_or ones i d)) (all_pushed (take i ones) others (get_or ones i d))
     old now new before one_more)
 
-pub all_end : (ones others : List Access) (i : ℕ) (old new : List Test) → length ones ≤ i → Adds (Asked (take i ones) others) old new → Adds (Asked ones others) old new
-all_end ones others i old new past h = subst (λ l. Adds (Asked l others) old new) (take_all i ones past) h
+pub all_end : (ones others : List Access) (i : ℕ) (old new : List Test) → length ones ≤ i → AddsTests (Asked (take i ones) others) old new → AddsTests (Asked ones others) old new
+all_end ones others i old new past h = subst (λ l. AddsTests (Asked l others) old new) (take_all i ones past) h
 
-pub seizing_begin : (old : List Test) → Adds (AskedSeizing []) old old
+pub seizing_begin : (old : List Test) → AddsTests (AskedSeizing []) old old
 seizing_begin old = adds_nothing (AskedSeizing []) old (λ t h. none_in h.other h.there)
 
 pub seizing_more : (others : List Access) (i : ℕ) (d : Access) (o : Option Test) (old now new : List Test) → i < length others
-    → o ≡ release_test (get_or others i d) → Adds (AskedSeizing (take i others)) old now → Adds (λ t. o ≡ Some t) now new
-    → Adds (AskedSeizing (take (i + 1) others)) old new
+    → o ≡ release_test (get_or others i d) → AddsTests (AskedSeizing (take i others)) old now → AddsTests (λ t. o ≡ Some t) now new
+    → AddsTests (AskedSeizing (take (i + 1) others)) old new
 seizing_more others i d o old now new lt same before one_more =
-    subst (λ l. Adds (AskedSeizing l) old new) (sym (take_more others i d lt))
+    subst (λ l. AddsTests (AskedSeizing l) old new) (sym (take_more others i d lt))
     (adds_joined (AskedSeizing (take i others)) (λ t. release_test (get_or others i d) ≡ Some t) (AskedSeizing (take i others ++ get_or others i d ∷ []))
     (seizing_done (take i others) (get_or others i d)) (seizing_new (take i others) (get_or others i d)) (seizing_pushed (take i others) (get_or others i d))
-    old now new before (subst (λ p. Adds (λ t. p ≡ Some t) now new) same one_more))
+    old now new before (subst (λ p. AddsTests (λ t. p ≡ Some t) now new) same one_more))
 
-pub seizing_end : (others : List Access) (i : ℕ) (old new : List Test) → length others ≤ i → Adds (AskedSeizing (take i others)) old new → Adds (AskedSeizing others) old new
-seizing_end others i old new past h = subst (λ l. Adds (AskedSeizing l) old new) (take_all i others past) h
+pub seizing_end : (others : List Access) (i : ℕ) (old new : List Test) → length others ≤ i → AddsTests (AskedSeizing (take i others)) old new → AddsTests (AskedSeizing others) old new
+seizing_end others i old new past h = subst (λ l. AddsTests (AskedSeizing l) old new) (take_all i others past) h
 
-pub no_release : (fault : Bool) (others : List Access) (old : List Test) → fault ≡ false → Adds (AskedRelease fault others) old old
-no_release fault others old e = adds_nothing (AskedRelease fault others) old (λ t h. true_not_false fault h.fault_may e)
+pub no_release : (fault : Bool) (others : List Access) (old : List Test) → fault ≡ false → AddsTests (AskedRelease fault others) old old
+no_release fault others old e = adds_nothing (AskedRelease fault others) old (λ t h. both_ways fault e h.fault_may)
 
-pub release : (fault : Bool) (others : List Access) (old now new : List Test) → fault ≡ true → now ≡ old ++ test.InForlopp ∷ [] → Adds (AskedSeizing others) now new
-    → Adds (AskedRelease fault others) old new
+pub release : (fault : Bool) (others : List Access) (old now new : List Test) → fault ≡ true → now ≡ old ++ test.InForlopp ∷ [] → AddsTests (AskedSeizing others) now new
+    → AddsTests (AskedRelease fault others) old new
 release fault others old now new e is more =
     adds_joined (λ t. Some test.InForlopp ≡ Some t) (AskedSeizing others) (AskedRelease fault others)
     (λ t s. record { fault_may = e; asks = inl (sym (same_Some test.InForlopp t s)) })
@@ -219,7 +219,7 @@ is_equal Greater e = cc
 pairs_equal : (a b c d : ℕ) → ordering_then (nat_cmp a c) (nat_cmp b d) ≡ Equal → (a ≡ c) × (b ≡ d)
 pairs_equal a b c d e = (let h = then_equal (nat_cmp a c) (nat_cmp b d) e in (nat_same a c h.0, nat_same b d h.1))
 
-tests_equal : (x y : Test) → test_order x y ≡ Equal → x ≡ y
+pub tests_equal : (x y : Test) → test_order x y ≡ Equal → x ≡ y
 tests_equal (test.Differ a b) (test.Differ c d) e = (let h = pairs_equal a b c d e in λ i. test.Differ (h.0 i) (h.1 i))
 tests_equal (test.FirstNot a b) (test.FirstNot c d) e = (let h = pairs_equal a b c d e in λ i. test.FirstNot (h.0 i) (h.1 i))
 tests_equal (test.LaterNot a b) (test.LaterNot c d) e = (let h = pairs_equal a b c d e in λ i. test.LaterNot (h.0 i) (h.1 i))
@@ -315,10 +315,10 @@ module _ (first later : Summary) where
   test_cases t (holds_none f may at) = inr (record { fault_may = may; asks = inr (record { other = Seizes f; there = at; asks = refl }) })
 
 pub exact : (first later : Summary) (ones others : List Access) (empty now new made : List Test) → ones ≡ first.accesses → others ≡ later.accesses → empty ≡ []
-    → Adds (Asked ones others) empty now → Adds (AskedRelease first.fault others) now new → ((t : Test) → Contains made t ↔ Contains new t)
+    → AddsTests (Asked ones others) empty now → AddsTests (AskedRelease first.fault others) now new → ((t : Test) → Contains made t ↔ Contains new t)
     → (t : Test) → Contains made t ↔ IsTest first later t
 exact first later ones others empty now new made same_ones same_others none fields faults same t =
-    let f = subst (λ l. Adds (Asked l later.accesses) empty now) same_ones (subst (λ l. Adds (Asked ones l) empty now) same_others fields) in
-    let r = subst (λ l. Adds (AskedRelease first.fault l) now new) same_others faults in
+    let f = subst (λ l. AddsTests (Asked l later.accesses) empty now) same_ones (subst (λ l. AddsTests (Asked ones l) empty now) same_others fields) in
+    let r = subst (λ l. AddsTests (AskedRelease first.fault l) now new) same_others faults in
     let all = adds_joined (Asked first.accesses later.accesses) (AskedRelease first.fault later.accesses) (IsTest first later) (of_asked first later) (of_release first later) (test_cases first later) empty now new f r in
     (λ c. ⊎_elim (λ o. absurd (none_in t (subst (λ l. Contains l t) none o))) (λ h. h) (all.each t ((same t).0 c)), λ h. (same t).1 (all.added t h))

@@ -60,7 +60,7 @@ pub record AskedRelease (fault : Bool) (others : List Access) (t : Test) : Type 
   pub asks : (t ≡ test.InForlopp) ⊎ AskedSeizing others t
 
 -- a list that has these tests more
-pub record Adds (P : Test → Type 0) (old new : List Test) : Type 0 where
+pub record AddsTests (P : Test → Type 0) (old new : List Test) : Type 0 where
   pub kept : (t : Test) → Contains old t → Contains new t
   pub added : (t : Test) → P t → Contains new t
   pub each : (t : Test) → Contains new t → Contains old t ⊎ P t

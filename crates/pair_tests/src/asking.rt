@@ -5,7 +5,7 @@ ghost use Rattle.std.specs.List.Sorted.{IsStrictlySortedBy};
 ghost use Rattle.entry_summary.specs.declared.summary.Access.TheVariants as access;
 ghost use Rattle.entry_summary.specs.Orders.{access_order};
 ghost use Rattle.pair_tests.specs.declared.pair.Test.{Test};
-ghost use Rattle.pair_tests.specs.Asked.{asked_of, asks as asks_of, release_test as release_test_of, selector_test as selector_test_of, Adds, Asked, AskedRelease, AskedSeizing, AskedWith};
+ghost use Rattle.pair_tests.specs.Asked.{asked_of, asks as asks_of, release_test as release_test_of, selector_test as selector_test_of, AddsTests, Asked, AskedRelease, AskedSeizing, AskedWith};
 ghost use Rattle.pair_tests.specs.Orders.{test_order};
 ghost use Rattle.pair_tests.specs.Pairs.{IsTest};
 
@@ -81,7 +81,7 @@ pub fn release_test(other: Access) -> Option<Test>
 
 #[tactic(auto, using(crate::proofs::Tested::adds_none, crate::proofs::Tested::adds_one))]
 fn push_test(test: Option<Test>, tests: &mut Seq<Test>) -> Result<(), Memory>
-    ensures { OnOk result (Adds (λ (t : Test). test ≡ Some t) tests.old tests.new) }
+    ensures { OnOk result (AddsTests (λ (t : Test). test ≡ Some t) tests.old tests.new) }
 {
     match test {
         None => Ok(()),
@@ -92,7 +92,7 @@ fn push_test(test: Option<Test>, tests: &mut Seq<Test>) -> Result<(), Memory>
 /// Appends the tests of an access of the first with these of the later.
 #[tactic(auto, using(crate::proofs::Tested::with_begin, crate::proofs::Tested::with_end))]
 fn push_among(one: Access, others: &[Access], tests: &mut Seq<Test>) -> Result<(), Memory>
-    ensures { OnOk result (Adds (AskedWith one others.now) tests.old tests.new) }
+    ensures { OnOk result (AddsTests (AskedWith one others.now) tests.old tests.new) }
 {
     for other in others {
         push_test(asked(one, *other), tests)?;
@@ -119,7 +119,7 @@ fn push_with(
     tests: &mut Seq<Test>,
 ) -> Result<(), Memory>
     requires { IsStrictlySortedBy access_order others.now }
-    ensures { OnOk result (Adds (AskedWith one others.now) tests.old tests.new) }
+    ensures { OnOk result (AddsTests (AskedWith one others.now) tests.old tests.new) }
 {
     if !asks(one) {
         return Ok(());
@@ -136,7 +136,7 @@ fn push_with(
 #[tactic(auto, using(crate::proofs::Tested::all_begin, crate::proofs::Tested::all_more, crate::proofs::Tested::all_end))]
 fn push_fields(ones: &[Access], others: &[Access], tests: &mut Seq<Test>) -> Result<(), Memory>
     requires { IsStrictlySortedBy access_order others.now }
-    ensures { OnOk result (Adds (Asked ones.now others.now) tests.old tests.new) }
+    ensures { OnOk result (AddsTests (Asked ones.now others.now) tests.old tests.new) }
 {
     let mut hints = Hints::new();
     for one in ones {
@@ -148,7 +148,7 @@ fn push_fields(ones: &[Access], others: &[Access], tests: &mut Seq<Test>) -> Res
 /// Appends the tests of the files that the later seizes.
 #[tactic(auto, using(crate::proofs::Tested::seizing_begin, crate::proofs::Tested::seizing_end))]
 fn push_seizing(others: &[Access], tests: &mut Seq<Test>) -> Result<(), Memory>
-    ensures { OnOk result (Adds (AskedSeizing others.now) tests.old tests.new) }
+    ensures { OnOk result (AddsTests (AskedSeizing others.now) tests.old tests.new) }
 {
     for other in others {
         push_test(release_test(*other), tests)?;
@@ -159,7 +159,7 @@ fn push_seizing(others: &[Access], tests: &mut Seq<Test>) -> Result<(), Memory>
 /// Appends the tests of a first job that may fault.
 #[tactic(auto, using(crate::proofs::Tested::no_release, crate::proofs::Tested::release))]
 fn push_release(fault: bool, others: &[Access], tests: &mut Seq<Test>) -> Result<(), Memory>
-    ensures { OnOk result (Adds (AskedRelease fault others.now) tests.old tests.new) }
+    ensures { OnOk result (AddsTests (AskedRelease fault others.now) tests.old tests.new) }
 {
     if fault {
         tests.push(Test::InForlopp)?;

@@ -144,20 +144,20 @@ is_next x y k books top w start same kept may next goes flying = record {
   kept = subst IsExchange (sym same) kept;
   next = next;
   goes = goes;
-  flying = subst (λ (z : Exchange × List Lent). (s : State) × Fly z.0 k s books top z.1) (λ i. (sym same i, may.alone i)) flying;
+  flying = subst (λ (z : Exchange × List Lent). (s : State) × Fly z.0 k s books top z.1) (λ i. (sym same i, may.nobody i)) flying;
 }
 
 -- the number of the next job is one of 64 bits
 pub number_alone : (x : Exchange) (k : KeptSummaries) (books : Account) (top : Top) (w : View) → MayRunAlone books w → ending_at books.limit books.state ≡ None → (s : State) × Fly x k s books top w.loans → books.limit ≤ MOST_JOBS → books.state.ended + books.running + 1 < 2 ^ 64
 number_alone x k books top w may goes flying most =
     let few = (goes_on books.limit books.state goes).few in
-    let none : books.running ≡ 0 = flying.1.running ∙ ap length may.alone in
+    let none : books.running ≡ 0 = flying.1.running ∙ ap length may.nobody in
     omega (arith, few, none, most)
 
 -- there is a next job
 pub some_next : (x : Exchange) (k : KeptSummaries) (books : Account) (top : Top) (w : View) → MayRunAlone books w → ending_at books.limit books.state ≡ None → (s : State) × Fly x k s books top w.loans → None ≡ upcoming books → ⊥
 some_next x k books top w may goes flying none =
-    let nobody : books.running ≡ 0 = flying.1.running ∙ ap length may.alone in
+    let nobody : books.running ≡ 0 = flying.1.running ∙ ap length may.nobody in
     let some = some_start books.state books.limit goes in
     none-some some.0 (none ∙ upcoming_is books nobody goes ∙ some.1)
 
@@ -277,15 +277,15 @@ module _ (x : Exchange) (k : KeptSummaries) (books : Account) (top : Top) (start
         led_there : (y : Exchange) (code : Code) (w v : View) (run : Private) → x ≡ y → MayRunAlone books w → v ≡ w → RunEnds code start top.values run mid → done ≡ done_of run.own run.over → (now : Top) → now.values ≡ words → (made : ℕ) → made ≡ run.made → IsLed (setting y code k w.room) whole_turn books top w.loans last now v.loans made
         led_there y code w v run same may kept_window comes leaves now values made made_is =
             subst (λ (z : Exchange × (List Lent × List Lent)). IsLed (setting z.0 code k w.room) whole_turn books top z.1.0 last now z.1.1 made)
-            (λ i. (same i, (sym may.alone i, sym (ap (λ (u : View). u.loans) kept_window ∙ may.alone) i)))
+            (λ i. (same i, (sym may.nobody i, sym (ap (λ (u : View). u.loans) kept_window ∙ may.nobody) i)))
             (led_alone code w.room run may.room may.line comes leaves now values made made_is)
 
         pub turned_alone : (y : Exchange) (code : Code) (store : StoreId) (w v : View) (left : Retired) (run : Private) → x ≡ y → MayRunAlone books w → v ≡ w → left.root.1.values ≡ words → left.root.1.loans ≡ mid.loans → RunEnds code start top.values run mid → done ≡ done_of run.own run.over → left.steps ≡ run.made → left.root.0 ≡ store → AreCounted books w → HasTurned y k code store whole_turn books top w last left v
         turned_alone y code store w v left run same may kept_window values kept_loans comes leaves is home counted =
             let makes : RunMakes code start top.values run.made = record { end = comes.end; ends = comes.ends; made_is = ap (λ (r : Private). r.made) comes.run_is } in
             record {
-              fly = λ s fly. gone_alone y w.loans v.loans s left.root.1 same may.alone (ap (λ (u : View). u.loans) kept_window) fly values kept_loans;
-              steps = λ s fly. makes_alone y w.loans code s run.made left.steps same may.alone fly makes is;
+              fly = λ s fly. gone_alone y w.loans v.loans s left.root.1 same may.nobody (ap (λ (u : View). u.loans) kept_window) fly values kept_loans;
+              steps = λ s fly. makes_alone y w.loans code s run.made left.steps same may.nobody fly makes is;
               led = led_there y code w v run same may kept_window comes leaves left.root.1 values left.steps is;
               home = home;
               limit = limit_alone;

@@ -12,8 +12,8 @@ use Rattle.exchange_model.specs.declared.exchange.Exchange.{Exchange}
 use Rattle.entry_summary.specs.declared.summary.Summary.{Summary}
 use Rattle.start_permit.specs.Granted.{MayRead, MayWrite}
 use Rattle.permit_laws.specs.Permitted.{ArePermitted}
-use Rattle.shared_store.specs.Alone.{alone}
-use Rattle.shared_store.proofs.Alone.{alone_in, alone_out}
+use Rattle.shared_store.specs.OneWord.{one_word}
+use Rattle.shared_store.proofs.OneWord.{one_word_in, one_word_out}
 use Rattle.job_runner.specs.Runs.{KeepsPermit}
 use Rattle.parallel_dispatch.specs.Bare.{bare, loads_of, stores_of}
 
@@ -22,17 +22,17 @@ module _ (x : Exchange) (m : Summary) (start : JobStart) (chains : ChainMap) whe
   stored [] all w e = absurd (false≢true e)
   stored (Load u v ∷ ts) all w e = stored ts all.1 w e
   stored (Store u v ∷ ts) all w e = ⊎_elim
-      (λ (h : spans (alone u) w ≡ true). subst (MayWrite x m start chains) (alone_out u w h) all.0)
+      (λ (h : spans (one_word u) w ≡ true). subst (MayWrite x m start chains) (one_word_out u w h) all.0)
       (λ (h : list_any (λ s. spans s w) (stores_of ts) ≡ true). stored ts all.1 w h)
-      (or_cases (spans (alone u) w) _ e)
+      (or_cases (spans (one_word u) w) _ e)
 
   loaded : (ts : List Touch) → ArePermitted x m start chains ts → (w : ℕ) → list_any (λ s. spans s w) (loads_of ts) ≡ true → MayRead x m start chains w
   loaded [] all w e = absurd (false≢true e)
   loaded (Store u v ∷ ts) all w e = loaded ts all.1 w e
   loaded (Load u v ∷ ts) all w e = ⊎_elim
-      (λ (h : spans (alone u) w ≡ true). subst (MayRead x m start chains) (alone_out u w h) all.0)
+      (λ (h : spans (one_word u) w ≡ true). subst (MayRead x m start chains) (one_word_out u w h) all.0)
       (λ (h : list_any (λ s. spans s w) (loads_of ts) ≡ true). loaded ts all.1 w h)
-      (or_cases (spans (alone u) w) _ e)
+      (or_cases (spans (one_word u) w) _ e)
 
   pub bare_writes : (ts : List Touch) → ArePermitted x m start chains ts → (w : ℕ) → may_write (bare ts) w ≡ true → MayWrite x m start chains w
   bare_writes ts all w e = stored ts all w e
@@ -42,8 +42,8 @@ module _ (x : Exchange) (m : Summary) (start : JobStart) (chains : ChainMap) whe
 
 keeps_of : (p : Permit) (ts : List Touch) → ((w : ℕ) → list_any (λ s. spans s w) (loads_of ts) ≡ true → may_read p w ≡ true) → ((w : ℕ) → list_any (λ s. spans s w) (stores_of ts) ≡ true → may_write p w ≡ true) → KeepsPermit p ts
 keeps_of p [] reads writes = tt
-keeps_of p (Load w v ∷ ts) reads writes = (reads w (or_left (spans (alone w) w) _ (alone_in w)), keeps_of p ts (λ u e. reads u (or_right (spans (alone w) u) _ e)) writes)
-keeps_of p (Store w v ∷ ts) reads writes = (writes w (or_left (spans (alone w) w) _ (alone_in w)), keeps_of p ts reads (λ u e. writes u (or_right (spans (alone w) u) _ e)))
+keeps_of p (Load w v ∷ ts) reads writes = (reads w (or_left (spans (one_word w) w) _ (one_word_in w)), keeps_of p ts (λ u e. reads u (or_right (spans (one_word w) u) _ e)) writes)
+keeps_of p (Store w v ∷ ts) reads writes = (writes w (or_left (spans (one_word w) w) _ (one_word_in w)), keeps_of p ts reads (λ u e. writes u (or_right (spans (one_word w) u) _ e)))
 
 pub keeps_bare : (ts : List Touch) → KeepsPermit (bare ts) ts
 keeps_bare ts = keeps_of (bare ts) ts (λ w e. or_left _ (may_write (bare ts) w) e) (λ w e. e)

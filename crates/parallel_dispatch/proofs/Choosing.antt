@@ -34,7 +34,7 @@ none_there [] e = refl
 none_there (l ∷ rest) e = absurd (omega (arith, e))
 
 pub may_run_alone : (books : Account) (w : View) → length w.loans ≡ 0 → 0 < w.room → (w.loans ≡ [] → NoLineBefore (books.state.ended + 1) books.state.lines) → MayRunAlone books w
-may_run_alone books w none some line = (let empty = none_there w.loans none in record { alone = empty; room = some; line = line empty })
+may_run_alone books w none some line = (let empty = none_there w.loans none in record { nobody = empty; room = some; line = line empty })
 
 pub may_fly_alone : (k : KeptSummaries) (books : Account) (w : View) (start : JobStart) → Some start ≡ upcoming books → length w.loans ≡ 0 → 0 < w.room → (w.loans ≡ [] → NoLineBefore (books.state.ended + 1) books.state.lines) → MayFly k books w start
 may_fly_alone k books w start is none some line =

@@ -77,7 +77,7 @@ pub record MayFly (k : KeptSummaries) (books : Account) (w : View) (start : JobS
 
 -- the next job of the books may run on the root's own words: none flies, and it retires before the next line comes
 pub record MayRunAlone (books : Account) (w : View) : Type 0 where
-  pub alone : w.loans ≡ []
+  pub nobody : w.loans ≡ []
   pub room : 0 < w.room
   pub line : NoLineBefore (books.state.ended + 1) books.state.lines
 

@@ -113,8 +113,10 @@ fn calls_for<B: Naming>(
     if let Some(oldest) = window.oldest_entry() {
         pace.has_company(oldest);
     }
+    let wanted = pace.threads_for(entry, window.len());
     shop.wakes_for(pace.batch(entry));
-    pace.threads_for(entry, window.len())
+    shop.spares(pace.spare(shop.started()));
+    wanted
 }
 
 /// How many workers are wanted while the dispatcher waits for the oldest that flies, or runs it: one more where a job waits.

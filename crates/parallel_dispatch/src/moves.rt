@@ -100,15 +100,16 @@ pub(crate) fn next_move<B: Naming>(
     Move::Retire
 }
 
-/// Whether the oldest retires before the next job is looked at: it has ended, or the next job is known to wait for it, or enough others
-/// wait for a thread and the oldest is in hand.
+/// Whether the oldest retires before the next job is looked at: it has ended and no thread wants
+/// for a job, or the next job is known to wait for it, or enough others wait for a thread and the
+/// oldest is in hand.
 fn waits_for_oldest<B: Naming>(window: &Window<B>, shop: &Shop<B>, pace: &Pace) -> bool
     ensures { IsTrue result → 0 < length window.now.loans }
 {
     window.len() > 0
         && (pace.must_wait()
             || window.len() >= window.room()
-            || window.oldest_has_ended(shop)
+            || (window.oldest_has_ended(shop) && pace.are_fed(shop.waiting(), window.len()))
             || (pace.are_enough(shop.waiting()) && window.oldest_is_in_hand()))
 }
 

@@ -11,6 +11,16 @@ use std::alloc::Global;
 /// Jobs of so many instructions in all are worth a wake-up.
 const WAKE: u64 = 60_000;
 
+/// Jobs that make fewer instructions in the mean are short: as many workers as half of those that may
+/// fly are enough.
+const SHORT: u64 = 60_000;
+
+/// Jobs that make fewer are very short: a quarter of those that may fly is enough.
+const VERY_SHORT: u64 = 15_000;
+
+/// In the time of so many instructions the dispatcher lets one job set out and another one retire.
+const FED: u64 = 3_000;
+
 /// A worker is woken where so many jobs wait, whatever they are worth; where few may fly, half of those are enough.
 const MOST_WAIT: u64 = 8;
 
@@ -31,6 +41,9 @@ const TEST: u64 = 12;
 /// The part of a mean that a new job makes.
 const PART: u64 = 64;
 
+/// A mean of fewer instructions is taken for so many where it tells what a job counts for at most.
+const LEAST_MEAN: u64 = 1_000;
+
 /// Whether some job may run at once with those of an entry.
 #[derive(Clone, Copy)]
 enum Partner {
@@ -45,14 +58,16 @@ enum Partner {
 struct Known {
     /// Whether one has ended.
     ended: bool,
-    /// How many instructions they make, about, those above `MOST_COUNTED` of a job not counted.
+    /// How many instructions they make, about, those not counted by which a job is longer than all
+    /// that may fly with it.
     mean: u64,
     /// The same with all counted.
     whole: u64,
     /// Whether they are long enough for a loan.
     long: bool,
-    /// Whether it costs too much to ask whether they pass: then they never fly.
-    costly: bool,
+    /// How many they must make, all counted, to be worth asking whether they pass beside one job:
+    /// they do not fly else.
+    asking: u64,
     partner: Partner,
     /// How many flew one after the other with nobody beside them.
     lonely: u32,
@@ -68,7 +83,7 @@ fn unknown() -> Known {
         mean: 0,
         whole: 0,
         long: true,
-        costly: false,
+        asking: 0,
         partner: Partner::Unknown,
         lonely: 0,
         rest: 0,
@@ -87,16 +102,20 @@ pub(crate) enum Way {
     Here,
 }
 
-/// What is known of the jobs of each entry, how many entries have long jobs, whether a job has ended, how many threads may run jobs beside
-/// the dispatcher, how many jobs may wait before one of them is woken, and how many of the jobs that fly must retire before the next job is
-/// looked at again.
+/// What is known of the jobs of each entry, how many entries have long jobs that do not rest and
+/// beside which others may run, whether a job has ended, how many threads may run jobs beside the
+/// dispatcher, how many of them are of use now, how many jobs may wait before one of them is woken,
+/// how many jobs may fly, and how many of those that do must retire before the next job is looked
+/// at again.
 #[derive(Drop)]
 pub(crate) struct Pace {
     entries: Vec<Known>,
     long: u64,
     ended: bool,
     helpers: u64,
+    most_helpers: u64,
     most_wait: u64,
+    room: u64,
     behind: usize,
     /// Jobs of an entry fly once they make so many instructions in the mean.
     long_job: u64,
@@ -115,7 +134,9 @@ impl Pace {
                 long: 0,
                 ended: false,
                 helpers,
+                most_helpers: helpers,
                 most_wait: u64::from(room / 2).max(1).min(MOST_WAIT),
+                room: u64::from(room),
                 behind: 0,
                 long_job: long,
                 short_job: (long / 5).saturating_mul(3),
@@ -133,13 +154,8 @@ impl Pace {
     pub fn may_fly_first(&mut self, pairs: &mut PairTable<'_>, entry: u32) -> bool
         ensures { pairs.new ≡ pairs.old }
     {
-        let mut known = self.asked_partner(pairs, entry);
-        if known.rest > 0 {
-            known.rest -= 1;
-            self.put(entry, known);
-            return false;
-        }
-        flies(known)
+        let known = self.asked_partner(pairs, entry);
+        known.rest == 0 && flies(known)
     }
 
     /// How the next job flies, which is of this entry, beside so many.
@@ -155,8 +171,9 @@ impl Pace {
         Way::Here
     }
 
-    /// Whether it may be asked if a job of this entry passes with so many that fly, which takes so many tests: no more than a quarter of
-    /// what its jobs take. An entry for which it takes more beside one job never flies.
+    /// Whether it may be asked if a job of this entry passes with so many that fly, which takes so
+    /// many tests: no more than a quarter of what its jobs take. An entry for which it takes more
+    /// beside one job does not fly before its jobs are so much longer.
     pub fn may_ask(&mut self, entry: u32, tests: u64, flying: usize) -> bool {
         let mut known = self.known(entry);
         let length = if known.ended {
@@ -164,11 +181,12 @@ impl Pace {
         } else {
             self.long_job
         };
-        if tests.saturating_mul(4 * TEST) <= length {
+        let asking = tests.saturating_mul(4 * TEST);
+        if asking <= length {
             return true;
         }
         if flying == 1 {
-            known.costly = true;
+            known.asking = asking;
             self.put(entry, known);
         }
         false
@@ -185,21 +203,54 @@ impl Pace {
     }
 
     /// How many threads are wanted beside the dispatcher where so many jobs fly, and one more of this entry.
-    pub fn threads_for(&self, entry: u32, flying: usize) -> u64 {
-        if self.known(entry).ended {
-            return self.helpers.min(flying as u64);
+    pub fn threads_for(&mut self, entry: u32, flying: usize) -> u64 {
+        let known = self.known(entry);
+        self.most_helpers = self.helpers_for(known);
+        if known.ended {
+            return self.most_helpers.min(flying as u64);
         }
         self.helpers.min(1)
     }
 
+    /// How many threads beside the dispatcher are of use for jobs of an entry of which this is
+    /// known. Where they are short it is a part of those that may fly, so that a thread that has
+    /// ended one finds another one while the dispatcher runs one itself, and no more than it can
+    /// feed.
+    fn helpers_for(&self, known: Known) -> u64 {
+        if !known.ended || known.mean >= SHORT {
+            return self.helpers;
+        }
+        let part = if known.mean < VERY_SHORT {
+            self.room / 4
+        } else {
+            self.room / 2
+        };
+        part.min(known.mean / FED).max(1).min(self.helpers)
+    }
+
+    /// How many of so many workers that were started are of no use for the jobs that set out now.
+    /// Where one could not be started all are.
+    pub fn spare(&self, started: u64) -> u64 {
+        if started > self.helpers {
+            return 0;
+        }
+        started.saturating_sub(self.most_helpers)
+    }
+
     /// How many are wanted beside the dispatcher where one more is than have been started.
     pub fn threads_beside(&self, started: u64) -> u64 {
-        self.helpers.min(started.saturating_add(1))
+        self.most_helpers.min(started.saturating_add(1))
     }
 
     /// Whether enough jobs wait for a thread, where so many do: the dispatcher runs one of them before it lets more set out.
     pub fn are_enough(&self, waiting: u64) -> bool {
         waiting >= self.helpers.saturating_mul(ENOUGH).max(1)
+    }
+
+    /// Whether no thread wants for a job, where so many wait for one and so many fly: one waits, or
+    /// as many fly as there may be threads.
+    pub fn are_fed(&self, waiting: u64, flying: usize) -> bool {
+        waiting > 0 || flying as u64 > self.helpers
     }
 
     /// How many jobs of this entry are worth a wake-up.
@@ -237,9 +288,9 @@ impl Pace {
     /// A job of this entry has ended, which made so many instructions.
     pub fn has_ended(&mut self, entry: u32, steps: u64) {
         let mut known = self.known(entry);
-        let was_long = known.ended && known.long;
+        known.rest = known.rest.saturating_sub(1);
         if known.ended {
-            known.mean = mean_after(known.mean, steps.min(MOST_COUNTED));
+            known.mean = mean_after(known.mean, self.counted(known.mean, steps));
             known.whole = mean_after(known.whole, steps);
             let bound = if known.long {
                 self.short_job
@@ -255,11 +306,13 @@ impl Pace {
         }
         self.put(entry, known);
         self.ended = true;
-        if known.long && !was_long {
-            self.long = self.long.saturating_add(1);
-        } else if was_long && !known.long {
-            self.long = self.long.saturating_sub(1);
-        }
+    }
+
+    /// How many instructions of a job count in this mean, where it made so many. A job that is
+    /// longer than all that may fly with it has no company for the rest of its time.
+    fn counted(&self, mean: u64, steps: u64) -> u64 {
+        let most = mean.max(LEAST_MEAN).saturating_mul(self.room);
+        steps.min(most).min(MOST_COUNTED)
     }
 
     /// One that flew has retired.
@@ -291,16 +344,31 @@ impl Pace {
     }
 
     fn put(&mut self, entry: u32, known: Known) {
+        let had_long = has_long_jobs(self.known(entry));
         if let Some(place) = self.entries.get_mut(entry as usize) {
             *place = known;
         }
+        if has_long_jobs(known) && !had_long {
+            self.long = self.long.saturating_add(1);
+        } else if had_long && !has_long_jobs(known) {
+            self.long = self.long.saturating_sub(1);
+        }
+    }
+}
+
+/// Whether an entry of which this is known is known to have long jobs that do not rest, and beside
+/// which others may run as far as was asked.
+fn has_long_jobs(known: Known) -> bool {
+    match known.partner {
+        Partner::Nobody => false,
+        _ => known.ended && known.long && known.rest == 0,
     }
 }
 
 /// Whether jobs of an entry of which this is known are worth a loan.
 fn flies(known: Known) -> bool {
     match known.partner {
-        Partner::Somebody => known.long && !known.costly,
+        Partner::Somebody => known.long && (!known.ended || known.whole >= known.asking),
         _ => false,
     }
 }

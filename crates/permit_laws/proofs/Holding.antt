@@ -2,6 +2,7 @@
 use Rattle.std.proofs.Common.{◌≡◌, ◌⊎◌, inl, inr, ⊎_elim, ℕ, true, false, List, [], ◌∷◌, ◌++◌, length, sym, ◌∙◌, subst, arith}
 use Rattle.std.specs.List.{Contains}
 use Rattle.std.specs.Prelude.{slice_index, slice_set}
+use Rattle.std.proofs.lemmas.Bool.{cases_Bool}
 use Rattle.job_types.specs.declared.chain.Held.{Held}
 use Rattle.job_types.specs.declared.job.JobStart.{JobStart}
 use Rattle.job_types.specs.Chain.{holds, without}
@@ -13,7 +14,6 @@ use Rattle.exchange_model.specs.Kept.{IsExchange}
 use Rattle.source_meaning.specs.Changes.{opens_record}
 use Rattle.source_meaning.specs.State.{State}
 use Rattle.source_meaning.specs.Valid.{MarksFit}
-use Rattle.plex_num.proofs.Booleans.{bool_cases}
 use Rattle.source_meaning.proofs.Chains.{record_is, holds_more, holds_before}
 use Rattle.source_meaning.proofs.Marks.{HasMark, mark_put, opened_other}
 use Rattle.entry_summary.specs.declared.summary.Access.TheVariants.{Seizes, Frees}
@@ -38,7 +38,7 @@ pub record HoldsOwn (x : Exchange) (m : Summary) (start : JobStart) (chains : Ch
 pub holds_first : (x : Exchange) (m : Summary) (start : JobStart) (s : State) → MarksFit x s → HoldsOwn x m start s.chains start.chain s.store
 holds_first x m start s marks = record {
   held = λ file number h. inl h;
-  opened = λ file number p has none. inl (λ n. out n file number p has none (bool_cases (holds (chain_at s.chains n) file number)));
+  opened = λ file number p has none. inl (λ n. out n file number p has none (cases_Bool (holds (chain_at s.chains n) file number)));
 }
   where
     out : (n file number : ℕ) (p : Placed) → HasMark x file number p → slice_index s.store (mark_cell p number) ≡ 0

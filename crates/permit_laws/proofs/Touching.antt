@@ -36,7 +36,7 @@ use Rattle.entry_summary.specs.Accesses.{Accesses, IsPlain, IsForlopp}
 use Rattle.entry_summary.specs.Numbers.{variable_number, field_number}
 use Rattle.entry_summary.specs.Summaries.{IsSummary}
 use Rattle.start_permit.specs.Granted.{Selects, Marks}
-use Rattle.fact_laws.specs.Covers.{SlotHolds}
+use Rattle.fact_laws.specs.Covers.{CoversTemps}
 use Rattle.permit_laws.specs.Permitted.{IsPermitted, ArePermitted}
 use Rattle.permit_laws.proofs.Holding.{MayHave, HoldsOwn}
 use Rattle.permit_laws.proofs.Telling.{temp_within, told_access}
@@ -45,7 +45,7 @@ use Rattle.permit_laws.proofs.Words.{selects, variable_word, field_word, mark_wo
 -- a point of the block is reached, and for each temporary a fact stands
 pub record KnowsTemps (x : Exchange) (P : Facts) (e : ℕ) (args : List ℕ) (b p : ℕ) (temps : List ℕ) : Type 0 where
   pub reached : Reached P e p
-  pub temp : (t : ℕ) → t < temp_count x b → SlotHolds P e args p (Temp t) (slice_index temps t)
+  pub temp : CoversTemps x P e args b p temps
 
 module _ (x : Exchange) (kept : IsExchange x) (P : Facts) (m : Summary) (start : JobStart) (chains : ChainMap) (summary : IsSummary x P start.job.entry m) where
   abbrev pub Knows : ℕ → ℕ → List ℕ → Type 0

@@ -2,13 +2,11 @@
 // What the standard output does not tell, lines on the standard error do.
 #![tactic(auto)]
 
-mod forms;
-mod usage;
-
-use forms::PROGRAM;
+use command_usage::{PROGRAM, say_wrong};
+use command_words::Status;
 use plex_io::{FileShelf, NoGate, OutSink, Word};
 use plex_num::Memory;
-use plex_program::{Status, plex};
+use plex_program::plex;
 use process_ends::{
     Known, NotingShelf, NotingSink, Progress, complain, is_asked, no_memory, words_of,
 };
@@ -17,7 +15,6 @@ use std::process::ExitCode;
 use std::rt::{Clock, Env, Files};
 use std::sync::Wait;
 use std::thread::Threads;
-use usage::say_wrong;
 
 fn main(rt: HostRuntime) -> ExitCode {
     let status = match words_of(&rt, rt.alloc()) {

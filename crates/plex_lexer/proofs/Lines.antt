@@ -5,7 +5,7 @@ use Rattle.std.specs.List.{take_while}
 use Rattle.std.proofs.lemmas.List.Elements.{All-cons, All-nil}
 use Rattle.std.proofs.lemmas.List.Sums.{sum_by-append, count_by-le-length}
 use Rattle.std.proofs.Math.Seq.{take-append_seam}
-use Rattle.std.proofs.lemmas.Bool.{eqb-true}
+use Rattle.std.proofs.lemmas.Bool.{cases_Bool, eqb-true}
 use Rattle.plex_lexer.specs.declared.fault.LexFault.{LexFault}
 use Rattle.plex_lexer.specs.declared.token.Token.{Token}
 use Rattle.plex_lexer.specs.declared.token.TokenKind.{TokenKind}
@@ -15,7 +15,6 @@ use Rattle.plex_lexer.specs.Lexed.{Mode, Between, Comment, InWord, InDigits, InM
 use Rattle.plex_lexer.specs.Lines.{feeds, IsOnItsLine}
 use Rattle.plex_lexer.specs.Marks.{single_mark, double_mark, longer, mark_of}
 use Rattle.plex_lexer.specs.Words.{word_kind, number_kind}
-use Rattle.plex_lexer.proofs.Steps.{both_ways}
 
 -- what is read: tokens, or the first fault
 abbrev Read : Type 0
@@ -85,7 +84,7 @@ no_longer s n e = true≢false (sym (sym (short s) ∙ ap two e))
 mark_calm : (b : ℕ) (rest : List ℕ) (n : ℕ) (two : Bool) → mark_of b rest ≡ Some (n, two) → Calm (cond two InMark Between) rest
 mark_calm b rest n false e = tt
 mark_calm b [] n true e = tt
-mark_calm b (c ∷ rest) n true e = elim (both_ways (nat_eq c 10)) [
+mark_calm b (c ∷ rest) n true e = elim (cases_Bool (nat_eq c 10)) [
   | inl h ↦ absurd (no_longer (single_mark b) n (sym (ap (λ d. longer d (single_mark b)) (no_double b c rest (eqb-true c 10 h))) ∙ e))
   | inr h ↦ h
 ]

@@ -1,10 +1,10 @@
 -- The lexer's steps, over plain variables.
-use Rattle.std.proofs.Common.{◌≡◌, ℕ, suc, ◌+◌, ◌-◌, Bool, true, false, cond, nat_eq, List, [], ◌∷◌, ◌++◌, length, drop, Result, Ok, Err, Option, Some, None, refl, sym, ◌∙◌, ap, arith, append_assoc, ◌⊎◌, inl, inr}
+use Rattle.std.proofs.Common.{◌≡◌, ℕ, suc, ◌+◌, ◌-◌, Bool, true, false, cond, nat_eq, List, [], ◌∷◌, ◌++◌, length, drop, Result, Ok, Err, Option, Some, None, refl, sym, ◌∙◌, ap, arith, append_assoc, inl, inr}
 use Rattle.std.specs.Char.{is_ascii_digit, is_ascii_uppercase}
 use Rattle.std.specs.List.{take_while, prefix_len}
 use Rattle.std.proofs.lemmas.List.Folds.{length-prefix_len}
 use Rattle.std.proofs.lemmas.List.{append-nil}
-use Rattle.std.proofs.lemmas.Bool.Decides.{nat_tests}
+use Rattle.std.proofs.lemmas.Bool.{cases_Bool, eq-eqb, ne_eqb}
 use Rattle.plex_lexer.specs.declared.fault.LexFault.{LexFault}
 use Rattle.plex_lexer.specs.declared.fault.LexFault.TheVariants as faults
 use Rattle.plex_lexer.specs.declared.token.Token.{Token}
@@ -37,10 +37,6 @@ run_off InDigits digits n line b bs h = ap (λ y. cond y (lexed InDigits n line 
 run_off Between r n line b bs h = elim r [ ]
 run_off InMark r n line b bs h = elim r [ ]
 
-pub both_ways : (b : Bool) → (b ≡ true) ⊎ (b ≡ false)
-both_ways true = inl refl
-both_ways false = inr refl
-
 run_end : (m : Mode) → Runs m → (n line : ℕ) → lexed m n line [] ≡ lexed Between n line []
 unfolding lexed
 run_end Comment comment n line = refl
@@ -52,7 +48,7 @@ run_end InMark r n line = elim r [ ]
 -- a run is over where its bytes are
 run_over : (m : Mode) → Runs m → (n line : ℕ) (bs : List ℕ) → lexed m n line bs ≡ lexed Between n line (drop (prefix_len (goes_on m) bs) bs)
 run_over m r n line [] = run_end m r n line
-run_over m r n line (b ∷ bs) = elim (both_ways (goes_on m b)) [
+run_over m r n line (b ∷ bs) = elim (cases_Bool (goes_on m b)) [
   | inl h ↦
       let one : 1 + prefix_len (goes_on m) bs ≡ suc (prefix_len (goes_on m) bs) = omega arith in
       let e : cond (goes_on m b) (1 + prefix_len (goes_on m) bs) 0 ≡ suc (prefix_len (goes_on m) bs) = ap (λ y. cond y (1 + prefix_len (goes_on m) bs) 0) h ∙ one in
@@ -109,37 +105,31 @@ at_token n line b bs h k j = no_then (nat_eq b 10) _ _ h ∙ no_then (is_blank b
     marks (Some (m, true)) (c ∷ cs) = refl
 
     rest : cond (is_ascii_uppercase b) (with_kind (word_kind (b ∷ take_while in_word bs) (n - length (b ∷ bs)) line) (n - length (b ∷ bs)) line (lexed InWord n line bs)) (cond (is_ascii_digit b) (with_kind (number_kind (b ∷ take_while is_ascii_digit bs) (n - length (b ∷ bs)) line) (n - length (b ∷ bs)) line (lexed InDigits n line bs)) (with_mark (mark_of b bs) (n - length (b ∷ bs)) line (λ m. lexed m n line bs))) ≡ and_the_rest n line (token_at (n - length (b ∷ bs)) line b bs)
-    rest = elim (both_ways (is_ascii_uppercase b)) [
+    rest = elim (cases_Bool (is_ascii_uppercase b)) [
       | inl y ↦ yes_then (is_ascii_uppercase b) _ _ y ∙ kinds (word_kind (b ∷ take_while in_word bs) (n - length (b ∷ bs)) line) (lexed InWord n line bs) (drop (length (take_while in_word bs)) bs) (word_over n line bs) ∙ ap (and_the_rest n line) (sym (yes_then (is_ascii_uppercase b) _ _ y))
-      | inr y ↦ no_then (is_ascii_uppercase b) _ _ y ∙ elim (both_ways (is_ascii_digit b)) [
+      | inr y ↦ no_then (is_ascii_uppercase b) _ _ y ∙ elim (cases_Bool (is_ascii_digit b)) [
         | inl z ↦ yes_then (is_ascii_digit b) _ _ z ∙ kinds (number_kind (b ∷ take_while is_ascii_digit bs) (n - length (b ∷ bs)) line) (lexed InDigits n line bs) (drop (length (take_while is_ascii_digit bs)) bs) (digits_over n line bs) ∙ ap (and_the_rest n line) (sym (no_then (is_ascii_uppercase b) _ _ y ∙ yes_then (is_ascii_digit b) _ _ z))
         | inr z ↦ no_then (is_ascii_digit b) _ _ z ∙ marks (mark_of b bs) bs ∙ ap (and_the_rest n line) (sym (no_then (is_ascii_uppercase b) _ _ y ∙ no_then (is_ascii_digit b) _ _ z))
       ]
     ]
-
-is_eq : (a b : ℕ) → a ≡ b → nat_eq a b ≡ true
-is_eq a b h = grind (arith, nat_tests)
-
-is_not : (a b : ℕ) → (a ≡ b → ⊥) → nat_eq a b ≡ false
-is_not a b h = grind (arith, nat_tests)
 
 -- what is read: tokens, or the first fault
 abbrev Read : Type 0
 Read = Result (List Token) LexFault
 
 pub line_on : (front : List Token) (n line b : ℕ) (w bs : List ℕ) (all : Read) → w ≡ b ∷ bs → b ≡ 10 → with_tokens front (lexed Between n line w) ≡ all → with_tokens front (lexed Between n (line + 1) bs) ≡ all
-line_on front n line b w bs all e h i = sym (ap (with_tokens front) (ap (lexed Between n line) e ∙ at_line n line b bs (is_eq b 10 h))) ∙ i
+line_on front n line b w bs all e h i = sym (ap (with_tokens front) (ap (lexed Between n line) e ∙ at_line n line b bs (eq-eqb b 10 h))) ∙ i
 
 pub blank_on : (front : List Token) (n line b : ℕ) (w bs : List ℕ) (all : Read) → w ≡ b ∷ bs → (b ≡ 10 → ⊥) → is_blank b ≡ true → with_tokens front (lexed Between n line w) ≡ all → with_tokens front (lexed Between n line bs) ≡ all
-blank_on front n line b w bs all e h k i = sym (ap (with_tokens front) (ap (lexed Between n line) e ∙ at_blank n line b bs (is_not b 10 h) k)) ∙ i
+blank_on front n line b w bs all e h k i = sym (ap (with_tokens front) (ap (lexed Between n line) e ∙ at_blank n line b bs (ne_eqb b 10 h) k)) ∙ i
 
 pub comment_on : (front : List Token) (n line b : ℕ) (w bs rest : List ℕ) (all : Read) → w ≡ b ∷ bs → (b ≡ 10 → ⊥) → is_blank b ≡ false → b ≡ 33 → rest ≡ drop (length (take_while in_comment bs)) bs → with_tokens front (lexed Between n line w) ≡ all → with_tokens front (lexed Between n line rest) ≡ all
-comment_on front n line b w bs rest all e h k j d i = ap (λ r. with_tokens front (lexed Between n line r)) d ∙ (sym (ap (with_tokens front) (ap (lexed Between n line) e ∙ at_comment n line b bs (is_not b 10 h) k (is_eq b 33 j))) ∙ i)
+comment_on front n line b w bs rest all e h k j d i = ap (λ r. with_tokens front (lexed Between n line r)) d ∙ (sym (ap (with_tokens front) (ap (lexed Between n line) e ∙ at_comment n line b bs (ne_eqb b 10 h) k (eq-eqb b 33 j))) ∙ i)
 
 pub token_on : (front : List Token) (n line b : ℕ) (w bs rest : List ℕ) (t : Token) (o : ℕ) (all : Read) → w ≡ b ∷ bs → (b ≡ 10 → ⊥) → is_blank b ≡ false → (b ≡ 33 → ⊥) → o ≡ n - length w → Ok (t, rest) ≡ token_at o line b bs → with_tokens front (lexed Between n line w) ≡ all → with_tokens (front ++ (t ∷ [])) (lexed Between n line rest) ≡ all
 token_on front n line b w bs rest t o all e h k j oe g i =
     let here : lexed Between n line w ≡ put t (lexed Between n line rest) =
-    ap (lexed Between n line) e ∙ at_token n line b bs (is_not b 10 h) k (is_not b 33 j)
+    ap (lexed Between n line) e ∙ at_token n line b bs (ne_eqb b 10 h) k (ne_eqb b 33 j)
     ∙ ap (and_the_rest n line) (ap (λ x. token_at x line b bs) (ap (λ z. n - length z) (sym e) ∙ sym oe) ∙ sym g) in
     regroup (lexed Between n line rest) ∙ (sym (ap (with_tokens front) here) ∙ i)
   where
@@ -150,7 +140,7 @@ token_on front n line b w bs rest t o all e h k j oe g i =
 pub token_bad : (front : List Token) (n line b : ℕ) (w bs : List ℕ) (f : LexFault) (o : ℕ) (all : Read) → w ≡ b ∷ bs → (b ≡ 10 → ⊥) → is_blank b ≡ false → (b ≡ 33 → ⊥) → o ≡ n - length w → Err f ≡ token_at o line b bs → with_tokens front (lexed Between n line w) ≡ all → all ≡ Err f
 token_bad front n line b w bs f o all e h k j oe g i =
     let here : lexed Between n line w ≡ Err f =
-    ap (lexed Between n line) e ∙ at_token n line b bs (is_not b 10 h) k (is_not b 33 j)
+    ap (lexed Between n line) e ∙ at_token n line b bs (ne_eqb b 10 h) k (ne_eqb b 33 j)
     ∙ ap (and_the_rest n line) (ap (λ x. token_at x line b bs) (ap (λ z. n - length z) (sym e) ∙ sym oe) ∙ sym g) in
     sym i ∙ ap (with_tokens front) here
 

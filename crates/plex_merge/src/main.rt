@@ -4,10 +4,10 @@
 
 mod usage;
 
+use command_words::Status;
 use merge_program::plex_merge;
 use plex_io::{FileShelf, OutSink, Word};
 use plex_num::Memory;
-use plex_program::Status;
 use process_ends::{Known, NotingShelf, NotingSink, Progress, complain, no_memory, words_of};
 use std::alloc::Global;
 use std::process::ExitCode;

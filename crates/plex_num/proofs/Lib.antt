@@ -1,4 +1,3 @@
-pub mod Booleans
 pub mod Digits
 pub mod Lists
 pub mod Members

@@ -1,6 +1,7 @@
 -- Small facts of lists: what stands at a place, what holds of all, and how they are put together.
-use Rattle.std.proofs.Common.{◌≡◌, ◌⊎◌, inl, inr, ⊎_elim, ℕ, zero, suc, ◌+◌, ◌-◌, ◌<◌, ◌≤◌, Bool, ◌||◌, not, cond, List, [], ◌∷◌, ◌++◌, length, drop, map, replicate, get_or, position, Some, slice_get, slice_set, refl, sym, subst, ap, ◌∙◌, arith, add-one, drop-cons}
-use Rattle.std.proofs.lemmas.List.{append_assoc, length-map}
+use Rattle.std.proofs.Common.{◌≡◌, ◌⊎◌, inl, inr, ⊎_elim, ℕ, zero, suc, ◌+◌, ◌-◌, ◌<◌, ◌≤◌, Bool, ◌||◌, not, cond, List, [], ◌∷◌, ◌++◌, length, drop, map, replicate, get_or, position, Some, slice_get, slice_set, refl, sym, subst, ap, ◌∙◌, arith}
+use Rattle.std.proofs.lemmas.List.{append_assoc, drop_more, length-map}
+use Rattle.std.proofs.lemmas.List.Recursion.{same_from_clauses}
 use Rattle.std.proofs.lemmas.Option.{none-some, same_Some, slice_get-map, slice_get_past}
 use Rattle.std.specs.List.{AllByRecursion, list_any, position_or_len, slice_index}
 use Rattle.std.specs.Option.{option_map, option_map_or}
@@ -71,7 +72,7 @@ get_set_other (x ∷ xs) (suc i) (suc j) a other = get_set_other xs i j a (λ e.
 
 -- the rest of a list begins with the item at its place
 pub opens : {X : Type 0} (xs : List X) (i : ℕ) (x : X) → i < length xs → x ≡ get_or xs i x → drop i xs ≡ x ∷ drop (i + 1) xs
-opens xs i x lt is = drop-cons xs i x lt ∙ ap (λ y. y ∷ drop (suc i) xs) (sym is) ∙ ap (λ n. x ∷ drop n xs) (sym (add-one i))
+opens xs i x lt is = drop_more xs i x lt ∙ ap (λ y. y ∷ drop (i + 1) xs) (sym is)
 
 -- something stands at each place
 pub some_at : {A : Type 0} (xs : List A) (i : ℕ) → i < length xs → (x : A) × (slice_get xs i ≡ Some x)
@@ -134,12 +135,10 @@ pub any_map : {A B : Type 0} (f : A → B) (p : B → Bool) (xs : List A) → li
 any_map f p [] = refl
 any_map f p (x ∷ xs) = ap (λ b. p (f x) || b) (any_map f p xs)
 
-position_or_len-map : {A B : Type 0} (f : A → B) (p : B → Bool) (xs : List A) → position_or_len p (map f xs) ≡ position_or_len (λ x. p (f x)) xs
-position_or_len-map f p [] = refl
-position_or_len-map f p (x ∷ xs) = ap (λ n. cond (not (p (f x))) (1 + n) 0) (position_or_len-map f p xs)
-
 pub position_map : {A B : Type 0} (f : A → B) (p : B → Bool) (xs : List A) → position p (map f xs) ≡ position (λ x. p (f x)) xs
-position_map f p xs = rw (position_or_len-map f p xs, length-map xs f) refl
+position_map {A = A} f p xs =
+    let same = same_from_clauses (λ (ys : List A). position_or_len p (map f ys)) (position_or_len (λ (x : A). p (f x))) (λ (x : A) (n : ℕ). cond (not (p (f x))) (1 + n) 0) refl (λ x ys. refl) (λ x ys. refl) xs in
+    rw (same, length-map xs f) refl
 
 -- lists that are put together in two steps
 

@@ -1,5 +1,6 @@
 -- What is written for a thing of the grammar spells it, put together as the grammar is.
 use Rattle.std.proofs.Common.{◌≡◌, ℕ, ◌+◌, ◌*◌, ◌≤◌, Bool, true, false, cond, List, [], ◌∷◌, ◌++◌, Option, Some, None, IfSome, refl, sym, ◌∙◌, ap, arith, append_assoc, codes, decimal, subst}
+use Rattle.std.proofs.lemmas.Bool.{false≢true}
 use Rattle.std.proofs.lemmas.Bool.Decides.{nat_tests}
 use Rattle.std.proofs.lemmas.List.{append-nil}
 use Rattle.std.specs.Str.{bytes_eq}
@@ -16,7 +17,7 @@ use Rattle.plex_lexer.specs.Words.{keyword_of}
 use Rattle.kept_trees.specs.Keeps.{IsName, IsNamed, KeepsNumber, Every}
 use Rattle.kept_trees.specs.Words.{AreWords, IsTextWord}
 use Rattle.plex_print.specs.Writing.{Writer, say, semi, leave, ◌▷◌, each_of, maybe_of, flag_of}
-use Rattle.plex_print.specs.Printed.{name_text, number_text, level_text}
+use Rattle.plex_print.specs.PrintedExpressions.{name_text, number_text, level_text}
 use Rattle.plex_print.proofs.Lexing.{kinds_of, kinds-append, Reads, Reads-none, Reads-append, Reads-word, Reads-name, Reads-number, Reads-semi}
 use Rattle.kept_trees.proofs.Kept.{words-first, words-second, word_at}
 
@@ -154,12 +155,9 @@ Fits-never x f = record { wrote = λ u k h old. absurd h; same = λ u v e h. h; 
 pub Fits-on : {K : Type 0} {L M : Lang} {f : Writer} (s : Bool) (line : ℕ) → Fits K L M f → Fits K (on s line L) (on false line M) f
 Fits-on s line F = record {
   wrote = λ u k h old. F.wrote u k h.0 old;
-  same = λ u v e h. (F.same u v e h.0, λ z. absurd (no z));
-  has = λ k. let x = F.has k in record { words = x.words; are = x.are; spell = (x.spell, λ z. absurd (no z)) };
+  same = λ u v e h. (F.same u v e h.0, λ z. absurd (false≢true z));
+  has = λ k. let x = F.has k in record { words = x.words; are = x.are; spell = (x.spell, λ z. absurd (false≢true z)) };
 }
-  where
-    no : false ≡ true → ⊥
-    no z = cc
 
 -- several, one or none
 
@@ -245,22 +243,16 @@ Fits-semi = Fits-word (mark 0) (kinds.Mark 0) (59 ∷ 10 ∷ []) semi tt (one_is
 pub Fits-name : (s : Bool) (x : Named) → Fits (IsNamed x) (named s x) (named false x) (name_text x)
 Fits-name s x = record {
   wrote = λ u w h old. wrote_one (kinds.Name x.name) (x.name ++ (32 ∷ [])) (say x.name) u h.0 h.1 h.2 (Reads-name x.name (word_at u h.0 (kinds.Name x.name) h.1 h.2 w)) (said x.name) old;
-  same = λ u v e h. let o = one_of h.0.kind v (ap kinds_of (sym h.1) ∙ e) in (o.token, o.is, o.kind ∙ h.2, λ z. absurd (no z));
-  has = λ k. record { words = an (kinds.Name x.name) ∷ []; are = (k, tt); spell = (an (kinds.Name x.name), refl, refl, λ z. absurd (no z)) };
+  same = λ u v e h. let o = one_of h.0.kind v (ap kinds_of (sym h.1) ∙ e) in (o.token, o.is, o.kind ∙ h.2, λ z. absurd (false≢true z));
+  has = λ k. record { words = an (kinds.Name x.name) ∷ []; are = (k, tt); spell = (an (kinds.Name x.name), refl, refl, λ z. absurd (false≢true z)) };
 }
-  where
-    no : false ≡ true → ⊥
-    no z = cc
 
 pub Fits-number : (s : Bool) (x : Numbered) → Fits (KeepsNumber x) (numbered s x) (numbered false x) (number_text x)
 Fits-number s x = record {
   wrote = λ u w h old. wrote_one (kinds.Number x.value) (decimal x.value ++ (32 ∷ [])) (say (decimal x.value)) u h.0 h.1 h.2 (Reads-number x.value (word_at u h.0 (kinds.Number x.value) h.1 h.2 w)) (said (decimal x.value)) old;
-  same = λ u v e h. let o = one_of h.0.kind v (ap kinds_of (sym h.1) ∙ e) in (o.token, o.is, o.kind ∙ h.2, λ z. absurd (no z));
-  has = λ k. record { words = an (kinds.Number x.value) ∷ []; are = (k, tt); spell = (an (kinds.Number x.value), refl, refl, λ z. absurd (no z)) };
+  same = λ u v e h. let o = one_of h.0.kind v (ap kinds_of (sym h.1) ∙ e) in (o.token, o.is, o.kind ∙ h.2, λ z. absurd (false≢true z));
+  has = λ k. record { words = an (kinds.Number x.value) ∷ []; are = (k, tt); spell = (an (kinds.Number x.value), refl, refl, λ z. absurd (false≢true z)) };
 }
-  where
-    no : false ≡ true → ⊥
-    no z = cc
 
 level_reads : (l : Level) → Reads (kinds.Name (level_name l) ∷ []) (level_name l ++ (32 ∷ []))
 unfolding keyword_of
@@ -279,9 +271,6 @@ level_is D = record { first = refl; others = refl; short = omega arith; free = r
 pub Fits-level : (s : Bool) (x : Leveled) → Fits (Unit {0}) (leveled s x) (leveled false x) (level_text x)
 Fits-level s x = record {
   wrote = λ u w h old. wrote_one (kinds.Name (level_name x.level)) (level_name x.level ++ (32 ∷ [])) (say (level_name x.level)) u h.0 h.1 h.2 (level_reads x.level) (said (level_name x.level)) old;
-  same = λ u v e h. let o = one_of h.0.kind v (ap kinds_of (sym h.1) ∙ e) in (o.token, o.is, o.kind ∙ h.2, λ z. absurd (no z));
-  has = λ k. record { words = an (kinds.Name (level_name x.level)) ∷ []; are = (level_is x.level, tt); spell = (an (kinds.Name (level_name x.level)), refl, refl, λ z. absurd (no z)) };
+  same = λ u v e h. let o = one_of h.0.kind v (ap kinds_of (sym h.1) ∙ e) in (o.token, o.is, o.kind ∙ h.2, λ z. absurd (false≢true z));
+  has = λ k. record { words = an (kinds.Name (level_name x.level)) ∷ []; are = (level_is x.level, tt); spell = (an (kinds.Name (level_name x.level)), refl, refl, λ z. absurd (false≢true z)) };
 }
-  where
-    no : false ≡ true → ⊥
-    no z = cc

@@ -51,6 +51,7 @@ use Rattle.plex_ast.specs.Grammar as grammar
 use Rattle.plex_ast.specs.Words as classes
 use Rattle.plex_print.specs.Writing.{Writer}
 use Rattle.plex_print.specs.Printed as printed
+use Rattle.plex_print.specs.PrintedExpressions as printed_exprs
 use Rattle.kept_trees.specs.Keeps as keeps
 use Rattle.kept_trees.specs.Keeps.{Keeps}
 use Rattle.plex_print.specs.Spelled.{Spells}
@@ -60,43 +61,43 @@ use Rattle.plex_print.proofs.Vocabulary.{fits-SIGNAL, fits-SINGLE, fits-COMBINED
 
 -- expressions
 
-Fits-factor-at : {K : Expr → Type 0} {I J : Expr → Lang} {w : Expr → Writer} (s : Bool) → ((e : Expr) → Fits (K e) (I e) (J e) (w e)) → (x : open_expr.FactorKind-F Added FactorKind Multiplied Expr Factor Term) → Fits (keeps.KeepsFactorAt K x) (grammar.factor_at s I x) (grammar.factor_at false J x) (printed.factor_at w x)
+Fits-factor-at : {K : Expr → Type 0} {I J : Expr → Lang} {w : Expr → Writer} (s : Bool) → ((e : Expr) → Fits (K e) (I e) (J e) (w e)) → (x : open_expr.FactorKind-F Added FactorKind Multiplied Expr Factor Term) → Fits (keeps.KeepsFactorAt K x) (grammar.factor_at s I x) (grammar.factor_at false J x) (printed_exprs.factor_at w x)
 Fits-factor-at s inner (open_expr.Number n) = Fits-number s n
 Fits-factor-at s inner (open_expr.Name n) = Fits-name s n
 Fits-factor-at s inner (open_expr.Field n p) = Fits-then (Fits-name s n) (Fits-after fits-OPEN (Fits-ended (Fits-name s p) fits-CLOSE))
 Fits-factor-at s inner (open_expr.Bracket e) = Fits-after fits-OPEN (Fits-ended (inner e) fits-CLOSE)
 Fits-factor-at s inner (open_expr.Reference m) = Fits-after fits-REFERENCE (Fits-name s m)
 
-Fits-factor-with : {K : Expr → Type 0} {I J : Expr → Lang} {w : Expr → Writer} (s : Bool) → ((e : Expr) → Fits (K e) (I e) (J e) (w e)) → (f : Factor) → Fits (keeps.KeepsFactorWith K f) (grammar.factor_with s I f) (grammar.factor_with false J f) (printed.factor_with w f)
+Fits-factor-with : {K : Expr → Type 0} {I J : Expr → Lang} {w : Expr → Writer} (s : Bool) → ((e : Expr) → Fits (K e) (I e) (J e) (w e)) → (f : Factor) → Fits (keeps.KeepsFactorWith K f) (grammar.factor_with s I f) (grammar.factor_with false J f) (printed_exprs.factor_with w f)
 Fits-factor-with s inner f = Fits-on s f.line (Fits-factor-at s inner (out-FactorKind f.kind))
 
-Fits-multiplied-at : {K : Factor → Type 0} {F G : Factor → Lang} {w : Factor → Writer} → ((f : Factor) → Fits (K f) (F f) (G f) (w f)) → (x : open_expr.Multiplied-F Added FactorKind Multiplied Expr Factor Term) → Fits (keeps.KeepsMultipliedAt K x) (grammar.multiplied_at F x) (grammar.multiplied_at G x) (printed.multiplied_at w x)
+Fits-multiplied-at : {K : Factor → Type 0} {F G : Factor → Lang} {w : Factor → Writer} → ((f : Factor) → Fits (K f) (F f) (G f) (w f)) → (x : open_expr.Multiplied-F Added FactorKind Multiplied Expr Factor Term) → Fits (keeps.KeepsMultipliedAt K x) (grammar.multiplied_at F x) (grammar.multiplied_at G x) (printed_exprs.multiplied_at w x)
 Fits-multiplied-at factor (open_expr.Times f) = Fits-after fits-TIMES (factor f)
 Fits-multiplied-at factor (open_expr.Over f) = Fits-after fits-OVER (factor f)
 Fits-multiplied-at factor (open_expr.Mod f) = Fits-after fits-MOD (factor f)
 
-Fits-term-with : {K : Factor → Type 0} {F G : Factor → Lang} {w : Factor → Writer} (s : Bool) → ((f : Factor) → Fits (K f) (F f) (G f) (w f)) → (t : Term) → Fits (keeps.KeepsTermWith K t) (grammar.term_with s F t) (grammar.term_with false G t) (printed.term_with w t)
+Fits-term-with : {K : Factor → Type 0} {F G : Factor → Lang} {w : Factor → Writer} (s : Bool) → ((f : Factor) → Fits (K f) (F f) (G f) (w f)) → (t : Term) → Fits (keeps.KeepsTermWith K t) (grammar.term_with s F t) (grammar.term_with false G t) (printed_exprs.term_with w t)
 Fits-term-with s factor t = Fits-on s t.line (Fits-then (factor t.first) (Fits-each (λ m. Fits-multiplied-at factor (out-Multiplied m)) t.rest))
 
-Fits-added-at : {K : Term → Type 0} {T U : Term → Lang} {w : Term → Writer} → ((t : Term) → Fits (K t) (T t) (U t) (w t)) → (x : open_expr.Added-F Added FactorKind Multiplied Expr Factor Term) → Fits (keeps.KeepsAddedAt K x) (grammar.added_at T x) (grammar.added_at U x) (printed.added_at w x)
+Fits-added-at : {K : Term → Type 0} {T U : Term → Lang} {w : Term → Writer} → ((t : Term) → Fits (K t) (T t) (U t) (w t)) → (x : open_expr.Added-F Added FactorKind Multiplied Expr Factor Term) → Fits (keeps.KeepsAddedAt K x) (grammar.added_at T x) (grammar.added_at U x) (printed_exprs.added_at w x)
 Fits-added-at term (open_expr.Plus t) = Fits-after fits-PLUS (term t)
 Fits-added-at term (open_expr.Minus t) = Fits-after fits-MINUS (term t)
 
-Fits-expr-with : {K : Term → Type 0} {T U : Term → Lang} {w : Term → Writer} (s : Bool) → ((t : Term) → Fits (K t) (T t) (U t) (w t)) → (e : Expr) → Fits (keeps.KeepsExprWith K e) (grammar.expr_with s T e) (grammar.expr_with false U e) (printed.expr_with w e)
+Fits-expr-with : {K : Term → Type 0} {T U : Term → Lang} {w : Term → Writer} (s : Bool) → ((t : Term) → Fits (K t) (T t) (U t) (w t)) → (e : Expr) → Fits (keeps.KeepsExprWith K e) (grammar.expr_with s T e) (grammar.expr_with false U e) (printed_exprs.expr_with w e)
 Fits-expr-with s term e = Fits-on s e.line (Fits-then (term e.first) (Fits-each (λ a. Fits-added-at term (out-Added a)) e.rest))
 
-Fits-inside : (s : Bool) (b : ℕ) (e : Expr) → Fits (keeps.KeepsInside b e) (grammar.inside s b e) (grammar.inside false b e) (printed.inside_text b e)
-unfolding grammar.inside printed.inside_text keeps.KeepsInside
-Fits-inside s zero e = Fits-never e (printed.inside_text zero e)
+Fits-inside : (s : Bool) (b : ℕ) (e : Expr) → Fits (keeps.KeepsInside b e) (grammar.inside s b e) (grammar.inside false b e) (printed_exprs.inside_text b e)
+unfolding grammar.inside printed_exprs.inside_text keeps.KeepsInside
+Fits-inside s zero e = Fits-never e (printed_exprs.inside_text zero e)
 Fits-inside s (suc b) e = Fits-expr-with s (Fits-term-with s (Fits-factor-with s (Fits-inside s b))) e
 
-Fits-expr : (s : Bool) (b : ℕ) (e : Expr) → Fits (keeps.KeepsExpr b e) (grammar.expr s b e) (grammar.expr false b e) (printed.expr_text b e)
-unfolding printed.expr_text printed.added_text printed.term_text printed.multiplied_text printed.factor_text
+Fits-expr : (s : Bool) (b : ℕ) (e : Expr) → Fits (keeps.KeepsExpr b e) (grammar.expr s b e) (grammar.expr false b e) (printed_exprs.expr_text b e)
+unfolding printed_exprs.expr_text printed_exprs.added_text printed_exprs.term_text printed_exprs.multiplied_text printed_exprs.factor_text
 Fits-expr s b e = Fits-expr-with s (Fits-term-with s (Fits-factor-with s (Fits-inside s b))) e
 
 -- conditions
 
-Fits-rel-at : (k : RelKind) → Fits (Unit {0}) (grammar.rel_at k) (grammar.rel_at k) (printed.rel_at k)
+Fits-rel-at : (k : RelKind) → Fits (Unit {0}) (grammar.rel_at k) (grammar.rel_at k) (printed_exprs.rel_at k)
 Fits-rel-at rels.Equal = fits-EQUAL
 Fits-rel-at rels.Unequal = fits-UNEQUAL
 Fits-rel-at rels.Below = fits-BELOW
@@ -104,20 +105,20 @@ Fits-rel-at rels.AtMost = fits-AT_MOST
 Fits-rel-at rels.Above = fits-ABOVE
 Fits-rel-at rels.AtLeast = fits-AT_LEAST
 
-Fits-rel : (s : Bool) (r : Rel) → Fits (Unit {0}) (grammar.rel s r) (grammar.rel false r) (printed.rel_text r)
-unfolding printed.rel_text
+Fits-rel : (s : Bool) (r : Rel) → Fits (Unit {0}) (grammar.rel s r) (grammar.rel false r) (printed_exprs.rel_text r)
+unfolding printed_exprs.rel_text
 Fits-rel s r = Fits-on s r.line (Fits-rel-at r.kind)
 
-Fits-relation : (s : Bool) (b : ℕ) (r : Relation) → Fits (keeps.KeepsRelation b r) (grammar.relation s b r) (grammar.relation false b r) (printed.relation_text b r)
-unfolding printed.relation_text
+Fits-relation : (s : Bool) (b : ℕ) (r : Relation) → Fits (keeps.KeepsRelation b r) (grammar.relation s b r) (grammar.relation false b r) (printed_exprs.relation_text b r)
+unfolding printed_exprs.relation_text
 Fits-relation s b r = Fits-on s r.line (Fits-then (Fits-expr s b r.left) (Fits-after (Fits-rel s r.rel) (Fits-expr s b r.right)))
 
-Fits-conj : (s : Bool) (b : ℕ) (c : Conj) → Fits (keeps.KeepsConj b c) (grammar.conj s b c) (grammar.conj false b c) (printed.conj_text b c)
-unfolding printed.conj_text printed.and_text
+Fits-conj : (s : Bool) (b : ℕ) (c : Conj) → Fits (keeps.KeepsConj b c) (grammar.conj s b c) (grammar.conj false b c) (printed_exprs.conj_text b c)
+unfolding printed_exprs.conj_text printed_exprs.and_text
 Fits-conj s b c = Fits-on s c.line (Fits-then (Fits-relation s b c.first) (Fits-each (λ r. Fits-after fits-AND (Fits-relation s b r)) c.rest))
 
-Fits-cond : (s : Bool) (b : ℕ) (c : Cond) → Fits (keeps.KeepsCond b c) (grammar.cond_of s b c) (grammar.cond_of false b c) (printed.cond_text b c)
-unfolding printed.cond_text printed.or_text
+Fits-cond : (s : Bool) (b : ℕ) (c : Cond) → Fits (keeps.KeepsCond b c) (grammar.cond_of s b c) (grammar.cond_of false b c) (printed_exprs.cond_text b c)
+unfolding printed_exprs.cond_text printed_exprs.or_text
 Fits-cond s b c = Fits-on s c.line (Fits-then (Fits-conj s b c.first) (Fits-each (λ j. Fits-after fits-OR (Fits-conj s b j)) c.rest))
 
 -- lists of names and of values, and a receiver

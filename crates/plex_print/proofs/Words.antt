@@ -1,7 +1,8 @@
 -- What is written word by word.
 use Rattle.std.proofs.Common.{◌≡◌, ℕ, zero, suc, ◌-◌, List, ◌++◌, refl, ap, append_assoc, arith}
 use Rattle.plex_ast.specs.declared.expr.Expr.{Expr}
-use Rattle.plex_print.specs.Printed.{inside_text, factor_text, multiplied_text, term_text, added_text, expr_text, stmt_text, kind_text, body_text}
+use Rattle.plex_print.specs.Printed.{stmt_text, kind_text, body_text}
+use Rattle.plex_print.specs.PrintedExpressions.{inside_text, factor_text, multiplied_text, term_text, added_text, expr_text}
 use Rattle.plex_print.specs.Writing.{each_of}
 use Rattle.plex_ast.specs.declared.stmt.Stmt.{Stmt}
 

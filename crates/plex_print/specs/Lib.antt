@@ -1,3 +1,4 @@
 pub mod Printed
+pub mod PrintedExpressions
 pub mod Spelled
 pub mod Writing

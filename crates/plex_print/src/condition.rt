@@ -1,6 +1,6 @@
 // Conditions, whose brackets nest at most `room` deep: what nests deeper is left out.
 ghost use Rattle.std.specs.Prelude.{◌≡◌, IfOk};
-ghost use Rattle.plex_print.specs.Printed.{and_text, cond_text, conj_text, or_text, rel_text, relation_text};
+ghost use Rattle.plex_print.specs.PrintedExpressions.{and_text, cond_text, conj_text, or_text, rel_text, relation_text};
 ghost use Rattle.plex_print.specs.Writing.{each_of};
 
 use crate::expression::expr;
@@ -9,7 +9,7 @@ use plex_ast::{Cond, Conj, Rel, RelKind, Relation};
 use plex_num::{Memory, Seq};
 
 /// Appends a condition.
-#[tactic(auto, unfolding(crate::specs::Printed::cond_text))]
+#[tactic(auto, unfolding(crate::specs::PrintedExpressions::cond_text))]
 pub fn cond(text: &mut Seq<u8>, cond: &Cond, room: usize) -> Result<(), Memory>
     ensures { IfOk result (λ _. text.new ≡ cond_text room cond.now text.old) }
 {
@@ -28,7 +28,7 @@ fn or_list(text: &mut Seq<u8>, list: &[Conj], room: usize) -> Result<(), Memory>
     Ok(())
 }
 
-#[tactic(auto, unfolding(crate::specs::Printed::or_text))]
+#[tactic(auto, unfolding(crate::specs::PrintedExpressions::or_text))]
 fn or(text: &mut Seq<u8>, next: &Conj, room: usize) -> Result<(), Memory>
     ensures { IfOk result (λ _. text.new ≡ or_text room next.now text.old) }
 {
@@ -36,7 +36,7 @@ fn or(text: &mut Seq<u8>, next: &Conj, room: usize) -> Result<(), Memory>
     conj(text, next, room)
 }
 
-#[tactic(auto, unfolding(crate::specs::Printed::conj_text))]
+#[tactic(auto, unfolding(crate::specs::PrintedExpressions::conj_text))]
 fn conj(text: &mut Seq<u8>, conj: &Conj, room: usize) -> Result<(), Memory>
     ensures { IfOk result (λ _. text.new ≡ conj_text room conj.now text.old) }
 {
@@ -55,7 +55,7 @@ fn and_list(text: &mut Seq<u8>, list: &[Relation], room: usize) -> Result<(), Me
     Ok(())
 }
 
-#[tactic(auto, unfolding(crate::specs::Printed::and_text))]
+#[tactic(auto, unfolding(crate::specs::PrintedExpressions::and_text))]
 fn and(text: &mut Seq<u8>, next: &Relation, room: usize) -> Result<(), Memory>
     ensures { IfOk result (λ _. text.new ≡ and_text room next.now text.old) }
 {
@@ -63,7 +63,7 @@ fn and(text: &mut Seq<u8>, next: &Relation, room: usize) -> Result<(), Memory>
     relation(text, next, room)
 }
 
-#[tactic(auto, unfolding(crate::specs::Printed::relation_text))]
+#[tactic(auto, unfolding(crate::specs::PrintedExpressions::relation_text))]
 fn relation(text: &mut Seq<u8>, relation: &Relation, room: usize) -> Result<(), Memory>
     ensures { IfOk result (λ _. text.new ≡ relation_text room relation.now text.old) }
 {
@@ -73,7 +73,7 @@ fn relation(text: &mut Seq<u8>, relation: &Relation, room: usize) -> Result<(), 
 }
 
 /// Appends a comparison.
-#[tactic(auto, unfolding(crate::specs::Printed::rel_text))]
+#[tactic(auto, unfolding(crate::specs::PrintedExpressions::rel_text))]
 pub fn rel(text: &mut Seq<u8>, rel: &Rel) -> Result<(), Memory>
     ensures { IfOk result (λ _. text.new ≡ rel_text rel.now text.old) }
 {

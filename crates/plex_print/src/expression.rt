@@ -1,6 +1,6 @@
 // Expressions, whose brackets nest at most `room` deep: what nests deeper is left out.
 ghost use Rattle.std.specs.Prelude.{◌≡◌, IfOk};
-ghost use Rattle.plex_print.specs.Printed.{added_text, expr_text, factor_text, inside_text, multiplied_text, term_text};
+ghost use Rattle.plex_print.specs.PrintedExpressions.{added_text, expr_text, factor_text, inside_text, multiplied_text, term_text};
 ghost use Rattle.plex_print.specs.Writing.{each_of};
 
 use crate::word::{name, number, word};
@@ -9,7 +9,7 @@ use plex_num::{Memory, Seq};
 
 /// Appends an expression.
 #[cycle(expressions)]
-#[tactic(auto, unfolding(crate::specs::Printed::expr_text))]
+#[tactic(auto, unfolding(crate::specs::PrintedExpressions::expr_text))]
 pub fn expr(text: &mut Seq<u8>, expr: &Expr, room: usize) -> Result<(), Memory>
     ensures { IfOk result (λ _. text.new ≡ expr_text room expr.now text.old) }
 {
@@ -30,7 +30,7 @@ fn added_list(text: &mut Seq<u8>, list: &[Added], room: usize) -> Result<(), Mem
 }
 
 #[cycle(expressions)]
-#[tactic(auto, unfolding(crate::specs::Printed::added_text))]
+#[tactic(auto, unfolding(crate::specs::PrintedExpressions::added_text))]
 fn added(text: &mut Seq<u8>, added: &Added, room: usize) -> Result<(), Memory>
     ensures { IfOk result (λ _. text.new ≡ added_text room added.now text.old) }
 {
@@ -47,7 +47,7 @@ fn added(text: &mut Seq<u8>, added: &Added, room: usize) -> Result<(), Memory>
 }
 
 #[cycle(expressions)]
-#[tactic(auto, unfolding(crate::specs::Printed::term_text))]
+#[tactic(auto, unfolding(crate::specs::PrintedExpressions::term_text))]
 fn term(text: &mut Seq<u8>, term: &Term, room: usize) -> Result<(), Memory>
     ensures { IfOk result (λ _. text.new ≡ term_text room term.now text.old) }
 {
@@ -68,7 +68,7 @@ fn multiplied_list(text: &mut Seq<u8>, list: &[Multiplied], room: usize) -> Resu
 }
 
 #[cycle(expressions)]
-#[tactic(auto, unfolding(crate::specs::Printed::multiplied_text))]
+#[tactic(auto, unfolding(crate::specs::PrintedExpressions::multiplied_text))]
 fn multiplied(text: &mut Seq<u8>, multiplied: &Multiplied, room: usize) -> Result<(), Memory>
     ensures { IfOk result (λ _. text.new ≡ multiplied_text room multiplied.now text.old) }
 {
@@ -89,7 +89,7 @@ fn multiplied(text: &mut Seq<u8>, multiplied: &Multiplied, room: usize) -> Resul
 }
 
 #[cycle(expressions)]
-#[tactic(auto, unfolding(crate::specs::Printed::factor_text))]
+#[tactic(auto, unfolding(crate::specs::PrintedExpressions::factor_text))]
 fn factor(text: &mut Seq<u8>, factor: &Factor, room: usize) -> Result<(), Memory>
     ensures { IfOk result (λ _. text.new ≡ factor_text room factor.now text.old) }
 {

@@ -1,6 +1,6 @@
 // One word at the end of a text.
 ghost use Rattle.std.specs.Prelude.{◌≡◌, IfOk};
-ghost use Rattle.plex_print.specs.Printed.{level_text, name_text, number_text};
+ghost use Rattle.plex_print.specs.PrintedExpressions.{level_text, name_text, number_text};
 ghost use Rattle.plex_print.specs.Writing.{say, semi};
 
 use plex_ast::{Leveled, Named, Numbered};

@@ -30,19 +30,19 @@ use Rattle.report_text.specs.Report.{report_text}
 use Rattle.machine_code.specs.Coded.{Code}
 use Rattle.stmt_code.specs.Whole.{entry_addresses, whole_code}
 use Rattle.listing.specs.Listing.{IsListing, code_text}
-use Rattle.plex_program.specs.declared.program.Status.TheVariants as status
-use Rattle.plex_program.specs.Outcome.{headed_by}
-use Rattle.plex_program.specs.RunAnswer.{end_of, ended_answer, ended_status, ending_answer, ending_of, run_answer}
-use Rattle.plex_program.specs.ListAnswer.{code_of, listing_answer}
-use Rattle.plex_program.specs.LoadAnswer.{summed_answer}
-use Rattle.plex_program.specs.Program.{IsEnding}
-use Rattle.plex_program.specs.declared.perform.Answer.{Answer}
-use Rattle.plex_program.specs.declared.program.Status.{Status}
+use Rattle.command_words.specs.declared.status.Status.TheVariants as status
+use Rattle.command_answers.specs.Outcome.{headed_by}
+use Rattle.command_answers.specs.RunAnswer.{end_of, ended_answer, ended_status, ending_answer, ending_of, run_answer}
+use Rattle.command_answers.specs.ListAnswer.{code_of, listing_answer}
+use Rattle.command_answers.specs.LoadAnswer.{summed_answer}
+use Rattle.command_answers.specs.Program.{IsEnding}
+use Rattle.command_answers.specs.declared.answer.Answer.{Answer}
+use Rattle.command_words.specs.declared.status.Status.{Status}
 use Rattle.retire_order.specs.Lines.{coming_of}
 use Rattle.signal_trace.specs.declared.show.Show.{Show}
 use Rattle.signal_trace.specs.Text.{trace_text}
 use Rattle.signal_trace.specs.Trace.{trace}
-use Rattle.plex_program.specs.TraceAnswer.{trace_answer}
+use Rattle.command_answers.specs.TraceAnswer.{trace_answer}
 
 -- before the first line
 

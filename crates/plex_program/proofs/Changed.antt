@@ -28,12 +28,13 @@ use Rattle.report_text.specs.Report.{event_lines, text_of}
 use Rattle.block_change.specs.declared.misfit.Misfit.{Misfit}
 use Rattle.block_change.specs.Carried.{AreStanding, IsCarried, state_with}
 use Rattle.block_change.specs.Misfits.{misfit}
-use Rattle.plex_program.specs.Outcome.{headed_by}
-use Rattle.plex_program.specs.RunAnswer.{end_of, ended_answer, ending_answer, ending_of, run_answer}
-use Rattle.plex_program.specs.ChangeAnswer.{AnswersChange, ChangesOrNot, IsChanged, changed_answer, ends_before, further_answer, is_changed, misfit_answer}
-use Rattle.plex_program.specs.Runs.{AreRead, IsRunOf}
-use Rattle.plex_program.specs.Text.{change_text}
-use Rattle.plex_program.specs.declared.perform.Answer.{Answer}
+use Rattle.command_answers.specs.Outcome.{headed_by}
+use Rattle.command_answers.specs.RunAnswer.{end_of, ended_answer, ending_answer, ending_of, run_answer}
+use Rattle.command_answers.specs.ChangeAnswer.{AnswersChange, ChangesOrNot, IsChanged, changed_answer, ends_before, further_answer, is_changed, misfit_answer}
+use Rattle.command_answers.specs.Lines.{AreRead}
+use Rattle.plex_program.specs.Runs.{IsRunOf}
+use Rattle.command_answers.specs.Text.{change_text}
+use Rattle.command_answers.specs.declared.answer.Answer.{Answer}
 use Rattle.plex_program.proofs.Answering.{answer_is}
 
 -- ## A run that ends after fewer jobs at the latest, beside the same run with a higher limit

@@ -1,6 +1,2 @@
-pub mod Accepted
 pub mod Answering
 pub mod Changed
-pub mod Endings
-pub mod Stages
-pub mod Tables

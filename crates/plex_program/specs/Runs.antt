@@ -1,11 +1,9 @@
 -- What a run is given, and how far it has come.
-use Rattle.std.specs.Prelude.{◌≡◌, ℕ, ◌<◌, ◌^◌, List, [], length, map, Ok, IfSome}
+use Rattle.std.specs.Prelude.{ℕ, List, map, IfSome}
 use Rattle.exchange_model.specs.declared.exchange.Exchange.{Exchange}
 use Rattle.signal_file.specs.declared.line.Line.{Line}
-use Rattle.signal_file.specs.Lines.{signal_lines}
 use Rattle.source_meaning.specs.SingleRun.{opening}
 use Rattle.source_meaning.specs.State.{State}
-use Rattle.source_meaning.specs.Valid.{LinesFit}
 use Rattle.retire_order.specs.Lines.{coming_of}
 use Rattle.checked.specs.Kept.{IsChecked}
 use Rattle.exchange_run.specs.declared.turns.Ended.{Ended}
@@ -15,16 +13,6 @@ use Rattle.command_words.specs.Bounded.{AreWorkers}
 use Rattle.plex_program.specs.declared.going.Crew.{Crew}
 use Rattle.plex_program.specs.declared.going.Grown.{Grown}
 use Rattle.plex_program.specs.declared.going.Grown.TheVariants.{Over, Long}
-
--- the lines of a signal file fit the exchange, and are few
-pub record AreRead (x : Exchange) (lines : List Line) : Type 0 where
-  pub fit : LinesFit x [] (map coming_of lines)
-  pub few : length lines < 2 ^ 32
-
--- the lines are those of the text of a signal file
-pub record AreOfText (x : Exchange) (lines : List Line) : Type 0 where
-  pub text : List ℕ
-  pub are : signal_lines x text ≡ Ok lines
 
 -- so many jobs may run at once, and the certificate that is given, if one is, is of the exchange
 pub record IsCrew (x : Exchange) (crew : Crew) : Type 0 where

@@ -7,29 +7,27 @@ ghost use Rattle.block_change.specs.Misfits.{misfit};
 ghost use Rattle.retire_order.specs.Events.{ending_of};
 ghost use Rattle.retire_order.specs.Parts.{AreParts, account_of};
 ghost use Rattle.report_text.specs.Report.{event_lines, text_of};
-ghost use Rattle.plex_program.specs.Stages.{Performs};
-ghost use Rattle.plex_program.specs.ChangeAnswer.{ChangeAnswers, ChangeComes, ChangesOrNot};
-ghost use Rattle.plex_program.specs.ChangeAnswer.{IsChanged, ends_before, is_changed};
-ghost use Rattle.plex_program.specs.ChangeAnswer.{misfit_answer};
-ghost use Rattle.plex_program.specs.Program.{IsEnding};
-ghost use Rattle.plex_program.specs.Runs.{AreRead};
+ghost use Rattle.command_answers.specs.Stages.{Performs};
+ghost use Rattle.command_answers.specs.ChangeAnswer.{ChangeAnswers, ChangeComes, ChangesOrNot};
+ghost use Rattle.command_answers.specs.ChangeAnswer.{IsChanged, ends_before, is_changed};
+ghost use Rattle.command_answers.specs.ChangeAnswer.{misfit_answer};
+ghost use Rattle.command_answers.specs.Program.{IsEnding};
+ghost use Rattle.command_answers.specs.Lines.{AreRead};
 ghost use Rattle.command_words.specs.Bounded.{AreWithin, HasBounds};
-ghost use Rattle.plex_program.specs.Text.{change_text, file_words, misfit_text};
+ghost use Rattle.command_answers.specs.Text.{change_text, file_words, misfit_text};
 
-use crate::fault::Which;
 use crate::going::{Crew, Host, go_on, run_first};
-use crate::perform::{Answer, Stop, exchange_as, exchange_in, lines_in};
-use crate::program::Status;
 use crate::running::{end_answer, headed_answer, run_answer};
-use block_change::{Misfit, carry, misfit_of};
-use command_words::{Bounds, ChangeWords};
+use block_change::{Misfit, Named, carry, misfit_of};
+use command_answers::{Answer, Stop, Which, directory_of, exchange_as, exchange_in, lines_in};
+use command_words::{Bounds, ChangeWords, Status};
 use exchange_model::Exchange;
 use exchange_run::{Ended, Standing};
 use plex_io::{Gate, Shelf};
 use plex_num::{Memory, Seq, print_number};
 use report_text::event_lines;
 use retire_order::{BookParts, Books, Ending};
-use signal_file::Line;
+use signal_file::{Known, Line};
 use std::alloc::Global;
 use std::sync::Wait;
 use std::thread::Threads;
@@ -40,12 +38,12 @@ use text_parts::Text;
 #[derive(Clone, Copy)]
 struct Change<'a> {
     old: &'a Exchange,
-    new: &'a Exchange,
+    new: &'a Named<'a>,
     at: u32,
 }
 
 /// `change`.
-#[tactic(auto, using(crate::proofs::Stages::performs_rules))]
+#[tactic(auto, using(command_answers::proofs::Stages::performs_rules))]
 pub fn perform_change<R: Threads + Wait + Sync, S: Shelf, G: Gate + Sync>(
     host: &Host<'_, R, G>,
     shelf: &mut S,
@@ -57,15 +55,38 @@ pub fn perform_change<R: Threads + Wait + Sync, S: Shelf, G: Gate + Sync>(
     ensures ending { IfOk result (λ a. IsEnding a.status) }
 {
     let old = exchange_in(host.alloc, shelf, &words.run.exchange)?;
-    let lines = lines_in(host.alloc, shelf, &old, &words.run.signals)?;
-    let new = exchange_as(host.alloc, shelf, &words.new, Which::New)?;
-    let change = Change {
-        old: &old,
-        new: &new,
-        at: words.at,
+    let known = Known {
+        exchange: &old,
+        names: directory_of(host.alloc, &old)?,
     };
-    let answer = change_answer(host, &change, lines, words.run.bounds)?;
+    let lines = lines_in(host.alloc, shelf, &known, &words.run.signals)?;
+    let new = exchange_as(host.alloc, shelf, &words.new, Which::New)?;
+    let answer = answer_between(host, &old, &new, words.at, lines, words.run.bounds)?;
     Ok(answer)
+}
+
+/// The answer of a change from one exchange to another after so many jobs. What the new one has by its
+/// names is found here, once.
+fn answer_between<R: Threads + Wait + Sync, G: Gate + Sync>(
+    host: &Host<'_, R, G>,
+    old: &Exchange,
+    new: &Exchange,
+    at: u32,
+    lines: Seq<Line>,
+    bounds: Bounds,
+) -> Result<Answer, Memory>
+    requires lines { AreRead old.now lines }
+    requires bounds { AreWithin bounds }
+    ensures answer { IfOk result (ChangeAnswers old.now new.now lines bounds.jobs at) }
+    ensures ending { IfOk result (λ a. IsEnding a.status) }
+{
+    let named = Named::of(host.alloc, new)?;
+    let change = Change {
+        old,
+        new: &named,
+        at,
+    };
+    change_answer(host, &change, lines, bounds)
 }
 
 /// The answer of a change: what the new exchange has not, or else that of the run, which goes on there
@@ -79,12 +100,11 @@ fn change_answer<R: Threads + Wait + Sync, G: Gate + Sync>(
 ) -> Result<Answer, Memory>
     requires lines { AreRead change.now.old.now lines }
     requires bounds { AreWithin bounds }
-    ensures answer { IfOk result
-        (ChangeAnswers change.now.old.now change.now.new.now lines bounds.jobs change.now.at) }
+    ensures answer { IfOk result (ChangeAnswers change.now.old.now
+        change.now.new.now.exchange.now lines bounds.jobs change.now.at) }
     ensures ending { IfOk result (λ a. IsEnding a.status) }
 {
-    let found = misfit_of(host.alloc, change.old, change.new)?;
-    match found {
+    match misfit_of(change.old, change.new) {
         Some(misfit) => misfit_answer(host.alloc, change.old, misfit),
         None => {
             if change.at > bounds.jobs {
@@ -156,13 +176,13 @@ fn fitting_answer<R: Threads + Wait + Sync, G: Gate + Sync>(
     lines: Seq<Line>,
     bounds: Bounds,
 ) -> Result<Answer, Memory>
-    requires fits { misfit change.now.old.now change.now.new.now ≡ None }
+    requires fits { misfit change.now.old.now change.now.new.now.exchange.now ≡ None }
     requires reached { change.now.at ≤ bounds.jobs }
     requires lines { AreRead change.now.old.now lines }
     requires bounds { AreWithin bounds }
     ensures answer { IfOk result
-        (ChangesOrNot change.now.old.now change.now.new.now lines bounds.jobs change.now.at
-        (is_changed change.now.old.now lines bounds.jobs change.now.at)) }
+        (ChangesOrNot change.now.old.now change.now.new.now.exchange.now lines bounds.jobs
+        change.now.at (is_changed change.now.old.now lines bounds.jobs change.now.at)) }
     ensures ending { IfOk result (λ a. IsEnding a.status) }
 {
     let old = change.old;
@@ -202,27 +222,27 @@ fn changed_answer<R: Threads + Wait + Sync, G: Gate + Sync>(
     words: &Seq<u32>,
     bounds: Bounds,
 ) -> Result<Answer, Memory>
-    requires fits { misfit change.now.old.now change.now.new.now ≡ None }
+    requires fits { misfit change.now.old.now change.now.new.now.exchange.now ≡ None }
     requires layout { IsLayout change.now.old.now.blocks layout.now }
     requires standing { AreStanding change.now.old.now parts words.now }
     requires few { parts.ended ≤ bounds.jobs }
     requires bounds { AreWithin bounds }
-    ensures answer { IfOk result (IsChanged change.now.old.now change.now.new.now
+    ensures answer { IfOk result (IsChanged change.now.old.now change.now.new.now.exchange.now
         (state_with parts words.now) bounds.jobs change.now.at) }
     ensures ending { IfOk result (λ a. IsEnding a.status) }
 {
     let old = change.old;
     let new = change.new;
     let text = text_before(host.alloc, old, &parts, change.at)?;
-    let to = layout_of(host.alloc, new)?;
+    let to = layout_of(host.alloc, new.exchange)?;
     let (moved, carried) = carry(host.alloc, old, new, layout, &to, parts, words)?;
     let run = raised(moved, carried, bounds.jobs);
     let crew = Crew {
         given: None,
         workers: bounds.workers,
     };
-    let end = go_on(host, new, &to, crew, run)?;
-    let answer = headed_answer(text, new, end)?;
+    let end = go_on(host, new.exchange, &to, crew, run)?;
+    let answer = headed_answer(text, new.exchange, end)?;
     Ok(answer)
 }
 

@@ -8,7 +8,8 @@ ghost use Rattle.register_machine.specs.Faithful.{Faithful};
 ghost use Rattle.checked.specs.Kept.{IsChecked};
 ghost use Rattle.exchange_run.specs.Runs.{IsEndOf, MayGoOn, state_of};
 ghost use Rattle.plex_program.specs.declared.going.TheConstants.{MOST_UNROLLED};
-ghost use Rattle.plex_program.specs.Runs.{AreRead, HasGrown, IsCrew, IsRunOf};
+ghost use Rattle.command_answers.specs.Lines.{AreRead};
+ghost use Rattle.plex_program.specs.Runs.{HasGrown, IsCrew, IsRunOf};
 ghost use Rattle.command_words.specs.Bounded.{AreWithin, AreWorkers};
 
 use checked::{Checked, Own, keep_own_if_few};

@@ -6,27 +6,14 @@
 // the real devices.
 #![tactic(auto)]
 
-mod analysing;
-mod certifying;
 mod changing;
-mod fault;
 mod going;
-mod laws;
 mod perform;
 mod program;
-mod reading;
 mod running;
 mod steady;
-mod text;
 mod timing;
 mod tracing;
 
-pub use fault::{CertificateFault, Rule, SourceFault, Which};
-pub use job_table::{TableFault, TableRule};
-pub use laws::{timed_runs_are_runs, written_lines_of_texts_are_read};
-pub use perform::{Answer, Stop, exchange_in, lines_in};
-pub use program::{Status, plex, write_answer};
-pub use signal_file::{SignalsFault, SignalsRule};
-pub use signal_trace::{FilterFault, FilterRule};
+pub use program::plex;
 pub use steady::plex_steady;
-pub use timing::merged_in;

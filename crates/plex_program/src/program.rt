@@ -1,76 +1,22 @@
 // The program as one call.
-ghost use Rattle.std.specs.Prelude.{◌≡◌, IfSome, None, Ok, ◌⊎◌};
-ghost use Rattle.plex_program.specs.Answer.{IsAnswer, usage_answer};
-ghost use Rattle.plex_program.specs.Program.{Answers, ProcessEnds, ProcessEndsAs, IsComplete, WritesText, Makes};
-ghost use Rattle.plex_program.specs.Program.{ReadCause, WriteCause, exit_number};
-ghost use Rattle.plex_program.specs.Stages.{ReadAs};
+ghost use Rattle.std.specs.Prelude.{◌≡◌, IfSome, None, Ok};
+ghost use Rattle.command_answers.specs.Answer.{IsAnswer, usage_answer};
+ghost use Rattle.command_answers.specs.Program.{Answers, ProcessEnds, ProcessEndsAs, IsComplete};
+ghost use Rattle.command_answers.specs.Program.{Makes};
+ghost use Rattle.command_answers.specs.Program.{ReadCause, WriteCause};
+ghost use Rattle.command_answers.specs.Stages.{ReadAs};
 ghost use Rattle.command_words.specs.Words.{shape};
 
 use crate::going::Host;
-use crate::perform::{Answer, Stop, perform};
-use crate::text::usage_line;
-use command_words::read_command;
+use crate::perform::perform;
+use command_answers::{Answer, Stop, usage_line, write_answer};
+use command_words::{Status, read_command};
 use plex_io::{Gate, Shelf, Sink, Word};
 use plex_num::Seq;
 use std::alloc::Global;
 use std::sync::Wait;
 use std::thread::Threads;
-use text_parts::{Text, write_text};
-
-/// How the program ends.
-#[derive(Clone, Copy, Debug, PartialEq, Eq)]
-pub enum Status {
-    /// The report was written.
-    Done,
-    /// The words are no command; the usage line was written.
-    Usage,
-    /// The exchange text has a fault; the line that tells the first one was written.
-    Source,
-    /// The signal file has a fault; the line that tells the first one was written.
-    Signals,
-    /// The report was written of a run that ended with its last restart.
-    Restart,
-    /// The report was written of a run that ended after as many jobs as it may have.
-    Limit,
-    /// A file could not be read; nothing was written.
-    Read,
-    /// The text could not be written whole.
-    Write,
-    /// Memory was refused; nothing was written.
-    Memory,
-    /// The certificate is none of the exchange; the line that tells why was written.
-    Certificate,
-    /// The table of periodic signals has a fault; the line that tells the first one was written.
-    Table,
-    /// The exchange that is to take the place of the first one does not fit; the line that tells what
-    /// it has not was written.
-    Change,
-    /// The filter has a fault; the line that tells the first one was written.
-    Filter,
-}
-
-impl Status {
-    /// The exit status of the process (docs/FORMATS.md, Exit statuses).
-    pub fn number(self) -> u8
-        ensures { result ≡ exit_number self }
-    {
-        match self {
-            Status::Done => 0,
-            Status::Usage => 1,
-            Status::Source => 2,
-            Status::Signals => 3,
-            Status::Restart => 4,
-            Status::Limit => 5,
-            Status::Read => 6,
-            Status::Write => 7,
-            Status::Memory => 8,
-            Status::Certificate => 9,
-            Status::Table => 11,
-            Status::Change => 12,
-            Status::Filter => 13,
-        }
-    }
-}
+use text_parts::Text;
 
 /// The program: reads the files that the words name, and writes the answer.
 ///
@@ -79,7 +25,7 @@ impl Status {
 /// `Write` where the sink failed or is full, and then a proper front of the text was written, and
 /// `Memory`. Where the words allow more than one worker, jobs may run at once on threads of `rt`, each
 /// of which calls `gate` before and after its job; the answer is that of the single run all the same.
-#[tactic(auto, using(crate::proofs::Endings::ending))]
+#[tactic(auto, using(command_answers::proofs::Endings::ending))]
 pub fn plex<R: Threads + Wait + Sync, S: Shelf, K: Sink, G: Gate + Sync>(
     rt: &R,
     alloc: Global,
@@ -113,7 +59,7 @@ pub fn plex<R: Threads + Wait + Sync, S: Shelf, K: Sink, G: Gate + Sync>(
 }
 
 /// The answer to the words.
-#[tactic(auto, using(crate::proofs::Endings::answering))]
+#[tactic(auto, using(command_answers::proofs::Endings::answering))]
 fn answered<R: Threads + Wait + Sync, S: Shelf, G: Gate + Sync>(
     host: &Host<'_, R, G>,
     words: &[Word],
@@ -140,19 +86,5 @@ fn usage_answer(alloc: Global) -> Result<Answer, Stop>
             text: Text::whole(alloc, text),
         }),
         Err(_) => Err(Stop::Memory),
-    }
-}
-
-/// Writes the answer, and gives its status back, or `Write` where a write failed.
-pub fn write_answer<K: Sink>(sink: &mut K, answer: &Answer) -> Status
-    requires { WritesText answer.now.status }
-    ensures ends { ProcessEnds answer.now (K.written sink.old) (K.written sink.new) result }
-    ensures write { result ≡ Status.Write →
-        WriteCause (K.size sink.old) (K.written sink.new) (K.faults sink.old) (K.faults sink.new) }
-    ensures plain { (result ≡ Status.Write) ⊎ (result ≡ answer.now.status) }
-{
-    match write_text(sink, &answer.text) {
-        Ok(()) => answer.status,
-        Err(_) => Status::Write,
     }
 }

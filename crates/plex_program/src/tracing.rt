@@ -1,32 +1,32 @@
 // The single run, and the jobs of it that a filter shows.
-ghost use Rattle.std.specs.Prelude.{◌≡◌, ◌≤◌, IfOk, IfSome, length, map};
-ghost use Rattle.plex_limits.specs.declared.limits.TheConstants.{MOST_BYTES, MOST_JOBS};
+ghost use Rattle.std.specs.Prelude.{◌≡◌, ◌≤◌, IfOk, map};
+ghost use Rattle.plex_limits.specs.declared.limits.TheConstants.{MOST_JOBS};
 ghost use Rattle.source_meaning.specs.SingleRun.{opening};
 ghost use Rattle.retire_order.specs.Lines.{coming_of};
 ghost use Rattle.signal_trace.specs.Text.{trace_text};
 ghost use Rattle.signal_trace.specs.Trace.{trace};
-ghost use Rattle.plex_program.specs.Stages.{Comes, ReadAs};
-ghost use Rattle.plex_program.specs.TraceAnswer.{shows_at, shows_of_file, trace_answer, trace_of};
-ghost use Rattle.plex_program.specs.Program.{IsEnding};
-ghost use Rattle.plex_program.specs.Runs.{AreRead, IsRunOf};
+ghost use Rattle.command_answers.specs.Stages.{Comes};
+ghost use Rattle.command_answers.specs.TraceAnswer.{shows_at, trace_answer, trace_of};
+ghost use Rattle.command_answers.specs.Program.{IsEnding};
+ghost use Rattle.command_answers.specs.Lines.{AreRead};
+ghost use Rattle.plex_program.specs.Runs.{IsRunOf};
 
 use crate::going::has_short_code;
-use crate::perform::{Answer, Stop, exchange_in, lines_in, text_in};
 use crate::running::headed_answer;
-use crate::text::filter_stop;
 use code_gen::compile;
+use command_answers::{Answer, Stop, directory_of, exchange_in, filter_stop, lines_in, text_in};
 use command_words::TraceWords;
 use exchange_model::Exchange;
 use exchange_run::{ByCode, BySource, before_lines};
 use plex_io::{NoGate, Shelf, Word};
 use plex_num::{Memory, Seq};
-use signal_file::Line;
+use signal_file::{Known, Line};
 use signal_trace::{FilterFault, FilterRule, Show, Traced, read_filter, trace_run};
 use std::alloc::Global;
 use store_layout::layout_of;
 
 /// `trace`.
-#[tactic(auto, using(crate::proofs::Stages::comes_rules))]
+#[tactic(auto, using(command_answers::proofs::Stages::comes_rules))]
 pub fn perform_trace<S: Shelf>(
     alloc: Global,
     shelf: &mut S,
@@ -38,43 +38,32 @@ pub fn perform_trace<S: Shelf>(
     ensures ending { IfOk result (λ a. IsEnding a.status) }
 {
     let exchange = exchange_in(alloc, shelf, &words.run.exchange)?;
-    let lines = lines_in(alloc, shelf, &exchange, &words.run.signals)?;
-    let shows = shows_in(alloc, shelf, &exchange, &words.filter)?;
+    let known = Known {
+        exchange: &exchange,
+        names: directory_of(alloc, &exchange)?,
+    };
+    let lines = lines_in(alloc, shelf, &known, &words.run.signals)?;
+    let shows = shows_in(alloc, shelf, &known, &words.filter)?;
     let answer = trace_answer(alloc, &exchange, lines, &shows, words.run.bounds.jobs)?;
     Ok(answer)
 }
 
-/// The lines of the filter of a file.
-#[tactic(auto, using(crate::proofs::Stages::comes_rules))]
+/// The lines of the filter of a file, which may be too large, or its first faulty line.
+#[tactic(auto, using(command_answers::proofs::Stages::comes_rules, command_answers::proofs::Stages::refused_rules))]
 fn shows_in<S: Shelf>(
     alloc: Global,
     shelf: &mut S,
-    exchange: &Exchange,
+    known: &Known<'_>,
     name: &Word,
 ) -> Result<Seq<Show>, Stop>
-    ensures comes { Comes (S.held shelf.old) (shows_at exchange.now name.now)
+    ensures { Comes (S.held shelf.old) (shows_at known.now.exchange.now name.now)
         (S.faults shelf.old) (S.faults shelf.new) result }
-    ensures kept { S.held shelf.new ≡ S.held shelf.old }
 {
-    let text = text_in(alloc, shelf, name)?;
-    shows_of_file(alloc, exchange, &text)
-}
-
-/// The lines of a filter's text, which may be too large.
-#[tactic(auto, using(crate::proofs::Stages::refused_rules, crate::proofs::Tables::table_fits))]
-fn shows_of_file(
-    alloc: Global,
-    exchange: &Exchange,
-    text: &Option<Seq<u8>>,
-) -> Result<Seq<Show>, Stop>
-    requires { IfSome text.now (λ t. length t ≤ MOST_BYTES) }
-    ensures { ReadAs (shows_of_file exchange.now text.now) result }
-{
-    let Some(text) = text else {
+    let Some(text) = text_in(alloc, shelf, name)? else {
         let rule = FilterRule::TooLarge;
         return Err(filter_stop(alloc, FilterFault { line: 0, rule }));
     };
-    match read_filter(alloc, exchange, text.as_slice())? {
+    match read_filter(alloc, known, text.as_slice())? {
         Ok(shows) => Ok(shows),
         Err(fault) => Err(filter_stop(alloc, fault)),
     }

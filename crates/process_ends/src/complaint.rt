@@ -1,12 +1,12 @@
 // What is said on the standard error of each status. A line that cannot be written changes nothing.
 ghost use Rattle.std.specs.Prelude.{◌≡◌, ◌↔◌, ◌⊎◌};
-ghost use Rattle.plex_program.specs.Program.{exit_number};
+ghost use Rattle.command_words.specs.Status.{exit_number};
 
 use crate::names::{Named, text_of};
 use crate::sentences::{read_reason, sentence_of, write_reason};
 use crate::told::{Told, told_in};
+use command_words::Status;
 use plex_io::Word;
-use plex_program::Status;
 use std::io;
 use std::io::ErrorKind;
 

@@ -1,7 +1,8 @@
 // The program over devices in memory: each status that a device can cause, and what is written then.
+use command_words::Status;
 use plex_io::{MemoryShelf, MemorySink, NoGate, StoredFile, Word};
 use plex_num::{Memory, Seq};
-use plex_program::{Status, plex};
+use plex_program::plex;
 use std::alloc::Global;
 use std::test::Fail;
 

@@ -1,8 +1,8 @@
 // The program with several workers: jobs that may run at once do begin so, where they are held at a gate.
 use crate::steps::steps_of;
 use crate::whole::{NotMade, answers};
+use command_words::Status;
 use plex_io::{Gate, MeetGate, Moment, SlideGate};
-use plex_program::Status;
 use std::alloc::Global;
 use std::hint;
 use std::sync::Wait;

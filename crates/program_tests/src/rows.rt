@@ -1,9 +1,9 @@
 // A run that ends at its limit, and a run of lines that were merged before.
 use crate::devices::{COUNTER, files_of, words_of};
 use crate::whole::{NotMade, answers};
+use command_words::Status;
 use merge_program::plex_merge;
 use plex_io::{NoGate, SteadyShelf, SteadySink};
-use plex_program::Status;
 use std::alloc::Global;
 use std::test::Fail;
 

@@ -5,21 +5,21 @@ ghost use Rattle.store_layout.specs.Laid.{IsLayout};
 ghost use Rattle.register_machine.specs.Faithful.{Faithful};
 ghost use Rattle.checked.specs.Kept.{IsChecked};
 ghost use Rattle.exchange_run.specs.Runs.{MayGoOn};
-ghost use Rattle.plex_program.specs.Runs.{AreRead};
+ghost use Rattle.command_answers.specs.Lines.{AreRead};
 
 use crate::devices::files_of;
 use crate::whole::NotMade;
 use checked::{Checked, Own, keep_own_if_few};
 use code_gen::compile;
+use command_answers::{exchange_in, lines_in};
 use exchange_model::Exchange;
 use exchange_run::{Standing, before_lines};
 use machine_code::Code;
 use parallel_dispatch::{StoredRun, Work, dispatch};
 use plex_io::{NoGate, SteadyShelf};
 use plex_num::Seq;
-use plex_program::{exchange_in, lines_in};
 use shared_store::SharedStore;
-use signal_file::Line;
+use signal_file::{Known, Line};
 use std::alloc::Global;
 use std::sync::Wait;
 use std::thread::Threads;
@@ -41,8 +41,9 @@ pub fn steps_of<R: Threads + Wait + Sync>(
     let signals = Seq::copied(alloc, b"S")?;
     let mut shelf = SteadyShelf::new(files);
     let exchange = exchange_in(alloc, &mut shelf, &exchange)?;
-    let lines = lines_in(alloc, &mut shelf, &exchange, &signals)?;
-    counted(rt, alloc, &exchange, lines)
+    let known = Known::of(alloc, &exchange)?;
+    let lines = lines_in(alloc, &mut shelf, &known, &signals)?;
+    counted(rt, alloc, known.exchange, lines)
 }
 
 /// The same of lines that were read.

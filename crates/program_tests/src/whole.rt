@@ -1,8 +1,10 @@
 // What the program writes, where memory is ample.
 use crate::devices::{files_of, words_of};
+use command_answers::Stop;
+use command_words::Status;
 use plex_io::{Gate, SteadyShelf, SteadySink};
 use plex_num::Memory;
-use plex_program::{Status, Stop, plex_steady};
+use plex_program::plex_steady;
 use std::alloc::Global;
 use std::sync::Wait;
 use std::thread::Threads;

@@ -2,6 +2,7 @@
 ghost use Rattle.std.specs.Prelude.{◌≡◌, ◌<◌, ◌∷◌, [], drop, length};
 ghost use Rattle.register_machine.specs.Private.{awaits};
 
+use crate::locals::copy_locals;
 use plex_limits::MOST_CALLERS;
 use std::marker::Model;
 
@@ -77,7 +78,7 @@ impl Frames {
     {
         let frame = &mut self.waiting[self.count];
         frame.back = back;
-        frame.locals = *locals;
+        copy_locals(&mut frame.locals, locals);
         frame.given = *given;
         frame.awaits = awaits;
         self.count += 1;

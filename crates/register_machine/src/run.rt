@@ -15,10 +15,10 @@ ghost use Rattle.register_machine.specs.Standing.{standing};
 
 use self::stand::Stand;
 use crate::frames::Frames;
+use crate::outgoing::Outgoing;
 use job_types::{Chain, JobDone, JobStart, Outbox, Outcome};
 use machine_code::Code;
 use plex_limits::MOST_COUNTED;
-use plex_num::Values;
 use std::marker::Model;
 
 /// How many statements a job may begin, the one that faults among them.
@@ -34,7 +34,7 @@ pub struct JobRun {
     registers: [u32; 16],
     given: [u32; 8],
     locals: [u32; 50],
-    outgoing: Values,
+    outgoing: Outgoing,
     frames: Frames,
     made: u64,
     answers: [u32; 8],
@@ -84,7 +84,7 @@ impl JobRun {
             address: 0,
             registers: [0; 16],
             locals: [0; 50],
-            outgoing: Values::new(),
+            outgoing: Outgoing::new(),
             frames: Frames::new(),
             made: 0,
             given: [0; 8],
@@ -121,7 +121,7 @@ impl JobRun {
         self.address = code.entries()[start.job.entry as usize] as usize;
         self.registers = [0; 16];
         self.locals = [0; 50];
-        self.outgoing = Values::new();
+        self.outgoing.clear();
         self.frames.clear();
         self.made = 0;
         self.given = eight_of(start.job.values.as_slice());

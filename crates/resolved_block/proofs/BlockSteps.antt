@@ -1,7 +1,7 @@
 -- Steps of the loop over the blocks of a text.
 use Rattle.std.proofs.Common.{◌≡◌, ℕ, ◌+◌, ◌<◌, ◌≤◌, List, [], ◌∷◌, ◌++◌, length, map, drop, get_or, refl, sym, ◌∙◌, ap, add-one, append_assoc, arith}
 use Rattle.std.proofs.lemmas.List.{drop_all, append-nil, get_or-map, length-map}
-use Rattle.first_fault.proofs.Told.{cut_at}
+use Rattle.plex_num.proofs.Lists.{opens}
 use Rattle.exchange_model.specs.declared.block.Block.{Block}
 use Rattle.exchange_model.specs.declared.signal.SignalKind.{SignalKind}
 use Rattle.plex_ast.specs.declared.block.Block.{Block as TreeBlock}
@@ -46,7 +46,7 @@ unfolding typed_from
 steps_more kinds bs i list first b t inside is made r = record {
   same = append_assoc list (t.block ∷ []) (typed_from kinds bs t.next (drop (i + 1) bs))
       ∙ ap (λ (u : Typed). list ++ u.block ∷ typed_from kinds bs u.next (drop (i + 1) bs)) made
-      ∙ ap (λ l. list ++ typed_from kinds bs first l) (sym (cut_at bs i b inside is))
+      ∙ ap (λ l. list ++ typed_from kinds bs first l) (sym (opens bs i b inside is))
       ∙ r.same;
 }
 

@@ -1,7 +1,7 @@
 -- Steps of the loops that make lists.
 use Rattle.std.proofs.Common.{◌≡◌, ℕ, ◌+◌, ◌<◌, ◌≤◌, List, [], ◌∷◌, ◌++◌, length, map, drop, get_or, refl, sym, ◌∙◌, ap, append_assoc}
 use Rattle.std.proofs.lemmas.List.{drop_all, append-nil}
-use Rattle.first_fault.proofs.Told.{cut_at}
+use Rattle.plex_num.proofs.Lists.{opens}
 use Rattle.resolved_block.specs.Statements.{Made, in_turn}
 
 -- after `start` stands what was made of each item
@@ -13,7 +13,7 @@ made_begin f xs start = record { same = refl }
 
 pub made_step : {A B : Type 0} (f : A → B) (xs : List A) (start : List B) (i : ℕ) (x : A) (y : B) (made new : List B) → i < length xs → x ≡ get_or xs i x → y ≡ f x → new ≡ made ++ y ∷ [] → Making f xs start i made → Making f xs start (i + 1) new
 made_step f xs start i x y made new inside is of more w =
-    record { same = rw (more, of, append_assoc) (ap (λ l. made ++ map f l) (sym (cut_at xs i x inside is)) ∙ w.same) }
+    record { same = rw (more, of, append_assoc) (ap (λ l. made ++ map f l) (sym (opens xs i x inside is)) ∙ w.same) }
 
 pub made_end : {A B : Type 0} (f : A → B) (xs : List A) (start : List B) (i : ℕ) (made : List B) → length xs ≤ i → Making f xs start i made → made ≡ start ++ map f xs
 made_end f xs start i made past w = sym (append-nil made) ∙ ap (λ l. made ++ map f l) (sym (drop_all i xs past)) ∙ w.same
@@ -28,7 +28,7 @@ turns_begin f xs now = record { items = refl; next = refl }
 
 pub turns_step : {A B : Type 0} (f : A → Made B) (xs : List A) (i : ℕ) (x : A) (y : B) (made new : List B) (now next first : ℕ) → i < length xs → x ≡ get_or xs i x → y ≡ (f x now).0 → next ≡ (f x now).1 → new ≡ made ++ y ∷ [] → Turns f xs i made now first → Turns f xs (i + 1) new next first
 turns_step f xs i x y made new now next first inside is of p more w =
-    let cut = cut_at xs i x inside is in
+    let cut = opens xs i x inside is in
     record {
       items = rw (more, of, p, append_assoc) (ap (λ l. made ++ (in_turn (map f l) now).0) (sym cut) ∙ w.items);
       next = rw p (ap (λ l. (in_turn (map f l) now).1) (sym cut) ∙ w.next);

@@ -2,8 +2,8 @@
 use Rattle.std.proofs.Common.{◌≡◌, ℕ, ◌+◌, ◌<◌, ◌≤◌, List, [], length, drop, get_or, refl, sym, ◌∙◌, ap}
 use Rattle.std.specs.Prelude.{fold}
 use Rattle.std.proofs.lemmas.List.{drop_all}
+use Rattle.plex_num.proofs.Lists.{opens}
 use Rattle.resolved_block.specs.Blocks.{first_mentions, joined_once}
-use Rattle.first_fault.proofs.Told.{cut_at}
 
 -- the numbers so far, joined by those that are left
 abbrev pub joined_by : List ℕ → List ℕ → List ℕ
@@ -18,7 +18,7 @@ mentioned_begin xs = record { keys_same = refl; same = refl }
 
 pub mentioned_step : (xs : List ℕ) (i : ℕ) (x : ℕ) (keys list keys_new new : List ℕ) → i < length xs → x ≡ get_or xs i x → keys_new ≡ new → new ≡ joined_once list x → Mentioned xs i keys list → Mentioned xs (i + 1) keys_new new
 mentioned_step xs i x keys list keys_new new inside is alike more w =
-    record { keys_same = alike; same = ap (λ l. joined_by l (drop (i + 1) xs)) more ∙ sym (ap (joined_by list) (cut_at xs i x inside is)) ∙ w.same }
+    record { keys_same = alike; same = ap (λ l. joined_by l (drop (i + 1) xs)) more ∙ sym (ap (joined_by list) (opens xs i x inside is)) ∙ w.same }
 
 pub mentioned_end : (xs : List ℕ) (i : ℕ) (keys list : List ℕ) → length xs ≤ i → Mentioned xs i keys list → list ≡ first_mentions xs
 mentioned_end xs i keys list past w = sym (ap (joined_by list) (drop_all i xs past)) ∙ w.same

@@ -3,7 +3,7 @@ use Rattle.std.proofs.Common.{◌≡◌, ℕ, ◌+◌, ◌<◌, ◌≤◌, List,
 use Rattle.std.specs.Prelude.{filter_map}
 use Rattle.std.specs.List.{cons_option}
 use Rattle.std.proofs.lemmas.List.{drop_all, append-nil}
-use Rattle.first_fault.proofs.Told.{cut_at}
+use Rattle.plex_num.proofs.Lists.{opens}
 
 -- what was picked so far, and what is picked of those that are left, is all
 pub record Picked {A B : Type 0} (f : A → Option B) (xs : List A) (i : ℕ) (list : List B) : Type 0 where
@@ -13,7 +13,7 @@ pub picked_begin : {A B : Type 0} (f : A → Option B) (xs : List A) → Picked 
 picked_begin f xs = record { all = refl }
 
 next_picked : {A B : Type 0} (f : A → Option B) (xs : List A) (i : ℕ) (x : A) (o : Option B) → i < length xs → x ≡ get_or xs i x → o ≡ f x → filter_map f (drop i xs) ≡ cons_option o (filter_map f (drop (i + 1) xs))
-next_picked f xs i x o inside is gives = ap (filter_map f) (cut_at xs i x inside is) ∙ ap (λ p. cons_option p (filter_map f (drop (i + 1) xs))) (sym gives)
+next_picked f xs i x o inside is gives = ap (filter_map f) (opens xs i x inside is) ∙ ap (λ p. cons_option p (filter_map f (drop (i + 1) xs))) (sym gives)
 
 pub picked_none : {A B : Type 0} (f : A → Option B) (xs : List A) (i : ℕ) (list : List B) (x : A) → i < length xs → x ≡ get_or xs i x → None ≡ f x → Picked f xs i list → Picked f xs (i + 1) list
 picked_none f xs i list x inside is gives w = record { all = sym (ap (λ r. list ++ r) (next_picked f xs i x None inside is gives)) ∙ w.all }

@@ -1,11 +1,11 @@
 -- The lines of a signal file fit an exchange.
-use Rattle.std.proofs.Common.{◌≡◌, ℕ, zero, suc, ◌+◌, ◌-◌, ◌<◌, ◌≤◌, ◌^◌, ◌&&◌, ◌⊎◌, inl, inr, Bool, true, false, nat_eq, List, [], ◌∷◌, ◌++◌, length, map, get_or, position, slice_get, Option, Some, None, Result, Ok, Err, refl, sym, ap, subst, ◌∙◌, arith, length-append}
+use Rattle.std.proofs.Common.{◌≡◌, ℕ, zero, suc, ◌+◌, ◌-◌, ◌<◌, ◌≤◌, ◌^◌, ◌&&◌, ◌⊎◌, inl, inr, Bool, true, false, nat_eq, List, [], ◌∷◌, ◌++◌, length, map, get_or, position, slice_get, Option, Some, None, Ok, refl, sym, ap, subst, ◌∙◌, arith, length-append}
 use Rattle.std.specs.Prelude.{◌==◌, if◌then◌else◌, nat_le, nat_lt, codes}
 use Rattle.std.specs.List.{AllByRecursion, cons_option, slice_split}
 use Rattle.std.specs.Option.{option_map_or}
 use Rattle.std.specs.Str.{bytes_eq}
 use Rattle.std.specs.Str.Lines.{lines, lines_of_parts}
-use Rattle.std.proofs.lemmas.Bool.{and_parts, eqb-true, leb-true, ltb-true}
+use Rattle.std.proofs.lemmas.Bool.{and_parts, eqb-true, ltb-true}
 use Rattle.std.proofs.lemmas.List.{length-map, map-append}
 use Rattle.std.proofs.lemmas.List.Quantifiers.{position-Some}
 use Rattle.std.proofs.lemmas.List.Splits.{length-slice_split}
@@ -21,17 +21,16 @@ use Rattle.exchange_model.specs.Index.{is_entry}
 use Rattle.exchange_model.specs.Kept.{signal_count}
 use Rattle.signal_file.specs.declared.before.Before.{Before}
 use Rattle.signal_file.specs.declared.directory.Signal.{Signal}
-use Rattle.signal_file.specs.declared.fault.SignalsFault.{SignalsFault}
-use Rattle.signal_file.specs.declared.fault.SignalsRule.TheVariants.{BadAs, FallingCount, UnknownBlock, UnknownSignal, WrongData}
 use Rattle.signal_file.specs.declared.line.Line.{Line}
 use Rattle.signal_file.specs.declared.line.LineKind.{LineKind}
 use Rattle.signal_file.specs.declared.line.LineKind.TheVariants.{Bare, Fresh, Same}
 use Rattle.signal_file.specs.Form.{Closing, Saying, closing, end_or_value, ending, one_more, said_in, with}
 use Rattle.text_lines.specs.Words.{is_skipped, words}
 use Rattle.signal_file.specs.Lines.{lines_behind, signal_lines}
-use Rattle.signal_file.specs.Rules.{added, and_then, before_of, breach, count_or, entry_of, gives, gives_forlopp, has_origin, if_buffered, is_origin, is_true, last_count, meaning, need, need_that, next_number, says, signal_of, told}
+use Rattle.signal_file.specs.Rules.{added, and_then, before_of, count_or, entry_of, gives, gives_forlopp, has_origin, if_buffered, is_origin, is_true, last_count, next_number, says, signal_of}
 use Rattle.exchange_model.specs.Names.{names_of_blocks, names_of_signals}
 use Rattle.signal_file.proofs.Behind.{ok_first}
+use Rattle.signal_file.proofs.Meant.{Adds, IsMeant, adds}
 use Rattle.source_meaning.specs.State.{Coming}
 use Rattle.source_meaning.specs.Valid.{HasOrigin, IsWord, LineFits, LinesFit, NamesEarlier, entry_count}
 use Rattle.retire_order.specs.Lines.{coming_of, origin_of}
@@ -94,13 +93,9 @@ found p [] i is = absurd (cc)
 found p (d ∷ es) i is = let at = position-Some p (d ∷ es) i d is in (get_or (d ∷ es) i d, at.0, slice_get-get_or (d ∷ es) i d at.0, at.1)
 
 -- what is looked for with what there is
-went : (o : Option ℕ) (go : ℕ → Option ℕ) (e : ℕ) → with o go ≡ Some e → (n : ℕ) × (go n ≡ Some e)
-went None go e is = absurd (cc)
-went (Some n) go e is = (n, is)
-
-went_signal : (o : Option ℕ) (go : ℕ → Option Signal) (e : Signal) → with o go ≡ Some e → (n : ℕ) × (go n ≡ Some e)
-went_signal None go e is = absurd (cc)
-went_signal (Some n) go e is = (n, is)
+pub went : {A B : Type 0} (o : Option A) (go : A → Option B) (b : B) → with o go ≡ Some b → (a : A) × (go a ≡ Some b)
+went None go b is = absurd (cc)
+went (Some a) go b is = (a, is)
 
 buffered : (number : ℕ) (o : Option SignalKind) (signal : Signal) → if_buffered number o ≡ Some signal → (number ≡ signal.number) × (option_map_or signal_count o 0 ≡ signal.count)
 buffered number None signal e = absurd (cc)
@@ -112,7 +107,7 @@ buffered number (Some (Outside name count)) signal e = absurd (cc)
 
 signal_counted : (x : Exchange) (name : List ℕ) (signal : Signal) → signal_of x name ≡ Some signal → option_map_or signal_count (slice_get x.signals signal.number) 0 ≡ signal.count
 signal_counted x name signal is =
-    let at = went_signal (position (bytes_eq name) (names_of_signals x.signals)) (λ number. if_buffered number (slice_get x.signals number)) signal is in
+    let at = went (position (bytes_eq name) (names_of_signals x.signals)) (λ number. if_buffered number (slice_get x.signals number)) signal is in
     let here = buffered at.0 (slice_get x.signals at.0) signal at.1 in
     ap (λ n. option_map_or signal_count (slice_get x.signals n) 0) (sym here.0) ∙ here.1
 
@@ -130,18 +125,8 @@ entry_there x signal name block entry is at =
 
 -- ---- what a signal line means
 
-pub needed : {A B F : Type 0} (f : F) (o : Option A) (go : A → Result B F) (b : B) → need f o go ≡ Ok b → (a : A) × (o ≡ Some a) × (go a ≡ Ok b)
-needed f None go b e = absurd (cc)
-needed f (Some a) go b e = (a, refl, e)
-
-pub tests_hold : {A F : Type 0} (f g h : F) (a b c : Bool) (line l : A) → need_that f a (need_that g b (need_that h c (Ok line))) ≡ Ok l → (a ≡ true) × (b ≡ true) × (c ≡ true) × (line ≡ l)
-tests_hold f g h false b c line l e = absurd (cc)
-tests_hold f g h true false c line l e = absurd (cc)
-tests_hold f g h true true false line l e = absurd (cc)
-tests_hold f g h true true true line l e = let same : line ≡ l = cc in (refl, refl, refl, same)
-
 -- the line that a line says, behind those before
-record IsMeant (x : Exchange) (b : Before) (s : Saying) (l : Line) : Type 0 where
+record IsPlaced (x : Exchange) (b : Before) (s : Saying) (l : Line) : Type 0 where
   pub number : l.number ≡ next_number b
   pub after : l.after ≡ s.after
   pub kind : l.kind ≡ s.kind
@@ -151,45 +136,19 @@ record IsMeant (x : Exchange) (b : Before) (s : Saying) (l : Line) : Type 0 wher
   pub values : l.values ≡ s.values
   pub many : length l.values ≡ entry_count x l.entry
 
-meant : (x : Exchange) (b : Before) (s : Saying) (l : Line) → meaning x b s ≡ Ok l → IsMeant x b s l
-unfolding meaning
-meant x b s l e =
-    let n = next_number b in
-    let line : ℕ → Line = λ entry. record { number = n; after = s.after; entry = entry; values = s.values; kind = s.kind } in
-    let tests : ℕ → ℕ → Result Line SignalsFault = λ count entry. need_that (breach WrongData n) (nat_eq (length s.values) count) (need_that (breach FallingCount n) (nat_le b.last s.after) (need_that (breach BadAs n) (has_origin b s.kind) (Ok (line entry)))) in
-    let signal = needed (breach UnknownSignal n) (signal_of x s.signal) (λ (q : Signal). need (breach UnknownBlock n) (entry_of x q.number s.block) (tests q.count)) l e in
-    let entry = needed (breach UnknownBlock n) (entry_of x signal.0.number s.block) (tests signal.0.count) l signal.2 in
-    let hold = tests_hold (breach WrongData n) (breach FallingCount n) (breach BadAs n) (nat_eq (length s.values) signal.0.count) (nat_le b.last s.after) (has_origin b s.kind) (line entry.0) l entry.2 in
-    let there = entry_there x signal.0 s.signal s.block entry.0 signal.1 entry.1 in
-    let as_many : length s.values ≡ signal.0.count = eqb-true (length s.values) signal.0.count hold.0 in
-    subst (IsMeant x b s) hold.3 (record {
+placed : (x : Exchange) (b : Before) (s : Saying) (l : Line) → IsMeant x b s l → IsPlaced x b s l
+placed x b s l m =
+    let there = entry_there x m.signal s.signal s.block m.entry m.named m.received in
+    subst (IsPlaced x b s) m.same (record {
       number = refl;
       after = refl;
       kind = refl;
-      no_less = leb-true b.last s.after hold.1;
-      origin = hold.2;
+      no_less = m.no_less;
+      origin = m.origin;
       entry = there.0;
       values = refl;
-      many = as_many ∙ sym there.1;
+      many = m.as_many ∙ sym there.1;
     })
-
--- what a line adds: nothing where it says nothing, else the line that it says
-abbrev Adds : Exchange → Before → Option Saying → Option Line → Type 0
-Adds x b None r = r ≡ None
-Adds x b (Some s) r = (l : Line) × (r ≡ Some l) × IsMeant x b s l
-
-adds_line : (x : Exchange) (b : Before) (s : Saying) (m : Result Line SignalsFault) (r : Option Line) → m ≡ meaning x b s → and_then m (λ l. Ok (Some l)) ≡ Ok r → Adds x b (Some s) r
-adds_line x b s (Ok l) r is e = let same : Some l ≡ r = cc in (l, sym same, meant x b s l (sym is))
-adds_line x b s (Err f) r is e = absurd (cc)
-
-adds_that : (x : Exchange) (b : Before) (t : Bool) (o : Option Saying) (r : Option Line) → (if t then Ok None else told x b o) ≡ Ok r → Adds x b (if t then None else o) r
-adds_that x b true o r e = let same : None ≡ r = cc in sym same
-adds_that x b false None r e = absurd (cc)
-adds_that x b false (Some s) r e = adds_line x b s (meaning x b s) r refl e
-
-adds : (x : Exchange) (b : Before) (line : List ℕ) (r : Option Line) → added x b line ≡ Ok r → Adds x b (says line) r
-unfolding added
-adds x b line r e = adds_that x b (is_skipped line) (said_in (words line)) r e
 
 -- ---- what counts of the lines before
 
@@ -304,7 +263,7 @@ names_earlier before done (Same line) t is =
     let giver = t.origins at.0 at.2 in
     (coming_of giver.1, (giver.0, got_coming done giver.0 giver.1 giver.2), giver.3 ∙ sym at.1, giver_origin giver.1.kind giver.4)
 
-line_fits : (x : Exchange) (before : List (List ℕ)) (line : List ℕ) (done : List Line) (s : Saying) (l : Line) → Tells before done → says line ≡ Some s → IsMeant x (before_of before) s l → LineFits x (map coming_of done) (coming_of l)
+line_fits : (x : Exchange) (before : List (List ℕ)) (line : List ℕ) (done : List Line) (s : Saying) (l : Line) → Tells before done → says line ≡ Some s → IsPlaced x (before_of before) s l → LineFits x (map coming_of done) (coming_of l)
 line_fits x before line done s l t is m =
     let b = before_is before in
     let number : l.number ≡ length before + 1 = m.number ∙ ap next_number b ∙ ap (λ n. n + 1) (length-map before is_origin) in
@@ -327,7 +286,7 @@ fits_from x before line done None first ls is none t later =
     subst (λ (q : Option Line). LinesFit x (map coming_of done) (map coming_of (cons_option q ls))) (sym none) (later done (tells_skip before line done is t))
 fits_from x before line done (Some s) first ls is adds t later =
     let l : Line = adds.0 in
-    let m = adds.2 in
+    let m = placed x (before_of before) s l adds.2 in
     let b = before_is before in
     let number : l.number ≡ length before + 1 = m.number ∙ ap next_number b ∙ ap (λ n. n + 1) (length-map before is_origin) in
     let no_less : last_count before ≤ s.after = subst (λ (k : Before). k.last ≤ s.after) b m.no_less in

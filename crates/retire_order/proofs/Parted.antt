@@ -10,7 +10,7 @@ use Rattle.std.specs.FinMap.Entries.{below_all, is_sorted}
 use Rattle.std.specs.HashMap.{get}
 use Rattle.std.specs.List.{AllByRecursion, IsDistinct, list_any}
 use Rattle.std.specs.Ordering.{eq_by_cmp, is_eq, is_lt, nat_cmp}
-use Rattle.std.proofs.lemmas.Bool.{eq-eqb, eqb-false, eqb-true, ne_eqb}
+use Rattle.std.proofs.lemmas.Bool.{eq-eqb, eqb-false, eqb-true, ne_eqb, or_right}
 use Rattle.std.proofs.lemmas.List.{length-map}
 use Rattle.std.proofs.lemmas.Map.Keys.{IsDistinct-cons, IsDistinct-head, IsDistinct-tail}
 use Rattle.std.proofs.lemmas.Map.Steps.{length-le_from_distinct_below}
@@ -31,7 +31,6 @@ use Rattle.forlopp_chain.specs.Chains.{AreBelow, IsSound, NoneEmpty}
 use Rattle.source_meaning.specs.Config.{files_of}
 use Rattle.source_meaning.specs.State.{Arrived, Bare, Coming, Fresh, Origin, Same, State}
 use Rattle.source_meaning.specs.Valid.{HasRecords, HoldsRecord, IsRecord, IsValid}
-use Rattle.plex_num.proofs.Booleans.{or_right}
 use Rattle.source_meaning.proofs.Chains.{record_itself}
 use Rattle.retire_order.specs.Accounts.{Account, with_words}
 use Rattle.retire_order.specs.Lines.{arrived_of, coming_of, found_in, origin_of}

@@ -65,9 +65,11 @@ impl Model for Books {
 
     ghost coded = { Prim.hlevel (codes, chains_code, dead_code) };
 
-    ghost view = { λ b. account b.schedule b.waiting.waiting b.chains.chains b.chains.dead b.events.events b.next b.ended b.restarts b.running b.limit };
+    ghost view = { λ b. account b.schedule b.waiting.waiting b.chains.chains b.chains.dead
+        b.events.events b.next b.ended b.restarts b.running b.limit };
 
-    ghost invariant = { λ b. IsKept (account b.schedule b.waiting.waiting b.chains.chains b.chains.dead b.events.events b.next b.ended b.restarts b.running b.limit) };
+    ghost invariant = { λ b. IsKept (account b.schedule b.waiting.waiting b.chains.chains
+        b.chains.dead b.events.events b.next b.ended b.restarts b.running b.limit) };
 }
 
 impl Books {

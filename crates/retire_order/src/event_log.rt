@@ -30,7 +30,8 @@ impl Model for EventLog {
 
     ghost view = { λ l. record { events = told l.bytes.items; room = l.room } };
 
-    ghost invariant = { λ l. AreBytesOf l.bytes.items (told l.bytes.items) × (vec_len l.bytes + 120 * l.room ≤ vec_capacity l.bytes) };
+    ghost invariant = { λ l. AreBytesOf l.bytes.items (told l.bytes.items)
+        × (vec_len l.bytes + 120 * l.room ≤ vec_capacity l.bytes) };
 }
 
 impl EventLog {
@@ -113,7 +114,8 @@ impl Model for EventQueue {
 
     ghost view = { λ q. told (reverse q.last_first.items) };
 
-    ghost invariant = { λ q. AreBytesOf (reverse q.last_first.items) (told (reverse q.last_first.items)) };
+    ghost invariant = { λ q. AreBytesOf (reverse q.last_first.items)
+        (told (reverse q.last_first.items)) };
 }
 
 impl EventQueue {

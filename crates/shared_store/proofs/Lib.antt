@@ -1,4 +1,4 @@
-pub mod Alone
+pub mod OneWord
 pub mod Touched
 pub mod Loaned
 pub mod Views

@@ -46,8 +46,8 @@ module _ (views : List View) (id : ℕ) (h h' : Hold) (at : Holds views id h) (s
     one_root = λ j u e. ⊎_elim (λ (c : (j ≡ id) × (Loan h' ≡ Root u)). absurd (loan-not-root h' u (ap (λ (v : View). some v) c.1)))
         (λ (c : (j ≢ id) × (get_elem? views j ≡ some (Root u))). q.one_root j u c.1) (at_set views id j (Loan h') (Root u) e);
     listed = λ j i e. let b = back j i e in subst (Has t.loans) b.2 (q.listed j b.0 b.1);
-    alone = λ j k a b ja kb n. let x = back j a ja in let y = back k b kb in
-        q.alone j k x.0 y.0 x.1 y.1 (ap (λ (l : Lent). l.number) x.2 ∙ (n ∙ sym (ap (λ (l : Lent). l.number) y.2)));
+    one_seat = λ j k a b ja kb n. let x = back j a ja in let y = back k b kb in
+        q.one_seat j k x.0 y.0 x.1 y.1 (ap (λ (l : Lent). l.number) x.2 ∙ (n ∙ sym (ap (λ (l : Lent). l.number) y.2)));
     live = λ a s. let l = q.live a s in let f = forth l.0 l.1 l.2 in (l.0, f.0, f.1, f.2 ∙ l.3);
     sound = λ j i e. ⊎_elim (λ (c : (j ≡ id) × (Loan h' ≡ Loan i)). subst (λ (z : Hold). Sound z.lent.permit z.lent.base z.touches) (ap hold_of c.1) ok)
         (λ (c : (j ≢ id) × Holds views j i). q.sound j i c.1) (at_set views id j (Loan h') (Loan i) e);
@@ -60,7 +60,7 @@ module _ (free : ℕ) (t : Top) (views : List View) (words : List ℕ) (r : List
 
   pub no_other : (j : ℕ) (i : Hold) (w : ℕ) → Holds views j i → j ≢ id → may_write i.lent.permit w ≡ true → may_read h.lent.permit w ≡ true → ⊥
   no_other j i w there other wr touch =
-      both_ways (may_read h.lent.permit w) ((r.apart i.lent h.lent (q.listed j i there) has (λ e. other (q.alone j id i h there at e)) w).0 wr) touch
+      both_ways (may_read h.lent.permit w) ((r.apart i.lent h.lent (q.listed j i there) has (λ e. other (q.one_seat j id i h there at e)) w).0 wr) touch
 
   pub only_read : (w : ℕ) → may_read h.lent.permit w ≡ true → may_write h.lent.permit w ≡ false → lent_out t.loans w ≡ false
   only_read w touch out = lent_out_all t.loans w (λ l s. dite (ℕ_discrete l.number h.lent.number)

@@ -23,7 +23,7 @@ opens words values slots free is counted small = subst (λ (ws : List ℕ). Lend
     at_root = refl;
     one_root = first_only;
     listed = λ j i e. absurd (no_loan j i e);
-    alone = λ j k a b ja kb n. absurd (no_loan j a ja);
+    one_seat = λ j k a b ja kb n. absurd (no_loan j a ja);
     live = λ a s. absurd s;
     sound = λ j i e. absurd (no_loan j i e);
   };

@@ -43,7 +43,7 @@ module _ (views : List View) (id : ℕ) (t t' : Top) (q : Seats t views) (at : g
     at_root = root_here;
     one_root = only_root;
     listed = λ j i e. there i.lent (q.listed j i (loan_was j i e));
-    alone = λ j k a b ja kb n. q.alone j k a b (loan_was j a ja) (loan_was k b kb) n;
+    one_seat = λ j k a b ja kb n. q.one_seat j k a b (loan_was j a ja) (loan_was k b kb) n;
     live = λ a s. let l = q.live a (back' a s) in (l.0, l.1, loan_stays l.0 l.1 l.2, l.3);
     sound = λ j i e. q.sound j i (loan_was j i e);
   }
@@ -71,8 +71,8 @@ module _ (views : List View) (id : ℕ) (t t' : Top) (q : Seats t views) (at : g
           (λ (c : (j ≡ length after) × (Loan h ≡ Root u)). absurd (loan-not-root h u (ap (λ (v : View). some v) c.1))) (snoc_at after (Loan h) (Root u) j e);
       listed = λ j i e. ⊎_elim (λ (c : Holds views j i). more i.lent (inr (q.listed j i c))) (λ (c : (j ≡ length after) × (h ≡ i)). more i.lent (inl (ap (λ (z : Hold). z.lent) c.1)))
           (lent_was j i e);
-      alone = λ j k a b ja kb n. ⊎_elim
-          (λ (c : Holds views j a). ⊎_elim (λ (d : Holds views k b). q.alone j k a b c d n)
+      one_seat = λ j k a b ja kb n. ⊎_elim
+          (λ (c : Holds views j a). ⊎_elim (λ (d : Holds views k b). q.one_seat j k a b c d n)
           (λ (d : (k ≡ length after) × (h ≡ b)). let lo = old_number j a c in let hi : h.lent.number ≡ b.lent.number = ap (λ (z : Hold). z.lent.number) d.1 in absurd (omega arith)) (lent_was k b kb))
           (λ (c : (j ≡ length after) × (h ≡ a)). ⊎_elim
           (λ (d : Holds views k b). let lo = old_number k b d in let hi : h.lent.number ≡ a.lent.number = ap (λ (z : Hold). z.lent.number) c.1 in absurd (omega arith))
@@ -103,8 +103,8 @@ module _ (views : List View) (id : ℕ) (t t' : Top) (q : Seats t views) (at : g
       one_root = λ j u e. ⊎_elim (λ (c : (j ≡ other) × (Spent ≡ Root u)). absurd (root-not-spent u c.1)) (λ (c : (j ≢ other) × (get_elem? after j ≡ some (Root u))). only_root j u c.1)
           (at_set after other j Spent (Root u) e);
       listed = λ j i e. let b = stayed j i e in subst (λ (ls : List Lent). Has ls i.lent) (sym same)
-          (kept_in h.lent.number t.loans i.lent (q.listed j i b.0) (λ n. b.1 (q.alone j other i h b.0 held_before n)));
-      alone = λ j k a b ja kb n. q.alone j k a b (stayed j a ja).0 (stayed k b kb).0 n;
+          (kept_in h.lent.number t.loans i.lent (q.listed j i b.0) (λ n. b.1 (q.one_seat j other i h b.0 held_before n)));
+      one_seat = λ j k a b ja kb n. q.one_seat j k a b (stayed j a ja).0 (stayed k b kb).0 n;
       live = λ a s. let o = kept_out h.lent.number t.loans a (subst (λ (ls : List Lent). Has ls a) same s) in let l = q.live a o.0 in (
         l.0,
         l.1,

@@ -10,33 +10,33 @@ use Rattle.shared_store.specs.declared.view.Top.{Top}
 use Rattle.shared_store.specs.declared.view.Hold.{Hold}
 use Rattle.shared_store.specs.Loans.{Has, lent, lender, taken_back, FitsBeside}
 use Rattle.shared_store.specs.Seats.{StoreId, RootView}
-use Rattle.shared_store.specs.Alone.{alone}
+use Rattle.shared_store.specs.OneWord.{one_word}
 use Rattle.shared_store.specs.TestPermits.{adding, reading, AllReading}
 use Rattle.shared_store.proofs.Touched.{written_touched}
 use Rattle.shared_store.proofs.Loaned.{kept_out}
-use Rattle.shared_store.proofs.Alone.{alone_in, alone_out}
+use Rattle.shared_store.proofs.OneWord.{one_word_in, one_word_out}
 
 -- the last of a list of spans
-one_out : (w u : ℕ) → (spans (alone w) u || false) ≡ true → w ≡ u
-one_out w u e = ⊎_elim (λ (h : spans (alone w) u ≡ true). alone_out w u h) (λ (h : false ≡ true). absurd (false≢true h)) (or_cases (spans (alone w) u) false e)
+one_out : (w u : ℕ) → (spans (one_word w) u || false) ≡ true → w ≡ u
+one_out w u e = ⊎_elim (λ (h : spans (one_word w) u ≡ true). one_word_out w u h) (λ (h : false ≡ true). absurd (false≢true h)) (or_cases (spans (one_word w) u) false e)
 
 adding_writes : (step own u : ℕ) → may_write (adding step own) u ≡ true → own ≡ u
 adding_writes step own u e = one_out own u e
 
 adding_reads : (step own u : ℕ) → may_read (adding step own) u ≡ true → (step ≡ u) ⊎ (own ≡ u)
-adding_reads step own u e = ⊎_elim (λ h. inl (one_out step u h)) (λ h. inr (one_out own u h)) (or_cases (spans (alone step) u || false) (may_write (adding step own) u) e)
+adding_reads step own u e = ⊎_elim (λ h. inl (one_out step u h)) (λ h. inr (one_out own u h)) (or_cases (spans (one_word step) u || false) (may_write (adding step own) u) e)
 
 pub adding_own : (p : Permit) (step own : ℕ) → p ≡ adding step own → may_write p own ≡ true
-adding_own p step own e = subst (λ (q : Permit). may_write q own ≡ true) (sym e) (or_left (spans (alone own) own) false (alone_in own))
+adding_own p step own e = subst (λ (q : Permit). may_write q own ≡ true) (sym e) (or_left (spans (one_word own) own) false (one_word_in own))
 
 pub adding_own_read : (p : Permit) (step own : ℕ) → p ≡ adding step own → may_read p own ≡ true
 adding_own_read p step own e = written_touched p own (adding_own p step own e)
 
 pub adding_step : (p : Permit) (step own : ℕ) → p ≡ adding step own → may_read p step ≡ true
-adding_step p step own e = subst (λ (q : Permit). may_read q step ≡ true) (sym e) (or_left (spans (alone step) step || false) _ (or_left (spans (alone step) step) false (alone_in step)))
+adding_step p step own e = subst (λ (q : Permit). may_read q step ≡ true) (sym e) (or_left (spans (one_word step) step || false) _ (or_left (spans (one_word step) step) false (one_word_in step)))
 
 pub reading_reads : (p : Permit) (w : ℕ) → p ≡ reading w → may_read p w ≡ true
-reading_reads p w e = subst (λ (q : Permit). may_read q w ≡ true) (sym e) (or_left (spans (alone w) w || false) _ (or_left (spans (alone w) w) false (alone_in w)))
+reading_reads p w e = subst (λ (q : Permit). may_read q w ≡ true) (sym e) (or_left (spans (one_word w) w || false) _ (or_left (spans (one_word w) w) false (one_word_in w)))
 
 keeps_off : (step own other : ℕ) → own ≢ step → own ≢ other → (u : ℕ) → may_write (adding step own) u ≡ true → may_read (adding step other) u ≡ false
 keeps_off step own other s o u e = let is = adding_writes step own u e in
@@ -47,7 +47,7 @@ pub adding_apart : (p q : Permit) (step own other : ℕ) → p ≡ adding step o
 adding_apart p q step own other e f s t o =
     subst (λ (z : Permit × Permit). Apart z.0 z.1) (λ i. (sym e i, sym f i)) (λ u. (keeps_off step own other s o u, keeps_off step other own t (λ d. o (sym d)) u))
 
--- jobs that read alone do not meet
+-- jobs that read one_word do not meet
 pub reading_apart : (p q : Permit) (w : ℕ) → p ≡ reading w → q ≡ reading w → Apart p q
 reading_apart p q w e f = subst (λ (z : Permit × Permit). Apart z.0 z.1) (λ i. (sym e i, sym f i)) (λ u. (λ n. absurd (false≢true n), λ n. absurd (false≢true n)))
 

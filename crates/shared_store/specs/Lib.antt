@@ -3,5 +3,5 @@ pub mod Loans
 pub mod Places
 pub mod Seats
 pub mod Rule
-pub mod Alone
+pub mod OneWord
 pub mod TestPermits

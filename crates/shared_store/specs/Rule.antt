@@ -52,7 +52,7 @@ pub record Seats (t : Top) (views : List View) : Type 0 where
   pub at_root : get_elem? views root ≡ some (Root t)
   pub one_root : (j : ℕ) (u : Top) → get_elem? views j ≡ some (Root u) → j ≡ root
   pub listed : (j : ℕ) (h : Hold) → Holds views j h → Has t.loans h.lent
-  pub alone : (j k : ℕ) (h i : Hold) → Holds views j h → Holds views k i
+  pub one_seat : (j k : ℕ) (h i : Hold) → Holds views j h → Holds views k i
       → h.lent.number ≡ i.lent.number → j ≡ k
   pub live : (a : Lent) → Has t.loans a → (j : ℕ) × (h : Hold) × Holds views j h × (h.lent ≡ a)
   pub sound : (j : ℕ) (h : Hold) → Holds views j h → Sound h.lent.permit h.lent.base h.touches

@@ -24,7 +24,7 @@ fn any_start() -> JobStart {
 }
 
 /// One word.
-fn alone(word: u32) -> Span
+fn one_word(word: u32) -> Span
     ensures { (result.first ≡ word) × (result.count ≡ 1) × (result.stride ≡ 1) }
 {
     Span {
@@ -39,9 +39,9 @@ fn adding_permit(alloc: Global, step: u32, own: u32) -> Result<Permit, Memory>
     ensures { IfOk result (λ permit. permit ≡ adding step own) }
 {
     let mut reads = Seq::new(alloc);
-    reads.push(alone(step))?;
+    reads.push(one_word(step))?;
     let mut writes = Seq::new(alloc);
-    writes.push(alone(own))?;
+    writes.push(one_word(own))?;
     Ok(Permit { reads, writes })
 }
 
@@ -50,7 +50,7 @@ fn reading_permit(alloc: Global, word: u32) -> Result<Permit, Memory>
     ensures { IfOk result (λ permit. permit ≡ reading word) }
 {
     let mut reads = Seq::new(alloc);
-    reads.push(alone(word))?;
+    reads.push(one_word(word))?;
     Ok(Permit {
         reads,
         writes: Seq::new(alloc),

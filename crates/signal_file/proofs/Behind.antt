@@ -1,90 +1,43 @@
 -- The lines of a file, one after the other.
-use Rattle.std.proofs.Common.{◌≡◌, ℕ, ◌+◌, ◌<◌, ◌≤◌, ◌^◌, Bool, true, false, List, [], ◌∷◌, ◌++◌, length, map, Option, Some, None, Result, Ok, Err, refl, sym, ap, ◌∙◌, append_assoc, append-nil, length-append, arith}
-use Rattle.std.specs.Prelude.{if◌then◌else◌, nat_eq, nat_le}
-use Rattle.signal_file.proofs.Meant.{after_as, after_block, after_count, after_data, after_signal}
+use Rattle.std.proofs.Common.{◌≡◌, ℕ, ◌+◌, ◌<◌, ◌≤◌, ◌^◌, Bool, false, List, [], ◌∷◌, ◌++◌, length, map, Option, Some, None, Result, Ok, Err, refl, sym, ap, ◌∙◌, append_assoc, append-nil, length-append, arith}
+use Rattle.std.proofs.lemmas.Option.{none-some, same_Some}
 use Rattle.std.specs.List.{cons_option}
 use Rattle.std.specs.Str.Lines.{lines}
 use Rattle.std.proofs.lemmas.List.{map-append}
 use Rattle.std.proofs.lemmas.List.Sums.{fold-append}
 use Rattle.exchange_model.specs.declared.exchange.Exchange.{Exchange}
 use Rattle.signal_file.specs.declared.before.Before.{Before}
-use Rattle.signal_file.specs.declared.directory.Signal.{Signal}
 use Rattle.signal_file.specs.declared.fault.SignalsFault.{SignalsFault}
-use Rattle.signal_file.specs.declared.fault.SignalsRule.TheVariants.{BadAs, FallingCount, UnknownBlock, UnknownSignal, WrongData}
 use Rattle.signal_file.specs.declared.line.Line.{Line}
-use Rattle.signal_file.specs.Form.{Saying, said_in}
-use Rattle.text_lines.specs.Words.{is_skipped, words}
+use Rattle.signal_file.specs.Form.{Saying}
 use Rattle.signal_file.specs.Lines.{lines_behind, signal_lines}
-use Rattle.signal_file.specs.Rules.{added, and_then, before_of, breach, count_or, entry_of, gives, gives_forlopp, has_origin, is_origin, last_count, meaning, need, need_that, next_number, says, signal_of, told}
+use Rattle.signal_file.specs.Rules.{added, and_then, before_of, count_or, gives, gives_forlopp, is_origin, last_count, line_of, says}
+use Rattle.signal_file.proofs.Meant.{Adds, adds}
 
--- what a right line says
+-- ---- what a line adds
 
 -- a line as it is noted
 record Noted (l : Line) (o : Option Saying) : Type 0 where
   pub count : (n : ℕ) → count_or n o ≡ l.after
   pub origin : gives_forlopp o ≡ gives l.kind
 
-noted_that : (f : SignalsFault) (t : Bool) (go : Result Line SignalsFault) (l : Line) → need_that f t go ≡ Ok l → go ≡ Ok l
-noted_that f true go l e = e
-noted_that f false go l e = cc
-
-noted_entry : (f : SignalsFault) (o : Option ℕ) (go : ℕ → Result Line SignalsFault) (l : Line) → need f o go ≡ Ok l → (entry : ℕ) × (go entry ≡ Ok l)
-noted_entry f None go l e = cc
-noted_entry f (Some entry) go l e = (entry, e)
-
-noted_signal : (f : SignalsFault) (o : Option Signal) (go : Signal → Result Line SignalsFault) (l : Line) → need f o go ≡ Ok l → (signal : Signal) × (go signal ≡ Ok l)
-noted_signal f None go l e = cc
-noted_signal f (Some signal) go l e = (signal, e)
-
-same_line : (r : Result Line SignalsFault) (k l : Line) → r ≡ Ok l → r ≡ Ok k → k ≡ l
-same_line r k l e d = cc
-
-noted_meaning : (x : Exchange) (b : Before) (s : Saying) (l : Line) → meaning x b s ≡ Ok l → Noted l (Some s)
-unfolding meaning
-noted_meaning x b s l e =
-    let n = next_number b in
-    let signal = noted_signal (breach UnknownSignal n) (signal_of x s.signal) (after_signal x b s) l e in
-    let entry = noted_entry (breach UnknownBlock n) (entry_of x signal.0.number s.block) (after_block x b s signal.0) l signal.1 in
-    let data_right = noted_that (breach WrongData n) (nat_eq (length s.values) signal.0.count) (after_data x b s entry.0) l entry.1 in
-    let count_right = noted_that (breach FallingCount n) (nat_le b.last s.after) (after_count x b s entry.0) l data_right in
-    let origin_right = noted_that (breach BadAs n) (has_origin b s.kind) (after_as x b s entry.0) l count_right in
-    let line : Line = record { number = n; after = s.after; entry = entry.0; values = s.values; kind = s.kind } in
-    let same : line ≡ l = same_line (after_as x b s entry.0) line l origin_right refl in
-    record { count = λ n. ap (λ (k : Line). k.after) same; origin = ap (λ (k : Line). gives k.kind) same }
-
--- a line that is skipped adds nothing, and every other one a line
-
-none_from : (r : Result Line SignalsFault) → and_then r (λ l. Ok (Some l)) ≡ Ok None → ⊥
-none_from (Ok l) e = cc
-none_from (Err f) e = cc
-
-some_from : (r : Result Line SignalsFault) (l : Line) → and_then r (λ k. Ok (Some k)) ≡ Ok (Some l) → r ≡ Ok l
-some_from (Ok k) l e = cc
-some_from (Err f) l e = cc
-
-none_told : (x : Exchange) (b : Before) (o : Option Saying) → told x b o ≡ Ok None → ⊥
-none_told x b None e = cc
-none_told x b (Some s) e = none_from (meaning x b s) e
-
-noted_told : (x : Exchange) (b : Before) (o : Option Saying) (l : Line) → told x b o ≡ Ok (Some l) → Noted l o
-noted_told x b None l e = cc
-noted_told x b (Some s) l e = noted_meaning x b s l (some_from (meaning x b s) l e)
-
-passed_test : (x : Exchange) (b : Before) (t : Bool) (o : Option Saying) → (if t then Ok None else told x b o) ≡ Ok None → (if t then None else o) ≡ None
-passed_test x b true o e = refl
-passed_test x b false o e = absurd (none_told x b o e)
-
-noted_test : (x : Exchange) (b : Before) (t : Bool) (o : Option Saying) (l : Line) → (if t then Ok None else told x b o) ≡ Ok (Some l) → Noted l (if t then None else o)
-noted_test x b true o l e = cc
-noted_test x b false o l e = noted_told x b o l e
+-- a line that is skipped says nothing
+passed_by : (x : Exchange) (b : Before) (o : Option Saying) → Adds x b o None → o ≡ None
+passed_by x b None adds = refl
+passed_by x b (Some s) adds = absurd (none-some adds.0 adds.1)
 
 passed : (x : Exchange) (b : Before) (line : List ℕ) → added x b line ≡ Ok None → says line ≡ None
-unfolding added
-passed x b line e = passed_test x b (is_skipped line) (said_in (words line)) e
+passed x b line e = passed_by x b (says line) (adds x b line None e)
+
+-- and every other one says the line that is added
+noted_by : (x : Exchange) (b : Before) (o : Option Saying) (l : Line) → Adds x b o (Some l) → Noted l o
+noted_by x b None l adds = absurd (none-some l (sym adds))
+noted_by x b (Some s) l adds =
+    let same : line_of b s adds.2.entry ≡ l = adds.2.same ∙ sym (same_Some l adds.0 adds.1) in
+    record { count = λ n. ap (λ (k : Line). k.after) same; origin = ap (λ (k : Line). gives k.kind) same }
 
 noted : (x : Exchange) (b : Before) (line : List ℕ) (l : Line) → added x b line ≡ Ok (Some l) → Noted l (says line)
-unfolding added
-noted x b line l e = noted_test x b (is_skipped line) (said_in (words line)) l e
+noted x b line l e = noted_by x b (says line) l (adds x b line (Some l) e)
 
 -- what counts of the lines up to a line
 before_more : (done : List (List ℕ)) (line : List ℕ) (b : Before) (last : ℕ) (origin : Bool) → b ≡ before_of done → count_or b.last (says line) ≡ last → gives_forlopp (says line) ≡ origin → record { last = last; origins = b.origins ++ origin ∷ [] } ≡ before_of (done ++ line ∷ [])

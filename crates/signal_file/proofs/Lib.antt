@@ -1,5 +1,6 @@
 pub mod Behind
 mod Found
-mod Meant
+pub mod Meant
 mod Named
 mod Tails
+pub mod Tests

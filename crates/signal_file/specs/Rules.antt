@@ -1,7 +1,7 @@
 -- What a signal line means in an exchange, and its first fault.
 --
--- A line is looked at with what counts of the lines before it. Its faults are looked for in a fixed order, and the first decides.
-use Rattle.std.specs.Prelude.{◌≡◌, ℕ, ◌+◌, ◌-◌, ◌≤◌, nat_eq, nat_le, Bool, true, false, List, [], ◌∷◌, ◌++◌, length, map, fold, position, slice_get, Option, Some, None, Result, Ok, Err, if◌then◌else◌}
+-- A line is looked at with what counts of the lines before it. Its rules are looked at in a fixed order, and the first that it breaks decides.
+use Rattle.std.specs.Prelude.{◌≡◌, ℕ, ◌+◌, ◌-◌, ◌≤◌, nat_eq, nat_le, Bool, true, false, List, [], ◌∷◌, ◌++◌, length, map, codes, fold, position, slice_get, Option, Some, None, Result, Ok, Err, if◌then◌else◌}
 use Rattle.std.specs.Str.{bytes_eq}
 use Rattle.plex_limits.specs.declared.limits.TheConstants.{MOST_VALUES, MOST_SIGNALS, MOST_BLOCKS}
 use Rattle.exchange_model.specs.declared.exchange.Exchange.{Exchange}
@@ -14,7 +14,7 @@ use Rattle.signal_file.specs.declared.directory.Directory.{Directory}
 use Rattle.signal_file.specs.declared.directory.Signal.{Signal}
 use Rattle.signal_file.specs.declared.fault.SignalsFault.{SignalsFault}
 use Rattle.signal_file.specs.declared.fault.SignalsRule.{SignalsRule}
-use Rattle.signal_file.specs.declared.fault.SignalsRule.TheVariants.{BadLine, UnknownSignal, UnknownBlock, WrongData, FallingCount, BadAs}
+use Rattle.signal_file.specs.declared.fault.SignalsRule.TheVariants.{TooLarge, BadLine, UnknownSignal, UnknownBlock, WrongData, FallingCount, BadAs}
 use Rattle.signal_file.specs.declared.line.Line.{Line}
 use Rattle.signal_file.specs.declared.line.LineKind.{LineKind}
 use Rattle.signal_file.specs.declared.line.LineKind.TheVariants.{Fresh, Bare, Same}
@@ -95,29 +95,57 @@ abbrev pub need : {A B F : Type 0} → F → Option A → (A → Result B F) →
 need fault None go = Err fault
 need fault (Some a) go = go a
 
--- goes on where the test holds, or stops with this fault
-abbrev pub need_that : {B F : Type 0} → F → Bool → Result B F → Result B F
-need_that fault false go = Err fault
-need_that fault true go = go
-
 -- goes on with what came, or stops with the fault
 abbrev pub and_then : {A B F : Type 0} → Result A F → (A → Result B F) → Result B F
 and_then (Ok a) go = go a
 and_then (Err f) go = Err f
 
+-- the first rule of these that is broken: each stands beside what must hold
+abbrev pub rule_broken : {R : Type 0} → List (R × Bool) → Option R
+rule_broken [] = None
+rule_broken (test ∷ rest) = (if test.1 then rule_broken rest else Some test.0)
+
+-- this, or the fault of the rule that is broken
+abbrev pub unless : {A F R : Type 0} → (R → F) → Option R → A → Result A F
+unless fault None a = Ok a
+unless fault (Some rule) a = Err (fault rule)
+
+-- the word of a rule in what is told of a fault
+abbrev pub signals_rule_name : SignalsRule → List ℕ
+signals_rule_name TooLarge = codes "TOOLARGE"
+signals_rule_name BadLine = codes "BADLINE"
+signals_rule_name UnknownSignal = codes "UNKNOWNSIGNAL"
+signals_rule_name UnknownBlock = codes "UNKNOWNBLOCK"
+signals_rule_name WrongData = codes "WRONGDATA"
+signals_rule_name FallingCount = codes "FALLINGCOUNT"
+signals_rule_name BadAs = codes "BADAS"
+
 -- the fault of a line that breaks this rule
 abbrev pub breach : SignalsRule → ℕ → SignalsFault
 breach rule line = record { line = line; rule = rule }
+
+-- the rules on a line of a signal that its block receives, in their order: by the count of the line, how many values it has, and how it ends
+abbrev pub tests : Before → Signal → ℕ → ℕ → LineKind → List (SignalsRule × Bool)
+tests b signal after values kind =
+    (WrongData, nat_eq values signal.count)
+    ∷ (FallingCount, nat_le b.last after)
+    ∷ (BadAs, has_origin b kind)
+    ∷ []
+
+-- the same of what a line says
+abbrev pub tests_on : Before → Saying → Signal → List (SignalsRule × Bool)
+tests_on b s signal = tests b signal s.after (length s.values) s.kind
+
+-- the line that is said, with the entry that it names
+abbrev pub line_of : Before → Saying → ℕ → Line
+line_of b s entry = record { number = next_number b; after = s.after; entry = entry; values = s.values; kind = s.kind }
 
 -- what a signal line means, or its first fault
 unfoldable pub meaning : Exchange → Before → Saying → Result Line SignalsFault
 meaning x b s =
     need (breach UnknownSignal (next_number b)) (signal_of x s.signal) (λ signal.
     need (breach UnknownBlock (next_number b)) (entry_of x signal.number s.block) (λ entry.
-    need_that (breach WrongData (next_number b)) (nat_eq (length s.values) signal.count) (
-    need_that (breach FallingCount (next_number b)) (nat_le b.last s.after) (
-    need_that (breach BadAs (next_number b)) (has_origin b s.kind) (
-    Ok (record { number = next_number b; after = s.after; entry = entry; values = s.values; kind = s.kind }))))))
+    unless (λ rule. breach rule (next_number b)) (rule_broken (tests_on b s signal)) (line_of b s entry)))
 
 -- what a line adds, nothing where it is skipped; or its first fault
 abbrev pub told : Exchange → Before → Option Saying → Result (Option Line) SignalsFault

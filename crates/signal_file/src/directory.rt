@@ -25,6 +25,14 @@ impl Drop for Directory {
     }
 }
 
+/// An exchange, and what it has by its names. The files about it are read by this.
+#[derive(Drop)]
+pub struct Known<'a> {
+    pub exchange: &'a Exchange,
+    pub names: Directory,
+    pub ghost named: { IsDirectory exchange.now names },
+}
+
 /// A single buffered signal: its number, and how many values it has.
 #[derive(Clone, Copy)]
 pub struct Signal {
@@ -34,7 +42,7 @@ pub struct Signal {
 
 /// The directory of an exchange.
 #[tactic(auto, using(crate::proofs::Found::directory))]
-pub fn directory_of(alloc: Global, exchange: &Exchange) -> Result<Directory, Memory>
+fn directory_of(alloc: Global, exchange: &Exchange) -> Result<Directory, Memory>
     ensures { IfOk result (λ directory. IsDirectory exchange.now directory) }
 {
     exchange.kept();
@@ -67,35 +75,39 @@ fn block_names(alloc: Global, exchange: &Exchange) -> Result<Names, Memory>
     Ok(names)
 }
 
-/// The single buffered signal of this name.
-pub fn signal_of(exchange: &Exchange, directory: &Directory, name: &[u8]) -> Option<Signal>
-    requires { IsDirectory exchange.now directory.now }
-    ensures { result ≡ signal_of exchange.now name.now }
-{
-    let Some(number) = directory.signals.place(name) else {
-        return None;
-    };
-    match exchange.signals.get(number) {
-        Some(SignalKind::Buffered { count, .. }) => Some(Signal {
-            number: number as u32,
-            count: *count,
-        }),
-        _ => None,
+impl<'a> Known<'a> {
+    /// The exchange, with its directory.
+    pub fn of(alloc: Global, exchange: &'a Exchange) -> Result<Known<'a>, Memory>
+        ensures { IfOk result (λ known. known.exchange.now ≡ exchange.now) }
+    {
+        let names = directory_of(alloc, exchange)?;
+        Ok(Known { exchange, names })
     }
-}
 
-/// The entry of a signal at the block of this name.
-pub fn entry_of(
-    exchange: &Exchange,
-    directory: &Directory,
-    signal: u32,
-    block: &[u8],
-) -> Option<u32>
-    requires { IsDirectory exchange.now directory.now }
-    ensures { result ≡ entry_of exchange.now signal block.now }
-{
-    let Some(block) = directory.blocks.place(block) else {
-        return None;
-    };
-    exchange.entry_of(block as u32, signal)
+    /// The single buffered signal of this name.
+    pub fn signal_of(&self, name: &[u8]) -> Option<Signal>
+        ensures { result ≡ signal_of self.now.exchange.now name.now }
+    {
+        let exchange = self.exchange;
+        let Some(number) = self.names.signals.place(name) else {
+            return None;
+        };
+        match exchange.signals.get(number) {
+            Some(SignalKind::Buffered { count, .. }) => Some(Signal {
+                number: number as u32,
+                count: *count,
+            }),
+            _ => None,
+        }
+    }
+
+    /// The entry of a signal at the block of this name.
+    pub fn entry_of(&self, signal: u32, block: &[u8]) -> Option<u32>
+        ensures { result ≡ entry_of self.now.exchange.now signal block.now }
+    {
+        let Some(block) = self.names.blocks.place(block) else {
+            return None;
+        };
+        self.exchange.entry_of(block as u32, signal)
+    }
 }

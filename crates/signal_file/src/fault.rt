@@ -1,3 +1,7 @@
+// The faults of a signal file, and the words of its rules.
+ghost use Rattle.std.specs.Prelude.{◌≡◌};
+ghost use Rattle.signal_file.specs.Rules.{signals_rule_name};
+
 /// The first fault of a signal file: its first faulty line, and the first rule that this line breaks.
 #[derive(Clone, Copy, Debug)]
 pub struct SignalsFault {
@@ -23,4 +27,21 @@ pub enum SignalsRule {
     FallingCount,
     /// The number after AS is that of no earlier signal line, or of one that ends in NONE.
     BadAs,
+}
+
+impl SignalsRule {
+    /// The word of the rule in what is told of a fault.
+    pub fn word(self) -> &'static [u8]
+        ensures { result.now ≡ signals_rule_name self }
+    {
+        match self {
+            SignalsRule::TooLarge => b"TOOLARGE",
+            SignalsRule::BadLine => b"BADLINE",
+            SignalsRule::UnknownSignal => b"UNKNOWNSIGNAL",
+            SignalsRule::UnknownBlock => b"UNKNOWNBLOCK",
+            SignalsRule::WrongData => b"WRONGDATA",
+            SignalsRule::FallingCount => b"FALLINGCOUNT",
+            SignalsRule::BadAs => b"BADAS",
+        }
+    }
 }

@@ -16,7 +16,7 @@ mod meaning;
 mod names;
 mod read;
 
-pub use directory::{Directory, Signal, directory_of, entry_of, signal_of};
+pub use directory::{Directory, Known, Signal};
 pub use fault::{SignalsFault, SignalsRule};
 pub use form::{Tail, tail_of};
 pub use laws::first_faulty_line_decides;

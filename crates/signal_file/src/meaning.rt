@@ -1,27 +1,20 @@
 // What a line means in an exchange, or its first fault.
 ghost use Rattle.std.specs.Prelude.{◌≡◌, ◌<◌, ◌^◌, length};
 ghost use Rattle.signal_file.specs.Form.{IsRead, Saying};
-ghost use Rattle.signal_file.specs.Rules.{IsDirectory, added, breach, meaning};
+ghost use Rattle.signal_file.specs.Rules.{added, breach, meaning, rule_broken, tests};
 
 use crate::before::Before;
-use crate::directory::{Directory, entry_of, signal_of};
+use crate::directory::{Known, Signal};
 use crate::fault::{SignalsFault, SignalsRule};
 use crate::form::{Said, said_of};
 use crate::line::Line;
-use exchange_model::Exchange;
 use text_lines::is_skipped;
 
 /// What a line adds behind those before, `None` where it is skipped; or its first fault.
 #[tactic(auto, unfolding(crate::specs::Rules::added))]
-pub fn added(
-    exchange: &Exchange,
-    directory: &Directory,
-    before: &Before,
-    line: &[u8],
-) -> Result<Option<Line>, SignalsFault>
-    requires directory { IsDirectory exchange.now directory.now }
-    requires few { length before.now.origins < 2 ^ 24 }
-    ensures { result ≡ added exchange.now before.now line.now }
+pub fn added(known: &Known<'_>, before: &Before, line: &[u8]) -> Result<Option<Line>, SignalsFault>
+    requires { length before.now.origins < 2 ^ 24 }
+    ensures { result ≡ added known.now.exchange.now before.now line.now }
 {
     if is_skipped(line) {
         return Ok(None);
@@ -29,7 +22,7 @@ pub fn added(
     let Some(said) = said_of(line) else {
         return Err(breach(before.next_number(), SignalsRule::BadLine));
     };
-    match meaning(exchange, directory, before, &said) {
+    match meaning(known, before, &said) {
         Ok(line) => Ok(Some(line)),
         Err(fault) => Err(fault),
     }
@@ -37,31 +30,20 @@ pub fn added(
 
 /// What a signal line means, or its first fault.
 #[tactic(auto, using(crate::proofs::Meant::line_meant))]
-fn meaning(
-    exchange: &Exchange,
-    directory: &Directory,
-    before: &Before,
-    said: &Said<'_>,
-) -> Result<Line, SignalsFault>
-    requires directory { IsDirectory exchange.now directory.now }
-    requires few { length before.now.origins < 2 ^ 24 }
-    ensures { (s : Saying) → IsRead s said.now → result ≡ meaning exchange.now before.now s }
+fn meaning(known: &Known<'_>, before: &Before, said: &Said<'_>) -> Result<Line, SignalsFault>
+    requires { length before.now.origins < 2 ^ 24 }
+    ensures { (s : Saying) → IsRead s said.now
+        → result ≡ meaning known.now.exchange.now before.now s }
 {
     let line = before.next_number();
-    let Some(signal) = signal_of(exchange, directory, said.signal) else {
+    let Some(signal) = known.signal_of(said.signal) else {
         return Err(breach(line, SignalsRule::UnknownSignal));
     };
-    let Some(entry) = entry_of(exchange, directory, signal.number, said.block) else {
+    let Some(entry) = known.entry_of(signal.number, said.block) else {
         return Err(breach(line, SignalsRule::UnknownBlock));
     };
-    if said.count != usize::from(signal.count) {
-        return Err(breach(line, SignalsRule::WrongData));
-    }
-    if said.after < before.last {
-        return Err(breach(line, SignalsRule::FallingCount));
-    }
-    if !before.has_origin(said.kind) {
-        return Err(breach(line, SignalsRule::BadAs));
+    if let Some(rule) = rule_broken(before, said, signal) {
+        return Err(breach(line, rule));
     }
     Ok(Line {
         number: line,
@@ -70,6 +52,23 @@ fn meaning(
         values: said.values.copy(),
         kind: said.kind,
     })
+}
+
+/// The first rule that a line of this signal breaks, `None` where it keeps them all.
+fn rule_broken(before: &Before, said: &Said<'_>, signal: Signal) -> Option<SignalsRule>
+    ensures { result ≡ rule_broken
+        (tests before.now signal said.now.after said.now.count said.now.kind) }
+{
+    if said.count != usize::from(signal.count) {
+        return Some(SignalsRule::WrongData);
+    }
+    if said.after < before.last {
+        return Some(SignalsRule::FallingCount);
+    }
+    if !before.has_origin(said.kind) {
+        return Some(SignalsRule::BadAs);
+    }
+    None
 }
 
 /// The fault of a line that breaks this rule.

@@ -3,11 +3,10 @@ ghost use Rattle.std.specs.Prelude.{◌≡◌, ◌≤◌, ◌^◌, IfOk, length}
 ghost use Rattle.signal_file.specs.Lines.{signal_lines};
 
 use crate::before::Before;
-use crate::directory::directory_of;
+use crate::directory::Known;
 use crate::fault::SignalsFault;
 use crate::line::Line;
 use crate::meaning::added;
-use exchange_model::Exchange;
 use plex_num::{Memory, Seq};
 use std::alloc::Global;
 use text_lines::next_line;
@@ -16,13 +15,12 @@ use text_lines::next_line;
 #[tactic(auto, using(crate::proofs::Behind::file_read))]
 pub fn read_signals(
     alloc: Global,
-    exchange: &Exchange,
+    known: &Known<'_>,
     text: &[u8],
 ) -> Result<Result<Seq<Line>, SignalsFault>, Memory>
     requires { length text.now ≤ 2 ^ 24 }
-    ensures { IfOk result (λ told. told ≡ signal_lines exchange.now text.now) }
+    ensures { IfOk result (λ told. told ≡ signal_lines known.now.exchange.now text.now) }
 {
-    let directory = directory_of(alloc, exchange)?;
     let mut before = Before {
         last: 0,
         origins: Seq::new(alloc),
@@ -30,7 +28,7 @@ pub fn read_signals(
     let mut list = Seq::new(alloc);
     let mut rest = text;
     while let Some((line, after)) = next_line(rest) {
-        match added(exchange, &directory, &before, line) {
+        match added(known, &before, line) {
             Ok(None) => before.skip()?,
             Ok(Some(signal)) => {
                 before.note(&signal)?;

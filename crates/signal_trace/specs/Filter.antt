@@ -1,7 +1,7 @@
 -- The lines of a filter, or its first fault.
 --
 -- Each line is looked at with its number, from 1; the lines that are skipped are counted too. The first faulty line decides.
-use Rattle.std.specs.Prelude.{ℕ, ◌+◌, List, [], ◌∷◌, position, Option, Some, None, Result, Ok, if◌then◌else◌}
+use Rattle.std.specs.Prelude.{ℕ, ◌+◌, List, [], ◌∷◌, codes, position, Option, Some, None, Result, Ok, if◌then◌else◌}
 use Rattle.std.specs.Str.{bytes_eq}
 use Rattle.std.specs.Str.Lines.{lines}
 use Rattle.std.specs.List.{cons_option}
@@ -13,7 +13,7 @@ use Rattle.text_lines.specs.Words.{is_skipped, words}
 use Rattle.exchange_model.specs.Names.{names_of_blocks, names_of_signals}
 use Rattle.signal_trace.specs.declared.fault.FilterFault.{FilterFault}
 use Rattle.signal_trace.specs.declared.fault.FilterRule.{FilterRule}
-use Rattle.signal_trace.specs.declared.fault.FilterRule.TheVariants.{BadLine, UnknownBlock, UnknownSignal}
+use Rattle.signal_trace.specs.declared.fault.FilterRule.TheVariants.{TooLarge, BadLine, UnknownBlock, UnknownSignal}
 use Rattle.signal_trace.specs.declared.show.Show.{Show}
 use Rattle.signal_trace.specs.Form.{Asking, asked_in}
 
@@ -21,6 +21,13 @@ use Rattle.signal_trace.specs.Form.{Asking, asked_in}
 abbrev pub sought : List (List ℕ) → Option (List ℕ) → Option (Option ℕ)
 sought names None = Some None
 sought names (Some name) = with (position (bytes_eq name) names) (λ number. Some (Some number))
+
+-- the word of a rule in what is told of a fault
+abbrev pub filter_rule_name : FilterRule → List ℕ
+filter_rule_name TooLarge = codes "TOOLARGE"
+filter_rule_name BadLine = codes "BADLINE"
+filter_rule_name UnknownBlock = codes "UNKNOWNBLOCK"
+filter_rule_name UnknownSignal = codes "UNKNOWNSIGNAL"
 
 -- the fault of a line that breaks this rule
 abbrev pub breach : FilterRule → ℕ → FilterFault

@@ -1,3 +1,7 @@
+// The faults of a filter, and the words of its rules.
+ghost use Rattle.std.specs.Prelude.{◌≡◌};
+ghost use Rattle.signal_trace.specs.Filter.{filter_rule_name};
+
 /// The first fault of a filter: its first faulty line, and the first rule that this line breaks.
 #[derive(Clone, Copy, Debug)]
 pub struct FilterFault {
@@ -17,4 +21,18 @@ pub enum FilterRule {
     UnknownBlock,
     /// The exchange has no signal of that name.
     UnknownSignal,
+}
+
+impl FilterRule {
+    /// The word of the rule in what is told of a fault.
+    pub fn word(self) -> &'static [u8]
+        ensures { result.now ≡ filter_rule_name self }
+    {
+        match self {
+            FilterRule::TooLarge => b"TOOLARGE",
+            FilterRule::BadLine => b"BADLINE",
+            FilterRule::UnknownBlock => b"UNKNOWNBLOCK",
+            FilterRule::UnknownSignal => b"UNKNOWNSIGNAL",
+        }
+    }
 }

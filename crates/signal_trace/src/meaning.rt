@@ -1,21 +1,19 @@
 // What a line shows in an exchange, or its first fault.
 ghost use Rattle.std.specs.Prelude.{◌≡◌, ◌≤◌, length};
-ghost use Rattle.plex_limits.specs.declared.limits.TheConstants.{MOST_BLOCKS, MOST_SIGNALS};
+ghost use Rattle.plex_limits.specs.declared.limits.TheConstants.{MOST_SIGNALS};
 ghost use Rattle.signal_trace.specs.Filter.{added, breach, meaning, sought};
 ghost use Rattle.signal_trace.specs.Form.{asking_of, named};
 
 use crate::fault::{FilterFault, FilterRule};
 use crate::form::{Asked, asked_of};
 use crate::show::Show;
-use signal_file::{Directory, Names};
+use signal_file::{Known, Names};
 use text_lines::is_skipped;
 
 /// What a line of this number shows, `None` where it is skipped; or its first fault.
 #[tactic(auto, unfolding(crate::specs::Filter::added))]
-pub fn added(directory: &Directory, number: u32, line: &[u8]) -> Result<Option<Show>, FilterFault>
-    requires blocks { length directory.now.blocks ≤ MOST_BLOCKS }
-    requires signals { length directory.now.signals ≤ MOST_SIGNALS }
-    ensures { result ≡ added directory.now number line.now }
+pub fn added(known: &Known<'_>, number: u32, line: &[u8]) -> Result<Option<Show>, FilterFault>
+    ensures { result ≡ added known.now.names number line.now }
 {
     if is_skipped(line) {
         return Ok(None);
@@ -23,7 +21,7 @@ pub fn added(directory: &Directory, number: u32, line: &[u8]) -> Result<Option<S
     let Some(asked) = asked_of(line) else {
         return Err(breach(number, FilterRule::BadLine));
     };
-    match meaning(directory, number, &asked) {
+    match meaning(known, number, &asked) {
         Ok(show) => Ok(Some(show)),
         Err(fault) => Err(fault),
     }
@@ -31,15 +29,13 @@ pub fn added(directory: &Directory, number: u32, line: &[u8]) -> Result<Option<S
 
 /// What a line of this number shows that asks for this, or its first fault.
 #[tactic(auto, unfolding(crate::specs::Filter::meaning))]
-fn meaning(directory: &Directory, number: u32, asked: &Asked<'_>) -> Result<Show, FilterFault>
-    requires blocks { length directory.now.blocks ≤ MOST_BLOCKS }
-    requires signals { length directory.now.signals ≤ MOST_SIGNALS }
-    ensures { result ≡ meaning directory.now number (asking_of asked.now) }
+fn meaning(known: &Known<'_>, number: u32, asked: &Asked<'_>) -> Result<Show, FilterFault>
+    ensures { result ≡ meaning known.now.names number (asking_of asked.now) }
 {
-    let Some(block) = sought(&directory.blocks, asked.block) else {
+    let Some(block) = sought(&known.names.blocks, asked.block) else {
         return Err(breach(number, FilterRule::UnknownBlock));
     };
-    let Some(signal) = sought(&directory.signals, asked.signal) else {
+    let Some(signal) = sought(&known.names.signals, asked.signal) else {
         return Err(breach(number, FilterRule::UnknownSignal));
     };
     Ok(Show {

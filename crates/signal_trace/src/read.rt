@@ -5,9 +5,8 @@ ghost use Rattle.signal_trace.specs.Filter.{filter_of};
 use crate::fault::FilterFault;
 use crate::meaning::added;
 use crate::show::Show;
-use exchange_model::Exchange;
 use plex_num::{Memory, Seq};
-use signal_file::directory_of;
+use signal_file::Known;
 use std::alloc::Global;
 use text_lines::next_line;
 
@@ -16,19 +15,18 @@ use text_lines::next_line;
 #[tactic(auto, using(crate::proofs::Behind::file_read))]
 pub fn read_filter(
     alloc: Global,
-    exchange: &Exchange,
+    known: &Known<'_>,
     text: &[u8],
 ) -> Result<Result<Seq<Show>, FilterFault>, Memory>
     requires { length text.now ≤ 2 ^ 24 }
-    ensures { IfOk result (λ told. told ≡ filter_of exchange.now text.now) }
+    ensures { IfOk result (λ told. told ≡ filter_of known.now.exchange.now text.now) }
 {
-    let directory = directory_of(alloc, exchange)?;
     let mut shows = Seq::new(alloc);
     let mut number: u32 = 0;
     let mut rest = text;
     while let Some((line, after)) = next_line(rest) {
         number += 1;
-        match added(&directory, number, line) {
+        match added(known, number, line) {
             Ok(None) => {}
             Ok(Some(show)) => shows.push(show)?,
             Err(fault) => return Ok(Err(fault)),

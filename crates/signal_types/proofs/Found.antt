@@ -25,7 +25,7 @@ position_push p xs x =
 
 -- what a map finds after one name more: `found` before, `after` then
 
-or_none : (o : Option ℕ) → o ≡ or_else o None
+pub or_none : (o : Option ℕ) → o ≡ or_else o None
 or_none (Some n) = refl
 or_none None = refl
 

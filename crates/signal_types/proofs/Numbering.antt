@@ -1,5 +1,6 @@
 -- The signals of the first declarations.
 use Rattle.std.proofs.Common.{◌≡◌, ℕ, ◌+◌, ◌<◌, ◌≤◌, List, [], ◌∷◌, ◌++◌, length, take, get_or, sym, ◌∙◌, ap, arith, length-append}
+use Rattle.std.proofs.Math.Nat.{add-zero, zero-add}
 use Rattle.std.proofs.lemmas.List.{append_assoc, append-nil, take_all}
 use Rattle.first_fault.proofs.First.{more_events}
 use Rattle.exchange_model.specs.declared.signal.SignalKind.{SignalKind}
@@ -16,10 +17,7 @@ combined_more old first new name values answer answer_values number x y n p q a 
 -- one declaration more takes the next number
 signals_push : (number : ℕ) (signals : List Signal) (s : Signal) → signals_from number (signals ++ s ∷ []) ≡ signals_from number signals ++ kinds_of (number + length (signals_from number signals)) s
 unfolding signals_from
-signals_push number [] s = append-nil (kinds_of number s) ∙ ap (λ n. kinds_of n s) (zero_more number)
-  where
-    zero_more : (n : ℕ) → n ≡ n + 0
-    zero_more n = omega arith
+signals_push number [] s = append-nil (kinds_of number s) ∙ ap (λ n. kinds_of n s) (sym (add-zero number))
 signals_push number (t ∷ rest) s =
     let own = kinds_of number t in
     let after = signals_from (number + length own) rest in
@@ -37,13 +35,10 @@ pub kinds_begin : (signals : List Signal) (list : List SignalKind) → list ≡ 
 unfolding signals_from
 kinds_begin signals list none = record { same = none }
 
-zero_before : (n : ℕ) → n ≡ 0 + n
-zero_before n = omega arith
-
 pub kinds_step : (signals : List Signal) (i : ℕ) (s : Signal) (old new : List SignalKind) → i < length signals → s ≡ get_or signals i s → new ≡ old ++ shape_kinds (length old) s.name.name s.shape.kind → Listed signals i old → Listed signals (i + 1) new
 kinds_step signals i s old new inside is e g = record {
   same = e ∙ ap (λ l. l ++ kinds_of (length l) s) g.same
-      ∙ ap (λ n. signals_from 0 (take i signals) ++ kinds_of n s) (zero_before (length (signals_from 0 (take i signals)))) ∙ sym (signals_push 0 (take i signals) s) ∙ ap (signals_from 0) (sym (more_events signals i s inside is));
+      ∙ ap (λ n. signals_from 0 (take i signals) ++ kinds_of n s) (sym (zero-add (length (signals_from 0 (take i signals))))) ∙ sym (signals_push 0 (take i signals) s) ∙ ap (signals_from 0) (sym (more_events signals i s inside is));
 }
 
 pub kinds_end : (signals : List Signal) (i : ℕ) (list : List SignalKind) → length signals ≤ i → Listed signals i list → list ≡ signals_from 0 signals

@@ -1,7 +1,8 @@
 -- What taking the first item, part by part, does to what remains.
-use Rattle.std.proofs.Common.{◌≡◌, Bool, true, false, List, [], ◌∷◌, ◌++◌, Option, Some, None, map, refl, subst, sym, ap, ◌∙◌, append_assoc, arith}
-use Rattle.std.specs.Prelude.{IfSome, nat_lt, not, if◌then◌else◌}
+use Rattle.std.proofs.Common.{◌≡◌, true, false, List, [], ◌∷◌, ◌++◌, Option, Some, None, refl, subst, sym, ap, ◌∙◌, append_assoc, arith}
+use Rattle.std.specs.Prelude.{IfSome, nat_lt, if◌then◌else◌}
 use Rattle.std.proofs.lemmas.List.{append-nil}
+use Rattle.std.proofs.lemmas.Bool.{not-false, not-true}
 use Rattle.std.proofs.lemmas.Bool.Decides.{nat_tests}
 use Rattle.plex_num.proofs.Lists.{all_last, all_left, all_push}
 use Rattle.exchange_model.specs.declared.stmt.StmtKind.{out-StmtKind}
@@ -48,18 +49,10 @@ module _ (cases : Cases) (s : Stmt) (all rest : List Stmt) (is : all ≡ s ∷ r
   pub kept_others : AreOfText cases rest
   kept_others = (subst (AreOfText cases) is kept).1
 
-not_true : (b : Bool) → not b ≡ true → b ≡ false
-not_true true e = sym e
-not_true false e = refl
-
-not_false : (b : Bool) → not b ≡ false → b ≡ true
-not_false true e = refl
-not_false false e = sym e
-
 -- an item that counts stays
 stays : (n : Next) (rest : List Item) → is_counted n ≡ true → next_counted (item_of n ∷ rest) ≡ item_of n ∷ rest
 unfolding next_counted
-stays (next.Do s cases) rest e = ap (λ b. if b then next_counted rest else (Do s.now ∷ rest)) (not_true (is_enter (out-StmtKind s.now.kind)) e)
+stays (next.Do s cases) rest e = ap (λ b. if b then next_counted rest else (Do s.now ∷ rest)) (not-true (is_enter (out-StmtKind s.now.kind)) e)
 stays (next.Start s) rest e = refl
 stays (next.Turn p t this end body cases) rest e =
     let past : nat_lt end this ≡ false = grind (arith, nat_tests) in
@@ -68,7 +61,7 @@ stays (next.Turn p t this end body cases) rest e =
 -- another is passed over
 goes : (n : Next) (rest : List Item) → is_counted n ≡ false → next_counted (item_of n ∷ rest) ≡ next_counted rest
 unfolding next_counted
-goes (next.Do s cases) rest e = ap (λ b. if b then next_counted rest else (Do s.now ∷ rest)) (not_false (is_enter (out-StmtKind s.now.kind)) e)
+goes (next.Do s cases) rest e = ap (λ b. if b then next_counted rest else (Do s.now ∷ rest)) (not-false (is_enter (out-StmtKind s.now.kind)) e)
 goes (next.Start s) rest e = cc
 goes (next.Turn p t this end body cases) rest e =
     let past : nat_lt end this ≡ true = grind (arith, nat_tests) in

@@ -1,6 +1,6 @@
 -- An activation begins at the ENTER of its signal, and a job at the point of its entry.
 use Rattle.std.proofs.Common.{◌≡◌, ⊎_elim, ℕ, zero, suc, ◌+◌, ◌-◌, Bool, true, false, List, [], ◌∷◌, map, drop, length, Option, Some, None, refl, sym, ap, ◌∙◌, subst, slice_get, arith}
-use Rattle.std.proofs.lemmas.Bool.{cases_lt, eqb-true, eq-eqb}
+use Rattle.std.proofs.lemmas.Bool.{cases_lt, eqb-true, eq-eqb, both_ways, or_left, or_right}
 use Rattle.std.proofs.lemmas.Map.Keys.{IsDistinct-head, IsDistinct-tail}
 use Rattle.std.proofs.lemmas.Option.{none-some, same_Some}
 use Rattle.std.specs.Prelude.{nat_eq, ◌||◌, if◌then◌else◌}
@@ -23,7 +23,6 @@ use Rattle.source_meaning.specs.Config.{Do, Start, body_of, row_place, enter_pla
 use Rattle.exchange_model.specs.Kept.{is_enter}
 use Rattle.source_meaning.specs.Named.{Layer}
 use Rattle.source_meaning.specs.Rests.{IsRow, whole, BeginsAt, BeginsAs}
-use Rattle.plex_num.proofs.Booleans.{true_not_false, or_left, or_right}
 use Rattle.source_meaning.proofs.Rests.{rows_drop}
 
 -- the first ENTER of a signal in a body, the first statement of which stands at `from`
@@ -110,7 +109,7 @@ in_rows from [] signal j s there enters m none same = none-some s there
 in_rows from (t ∷ body) signal zero s there enters m none same =
     let is : entered (out-StmtKind t.kind) ≡ Some signal = ap (λ (z : Stmt). entered (out-StmtKind z.kind)) (same_Some t s there) ∙ enters in
     let rows = subst (λ o. AllByRecursion (λ y. nat_eq m y ≡ false) (map (λ (r : Row). r.signal) (cons_option (row_at o from) (enters_from (from + 1) body)))) is none in
-    true_not_false (nat_eq m signal) (eq-eqb m signal same) rows.0
+    both_ways (nat_eq m signal) rows.0 (eq-eqb m signal same)
 in_rows from (t ∷ body) signal (suc j) s there enters m none same = by (entered (out-StmtKind t.kind)) none (λ rest. in_rows (from + 1) body signal j s there enters m rest same)
   where
     by : (found : Option ℕ) → AllByRecursion (λ y. nat_eq m y ≡ false) (map (λ (r : Row). r.signal) (cons_option (row_at found from) (enters_from (from + 1) body)))

@@ -1,6 +1,6 @@
 -- Chains and marks that fit one another, and what keeps them so: a record is seized or freed, a chain is released, all are.
 use Rattle.std.proofs.Common.{◌≡◌, ◌⊎◌, inl, inr, ⊎_elim, ℕ, ◌<◌, ◌≤◌, true, false, List, [], ◌∷◌, ◌++◌, length, Some, refl, sym, ap, ◌∙◌, subst, slice_get, arith, length-append}
-use Rattle.std.proofs.lemmas.Bool.{cases_eq}
+use Rattle.std.proofs.lemmas.Bool.{cases_eq, both_ways, cases_Bool}
 use Rattle.std.proofs.lemmas.Option.{same_Some}
 use Rattle.std.specs.Prelude.{slice_index, slice_set, ◌≢◌}
 use Rattle.std.specs.List.{AllByRecursion}
@@ -10,7 +10,6 @@ use Rattle.job_types.specs.Chain.{is_record, holds}
 use Rattle.exchange_model.specs.declared.exchange.Exchange.{Exchange}
 use Rattle.exchange_model.specs.Cells.{Placed, mark_cell}
 use Rattle.exchange_model.specs.Kept.{IsExchange}
-use Rattle.plex_num.proofs.Booleans.{bool_cases, true_not_false}
 use Rattle.source_meaning.specs.Config.{files_of}
 use Rattle.source_meaning.specs.Valid.{HasRecords, IsOnce, IsRecord, IsRecordAt}
 use Rattle.source_meaning.proofs.Chains.{record_is, record_itself, holds_more, holds_still, holds_last, holds_all, once_more}
@@ -60,7 +59,7 @@ module _ (x : Exchange) (kept : IsExchange x) (Live : ℕ → Type 0) (ch : ℕ 
   -- a record of mark 0 is in no chain
   out_of_all : (store : List ℕ) → Books x Live ch store → (file number : ℕ) (p : Placed) → HasMark x file number p → slice_index store (mark_cell p number) ≡ 0 → (n : ℕ) → holds (ch n) file number ≡ false
   out_of_all store b file number p m zero_is n =
-      ⊎_elim (λ h. let one = b.held n file number p m.at.there h in absurd (omega arith)) (λ out. out) (bool_cases (holds (ch n) file number))
+      ⊎_elim (λ h. let one = b.held n file number p m.at.there h in absurd (omega arith)) (λ out. out) (cases_Bool (holds (ch n) file number))
 
   module _ (store : List ℕ) (b : Books x Live ch store) (whole : length store ≡ x.cells) (now : ℕ → List Held) (f : ℕ) where
     -- a free record joins the chain, and is marked
@@ -93,7 +92,7 @@ module _ (x : Exchange) (kept : IsExchange x) (Live : ℕ → Type 0) (ch : ℕ 
         -- the new record was in no chain
         never : {A : Type 0} (n g i : ℕ) → file ≡ g → number ≡ i → holds (ch n) g i ≡ true → A
         never n g i same_file same_number a =
-            true_not_false (holds (ch n) g i) a (subst (λ k. holds (ch n) k i ≡ false) same_file (subst (λ k. holds (ch n) file k ≡ false) same_number (out_of_all store b file number p m zero_is n)))
+            absurd (both_ways (holds (ch n) g i) (subst (λ k. holds (ch n) k i ≡ false) same_file (subst (λ k. holds (ch n) file k ≡ false) same_number (out_of_all store b file number p m zero_is n))) a)
 
         meet : (n k g i : ℕ) → (holds (ch n) g i ≡ true) ⊎ ((n ≡ f) × (file ≡ g) × (number ≡ i)) → (holds (ch k) g i ≡ true) ⊎ ((k ≡ f) × (file ≡ g) × (number ≡ i)) → n ≡ k
         meet n k g i (inl a) (inl c) = b.apart n k g i a c
@@ -112,11 +111,11 @@ module _ (x : Exchange) (kept : IsExchange x) (Live : ℕ → Type 0) (ch : ℕ 
         itself : (g i : ℕ) → holds (now f) g i ≡ false → file ≡ g → number ≡ i → ⊥
         itself g i none same_file same_number =
             let last : holds (ch f ++ r ∷ []) g i ≡ true = holds_last (ch f) r g i (subst (λ k. is_record k i r ≡ true) same_file (subst (λ k. is_record file k r ≡ true) same_number (record_itself file number))) in
-            true_not_false (holds (now f) g i) (subst (λ c. holds c g i ≡ true) (sym is.same) last) none
+            both_ways (holds (now f) g i) none (subst (λ c. holds c g i ≡ true) (sym is.same) last)
 
         before : (n g i : ℕ) → holds (now n) g i ≡ false → holds (ch n) g i ≡ false
         before n g i none = ⊎_elim
-            (λ a. true_not_false (holds (now n) g i) (⊎_elim
+            (λ a. absurd (both_ways (holds (now n) g i) none (⊎_elim
             (λ same. subst (λ k. holds (now k) g i ≡ true) (sym same) (subst (λ c. holds c g i ≡ true) (sym is.same) (holds_still (ch f) r g i (subst (λ k. holds (ch k) g i ≡ true) same a))))
-            (λ other. subst (λ c. holds c g i ≡ true) (sym (is.other n other)) a) (cases_eq n f)) none)
-            (λ out. out) (bool_cases (holds (ch n) g i))
+            (λ other. subst (λ c. holds c g i ≡ true) (sym (is.other n other)) a) (cases_eq n f))))
+            (λ out. out) (cases_Bool (holds (ch n) g i))

@@ -1,18 +1,17 @@
 -- Chains: which records one has when a record joins it or leaves it, and what a map of chains tells of a number.
 use Rattle.std.proofs.Common.{◌≡◌, ◌⊎◌, inl, inr, ⊎_elim, ℕ, ◌≤◌, Bool, true, false, List, [], ◌∷◌, ◌++◌, length, refl, sym, ap, ◌∙◌, subst, arith}
-use Rattle.std.proofs.lemmas.Bool.{eqb-true, eq-eqb}
+use Rattle.std.proofs.lemmas.Bool.{true≢false, eqb-true, eq-eqb, and_parts, both_ways, cases_Bool, or_parts, or_right}
 use Rattle.std.specs.Prelude.{nat_eq, ◌&&◌, ◌||◌, if◌then◌else◌}
 use Rattle.std.specs.List.{AllByRecursion}
 use Rattle.std.specs.FinMap as fin
 use Rattle.job_types.specs.declared.chain.Held.{Held}
 use Rattle.job_types.specs.Chain.{is_record, holds, without}
-use Rattle.plex_num.proofs.Booleans.{bool_cases, true_not_false, and_true, or_false, or_right}
 use Rattle.source_meaning.specs.Valid.{IsOnce}
 
 -- one record
 
 pub record_is : (file number : ℕ) (h : Held) → is_record file number h ≡ true → (h.file ≡ file) × (h.number ≡ number)
-record_is file number h is = let b = and_true (nat_eq h.file file) (nat_eq h.number number) is in (eqb-true h.file file b.0, eqb-true h.number number b.1)
+record_is file number h is = let b = and_parts (nat_eq h.file file) (nat_eq h.number number) is in (eqb-true h.file file b.0, eqb-true h.number number b.1)
 
 pub record_itself : (file number : ℕ) → is_record file number (record { file = file; number = number }) ≡ true
 record_itself file number = ap (λ b. b && nat_eq number number) (eq-eqb file file refl) ∙ eq-eqb number number refl
@@ -49,10 +48,10 @@ holds_last (g ∷ chain) r file number is = by (is_record file number g) (holds_
 
 pub once_more : (chain : List Held) (r : Held) → IsOnce chain → holds chain r.file r.number ≡ false → IsOnce (chain ++ r ∷ [])
 once_more [] r once free = (refl, tt)
-once_more (g ∷ chain) r once free = (still (bool_cases (holds (chain ++ r ∷ []) g.file g.number)), once_more chain r once.1 later)
+once_more (g ∷ chain) r once free = (still (cases_Bool (holds (chain ++ r ∷ []) g.file g.number)), once_more chain r once.1 later)
   where
     parts : (is_record r.file r.number g ≡ false) × (holds chain r.file r.number ≡ false)
-    parts = or_false (is_record r.file r.number g) (holds chain r.file r.number) free
+    parts = or_parts (is_record r.file r.number g) (holds chain r.file r.number) free
 
     later : holds chain r.file r.number ≡ false
     later = parts.1
@@ -64,7 +63,7 @@ once_more (g ∷ chain) r once free = (still (bool_cases (holds (chain ++ r ∷ 
         ap (λ b. b && nat_eq g.number r.number) (eq-eqb g.file r.file (sym same.0)) ∙ eq-eqb g.number r.number (sym same.1)
 
     still : (holds (chain ++ r ∷ []) g.file g.number ≡ true) ⊎ (holds (chain ++ r ∷ []) g.file g.number ≡ false) → holds (chain ++ r ∷ []) g.file g.number ≡ false
-    still (inl yes_it) = ⊎_elim (λ old. true_not_false (holds chain g.file g.number) old once.0) (λ new. true_not_false (is_record r.file r.number g) (turned new) parts.0) (holds_more chain r g.file g.number yes_it)
+    still (inl yes_it) = ⊎_elim (λ old. absurd (both_ways (holds chain g.file g.number) once.0 old)) (λ new. absurd (both_ways (is_record r.file r.number g) parts.0 (turned new))) (holds_more chain r g.file g.number yes_it)
     still (inr not_it) = not_it
 
 -- a chain without a record
@@ -89,8 +88,8 @@ holds_other (g ∷ chain) file number f n h out = by (is_record file number g) r
     by : (gone : Bool) → is_record file number g ≡ gone → (here : Bool) → is_record f n g ≡ here → (here || holds chain f n) ≡ true → holds (if gone then chain else g ∷ without chain file number) f n ≡ false
         → (holds chain f n ≡ true → holds (without chain file number) f n ≡ false → (f ≡ file) × (n ≡ number)) → (f ≡ file) × (n ≡ number)
     by true is true at h out more = let a = record_is file number g is in let b = record_is f n g at in (sym b.0 ∙ a.0, sym b.1 ∙ a.1)
-    by true is false at h out more = true_not_false (holds chain f n) h out
-    by false is true at h out more = true_not_false true refl (sym (ap (λ b. b || holds (without chain file number) f n) at) ∙ out)
+    by true is false at h out more = absurd (both_ways (holds chain f n) out h)
+    by false is true at h out more = absurd (true≢false (sym (ap (λ b. b || holds (without chain file number) f n) at) ∙ out))
     by false is false at h out more = more h (sym (ap (λ b. b || holds (without chain file number) f n) at) ∙ out)
 
 pub once_without : (chain : List Held) (file number : ℕ) → IsOnce chain → IsOnce (without chain file number)
@@ -98,12 +97,12 @@ once_without [] file number once = tt
 once_without (g ∷ chain) file number once = by (is_record file number g) (once_without chain file number once.1)
   where
     still : (holds (without chain file number) g.file g.number ≡ true) ⊎ (holds (without chain file number) g.file g.number ≡ false) → holds (without chain file number) g.file g.number ≡ false
-    still (inl yes_it) = true_not_false (holds chain g.file g.number) (holds_before chain file number g.file g.number yes_it) once.0
+    still (inl yes_it) = absurd (both_ways (holds chain g.file g.number) once.0 (holds_before chain file number g.file g.number yes_it))
     still (inr not_it) = not_it
 
     by : (gone : Bool) → IsOnce (without chain file number) → IsOnce (if gone then chain else g ∷ without chain file number)
     by true rest = once.1
-    by false rest = (still (bool_cases (holds (without chain file number) g.file g.number)), rest)
+    by false rest = (still (cases_Bool (holds (without chain file number) g.file g.number)), rest)
 
 -- the record itself is gone
 pub gone : (chain : List Held) (file number : ℕ) → IsOnce chain → holds (without chain file number) file number ≡ false

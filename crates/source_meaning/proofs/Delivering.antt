@@ -1,6 +1,7 @@
 -- The sends of a job that retires keep all of a state but its chains and marks.
 use Rattle.std.proofs.Common.{◌≡◌, ⊎_elim, ℕ, suc, ◌+◌, ◌<◌, true, false, List, [], ◌∷◌, ◌++◌, length, refl, ◌∙◌, subst, arith}
 use Rattle.std.specs.List.{AllByRecursion}
+use Rattle.std.proofs.lemmas.Bool.{cases_Bool}
 use Rattle.job_types.specs.declared.job.Job.{Job}
 use Rattle.job_types.specs.declared.outbox.Sent.{Sent}
 use Rattle.job_types.specs.declared.outbox.SendTo.{SendTo}
@@ -12,7 +13,6 @@ use Rattle.source_meaning.specs.Ranges.{SentFits}
 use Rattle.source_meaning.specs.Retirement.{delivered_to, delivered, all_delivered}
 use Rattle.source_meaning.specs.State.{State, Arrived, Out}
 use Rattle.source_meaning.specs.Valid.{IsJob, IsLive, MayBe, EventFits}
-use Rattle.plex_num.proofs.Booleans.{bool_cases}
 use Rattle.plex_num.proofs.Lists.{all_append, all_weaker}
 use Rattle.source_meaning.proofs.States.{IsLater, may_later, may_of, Orderly, lists_of, lists_later, lists_join, waiting_of}
 
@@ -35,7 +35,7 @@ all_delivered_chains forlopp (m ∷ rest) s = all_delivered_chains forlopp rest 
 
 -- the next number is no dead one
 pub next_alive : (x : Exchange) (s : State) (room : ℕ) → Orderly x s room → is_dead s.dead s.next ≡ false
-next_alive x s room o = ⊎_elim (λ dead. let past = o.dead s.next dead in absurd (let below = past.1 in omega arith)) (λ alive. alive) (bool_cases (is_dead s.dead s.next))
+next_alive x s room o = ⊎_elim (λ dead. let past = o.dead s.next dead in absurd (let below = past.1 in omega arith)) (λ alive. alive) (cases_Bool (is_dead s.dead s.next))
 
 module _ (x : Exchange) (forlopp : ℕ) where
   send_orderly : (to : SendTo) (values : List ℕ) (s : State) (room : ℕ) → Orderly x s (room + 1) → SentFits x to values → MayBe s forlopp → Orderly x (delivered_to to forlopp values s) room × IsDelivered s (delivered_to to forlopp values s)

@@ -1,6 +1,6 @@
 -- A block that receives a buffered signal has an entry for it.
 use Rattle.std.proofs.Common.{◌≡◌, ◌⊎◌, inl, inr, ⊎_elim, ℕ, zero, suc, ◌+◌, ◌<◌, Bool, true, false, List, [], ◌∷◌, map, length, Option, Some, None, refl, sym, ap, ◌∙◌, subst, slice_get, arith}
-use Rattle.std.proofs.lemmas.Bool.{eqb-true, eq-eqb, lt-ltb}
+use Rattle.std.proofs.lemmas.Bool.{eqb-true, eq-eqb, lt-ltb, and_parts, or_cases, or_left, or_right}
 use Rattle.std.proofs.lemmas.List.Folds.{list_any-append}
 use Rattle.std.proofs.lemmas.Option.{none-some, same_Some}
 use Rattle.std.specs.Prelude.{nat_eq, not, ◌&&◌, ◌||◌, position, unwrap_or, if◌then◌else◌}
@@ -15,7 +15,6 @@ use Rattle.exchange_model.specs.declared.signal.SignalKind.TheVariants.{Buffered
 use Rattle.exchange_model.specs.declared.stmt.Stmt.{Stmt}
 use Rattle.exchange_model.specs.declared.stmt.StmtKind.{out-StmtKind}
 use Rattle.exchange_model.specs.Kept.{IsExchange, entered, row_at, enters_from, entry_of, entry_at, entries_in, entries_from}
-use Rattle.plex_num.proofs.Booleans.{and_true, or_cases, or_left, or_right}
 use Rattle.source_meaning.specs.Config.{is_receiver, is_entry, entry_number}
 
 -- the first that passes
@@ -110,7 +109,7 @@ entry_found x kept b signal k name level count there receives kind =
     let any : list_any (is_entry b signal) x.entries ≡ true = ap (list_any (is_entry b signal)) kept.numbered.entries ∙ some in
     let f = first_passes (is_entry b signal) x.entries any in
     let at : entry_number x b signal ≡ position_or_len (is_entry b signal) x.entries = ap (λ o. unwrap_or o 0) (position_is (is_entry b signal) x.entries f.within) in
-    let both = and_true (nat_eq f.item.block b) (nat_eq f.item.signal signal) f.passes in
+    let both = and_parts (nat_eq f.item.block b) (nat_eq f.item.signal signal) f.passes in
     record { entry = f.item; there = ap (slice_get x.entries) at ∙ f.there; within = omega (arith, at, f.within); signal_is = eqb-true f.item.signal signal both.1 }
 
 -- a block whose ENTERs have the signal receives it

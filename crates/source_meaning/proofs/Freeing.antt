@@ -1,6 +1,6 @@
 -- A record that is freed, a chain that is released, and all chains at once.
 use Rattle.std.proofs.Common.{◌≡◌, ◌⊎◌, inl, inr, ⊎_elim, ℕ, ◌≤◌, Bool, true, false, List, [], ◌∷◌, length, Some, refl, sym, ap, ◌∙◌, subst, slice_get, arith}
-use Rattle.std.proofs.lemmas.Bool.{cases_eq, eq-eqb, eqb-true}
+use Rattle.std.proofs.lemmas.Bool.{cases_eq, eq-eqb, eqb-true, both_ways, cases_Bool}
 use Rattle.std.proofs.lemmas.Option.{same_Some}
 use Rattle.std.specs.Prelude.{slice_index, ◌||◌, ◌≢◌, nat_eq, if◌then◌else◌}
 use Rattle.std.specs.Option.{option_map_or}
@@ -18,7 +18,6 @@ use Rattle.source_meaning.specs.Retirement.{opened, all_opened}
 use Rattle.source_meaning.specs.Valid.{HasRecords, IsOnce, IsRecord, StoreFits}
 use Rattle.source_meaning.proofs.Stores.{opens_fit}
 use Rattle.source_meaning.proofs.Books.{Books, IsChanged, each_chain, held_mark}
-use Rattle.plex_num.proofs.Booleans.{bool_cases, true_not_false}
 use Rattle.source_meaning.proofs.Chains.{record_is, record_itself, holds_before, holds_other, once_without, gone, without_few, all_without}
 use Rattle.source_meaning.proofs.Marks.{HasMark, opened_long, opened_mark, opened_other}
 
@@ -32,7 +31,7 @@ module _ (x : Exchange) (kept : IsExchange x) (Live : ℕ → Type 0) (ch : ℕ 
     apart = λ n k g i a c. b.apart n k g i (had n g i a) (had k g i c);
     living = each_chain ch now f (without (ch f) file number) (λ n c. HasRecords c → Live n) is (λ some. alive) b.living;
     held = λ n g i q there a. opened_other x kept file number p w m whole g i q (held_mark x kept Live ch w.store b n g i q there (had n g i a)) (λ v. v ≡ 1) (λ same_file same_number. absurd (left n g i a same_file same_number)) (b.held n g i q there (had n g i a));
-    free = λ g i q rec kind none. zero_there g i q (record { at = rec; kind = kind }) none (bool_cases (is_record g i (record { file = file; number = number })));
+    free = λ g i q rec kind none. zero_there g i q (record { at = rec; kind = kind }) none (cases_Bool (is_record g i (record { file = file; number = number })));
   }
     where
       had : (n g i : ℕ) → holds (now n) g i ≡ true → holds (ch n) g i ≡ true
@@ -45,7 +44,7 @@ module _ (x : Exchange) (kept : IsExchange x) (Live : ℕ → Type 0) (ch : ℕ 
       left n g i a same_file same_number =
           let at : holds (now n) file number ≡ true = subst (λ k. holds (now n) k number ≡ true) (sym same_file) (subst (λ k. holds (now n) g k ≡ true) (sym same_number) a) in
           let same : n ≡ f = b.apart n f file number (had n file number at) mine in
-          true_not_false (holds (without (ch f) file number) file number) (subst (λ c. holds c file number ≡ true) is.same (subst (λ k. holds (now k) file number ≡ true) same at)) (gone (ch f) file number (b.once f))
+          both_ways (holds (without (ch f) file number) file number) (gone (ch f) file number (b.once f)) (subst (λ c. holds c file number ≡ true) is.same (subst (λ k. holds (now k) file number ≡ true) same at))
 
       -- another record was in no chain before
       before : (g i : ℕ) → is_record g i (record { file = file; number = number }) ≡ false → ((n : ℕ) → holds (now n) g i ≡ false) → (n : ℕ) → holds (ch n) g i ≡ false
@@ -54,10 +53,10 @@ module _ (x : Exchange) (kept : IsExchange x) (Live : ℕ → Type 0) (ch : ℕ 
           (λ same.
           let e = holds_other (ch f) file number g i (subst (λ k. holds (ch k) g i ≡ true) same a) (subst (λ c. holds c g i ≡ false) is.same (none f)) in
           let itself : is_record g i (record { file = file; number = number }) ≡ true = subst (λ k. is_record k i (record { file = file; number = number }) ≡ true) (sym e.0) (subst (λ k. is_record file k (record { file = file; number = number }) ≡ true) (sym e.1) (record_itself file number)) in
-          true_not_false (is_record g i (record { file = file; number = number })) itself other)
-          (λ apart. true_not_false (holds (ch n) g i) a (subst (λ c. holds c g i ≡ false) (is.other n apart) (none n)))
+          absurd (both_ways (is_record g i (record { file = file; number = number })) other itself))
+          (λ apart. absurd (both_ways (holds (ch n) g i) (subst (λ c. holds c g i ≡ false) (is.other n apart) (none n)) a))
           (cases_eq n f))
-          (λ out. out) (bool_cases (holds (ch n) g i))
+          (λ out. out) (cases_Bool (holds (ch n) g i))
 
       zero_there : (g i : ℕ) (q : Placed) → HasMark x g i q → ((n : ℕ) → holds (now n) g i ≡ false) → (is_record g i (record { file = file; number = number }) ≡ true) ⊎ (is_record g i (record { file = file; number = number }) ≡ false)
           → slice_index (opens_record p number w).store (mark_cell q i) ≡ 0
@@ -77,7 +76,7 @@ pub put_same : (ch : ℕ → List Held) (f : ℕ) (chain : List Held) → put_ch
 put_same ch f chain = ap (λ b. if b then chain else ch f) (eq-eqb f f refl)
 
 pub put_other : (ch : ℕ → List Held) (f : ℕ) (chain : List Held) (n : ℕ) → n ≢ f → put_chain ch f chain n ≡ ch n
-put_other ch f chain n other = ap (λ b. if b then chain else ch n) (⊎_elim (λ t. absurd (other (eqb-true n f t))) (λ o. o) (bool_cases (nat_eq n f)))
+put_other ch f chain n other = ap (λ b. if b then chain else ch n) (⊎_elim (λ t. absurd (other (eqb-true n f t))) (λ o. o) (cases_Bool (nat_eq n f)))
 
 pub put_changed : (ch : ℕ → List Held) (f : ℕ) (chain : List Held) → IsChanged ch (put_chain ch f chain) f chain
 put_changed ch f chain = record { same = put_same ch f chain; other = put_other ch f chain }

@@ -1,6 +1,6 @@
 -- Chains and marks that fit when a job begins fit while it runs, its own chain in the place of its forlopp's.
-use Rattle.std.proofs.Common.{◌≡◌, ℕ, ◌+◌, ◌<◌, true, List, [], ◌∷◌, ◌++◌, length, refl, sym, ap, ◌∙◌, subst}
-use Rattle.std.proofs.lemmas.Bool.{eq-eqb}
+use Rattle.std.proofs.Common.{◌≡◌, ℕ, ◌+◌, ◌<◌, true, List, [], ◌∷◌, ◌++◌, length, sym, ap, ◌∙◌, subst}
+use Rattle.std.proofs.lemmas.Bool.{eq-eqb, both_ways, false≢true}
 use Rattle.std.specs.Prelude.{slice_index, slice_set, nat_eq, not, ◌||◌, ◌≢◌}
 use Rattle.plex_limits.specs.declared.limits.TheConstants.{MOST_HELD}
 use Rattle.job_types.specs.declared.chain.Held.{Held}
@@ -17,7 +17,6 @@ use Rattle.source_meaning.specs.Ranges.{IsInRange}
 use Rattle.source_meaning.specs.Rests.{AreRests, DeedStands}
 use Rattle.source_meaning.specs.Value.{may_use}
 use Rattle.source_meaning.proofs.Books.{Books, IsChanged, books_on, books_seize}
-use Rattle.plex_num.proofs.Booleans.{true_not_false}
 use Rattle.source_meaning.proofs.Fitting.{deed_fits_in}
 use Rattle.source_meaning.proofs.Freeing.{put_chain, put_same, put_other, books_free}
 use Rattle.source_meaning.proofs.Keeping.{Kept, KeptWith, kept_both}
@@ -80,7 +79,7 @@ module _ (x : Exchange) (kept : IsExchange x) (Live : ℕ → Type 0) (ch : ℕ 
       }
     where
       some_forlopp : f ≢ 0
-      some_forlopp none = true_not_false (nat_eq c.own.forlopp 0) (eq-eqb c.own.forlopp 0 (h.forlopp ∙ none)) some
+      some_forlopp none = both_ways (nat_eq c.own.forlopp 0) some (eq-eqb c.own.forlopp 0 (h.forlopp ∙ none))
   effect_holds deed rest c d at r h (Frees e p temp file placed is may) =
       let g = deed_fits_in x kept c.block p (stmt.Free temp file) rest (subst (λ (a : Deed). DeedStands x c.block a rest) is at) in
       let number = slice_index c.temps temp in
@@ -92,7 +91,7 @@ module _ (x : Exchange) (kept : IsExchange x) (Live : ℕ → Type 0) (ch : ℕ 
       let now = put_chain ch f less in
       let own : was f ≡ c.own.chain = put_same ch f c.own.chain in
       let changed : IsChanged was now f (without (was f) file number) = subst (λ chain. IsChanged was now f (without chain file number)) (sym own) (swapped ch f c.own.chain less) in
-      let bare_not : f ≢ 0 = λ none. true_not_false (holds [] file number) (subst (λ chain. holds chain file number ≡ true) (h.bare none) mine) refl in
+      let bare_not : f ≢ 0 = λ none. false≢true (subst (λ chain. holds chain file number ≡ true) (h.bare none) mine) in
       record {
         forlopp = h.forlopp;
         bare = λ none. absurd (bare_not none);

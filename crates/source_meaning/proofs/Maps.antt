@@ -1,6 +1,6 @@
 -- The records of all chains of a map are those of its chains.
 use Rattle.std.proofs.Common.{◌≡◌, ◌⊎◌, inl, inr, ℕ, Bool, true, false, cond, List, [], ◌∷◌, ◌++◌, map, Some, None, refl, sym, ap, ◌∙◌, subst}
-use Rattle.std.proofs.lemmas.Bool.{eq-eqb, eqb-true}
+use Rattle.std.proofs.lemmas.Bool.{eq-eqb, eqb-true, cases_Bool}
 use lib.Dec.{T}
 use Rattle.std.specs.Prelude.{◌||◌, flat_map, unwrap_or}
 use Rattle.std.specs.List.{AllByRecursion}
@@ -13,7 +13,6 @@ use Rattle.std.specs.FinMap.Entries.{below_all, is_sorted, find}
 use Rattle.job_types.specs.declared.chain.Held.{Held}
 use Rattle.job_types.specs.Chain.{holds}
 use Rattle.job_types.specs.Forlopps.{ChainMap, all_records, chain_at}
-use Rattle.plex_num.proofs.Booleans.{bool_cases}
 use Rattle.plex_num.proofs.Lists.{all_append}
 use Rattle.plex_num.proofs.Options.{split}
 
@@ -35,7 +34,7 @@ values_all P [] h each = tt
 values_all {X} P (e ∷ es) h each =
     let parts = split (below_all nat_cmp e.0 es) (is_sorted nat_cmp es) h in (
       each e.0 e.1 (ap (λ b. cond b (Some e.1) (find nat_cmp e.0 es)) (unsigned_tied e.0 e.0 ∙ eq-eqb e.0 e.0 refl)),
-      values_all P es parts.1 (λ k v at. each k v (later k v at parts.0 (bool_cases (eq_by_cmp nat_cmp k e.0)))),
+      values_all P es parts.1 (λ k v at. each k v (later k v at parts.0 (cases_Bool (eq_by_cmp nat_cmp k e.0)))),
     )
   where
     later : (k : ℕ) (v : X) → find nat_cmp k es ≡ Some v → T (below_all nat_cmp e.0 es) → (eq_by_cmp nat_cmp k e.0 ≡ true) ⊎ (eq_by_cmp nat_cmp k e.0 ≡ false) → find nat_cmp k (e ∷ es) ≡ Some v

@@ -1,6 +1,6 @@
 -- The opening is valid, where its lines fit.
 use Rattle.std.proofs.Common.{◌≡◌, ℕ, ◌<◌, ◌^◌, Bool, true, false, List, [], refl, sym, ap, ◌∙◌, subst, arith}
-use Rattle.std.proofs.lemmas.Bool.{ltb-true}
+use Rattle.std.proofs.lemmas.Bool.{ltb-true, both_ways}
 use Rattle.std.proofs.lemmas.Option.{get_or_from_slice_get}
 use Rattle.std.specs.Prelude.{unwrap_or, nat_lt, ◌||◌, ◌&&◌}
 use Rattle.std.specs.Ordering.{nat_cmp}
@@ -13,7 +13,6 @@ use Rattle.exchange_model.specs.Kept.{IsExchange}
 use Rattle.exchange_model.specs.Opening.{opening_store}
 use Rattle.exchange_model.proofs.Facts.{variable_kept, field_kept}
 use Rattle.exchange_model.proofs.Openings.{length-opening_store, opening_store-variable, opening_store-field, opening_store-mark}
-use Rattle.plex_num.proofs.Booleans.{true_not_false}
 use Rattle.source_meaning.specs.Config.{files_of}
 use Rattle.source_meaning.specs.SingleRun.{opening}
 use Rattle.source_meaning.specs.State.{Coming}
@@ -61,7 +60,7 @@ pub opening_valid : (x : Exchange) → IsExchange x → (lines : List Coming) �
 opening_valid x kept lines fits = valid_of x (opening x lines) 0 (opening_fits x kept) (books_as {Still = IsLive (opening x lines)} no_chain (λ n h. h) (opening_books x lines)) (record {
   waiting = record { a = tt; b = tt; c = tt; d = tt };
   some = omega arith;
-  dead = λ n dead. true_not_false (is_dead none_dead n) dead (none_is_dead n);
+  dead = λ n dead. absurd (both_ways (is_dead none_dead n) (none_is_dead n) dead);
   few = omega arith;
   arrived = tt;
   lines = fits;

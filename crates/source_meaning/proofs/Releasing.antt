@@ -1,6 +1,6 @@
 -- A release and a restart keep a state valid.
 use Rattle.std.proofs.Common.{◌≡◌, ◌⊎◌, inl, inr, ⊎_elim, ℕ, zero, suc, ◌+◌, ◌<◌, ◌≤◌, Bool, true, false, List, [], ◌∷◌, ◌++◌, take, length, get_or, sum_by, Some, refl, sym, ap, ◌∙◌, subst, slice_get, arith}
-use Rattle.std.proofs.lemmas.Bool.{eq-eqb, cases_eq, ltb-true, ltb-false, lt-ltb}
+use Rattle.std.proofs.lemmas.Bool.{eq-eqb, cases_eq, ltb-true, ltb-false, lt-ltb, and_parts, both_ways, cases_Bool, or_cases, or_right}
 use Rattle.std.proofs.lemmas.List.{take_more}
 use Rattle.std.proofs.lemmas.List.Sums.{sum_by-append}
 use Rattle.std.proofs.lemmas.Option.{slice_get_within, get_or_from_slice_get}
@@ -29,7 +29,6 @@ use Rattle.source_meaning.specs.Retirement.{all_opened, releases, cleared, all_c
 use Rattle.source_meaning.specs.State.{State}
 use Rattle.source_meaning.specs.Valid.{HasRecords, IsRecord, IsLive, MayBe, StoreFits, WaitsAt, EventFits, IsValid}
 use Rattle.source_meaning.proofs.Books.{Books}
-use Rattle.plex_num.proofs.Booleans.{and_true, or_cases, or_right, bool_cases, true_not_false}
 use Rattle.source_meaning.proofs.Freeing.{put_chain, put_same, put_other, books_release, openings_fit, openings_clear}
 use Rattle.plex_num.proofs.Lists.{all_append}
 use Rattle.job_types.proofs.Died.{dead_cases, alive_still}
@@ -42,7 +41,7 @@ use Rattle.job_types.proofs.ChainMaps.{chain_same, chain_other}
 -- the numbers below a bound are dead too
 below_cases : (d : Dead) (next k : ℕ) → is_dead (dead_below d next) k ≡ true → ((1 ≤ k) × (k < next)) ⊎ (is_dead d k ≡ true)
 below_cases d next k h = ⊎_elim
-    (λ both. let parts = and_true (nat_lt 0 k) (nat_lt k (max d.below next)) both in
+    (λ both. let parts = and_parts (nat_lt 0 k) (nat_lt k (max d.below next)) both in
     let some = ltb-true 0 k parts.0 in
     let lt = ltb-true k (max d.below next) parts.1 in
     by (nat_lt k d.below) refl some lt)
@@ -63,7 +62,7 @@ others_wait x s t level f (j ∷ js) may all = by (j.forlopp == f) refl (others_
     by : (b : Bool) → (j.forlopp == f) ≡ b → AllByRecursion (WaitsAt x t level) (others_in f js) → AllByRecursion (WaitsAt x t level) (if not b then j ∷ others_in f js else others_in f js)
     by true is rest = rest
     by false is rest =
-        let other : j.forlopp ≢ f = λ same. true_not_false (j.forlopp == f) (eq-eqb j.forlopp f same) is in
+        let other : j.forlopp ≢ f = λ same. both_ways (j.forlopp == f) is (eq-eqb j.forlopp f same) in
         (record { job = all.0.job; here = all.0.here; forlopp = may j.forlopp other all.0.forlopp }, rest)
 
 module _ (x : Exchange) (kept : IsExchange x) (u : State) (o : Orderly x u 0) (store : StoreFits x u.store) (b : Books x (IsLive u) (chain_at u.chains) u.store) (g : Fault) (point : ℕ) (placed : point < length x.points) where
@@ -174,12 +173,12 @@ module _ (x : Exchange) (kept : IsExchange x) (u : State) (o : Orderly x u 0) (s
   opened_clear : IsClear opened_all
   opened_clear = record {
     fits = openings_fit x kept (all_records u.chains) (untouched u.store) records_fit store;
-    marks = λ file number p m. openings_clear x kept (all_records u.chains) (untouched u.store) file number p records_fit store.whole m (held_or_free file number p m (bool_cases (holds (all_records u.chains) file number)));
+    marks = λ file number p m. openings_clear x kept (all_records u.chains) (untouched u.store) file number p records_fit store.whole m (held_or_free file number p m (cases_Bool (holds (all_records u.chains) file number)));
   }
     where
       held_or_free : (file number : ℕ) (p : Placed) → HasMark x file number p → (holds (all_records u.chains) file number ≡ true) ⊎ (holds (all_records u.chains) file number ≡ false) → (holds (all_records u.chains) file number ≡ true) ⊎ (slice_index u.store (mark_cell p number) ≡ 0)
       held_or_free file number p m (inl held) = inl held
-      held_or_free file number p m (inr none) = inr (b.free file number p m.at m.kind (λ n. ⊎_elim (λ held. true_not_false (holds (all_records u.chains) file number) (held_among_all u.chains n file number held) none) (λ out. out) (bool_cases (holds (chain_at u.chains n) file number))))
+      held_or_free file number p m (inr none) = inr (b.free file number p m.at m.kind (λ n. ⊎_elim (λ held. absurd (both_ways (holds (all_records u.chains) file number) none (held_among_all u.chains n file number held))) (λ out. out) (cases_Bool (holds (chain_at u.chains n) file number))))
 
   restarted_clear : IsClear (restart_world x u.chains (untouched u.store))
   restarted_clear = all_clear IsClear clear_put opened_all opened_clear

@@ -3,6 +3,7 @@ use Rattle.std.proofs.Common.{◌≡◌, ◌⊎◌, inl, inr, ⊎_elim, ℕ, suc
 use Rattle.std.specs.Prelude.{◌↔◌, IsTrue}
 use Rattle.std.specs.List.{Contains}
 use Rattle.std.proofs.Math.Nat.{add-mul}
+use Rattle.std.proofs.lemmas.Bool.{false≢true}
 use Rattle.std.proofs.lemmas.Nat.{mul-le}
 use Rattle.std.proofs.lemmas.List.{take_all, take_more}
 use Rattle.std.proofs.lemmas.List.Elements.{Contains-append_left, Contains-push, Contains-push_cases}
@@ -79,10 +80,7 @@ go_end G xs i old now past g = subst (λ l. Gains (OneOf G l) old now) (take_all
 
 -- from no span on, the words are those of the items
 pub all_words : {X : Type 0} (G : X → ℕ → Type 0) (xs : List X) (now : List Span) → Gains (OneOf G xs) [] now → (w : ℕ) → IsTrue (spanned now w) ↔ OneOf G xs w
-all_words G xs now g w = (λ h. ⊎_elim (λ was. absurd (nothing was)) (λ o. o) (g.each w h), λ o. g.back w (inr o))
-  where
-    nothing : false ≡ true → ⊥
-    nothing h = cc
+all_words G xs now g w = (λ h. ⊎_elim (λ was. absurd (false≢true was)) (λ o. o) (g.each w h), λ o. g.back w (inr o))
 
 -- the records of a run
 

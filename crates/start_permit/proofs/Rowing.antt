@@ -3,7 +3,7 @@ use Rattle.std.proofs.Common.{◌≡◌, inl, inr, ⊎_elim, ℕ, ◌+◌, ◌*�
 use Rattle.std.specs.Prelude.{◌↔◌, IsTrue}
 use Rattle.std.specs.Option.{option_map}
 use Rattle.std.proofs.lemmas.List.Elements.{Contains-get_or}
-use Rattle.std.proofs.lemmas.Bool.{or_left, or_right}
+use Rattle.std.proofs.lemmas.Bool.{false≢true, or_left, or_right}
 use Rattle.std.proofs.lemmas.Option.{none-some, same_Some, slice_get-map}
 use Rattle.plex_limits.specs.declared.limits.TheConstants.{MOST_CELLS}
 use Rattle.job_types.specs.declared.chain.Held.{Held}
@@ -168,11 +168,8 @@ no_variable x t number old table none = none_gained (IsVariableWord x number) ol
 
 -- accesses
 
-never : IsTrue false → ⊥
-never h = cc
-
 pub does_not : (x : Exchange) (all : List Access) (start : JobStart) (chains : ChainMap) (write : Bool) (access : Access) (r : Bool) (old : List Span) → IsTrue r ↔ Does write access → r ≡ false → Gains (Lets x all start chains write access) old old
-does_not x all start chains write access r old is fails = none_gained (Lets x all start chains write access) old (λ w k. never (subst IsTrue fails (is.1 k.does)))
+does_not x all start chains write access r old is fails = none_gained (Lets x all start chains write access) old (λ w k. false≢true (subst IsTrue fails (is.1 k.does)))
 
 pub does_so : (x : Exchange) (all : List Access) (start : JobStart) (chains : ChainMap) (write : Bool) (access : Access) (r : Bool) (old new : List Span) → IsTrue r ↔ Does write access → r ≡ true → Gains (HasWord x all start chains write access) old new → Gains (Lets x all start chains write access) old new
 does_so x all start chains write access r old new is holds_it g = gains_as (HasWord x all start chains write access) (Lets x all start chains write access) old new

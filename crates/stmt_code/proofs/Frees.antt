@@ -16,7 +16,7 @@ use Rattle.register_machine.specs.Machine.{Machine, made_one, reg, next}
 use Rattle.expr_code.specs.Code.{pointer_code}
 use Rattle.expr_code.specs.Runs.{HasOp, HasAt}
 use Rattle.expr_code.proofs.Places.{has_front, has_back}
-use Rattle.stmt_code.specs.StmtCode.{inits_code, free_code}
+use Rattle.stmt_code.specs.RecordCode.{inits_code, free_code}
 use Rattle.stmt_code.proofs.Setting.{Setting, few_loops}
 use Rattle.stmt_code.proofs.At.{SameLoops, At, at_moves}
 use Rattle.stmt_code.proofs.Same.{Same, Comes, Follows, by_step}

@@ -30,7 +30,8 @@ use Rattle.source_meaning.specs.Changes.{variable_width, field_width}
 use Rattle.expr_code.specs.Code.{Site, expr_code, cond_code, pointer_code}
 use Rattle.expr_code.specs.Sites.{IsLimited}
 use Rattle.stmt_code.specs.declared.lengths.TheConstants.{COMPARE_LENGTH, TURN_LENGTH, BOUNDS_LENGTH}
-use Rattle.stmt_code.specs.StmtCode.{Places, codes, takes_code, retrieve_code, values_code, range_code, field_store, has_any, past_code, choices_code, turns_code, for_first_code, seize_code, inits_code, free_code, level_number, queue_number, send_code, holder_code, each_receiver, look_first, receiver_code, opened, stmt_code, kind_code, when_code}
+use Rattle.stmt_code.specs.StmtCode.{Places, codes, takes_code, retrieve_code, values_code, range_code, field_store, has_any, past_code, choices_code, turns_code, level_number, queue_number, send_code, holder_code, each_receiver, look_first, receiver_code, opened, stmt_code, kind_code, when_code}
+use Rattle.stmt_code.specs.RecordCode.{for_first_code, seize_code, inits_code, free_code}
 use Rattle.stmt_code.specs.Whole.{Table, places_of}
 use Rattle.stmt_code.specs.Within.{ListIn, LayerIn, ChoicesIn}
 use Rattle.stmt_code.proofs.Setting.{first_in, others_in, yes_in, no_in, body_in, otherwise_in, choices_in}

@@ -21,7 +21,7 @@ use Rattle.expr_code.specs.Runs.{HasAt}
 use Rattle.expr_code.proofs.Places.{has_front, has_back}
 use Rattle.expr_code.proofs.Runs.{seen_append, seen_none}
 use Rattle.stmt_code.specs.declared.lengths.TheConstants.{LOOK_LENGTH, FOUND_LENGTH, AGAIN_LENGTH}
-use Rattle.stmt_code.specs.StmtCode.{look_code, again_code, for_first_code}
+use Rattle.stmt_code.specs.RecordCode.{look_code, again_code, for_first_code}
 use Rattle.stmt_code.proofs.Setting.{Setting, places, few_loops}
 use Rattle.stmt_code.proofs.At.{SameLoops, At, at_moves}
 use Rattle.stmt_code.proofs.Same.{Same, Comes, Follows}

@@ -13,7 +13,7 @@ use Rattle.source_meaning.specs.Changes.{fails as c_fails, joins_chain, at_free,
 use Rattle.register_machine.specs.Machine.{Machine, made_one, reg, next, fails, checks}
 use Rattle.expr_code.specs.Runs.{HasOp, HasAt}
 use Rattle.stmt_code.specs.declared.lengths.TheConstants.{LOOK_LENGTH, AGAIN_LENGTH}
-use Rattle.stmt_code.specs.StmtCode.{again_code, take_code, seize_code}
+use Rattle.stmt_code.specs.RecordCode.{again_code, take_code, seize_code}
 use Rattle.stmt_code.proofs.Setting.{Setting, few_loops}
 use Rattle.stmt_code.proofs.At.{At, at_moves}
 use Rattle.stmt_code.proofs.Same.{Same, Follows, by_step, faults}

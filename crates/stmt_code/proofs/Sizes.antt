@@ -16,7 +16,8 @@ use Rattle.exchange_model.specs.declared.stmt.StmtKind.TheOpen as stmt
 use Rattle.exchange_model.specs.Cells.{Placed}
 use Rattle.expr_code.specs.Code.{Site, expr_code, cond_code}
 use Rattle.stmt_code.specs.declared.lengths.TheConstants.{COMPARE_LENGTH, TURN_LENGTH, NEXT_LENGTH, BOUNDS_LENGTH}
-use Rattle.stmt_code.specs.StmtCode.{Places, codes, compare_code, choices_code, values_code, has_any, past_code, if_code, next_code, turns_code, bounds_code, on_code, for_first_code, seize_code, send_code, holder_code, each_receiver, look_first, receiver_code, opened, stmt_code, kind_code, when_code, kind_code-out, stmt_code-kind, when_code-out}
+use Rattle.stmt_code.specs.StmtCode.{Places, codes, compare_code, choices_code, values_code, has_any, past_code, if_code, next_code, turns_code, bounds_code, on_code, send_code, holder_code, each_receiver, look_first, receiver_code, opened, stmt_code, kind_code, when_code, kind_code-out, stmt_code-kind, when_code-out}
+use Rattle.stmt_code.specs.RecordCode.{for_first_code, seize_code}
 
 -- the addresses of labels, and of ENTERs by block and signal
 abbrev pub Addresses : Type 0

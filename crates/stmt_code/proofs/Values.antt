@@ -24,7 +24,7 @@ use Rattle.source_meaning.specs.Changes.{fails as c_fails, on_value, on_values}
 use Rattle.register_machine.specs.Machine.{Machine, machine_step, made_one, reg, next, fails}
 use Rattle.expr_code.specs.Code.{expr_code, cond_code}
 use Rattle.expr_code.specs.Sites.{IsLimited}
-use Rattle.expr_code.specs.Runs.{HasOp, HasAt, Agrees, Calc, Computes, gives, stops}
+use Rattle.expr_code.specs.Runs.{HasOp, HasAt, Agrees, Calc, Computes, KeepsRegisters, gives, stops}
 use Rattle.expr_code.proofs.Places.{has_front, has_back}
 use Rattle.expr_code.proofs.ExprRuns.{expr_runs}
 use Rattle.expr_code.proofs.CondRuns.{cond_runs}
@@ -78,7 +78,7 @@ exprs_in {x = x} {b = b} {l = l} h = exprs_of x b h.block (own_exprs l) h.limite
 pub record Valued (r v : ℕ) (m n : Machine) : Type 0 where
   pub is : reg n.run r ≡ v
   pub small : v < 2 ^ 32
-  pub low : (k : ℕ) → k < r → reg n.run k ≡ reg m.run k
+  pub low : KeepsRegisters r m n
   pub loops : SameLoops 12 n.run.locals m.run.locals
 
 module _ {g : Setting} where
@@ -147,7 +147,7 @@ module _ {g : Setting} where
 
   -- values from left to right become the outgoing ones, by way of a register; those below it are kept
   pub values_sim : {c : Config} {m : Machine} {a : ℕ} (r : ℕ) (es : List Expr) (vs : List ℕ) (go : List ℕ → Config → Config) → r ≤ 1 → AllByRecursion (ExprIn g.exchange c.block) es → length vs + length es ≤ 8 → Same g vs c m → m.run.pc ≡ a → HasAt g.code a (values_code es (places g c.block).site r)
-      → ((n : Machine) (w : World) (us : List ℕ) → length us ≡ length vs + length es → Same g us (record c { world = w }) n → n.run.pc ≡ a + length (values_code es (places g c.block).site r) → ((k : ℕ) → k < r → reg n.run k ≡ reg m.run k) → SameLoops 12 n.run.locals m.run.locals → Follows g (go us (record c { world = w })) n)
+      → ((n : Machine) (w : World) (us : List ℕ) → length us ≡ length vs + length es → Same g us (record c { world = w }) n → n.run.pc ≡ a + length (values_code es (places g c.block).site r) → KeepsRegisters r m n → SameLoops 12 n.run.locals m.run.locals → Follows g (go us (record c { world = w })) n)
       → Follows g (on_values g.exchange es vs c go) m
   values_sim {c = c} {m = m} r [] vs go low h le s at has k = k m c.world vs (omega arith) s (omega (arith, at)) (λ i lt. refl) (same_loops m.run.locals)
   values_sim {c = c} {m = m} {a = a} r (e ∷ es) vs go low h le s at has k =

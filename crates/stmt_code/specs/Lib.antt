@@ -1,4 +1,5 @@
 pub mod Numbers
+pub mod RecordCode
 pub mod StmtCode
 pub mod Whole
 pub mod Within

@@ -2,6 +2,7 @@
 use Rattle.std.proofs.Common.{◌≡◌, ℕ, ◌+◌, ◌<◌, ◌≤◌, List, length, drop, get_or, refl, sym, ◌∙◌, ap, add-one, suc, zero, Option, [], ◌∷◌, ◌++◌, map, take, append_assoc}
 use Rattle.std.proofs.Math.ListN.{drop_of_length-le}
 use Rattle.std.proofs.lemmas.List.{get_or-map, map_more, take_all, append-nil}
+use Rattle.plex_num.proofs.Lists.{opens}
 use Rattle.token_grammar.specs.declared.named.Named.{Named}
 use Rattle.plex_ast.specs.declared.stmt.Names.{Names}
 use Rattle.plex_ast.specs.declared.stmt.Stmt.{Stmt}
@@ -20,7 +21,6 @@ use Rattle.text_events.specs.Kept.{own_line, item_line_at}
 use Rattle.text_events.specs.Seen.{head_at, head_before, begins_at, item_heads, item_walk_in}
 use Rattle.text_events.specs.Texts.{text_events, signal_events}
 use Rattle.text_events.specs.Blocks.{field_walk, fields_walk, variables_of, temporaries_of, files_of, cells_of, decl_walk, decls_walk, item_head_at, labels_of, item_walk_at, first_item, items_walk, block_events}
-use Rattle.first_fault.proofs.Told.{cut_at}
 use Rattle.text_events.proofs.Layers.{stmt_walk-out}
 use Rattle.text_events.proofs.There.{line_there}
 use Rattle.text_events.proofs.Steps.{stmt_head}
@@ -32,7 +32,7 @@ pub fields_begin : (ds : List Field) (file : ℕ) (out : List Event) → FieldsL
 fields_begin ds file out = record { same = refl }
 
 pub fields_step : (ds : List Field) (i file k next : ℕ) (d : Field) (out new old : List Event) → i < length ds → d ≡ get_or ds i d → new ≡ field_walk d file k out → next ≡ k + 1 → FieldsLeft ds i file k out old → FieldsLeft ds (i + 1) file next new old
-fields_step ds i file k next d out new old inside is more one w = record { same = rw (more, one) (ap (λ l. fields_walk l file k out) (sym (cut_at ds i d inside is)) ∙ w.same) }
+fields_step ds i file k next d out new old inside is more one w = record { same = rw (more, one) (ap (λ l. fields_walk l file k out) (sym (opens ds i d inside is)) ∙ w.same) }
 
 pub fields_end : (ds : List Field) (i file k : ℕ) (out old : List Event) → length ds ≤ i → FieldsLeft ds i file k out old → out ≡ fields_walk ds file 0 old
 fields_end ds i file k out old past w = ap (λ l. fields_walk l file k out) (sym (drop_of_length-le ds past)) ∙ w.same
@@ -45,7 +45,7 @@ decls_begin ds out = record { same = refl }
 
 pub decls_step : (ds : List Decl) (i v t f a b c va tb fc : ℕ) (d : Decl) (out mid new old : List Event) → i < length ds → d ≡ get_or ds i d → mid ≡ add d.line (note.Cells (cells_of d.kind)) out → new ≡ decl_walk d.kind v t f mid → a ≡ variables_of d.kind → va ≡ v + a → b ≡ temporaries_of d.kind → tb ≡ t + b → c ≡ files_of d.kind → fc ≡ f + c → DeclsLeft ds i v t f out old → DeclsLeft ds (i + 1) va tb fc new old
 decls_step ds i v t f a b c va tb fc d out mid new old inside is m more ea eva eb etb ec efc w =
-    record { same = rw (more, m, eva, etb, efc, ea, eb, ec) (ap (λ l. decls_walk l v t f out) (sym (cut_at ds i d inside is)) ∙ w.same) }
+    record { same = rw (more, m, eva, etb, efc, ea, eb, ec) (ap (λ l. decls_walk l v t f out) (sym (opens ds i d inside is)) ∙ w.same) }
 
 pub decls_end : (ds : List Decl) (i v t f : ℕ) (out old : List Event) → length ds ≤ i → DeclsLeft ds i v t f out old → out ≡ decls_walk ds 0 0 0 old
 decls_end ds i v t f out old past w = ap (λ l. decls_walk l v t f out) (sym (drop_of_length-le ds past)) ∙ w.same
@@ -90,7 +90,7 @@ items_step xs i k l kl x out new old inside is more labels sum w =
     let near : head_before (item_heads xs) (i + 1) ≡ item_head_at x.kind = ap (head_before (item_heads xs)) (add-one i) ∙ own_item xs i x inside is in
     let walked : new ≡ item_walk_at x.kind x.line k (head_before (item_heads xs) i) (first_item (drop (i + 1) xs)) out =
     more ∙ ap (λ h. item_walk_at x.kind x.line k (head_before (item_heads xs) i) h out) (sym (ap (λ j. first_item (drop j xs)) (add-one i) ∙ first_item_is xs (suc i))) in
-    record { same = rw (near, walked, sum, labels) (ap (λ y. items_walk y k (head_before (item_heads xs) i) out) (sym (cut_at xs i x inside is)) ∙ w.same) }
+    record { same = rw (near, walked, sum, labels) (ap (λ y. items_walk y k (head_before (item_heads xs) i) out) (sym (opens xs i x inside is)) ∙ w.same) }
 
 pub items_end : (xs : List Item) (i k : ℕ) (out old : List Event) → length xs ≤ i → ItemsLeft xs i k out old → out ≡ items_walk xs 0 Nothing old
 items_end xs i k out old past w = ap (λ l. items_walk l k (head_before (item_heads xs) i) out) (sym (drop_of_length-le xs past)) ∙ w.same

@@ -1,8 +1,8 @@
 -- Steps of the loops that walk, and one layer of each kind.
 use Rattle.std.proofs.Common.{◌≡◌, ℕ, ◌+◌, ◌<◌, ◌≤◌, List, [], ◌∷◌, length, map, drop, get_or, refl, sym, ◌∙◌, ap, add-one, suc, zero}
-use Rattle.first_fault.proofs.Told.{cut_at}
 use Rattle.std.proofs.Math.ListN.{drop_of_length-le}
 use Rattle.std.proofs.lemmas.List.{get_or-map}
+use Rattle.plex_num.proofs.Lists.{opens}
 use Rattle.plex_ast.specs.declared.expr.Expr.{Expr}
 use Rattle.plex_ast.specs.declared.expr.Factor.{Factor}
 use Rattle.plex_ast.specs.declared.expr.Term.{Term}
@@ -27,7 +27,7 @@ walks_begin f xs owner out = record { same = refl }
 
 pub walks_step : {A : Type 0} (f : A → OwnWalk) (xs : List A) (i owner : ℕ) (x : A) (out new old : List Event) → i < length xs → x ≡ get_or xs i x → new ≡ f x owner out → Walks f xs i owner out old → Walks f xs (i + 1) owner new old
 walks_step f xs i owner x out new old inside is more w =
-    record { same = rw more (ap (λ l. each_walk (map f l) owner out) (sym (cut_at xs i x inside is)) ∙ w.same) }
+    record { same = rw more (ap (λ l. each_walk (map f l) owner out) (sym (opens xs i x inside is)) ∙ w.same) }
 
 pub walks_end : {A : Type 0} (f : A → OwnWalk) (xs : List A) (i owner : ℕ) (out old : List Event) → length xs ≤ i → Walks f xs i owner out old → out ≡ each_walk (map f xs) owner old
 walks_end f xs i owner out old past w = ap (λ l. each_walk (map f l) owner out) (sym (drop_of_length-le xs past)) ∙ w.same
@@ -41,7 +41,7 @@ turns_begin f xs out = record { same = refl }
 
 pub turns_step : {A : Type 0} (f : A → EventWalk) (xs : List A) (i : ℕ) (x : A) (out new old : List Event) → i < length xs → x ≡ get_or xs i x → new ≡ f x out → Turns f xs i out old → Turns f xs (i + 1) new old
 turns_step f xs i x out new old inside is more w =
-    record { same = rw more (ap (λ l. in_turn (map f l) out) (sym (cut_at xs i x inside is)) ∙ w.same) }
+    record { same = rw more (ap (λ l. in_turn (map f l) out) (sym (opens xs i x inside is)) ∙ w.same) }
 
 pub turns_end : {A : Type 0} (f : A → EventWalk) (xs : List A) (i : ℕ) (out old : List Event) → length xs ≤ i → Turns f xs i out old → out ≡ in_turn (map f xs) old
 turns_end f xs i out old past w = ap (λ l. in_turn (map f l) out) (sym (drop_of_length-le xs past)) ∙ w.same
@@ -100,7 +100,7 @@ list_step ss i s out mid new old inside is m e w =
     let walked : new ≡ (stmt_walk s).walk (head_before (stmt_heads ss) i) (first_head (map stmt_walk (drop (i + 1) ss))) out =
     stmt_in ss i s out mid new inside is m e ∙ ap (λ h. (stmt_walk s).walk (head_before (stmt_heads ss) i) h out) (sym (ap (λ j. first_head (map stmt_walk (drop j ss))) (add-one i) ∙ first_is ss (suc i))) in
     let near : head_before (stmt_heads ss) (i + 1) ≡ (stmt_walk s).head = ap (head_before (stmt_heads ss)) (add-one i) ∙ own_head ss i s inside is in
-    record { same = ap (λ h. list_walk (map stmt_walk (drop (i + 1) ss)) h new) near ∙ ap (list_walk (map stmt_walk (drop (i + 1) ss)) (stmt_walk s).head) walked ∙ ap (λ l. list_walk (map stmt_walk l) (head_before (stmt_heads ss) i) out) (sym (cut_at ss i s inside is)) ∙ w.same }
+    record { same = ap (λ h. list_walk (map stmt_walk (drop (i + 1) ss)) h new) near ∙ ap (list_walk (map stmt_walk (drop (i + 1) ss)) (stmt_walk s).head) walked ∙ ap (λ l. list_walk (map stmt_walk l) (head_before (stmt_heads ss) i) out) (sym (opens ss i s inside is)) ∙ w.same }
 
 pub list_end : (ss : List Stmt) (i : ℕ) (out old : List Event) → length ss ≤ i → ListWalks ss i out old → out ≡ body_walk (map stmt_walk ss) old
 list_end ss i out old past w = ap (λ l. list_walk (map stmt_walk l) (head_before (stmt_heads ss) i) out) (sym (drop_of_length-le ss past)) ∙ w.same

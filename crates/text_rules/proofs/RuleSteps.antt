@@ -2,9 +2,10 @@
 use Rattle.std.proofs.Common.{◌≡◌, ℕ, ◌+◌, ◌<◌, ◌≤◌, Bool, true, false, List, length, take, drop, get_or, Some, None, sym, ◌∙◌, ap}
 use Rattle.std.specs.Prelude.{if◌then◌else◌}
 use Rattle.std.proofs.Math.ListN.{drop_of_length-le}
+use Rattle.plex_num.proofs.Lists.{opens}
 use Rattle.first_fault.specs.First.{first_broken}
 use Rattle.first_fault.specs.Told.{told, told_parts}
-use Rattle.first_fault.proofs.Told.{cut_at, PartsPassed, part_told}
+use Rattle.first_fault.proofs.Told.{PartsPassed, part_told}
 use Rattle.text_rules.specs.declared.fault.Fault.{Fault}
 use Rattle.text_rules.specs.declared.fault.Fault.TheVariants as fault
 use Rattle.text_rules.specs.Tables.{IsTold}
@@ -18,7 +19,7 @@ module _ {E K R : Type 0} (broken : R → K → E → Bool) (all : List R) (k : 
   rules_begin rs is = record { same = ap (λ l. first_broken broken l k e) (sym is) }
 
   here : (rs : List R) (i : ℕ) (r : R) (b : Bool) → i < length rs → r ≡ get_or rs i r → broken r k e ≡ b → Left rs i → first_broken broken all k e ≡ (if b then Some r else first_broken broken (drop (i + 1) rs) k e)
-  here rs i r b inside is h w = w.same ∙ ap (λ l. first_broken broken l k e) (cut_at rs i r inside is) ∙ ap (λ c. if c then Some r else first_broken broken (drop (i + 1) rs) k e) h
+  here rs i r b inside is h w = w.same ∙ ap (λ l. first_broken broken l k e) (opens rs i r inside is) ∙ ap (λ c. if c then Some r else first_broken broken (drop (i + 1) rs) k e) h
 
   pub rules_step : (rs : List R) (i : ℕ) (r : R) → i < length rs → r ≡ get_or rs i r → broken r k e ≡ false → Left rs i → Left rs (i + 1)
   rules_step rs i r inside is h w = record { same = here rs i r false inside is h w }

@@ -7,7 +7,7 @@ use Rattle.std.proofs.lemmas.Option.{slice_get_past}
 use Rattle.first_fault.specs.First.{any, count, or_else}
 use Rattle.first_fault.proofs.First.{more_events, any_push, count_push}
 pub use Rattle.signal_types.proofs.Found.{note_kept, note_new}
-use Rattle.signal_types.proofs.Found.{position_push}
+use Rattle.signal_types.proofs.Found.{or_none, position_push}
 use Rattle.std.proofs.lemmas.Cmp.{nat_eq_equiv}
 use Rattle.plex_ast.specs.declared.block.Block.{Block}
 use Rattle.plex_ast.specs.declared.block.Survey.{Survey}
@@ -37,24 +37,16 @@ module _ (found now : List ℕ → Option Receiving) (k : List ℕ) (x : Receivi
   pub first_again : (y : Receiving) (block : ℕ) → Some y ≡ found k → x.first ≡ y.first → (s : List ℕ) → first_of (now s) ≡ or_else (first_of (found s)) (chosen (bytes_eq k s) block)
   first_again y block there is s = ap first_of (each s) ∙ by (bytes_eq k s) refl
     where
-      stays : (o : Option ℕ) → o ≡ or_else o None
-      stays (Some n) = refl
-      stays None = refl
-
       by : (b : Bool) → bytes_eq k s ≡ b → first_of (cond b (Some x) (found s)) ≡ or_else (first_of (found s)) (chosen b block)
       by true e = ap Some is ∙ ap (λ o. or_else (first_of o) (Some block)) (there ∙ ap found (same_bytes k s e))
-      by false e = stays (first_of (found s))
+      by false e = or_none (first_of (found s))
 
   pub first_new : (block : ℕ) → None ≡ found k → x.first ≡ block → (s : List ℕ) → first_of (now s) ≡ or_else (first_of (found s)) (chosen (bytes_eq k s) block)
   first_new block none is s = ap first_of (each s) ∙ by (bytes_eq k s) refl
     where
-      stays : (o : Option ℕ) → o ≡ or_else o None
-      stays (Some n) = refl
-      stays None = refl
-
       by : (b : Bool) → bytes_eq k s ≡ b → first_of (cond b (Some x) (found s)) ≡ or_else (first_of (found s)) (chosen b block)
       by true e = ap Some is ∙ ap (λ o. or_else (first_of o) (Some block)) (none ∙ ap found (same_bytes k s e))
-      by false e = stays (first_of (found s))
+      by false e = or_none (first_of (found s))
 
 -- one pair more
 
@@ -109,11 +101,7 @@ module _ (lines : List Survey) (block : ℕ) (start : Answers) where
     pub firsts : (s : List ℕ) → now.first s ≡ or_else (start.first s) (chosen (on i s) block)
 
   pub lines_begin : Lined 0 start
-  lines_begin = record { pairs = λ b s. nothing_paired (start.pair b s) (nat_eq b block); counts = λ s. omega arith; firsts = λ s. stays (start.first s) }
-    where
-      stays : (o : Option ℕ) → o ≡ or_else o None
-      stays (Some n) = refl
-      stays None = refl
+  lines_begin = record { pairs = λ b s. nothing_paired (start.pair b s) (nat_eq b block); counts = λ s. omega arith; firsts = λ s. or_none (start.first s) }
 
   pub lines_step : (i : ℕ) (l : Survey) (now new : Answers) → i < length lines → l ≡ get_or lines i l →
       ((b : ℕ) (s : List ℕ) → new.pair b s ≡ (now.pair b s || (nat_eq b block && line_receives s l))) →

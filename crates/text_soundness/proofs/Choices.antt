@@ -1,8 +1,9 @@
 -- The choices of a CASE: where no event breaks a rule, their numbers differ.
-use Rattle.std.proofs.Common.{◌≡◌, ℕ, ◌≤◌, Bool, true, false, ◌&&◌, ◌||◌, List, [], ◌∷◌, ◌++◌, length, ◌+◌, map, refl, sym, ◌∙◌, ap, subst, arith, nat_eq, length-append}
+use Rattle.std.proofs.Common.{◌≡◌, ℕ, ◌≤◌, Bool, false, ◌&&◌, ◌||◌, List, [], ◌∷◌, ◌++◌, length, ◌+◌, map, refl, sym, ◌∙◌, ap, subst, arith, nat_eq, length-append}
 use Rattle.std.specs.List.{AllByRecursion, IsDistinct}
+use Rattle.std.proofs.Math.Bool.{or_assoc}
 use Rattle.std.proofs.Math.Nat.{max-le}
-use Rattle.std.proofs.lemmas.Bool.{eq-eqb, eqb-false, ne_eqb}
+use Rattle.std.proofs.lemmas.Bool.{eq-eqb, eqb-false, ne_eqb, or_parts}
 use Rattle.std.proofs.lemmas.Map.Keys.{IsDistinct-cons}
 use Rattle.first_fault.specs.First.{any}
 use Rattle.plex_ast.specs.declared.block.Block.{Block as TreeBlock}
@@ -25,22 +26,17 @@ use Rattle.text_soundness.proofs.BuiltText.{statement_in, statements_in, begin_t
 use Rattle.text_events.proofs.Layers.{when_walk-out}
 use Rattle.resolved_block.proofs.Turns.{typed_when-at}
 use Rattle.text_soundness.proofs.BuiltLists.{text, AreMade}
-use Rattle.plex_num.proofs.Booleans.{or_false}
 
 pub any_append : {A : Type 0} (test : A → Bool) (xs ys : List A) → any test (xs ++ ys) ≡ (any test xs || any test ys)
 any_append test [] ys = refl
-any_append test (x ∷ xs) ys = rw (any_append test xs ys) (regroup (test x) (any test xs) (any test ys))
-  where
-    regroup : (a b c : Bool) → (a || (b || c)) ≡ ((a || b) || c)
-    regroup true b c = refl
-    regroup false b c = refl
+any_append test (x ∷ xs) ys = rw (any_append test xs ys) (sym (or_assoc (test x) (any test xs) (any test ys)))
 
 pub any_front : (test : Event → Bool) (a b : List Event) → Begin a b → any test b ≡ false → any test a ≡ false
-any_front test a b x h = (or_false (any test a) (any test x.more) (sym (ap (any test) x.same ∙ any_append test a x.more) ∙ h)).0
+any_front test a b x h = (or_parts (any test a) (any test x.more) (sym (ap (any test) x.same ∙ any_append test a x.more) ∙ h)).0
 
 -- what no event before says, the last one does not say
 last_says : (test : Event → Bool) (out : List Event) (e : Event) → any test (out ++ e ∷ []) ≡ false → test e ≡ false
-last_says test out e h = (or_false (test e) false (or_false (any test out) (test e || false) (sym (any_append test out (e ∷ [])) ∙ h)).1).0
+last_says test out e h = (or_parts (test e) false (or_parts (any test out) (test e || false) (sym (any_append test out (e ∷ [])) ∙ h)).1).0
 
 -- another number of the same CASE
 other_number : (o n m : ℕ) → (nat_eq o o && nat_eq n m) ≡ false → nat_eq m n ≡ false

@@ -5,7 +5,8 @@ use Rattle.std.specs.Prelude.{if◌then◌else◌, Contains, is_some}
 use Rattle.std.specs.List.{AllByRecursion, IsDistinct, cons_option, list_any}
 use Rattle.std.specs.Option.{unwrap_or}
 use Rattle.std.specs.Str.{bytes_eq}
-use Rattle.std.proofs.lemmas.Bool.{eqb-true, eq-eqb, false_from_ne_true, not-false}
+use Rattle.std.proofs.Math.Seq.{take-append_seam}
+use Rattle.std.proofs.lemmas.Bool.{eqb-true, eq-eqb, false_from_ne_true, not-false, or_parts}
 use Rattle.std.proofs.lemmas.List.Quantifiers.{position-Some}
 use Rattle.std.proofs.lemmas.Slice.Eq.{bytes_eq-Decides}
 use Rattle.first_fault.specs.First.{any}
@@ -41,11 +42,9 @@ use Rattle.text_soundness.proofs.BuiltText.{Begin, begin_all, begin_then, begin_
 use Rattle.text_soundness.proofs.BuiltBody.{body_is_sound, entered_by, entered_numbers}
 use Rattle.text_soundness.proofs.BuiltKinds.{begin_names}
 use Rattle.text_soundness.proofs.Choices.{any_front}
-use Rattle.text_soundness.proofs.FineParts.{before_here}
 use Rattle.text_soundness.proofs.MeaningsBlocks.{item_adds, items_add, surveys_quiet}
 use Rattle.text_soundness.proofs.ServedSaid.{said_of}
 use Rattle.text_soundness.proofs.SignalsOnce.{none_of}
-use Rattle.plex_num.proofs.Booleans.{or_false}
 use Rattle.plex_num.proofs.Lists.{all_left, all_last, slice_get-append_seam}
 use Rattle.plex_num.proofs.Members.{found_in}
 use Rattle.plex_num.proofs.Names.{same_bytes}
@@ -92,7 +91,7 @@ linked_whole : (text : Text) (own : Block) (done : List Event) → AreFineLinks 
 linked_whole text own done f = record {
   each = λ before after e r is.
       let at : slice_get text.whole (length before) ≡ Some e = ap (λ w. slice_get w (length before)) is ∙ slice_get-append_seam before e after in
-      let front = ap (take (length before)) is ∙ before_here before (e ∷ after) in
+      let front = ap (take (length before)) is ∙ take-append_seam before (e ∷ after) in
       subst (λ b. link_broken_at r (links_known text own done b) e ≡ false) front (f.each (length before) e r at);
 }
 
@@ -170,7 +169,7 @@ module _ (text : Text) (own : Block) (done : List Event) where
             let next : Begin begun_here (item_walk_at (items.Enter n ns) x.line k before (first_item xs) out) = begin_then begun_here standing _ (begin_add begun_here begun_here n.line (note.Names n.name role.Received) (begin_all begun_here)) (begin_names (names_of ns) standing) in
             let once : any (enters_here m) (item_walk_at (items.Enter n ns) x.line k before (first_item xs) out) ≡ false = subst (λ i. any (enters_here m) (item_walk_at i x.line k before (first_item xs) out) ≡ false) is f.once in
             let last = (none_of (enters_here m) out (e ∷ []) (any_front (enters_here m) begun_here _ next once)).1 in
-            (or_false (bytes_eq n.name m) false last).0) fresh,
+            (or_parts (bytes_eq n.name m) false last).0) fresh,
         more,
       )
 

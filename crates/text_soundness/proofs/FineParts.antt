@@ -1,5 +1,6 @@
 -- A text that breaks no rule: what that says of each part, and of each of its blocks.
 use Rattle.std.proofs.Common.{◌≡◌, ℕ, zero, suc, Bool, false, List, [], ◌∷◌, ◌++◌, length, map, take, Option, Some, None, slice_get, refl, ◌∙◌, ap, subst}
+use Rattle.std.proofs.Math.Seq.{take-append_seam}
 use Rattle.plex_num.proofs.Lists.{got_map, slice_get-append_seam}
 use Rattle.first_fault.specs.First.{or_else, IsFine, breaks_at}
 use Rattle.first_fault.specs.Told.{AreFine, IsSo}
@@ -69,18 +70,14 @@ fine_parts t h =
 
 -- a part of a text
 
-pub before_here : {X : Type 0} (before rest : List X) → take (length before) (before ++ rest) ≡ before
-before_here [] rest = refl
-before_here (x ∷ before) rest = ap (λ xs. x ∷ xs) (before_here before rest)
-
 -- an event of a part, by what stands before it
 pub fine_event : {E K R : Type 0} (broken : R → K → E → Bool) (number : R → ℕ) (line : E → ℕ) (known : List (List E) → List E → List E → K) (parts : List (List E)) → AreFine broken number line known parts
     → (done rest : List (List E)) (own before after : List E) (e : E) (r : R) → parts ≡ done ++ own ∷ rest → own ≡ before ++ e ∷ after → broken r (known done own before) e ≡ false
 fine_event broken number line known parts fine done rest own before after e r is here =
     let part = fine.each (length done) own (ap (λ p. slice_get p (length done)) is ∙ slice_get-append_seam done own rest) in
     let at : slice_get own (length before) ≡ Some e = ap (λ w. slice_get w (length before)) here ∙ slice_get-append_seam before e after in
-    let done_is : take (length done) parts ≡ done = ap (take (length done)) is ∙ before_here done (own ∷ rest) in
-    let before_is : take (length before) own ≡ before = ap (take (length before)) here ∙ before_here before (e ∷ after) in
+    let done_is : take (length done) parts ≡ done = ap (take (length done)) is ∙ take-append_seam done (own ∷ rest) in
+    let before_is : take (length before) own ≡ before = ap (take (length before)) here ∙ take-append_seam before (e ∷ after) in
     subst (λ b. broken r (known done own b) e ≡ false) before_is (subst (λ d. broken r (known d own (take (length before) own)) e ≡ false) done_is (part.each (length before) e r at))
 
 -- a block of a text

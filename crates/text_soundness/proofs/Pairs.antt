@@ -1,6 +1,6 @@
 -- A combined SEND and the RETRIEVE of its answer: what neighbours in a list of events say of typed statements.
-use Rattle.std.proofs.Common.{unwrap_or, ◌≡◌, ℕ, Bool, true, false, not, ◌&&◌, List, Some, None, Option, is_some, refl, sym, ap, nat_eq, slice_get}
-use Rattle.std.proofs.lemmas.Bool.{eqb-true}
+use Rattle.std.proofs.Common.{unwrap_or, ◌≡◌, ℕ, Bool, false, not, ◌&&◌, List, Some, None, Option, is_some, refl, sym, ap, nat_eq, slice_get}
+use Rattle.std.proofs.lemmas.Bool.{eqb-true, not-false}
 use Rattle.exchange_model.specs.declared.signal.SignalKind.{SignalKind}
 use Rattle.exchange_model.specs.declared.signal.SignalKind.TheVariants.{Buffered, Direct, Combined, Answer, Outside}
 use Rattle.exchange_model.specs.Fits.{answer_of as answer_awaited}
@@ -54,11 +54,7 @@ asks_nothing signals before (Returns n count) none h = none_asked (asked signals
 asks_nothing signals before (Transfers n way) none h = none_asked (asked signals before) h
 
 same_both : (a b : Option ℕ) → not (same_number a b) ≡ false → Some (signal_in b) ≡ a
-same_both (Some x) (Some y) h = ap Some (sym (eqb-true x y (opposite (nat_eq x y) h)))
-  where
-    opposite : (b : Bool) → not b ≡ false → b ≡ true
-    opposite true e = refl
-    opposite false e = cc
+same_both (Some x) (Some y) h = ap Some (sym (eqb-true x y (not-false (nat_eq x y) h)))
 same_both (Some x) None h = cc
 same_both None (Some y) h = cc
 same_both None None h = cc

@@ -1,5 +1,6 @@
 -- All events of a block that breaks no rule, as the whole block has it.
 use Rattle.std.proofs.Common.{◌≡◌, ℕ, ◌<◌, true, false, Bool, not, ◌&&◌, nat_eq, is_some, List, length, take, Some, None, Option, refl, sym, ◌∙◌, ap, arith, slice_get}
+use Rattle.std.proofs.lemmas.Bool.{false≢true, not-false}
 use Rattle.std.proofs.lemmas.Option.{slice_get_within}
 use Rattle.first_fault.specs.First.{any}
 use Rattle.exchange_model.specs.declared.signal.SignalKind.{SignalKind}
@@ -20,7 +21,7 @@ use Rattle.text_soundness.specs.Served.{WayLeads, IsSending, HeadSaid, Said, Sai
 use Rattle.text_rules.specs.declared.rule.BlockRule.TheVariants as rule
 use Rattle.text_rules.specs.Blocks.{labels, serves, is_plain_file, is_field_of, is_forlopp_file, stands}
 use Rattle.text_soundness.proofs.ServedWalks.{AllSo}
-use Rattle.text_soundness.proofs.ServedWhole.{labelled_whole, stays_whole, opposite, passes}
+use Rattle.text_soundness.proofs.ServedWhole.{labelled_whole, stays_whole, passes}
 use Rattle.plex_num.proofs.Lists.{all_from}
 
 serves_none : (n : Need) → serves n None ≡ false
@@ -48,11 +49,11 @@ module _ (text : Text) (own : Block) (done : List Event) (f : IsFineText text) (
     where
       here : (o : Option ℕ) → block_named text.blocks n ≡ o → is_not_received (links_known text own done before) s o ≡ false → (b : ℕ) × (block_named text.blocks n ≡ Some b) × (receives_at text.blocks b s ≡ true)
       here None is h = absurd cc
-      here (Some b) is h = (b, is, opposite text f (receives_at text.blocks b s) h)
+      here (Some b) is h = (b, is, not-false (receives_at text.blocks b s) h)
 
   sending : (s : List ℕ) (way : SignalWay) (before : List Event) → no_receiver (links_known text own done before) s way ≡ false → not_received (links_known text own done before) s way ≡ false → not (sends s own) ≡ false → IsSending text.signals text.blocks own s way
   sending s way before none wrong out = record {
-    sent = opposite text f (sends s own) out;
+    sent = not-false (sends s own) out;
     arrives = λ inside. record {
       received = false_and (is_outside (kind_in text.signals s)) (nat_eq (receiver_count text.blocks s) 0) none inside;
       leads = way_leads s way before (false_and (is_outside (kind_in text.signals s)) (is_wrong_way (links_known text own done before) s way) wrong inside);
@@ -75,9 +76,9 @@ module _ (text : Text) (own : Block) (done : List Event) (f : IsFineText text) (
   said_at : (place line : ℕ) (note : Note) → place < length text.whole → slice_get text.whole place ≡ Some (record { line = line; note = note }) → Said text.signals text.blocks own (naming_of text.whole) note
   said_at place line (Uses n need) inside at = passes text f (serves need) (serves_none need) n place (omega arith) (f.each place (record { line = line; note = Uses n need }) rule.WrongName at)
   said_at place line (Reads n need o) inside at = passes text f (serves need) (serves_none need) n place (omega arith) (f.each place (record { line = line; note = Reads n need o }) rule.WrongName at)
-  said_at place line (Refers n o) inside at = opposite text f (is_some (block_named text.blocks n)) (f.each place (record { line = line; note = Refers n o }) rule.NoBlock at)
-  said_at place line (Receives n) inside at = opposite text f (enters n own) (g.each place (record { line = line; note = Receives n }) link.NoEnter at)
-  said_at place line (Goes n) inside at = labelled_whole text f n (opposite text f (any (labels n) text.whole) (f.each place (record { line = line; note = Goes n }) rule.NoLabel at))
+  said_at place line (Refers n o) inside at = not-false (is_some (block_named text.blocks n)) (f.each place (record { line = line; note = Refers n o }) rule.NoBlock at)
+  said_at place line (Receives n) inside at = not-false (enters n own) (g.each place (record { line = line; note = Receives n }) link.NoEnter at)
+  said_at place line (Goes n) inside at = labelled_whole text f n (not-false (any (labels n) text.whole) (f.each place (record { line = line; note = Goes n }) rule.NoLabel at))
   said_at place line (Searches file) inside at = passes text f is_plain_file refl file place (omega arith) (f.each place (record { line = line; note = Searches file }) rule.NotSearched at)
   said_at place line (Compares field file) inside at =
       let broken : not (is_field_of (naming_of (take place text.whole) file) (naming_of (take place text.whole) field)) ≡ false = f.each place (record { line = line; note = Compares field file }) rule.NotSearched at in
@@ -85,12 +86,9 @@ module _ (text : Text) (own : Block) (done : List Event) (f : IsFineText text) (
     where
       here : (o : Option Meaning) → naming_of (take place text.whole) file ≡ o → is_field_of (naming_of (take place text.whole) file) (naming_of text.whole field) ≡ true → is_field_of (naming_of text.whole file) (naming_of text.whole field) ≡ true
       here (Some m) is t = ap (λ o. is_field_of o (naming_of text.whole field)) (stays_whole text f file m place (omega arith) is ∙ sym is) ∙ t
-      here None is t = absurd (never (sym (ap (λ o. is_field_of o (naming_of text.whole field)) is) ∙ t))
-        where
-          never : false ≡ true → ⊥
-          never e = cc
+      here None is t = absurd (false≢true (sym (ap (λ o. is_field_of o (naming_of text.whole field)) is) ∙ t))
   said_at place line (Holds file) inside at = passes text f is_forlopp_file refl file place (omega arith) (f.each place (record { line = line; note = Holds file }) rule.NotHeld at)
-  said_at place line (Names n role) inside at = opposite text f (stands role (kind_in text.signals n)) (f.each place (record { line = line; note = Names n role }) rule.WrongSignal at)
+  said_at place line (Names n role) inside at = not-false (stands role (kind_in text.signals n)) (f.each place (record { line = line; note = Names n role }) rule.WrongSignal at)
   said_at place line (Begins here before after) inside at = heads_said place line here before after at
   said_at place line (Declares a b) inside at = tt
   said_at place line (Signals a) inside at = tt

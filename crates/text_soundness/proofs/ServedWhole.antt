@@ -3,6 +3,7 @@ use Rattle.std.proofs.Common.{◌≡◌, ℕ, ◌+◌, ◌-◌, ◌<◌, ◌≤�
 use Rattle.std.specs.Prelude.{is_some, if◌then◌else◌}
 use Rattle.std.specs.Str.{bytes_eq}
 use Rattle.std.proofs.lemmas.Slice.Eq.{bytes_eq-Decides}
+use Rattle.std.proofs.lemmas.Bool.{false≢true, not-false}
 use Rattle.std.proofs.lemmas.List.{take_more, take_all}
 use Rattle.std.proofs.lemmas.Option.{slice_get-get_or}
 use Rattle.first_fault.specs.First.{any, last_of, or_else}
@@ -143,17 +144,10 @@ module _ (text : Text) (f : IsFineText text) where
       let all : take (length text.whole) text.whole ≡ text.whole = take_all (length text.whole) text.whole (omega arith) in
       subst (λ l. IsLabelled (naming_of l) n) all (labelled_below n (length text.whole) (omega arith) (ap (any (labels n)) all ∙ h))
 
-  pub opposite : (b : Bool) → not b ≡ false → b ≡ true
-  opposite true e = refl
-  opposite false e = cc
-
   -- a test that a meaning has to pass is passed by what the whole block declares
   pub passes : (test : Option Meaning → Bool) → test None ≡ false → (n : List ℕ) (i : ℕ) → i ≤ length text.whole → not (test (naming_of (take i text.whole) n)) ≡ false → test (naming_of text.whole n) ≡ true
-  passes test none n i low h = here (naming_of (take i text.whole) n) refl (opposite (test (naming_of (take i text.whole) n)) h)
+  passes test none n i low h = here (naming_of (take i text.whole) n) refl (not-false (test (naming_of (take i text.whole) n)) h)
     where
       here : (o : Option Meaning) → naming_of (take i text.whole) n ≡ o → test (naming_of (take i text.whole) n) ≡ true → test (naming_of text.whole n) ≡ true
       here (Some m) is t = ap test (stays_whole n m i low is) ∙ sym (ap test is) ∙ t
-      here None is t = absurd (cc_none (sym none ∙ sym (ap test is) ∙ t))
-        where
-          cc_none : false ≡ true → ⊥
-          cc_none e = cc
+      here None is t = absurd (false≢true (sym none ∙ sym (ap test is) ∙ t))

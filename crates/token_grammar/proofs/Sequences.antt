@@ -1,11 +1,10 @@
 -- Readers that are exact, with one token of sight: what that means, one token, and one thing after the other.
 use Rattle.std.proofs.Common.{◌≡◌, ℕ, Bool, true, false, cond, ◌||◌, eqb, List, [], ◌∷◌, ◌++◌, length, Ok, Err, refl, sym, ◌∙◌, ap, subst, inl, inr, append_assoc, ◌⊎◌, eqb-true}
 use Rattle.std.proofs.Math.Bool.{or_assoc}
-use Rattle.std.proofs.lemmas.Bool.{cases_Bool, false≢true}
+use Rattle.std.proofs.lemmas.Bool.{cases_Bool, false≢true, or_cases, or_left, or_parts, or_right}
 use Rattle.plex_lexer.specs.declared.token.Token.{Token}
 use Rattle.token_grammar.specs.Language.{class, mem, Lang, ◌·◌, line_at}
 use Rattle.token_grammar.specs.Reading.{Stuck, Reader, ◌>>=◌, at, word_of, both, lined}
-use Rattle.plex_num.proofs.Booleans.{or_cases, or_false, or_left, or_right}
 
 abbrev pub SameHead : List Token → List Token → Type 0
 SameHead [] [] = Unit {0}
@@ -121,7 +120,7 @@ at_both xs ys [] = refl
 at_both xs ys (t ∷ ts) = mem_append (class t) xs ys
 
 pub at_append : (xs ys : List ℕ) (w : List Token) → at (xs ++ ys) w ≡ false → (at xs w ≡ false) × (at ys w ≡ false)
-at_append xs ys w h = or_false (at xs w) (at ys w) (sym (at_both xs ys w) ∙ h)
+at_append xs ys w h = or_parts (at xs w) (at ys w) (sym (at_both xs ys w) ∙ h)
 
 pub apart_mem : (xs ys : List ℕ) (c : ℕ) → apart xs ys ≡ true → mem c xs ≡ true → mem c ys ≡ false
 apart_mem [] ys c h m = cc

@@ -32,8 +32,13 @@ struct Place<B: Naming> {
     ended: Line,
 }
 
-/// How often a thread looks again before it sleeps.
-const LOOKS: u32 = 120;
+/// How often a worker looks again for a job before it sleeps. A look takes some ten nanoseconds,
+/// and several times as long on processors that pause for longer: to sleep and be woken costs two
+/// threads more than all looks together.
+const LOOKS: u32 = 400;
+
+/// How often the dispatcher looks again whether a job has ended before it sleeps.
+const LOOKS_AT_END: u32 = 1_000;
 
 /// How often a thread tries to take a job before it looks for another one.
 const TRIES: u32 = 64;
@@ -58,10 +63,14 @@ pub struct Shop<B: Naming> {
     asleep: Line,
     /// Counts wake-ups. Workers sleep on it.
     bell: Line,
+    /// 1 while a worker that was woken has not yet come to look for a job.
+    called: Line,
     /// One more than the number of the job for whose end the dispatcher sleeps, on this very word; 0 where it does not.
     waits_for: Line,
     /// So many jobs have to wait before a worker is woken for them.
     batch: Line,
+    /// So many workers that sleep are not woken.
+    spare: Line,
     /// 1 once no more jobs come.
     closed: Line,
     /// How many workers were started; `NO_MORE` once one could not be. The dispatcher alone uses it.
@@ -98,8 +107,10 @@ impl<B: Naming> Shop<B> {
             searching: Line::new(),
             asleep: Line::new(),
             bell: Line::new(),
+            called: Line::new(),
             waits_for: Line::new(),
             batch: Line::new(),
+            spare: Line::new(),
             closed: Line::new(),
             started: Line::new(),
             places,
@@ -123,20 +134,39 @@ impl<B: Naming> Shop<B> {
         }
     }
 
+    /// So many workers that sleep are not woken: others are enough.
+    pub fn spares(&self, workers: u64) {
+        if self.spare.get() != workers {
+            self.spare.set(workers);
+        }
+    }
+
+    /// Whether a worker sleeps that may be woken.
+    fn has_sleepers(&self) -> bool {
+        self.asleep.get() > self.spare.get()
+    }
+
     /// How many jobs were brought and wait for a thread.
     pub fn waiting(&self) -> u64 {
         let taken = self.taken.get();
         self.brought.get().wrapping_sub(taken)
     }
 
-    /// Wakes a worker where one sleeps, none looks for a job, and enough jobs wait.
+    /// Wakes a worker where one sleeps that may be woken, enough jobs wait, and none looks for a
+    /// job or was woken and is on its way.
     fn call(&self) {
-        if self.waiting() < self.batch.get() || self.searching.get() > 0 {
+        if self.waiting() < self.batch.get()
+            || self.searching.get() > 0
+            || !self.has_sleepers()
+            || !self.called.follows(0)
+        {
             return;
         }
-        if self.asleep.get() > 0 {
+        if self.has_sleepers() {
             self.bell.add_one();
             self.bell.wake_one();
+        } else {
+            self.called.set(0);
         }
     }
 
@@ -160,6 +190,19 @@ impl<B: Naming> Shop<B> {
     /// Whether the job of this number has ended.
     pub(crate) fn has_ended(&self, number: u64) -> bool {
         self.place(number).ended.get() == number.wrapping_add(1)
+    }
+
+    /// Whether the job of this number has ended when it was looked at so often.
+    fn ends_within(&self, number: u64, looks: u32) -> bool {
+        let ended = &self.place(number).ended;
+        let after = number.wrapping_add(1);
+        for _ in 0..looks {
+            if ended.get() == after {
+                return true;
+            }
+            hint::spin_loop();
+        }
+        false
     }
 
     /// The end of the job of this number. Until it has ended other jobs that wait are run here, the oldest first; where none waits the
@@ -250,11 +293,8 @@ impl<B: Naming> Shop<B> {
 
     /// The dispatcher waits until the job of this number has ended, or for the length of a nap.
     fn wait_for<R: Wait>(&self, rt: &R, number: u64) {
-        for _ in 0..LOOKS {
-            if self.has_ended(number) {
-                return;
-            }
-            hint::spin_loop();
+        if self.ends_within(number, LOOKS_AT_END) {
+            return;
         }
         let after = number.wrapping_add(1);
         self.waits_for.set(after);
@@ -280,19 +320,43 @@ impl<B: Naming> Shop<B> {
         for _ in rt.forever() {
             if let Some(number) = self.claim() {
                 self.searching.take_one();
-                if self.waiting() > 0 {
-                    self.call();
-                }
-                self.run_taken(rt, number, exchange, code, store, gate);
+                self.run_row(number, rt, exchange, code, store, gate);
                 self.searching.add_one();
                 served = true;
                 looks = 0;
-            } else if looks < LOOKS && self.searching.get() <= 1 {
+            } else if looks < LOOKS {
                 looks += 1;
                 hint::spin_loop();
             } else {
                 return served;
             }
+        }
+        unreachable!()
+    }
+
+    /// A worker runs the job of this number, which it has taken, and then those that wait, the
+    /// oldest first, until none does. Each time another worker is woken where enough are left.
+    fn run_row<R: Wait, G: Gate>(
+        &self,
+        number: u64,
+        rt: &R,
+        exchange: &Exchange,
+        code: &Code,
+        store: &SharedStore,
+        gate: &G,
+    )
+        requires named { (exchange.now ≡ B.exchange) × (code.now ≡ B.code) × (store.now ≡ B.store) }
+    {
+        let mut next = Some(number);
+        for _ in rt.forever() {
+            let Some(number) = next else {
+                return;
+            };
+            if self.waiting() > 0 {
+                self.call();
+            }
+            self.run_taken(rt, number, exchange, code, store, gate);
+            next = self.claim();
         }
         unreachable!()
     }
@@ -307,6 +371,7 @@ impl<B: Naming> Shop<B> {
         }
         self.searching.add_one();
         self.asleep.take_one();
+        self.called.set(0);
     }
 
     /// One more worker looks for jobs: it is being started.

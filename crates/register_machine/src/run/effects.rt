@@ -11,10 +11,9 @@ ghost use Rattle.register_machine.specs.Private.{counted_of};
 
 use super::stand::{Spot, Way};
 use super::{JobRun, eight_of};
+use crate::locals::copy_locals;
 use job_types::{Chain, Fault, Held, Outcome, SendTo, Sent};
 use plex_limits::{MOST_CALLERS, MOST_HELD, MOST_SENT, MOST_VALUES};
-use plex_num::Values;
-use std::mem;
 
 // Each of these tells where the run goes on, or that the job has ended.
 impl JobRun {
@@ -47,7 +46,9 @@ impl JobRun {
         Way::On
     }
 
-    /// The job ends by a fault.
+    /// The job ends by a fault. It stands alone, so that the loop of a run has the processor's registers for what goes on.
+    #[cold]
+    #[inline(never)]
     pub(super) fn fail(&mut self, fault: Fault) -> Way
         ensures next { result ≡ Over }
         ensures run { self.new ≡ fails fault self.old }
@@ -213,7 +214,8 @@ impl JobRun {
         ensures over { (at address : ℕ) → is_some (leads at address result) ≡ not (is_some self.new.over) }
     {
         if self.done.sends.as_slice().len() < MOST_SENT {
-            let values = mem::replace(&mut self.outgoing, Values::new());
+            let values = self.outgoing.values();
+            self.outgoing.clear();
             self.done.sends.push(Sent { to, values });
             Way::On
         } else {
@@ -242,8 +244,8 @@ impl JobRun {
         ensures values { result ≡ eight self.old.out }
         ensures run { self.new ≡ record self.old { out = [] } }
     {
-        let values = eight_of(self.outgoing.as_slice());
-        self.outgoing = Values::new();
+        let values = self.outgoing.all_eight();
+        self.outgoing.clear();
         values
     }
 
@@ -286,11 +288,11 @@ impl JobRun {
         ensures over { (at address : ℕ) → is_some (leads at address result) ≡ not (is_some self.new.over) }
     {
         if self.frames.awaits(answer) {
-            self.answers = eight_of(self.outgoing.as_slice());
-            self.outgoing = Values::new();
+            self.answers = self.outgoing.all_eight();
+            self.outgoing.clear();
             self.registers = [0; 16];
             let frame = self.frames.latest();
-            self.locals = frame.locals;
+            copy_locals(&mut self.locals, &frame.locals);
             self.given = frame.given;
             self.address = frame.back;
             self.frames.leave();

@@ -134,7 +134,17 @@ pub(crate) fn read_at<W: Words>(words: &mut W, w: u32, n: u32, i: u32) -> u32
     ensures told { W.told words.new ≡ told_more (W.told words.old) (Load (w + n * i) result) }
     ensures like { W.like words.old words.new }
 {
-    words.read(place_of(w, n, i) as u32)
+    let place = place_to_read(words, w, n, i);
+    words.read(place)
+}
+
+/// The number of the word w + n * i, which may be read.
+pub(crate) fn place_to_read<W: Words>(words: &W, w: u32, n: u32, i: u32) -> u32
+    requires { W.may_read words.now (w + n * i) ≡ true }
+    ensures { result ≡ w + n * i }
+{
+    let _ = words;
+    place_of(w, n, i) as u32
 }
 
 /// Gives the word w + n * i its value.

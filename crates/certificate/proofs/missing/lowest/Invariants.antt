@@ -1,5 +1,6 @@
-use Rattle.certificate.proofs.Lowered.{Lowest}
+use Rattle.least_facts.specs.Giving.{IsFact}
+use Rattle.certificate.proofs.Lowered.{Lowers}
 use Rattle.certificate.proofs.missing.lowest.Given as goal
 
 abbrev pub invariant-loop-fact : goal.invariant-loop-fact
-invariant-loop-fact g l = Lowest (g.K.KnownFacts.knows l.known) l.fn.first l.given l.fact-index l.least
+invariant-loop-fact g l = Lowers (g.K.KnownFacts.knows l.known) IsFact l.given l.fn.first l.fact-index l.least

@@ -1,5 +1,5 @@
 use Rattle.std.proofs.Common.{◌≡◌, ◌+◌, ◌++◌, drop}
-use Rattle.stmt_code.specs.StmtCode.{inits_code}
+use Rattle.stmt_code.specs.RecordCode.{inits_code}
 use Rattle.code_gen.specs.Settings.{placed_of}
 use Rattle.code_gen.proofs.records.push_inits.Given as goal
 

@@ -1,5 +1,5 @@
 use Rattle.std.proofs.Common.{◌≡◌, length}
-use Rattle.plex_print.specs.Printed.{and_text}
+use Rattle.plex_print.specs.PrintedExpressions.{and_text}
 use Rattle.plex_print.specs.Writing.{each_of}
 use Rattle.plex_print.proofs.condition.and_list.Given as goal
 

@@ -1,5 +1,5 @@
 use Rattle.std.proofs.Common.{◌≡◌, length}
-use Rattle.plex_print.specs.Printed.{or_text}
+use Rattle.plex_print.specs.PrintedExpressions.{or_text}
 use Rattle.plex_print.specs.Writing.{each_of}
 use Rattle.plex_print.proofs.condition.or_list.Given as goal
 

@@ -1,5 +1,5 @@
 use Rattle.std.proofs.Common.{◌≡◌, ◌+◌, ◌*◌, length}
-use Rattle.plex_print.specs.Printed.{added_text, multiplied_text}
+use Rattle.plex_print.specs.PrintedExpressions.{added_text, multiplied_text}
 use Rattle.plex_print.specs.Writing.{each_of}
 use Rattle.plex_print.proofs.expression.+expressions.Given as goal
 

@@ -1,0 +1,4 @@
+pub mod Accepted
+pub mod Endings
+pub mod Stages
+pub mod Tables

@@ -1,0 +1,17 @@
+pub mod Outcome
+pub mod Stages
+pub mod Given
+pub mod RunAnswer
+pub mod TimedAnswer
+pub mod TraceAnswer
+pub mod ChangeAnswer
+pub mod ListAnswer
+pub mod LoadAnswer
+pub mod ExchangeAnswer
+pub mod Answer
+pub mod Certificates
+pub mod Program
+pub mod Reading
+pub mod Text
+pub mod Whole
+pub mod Lines

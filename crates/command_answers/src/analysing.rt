@@ -1,0 +1,71 @@
+// What the analysis of an exchange says, and its certificate.
+ghost use Rattle.std.specs.Prelude.{IfOk};
+ghost use Rattle.command_answers.specs.ExchangeAnswer.{AnswersAnalysis, AnswersCertificate};
+ghost use Rattle.command_answers.specs.ExchangeAnswer.{FromExchange};
+ghost use Rattle.command_answers.specs.Program.{IsEnding};
+ghost use Rattle.command_answers.specs.Stages.{Performs};
+
+use crate::answer::{Answer, Stop};
+use crate::files::exchange_in;
+use access_summary::summaries_of;
+use analysis_text::analysis;
+use certificate::text_of_certificate;
+use command_words::Status;
+use exchange_model::Exchange;
+use plex_io::{Shelf, Word};
+use plex_num::Memory;
+use std::alloc::Global;
+
+/// `analyse`. It stops where the file cannot be read or its text has a fault, and where memory is
+/// refused.
+#[tactic(auto, using(crate::proofs::Stages::performs_rules))]
+pub fn perform_analysis<S: Shelf>(alloc: Global, shelf: &mut S, name: &Word) -> Result<Answer, Stop>
+    ensures comes { Performs (S.held shelf.old) (FromExchange name.now AnswersAnalysis)
+        (S.faults shelf.old) (S.faults shelf.new) result }
+    ensures ending { IfOk result (λ a. IsEnding a.status) }
+{
+    let exchange = exchange_in(alloc, shelf, name)?;
+    let answer = analysis_answer(alloc, &exchange)?;
+    Ok(answer)
+}
+
+/// `certify`. It stops as `analyse` does.
+#[tactic(auto, using(crate::proofs::Stages::performs_rules))]
+pub fn perform_certificate<S: Shelf>(
+    alloc: Global,
+    shelf: &mut S,
+    name: &Word,
+) -> Result<Answer, Stop>
+    ensures comes { Performs (S.held shelf.old) (FromExchange name.now AnswersCertificate)
+        (S.faults shelf.old) (S.faults shelf.new) result }
+    ensures ending { IfOk result (λ a. IsEnding a.status) }
+{
+    let exchange = exchange_in(alloc, shelf, name)?;
+    let answer = certificate_answer(alloc, &exchange)?;
+    Ok(answer)
+}
+
+/// The answer with the analysis of an exchange.
+fn analysis_answer(alloc: Global, exchange: &Exchange) -> Result<Answer, Memory>
+    ensures answer { IfOk result (AnswersAnalysis exchange.now) }
+    ensures ending { IfOk result (λ a. IsEnding a.status) }
+{
+    let summaries = summaries_of(alloc, exchange)?;
+    let text = analysis(alloc, exchange, &summaries)?;
+    Ok(Answer {
+        status: Status::Done,
+        text,
+    })
+}
+
+/// The answer with the certificate of an exchange.
+fn certificate_answer(alloc: Global, exchange: &Exchange) -> Result<Answer, Memory>
+    ensures answer { IfOk result (AnswersCertificate exchange.now) }
+    ensures ending { IfOk result (λ a. IsEnding a.status) }
+{
+    let text = text_of_certificate(alloc, exchange)?;
+    Ok(Answer {
+        status: Status::Done,
+        text,
+    })
+}

@@ -1,0 +1,143 @@
+// What files hold: a text, an exchange, signal lines, or the answer at the first fault.
+ghost use Rattle.std.specs.Prelude.{◌≡◌, ◌≤◌, IfOk, IfSome, length};
+ghost use Rattle.plex_limits.specs.declared.limits.TheConstants.{MOST_BYTES};
+ghost use Rattle.signal_file.specs.Rules.{IsDirectory};
+ghost use Rattle.command_answers.specs.Stages.{Comes, ReadAs};
+ghost use Rattle.command_answers.specs.Given.{exchange_as, exchange_at, exchange_of_file, fitting};
+ghost use Rattle.command_answers.specs.Given.{lines_at, lines_of_file, text_at};
+ghost use Rattle.command_answers.specs.Lines.{AreOfText, AreRead};
+
+use crate::answer::Stop;
+use crate::fault::Which;
+use crate::reading::exchange_of_text;
+use crate::text::{signals_stop, source_stop};
+use exchange_model::Exchange;
+use plex_io::{Shelf, ShelfFault, Word};
+use plex_limits::MOST_BYTES;
+use plex_num::{Memory, Seq};
+use signal_file::{Directory, Known, Line, SignalsFault, SignalsRule, read_signals};
+use std::alloc::Global;
+
+/// The text of a file, where it is not too large; none where it is. It stops where the file cannot
+/// be read, and where memory is refused.
+#[tactic(auto, using(crate::proofs::Stages::text_comes, crate::proofs::Stages::text_absent))]
+pub fn text_in<S: Shelf>(alloc: Global, shelf: &mut S, name: &Word) -> Result<Option<Seq<u8>>, Stop>
+    ensures comes { Comes (S.held shelf.old) (text_at name.now) (S.faults shelf.old)
+        (S.faults shelf.new) result }
+    ensures kept { S.held shelf.new ≡ S.held shelf.old }
+    ensures size { IfOk result (λ t. IfSome t (λ text. length text ≤ MOST_BYTES)) }
+{
+    match shelf.read_file(alloc, name, MOST_BYTES as u64) {
+        Ok(text) => Ok(fitting(text)),
+        Err(ShelfFault::Absent) => Err(Stop::NotHeld),
+        Err(ShelfFault::Failed) => Err(Stop::Failed),
+        Err(ShelfFault::Memory) => Err(Stop::Memory),
+    }
+}
+
+/// The exchange of a file, or the first fault of its text. It stops where the file cannot be read,
+/// and wherever memory is refused.
+pub fn exchange_in<S: Shelf>(alloc: Global, shelf: &mut S, name: &Word) -> Result<Exchange, Stop>
+    ensures comes { Comes (S.held shelf.old) (exchange_at name.now) (S.faults shelf.old)
+        (S.faults shelf.new) result }
+    ensures kept { S.held shelf.new ≡ S.held shelf.old }
+{
+    exchange_as(alloc, shelf, name, Which::First)
+}
+
+/// The same of the first exchange of a command, or of another one.
+#[tactic(auto, using(crate::proofs::Stages::comes_rules))]
+pub fn exchange_as<S: Shelf>(
+    alloc: Global,
+    shelf: &mut S,
+    name: &Word,
+    which: Which,
+) -> Result<Exchange, Stop>
+    ensures comes { Comes (S.held shelf.old) (exchange_as which name.now) (S.faults shelf.old)
+        (S.faults shelf.new) result }
+    ensures kept { S.held shelf.new ≡ S.held shelf.old }
+{
+    let text = text_in(alloc, shelf, name)?;
+    exchange_of_file(alloc, which, &text)
+}
+
+/// The exchange that a file's text means, which may be too large. It stops at the first fault of
+/// the text, and where memory is refused.
+#[tactic(auto, using(crate::proofs::Stages::refused_rules))]
+pub fn exchange_of_file(
+    alloc: Global,
+    which: Which,
+    text: &Option<Seq<u8>>,
+) -> Result<Exchange, Stop>
+    requires { IfSome text.now (λ t. length t ≤ MOST_BYTES) }
+    ensures { ReadAs (exchange_of_file which text.now) result }
+{
+    match exchange_of_text(alloc, text)? {
+        Ok(exchange) => Ok(exchange),
+        Err(fault) => Err(source_stop(alloc, which, fault)),
+    }
+}
+
+/// What an exchange has by its names, for a `Known` of it. A command makes it once, and reads each
+/// further file by that.
+pub fn directory_of(alloc: Global, exchange: &Exchange) -> Result<Directory, Memory>
+    ensures { IfOk result (λ names. IsDirectory exchange.now names) }
+{
+    let known = Known::of(alloc, exchange)?;
+    Ok(known.names)
+}
+
+/// The signal lines of a file, or its first faulty line. It stops where the file cannot be read, and
+/// wherever memory is refused.
+#[tactic(auto, using(crate::proofs::Stages::comes_rules))]
+pub fn lines_in<S: Shelf>(
+    alloc: Global,
+    shelf: &mut S,
+    known: &Known<'_>,
+    name: &Word,
+) -> Result<Seq<Line>, Stop>
+    ensures comes { Comes (S.held shelf.old) (lines_at known.now.exchange.now name.now)
+        (S.faults shelf.old) (S.faults shelf.new) result }
+    ensures kept { S.held shelf.new ≡ S.held shelf.old }
+    ensures read { IfOk result (AreRead known.now.exchange.now) }
+    ensures of_text { IfOk result (AreOfText known.now.exchange.now) }
+{
+    let text = text_in(alloc, shelf, name)?;
+    lines_of_file(alloc, known, &text)
+}
+
+/// The signal lines of a file's text, which may be too large. It stops at its first faulty line,
+/// and where memory is refused.
+#[tactic(auto, using(crate::proofs::Stages::refused_rules, crate::proofs::Tables::are_of_text))]
+pub fn lines_of_file(
+    alloc: Global,
+    known: &Known<'_>,
+    text: &Option<Seq<u8>>,
+) -> Result<Seq<Line>, Stop>
+    requires { IfSome text.now (λ t. length t ≤ MOST_BYTES) }
+    ensures reads { ReadAs (lines_of_file known.now.exchange.now text.now) result }
+    ensures read { IfOk result (AreRead known.now.exchange.now) }
+    ensures of_text { IfOk result (AreOfText known.now.exchange.now) }
+{
+    let Some(text) = text else {
+        let rule = SignalsRule::TooLarge;
+        return Err(signals_stop(alloc, SignalsFault { line: 0, rule }));
+    };
+    match read_signals(alloc, known, text.as_slice())? {
+        Ok(lines) => Ok(lines),
+        Err(fault) => Err(signals_stop(alloc, fault)),
+    }
+}
+
+/// A text, where it is not too large for a file.
+#[tactic(auto, using(crate::proofs::Stages::is_fitting, crate::proofs::Stages::none_fitting))]
+pub fn fitting(text: Seq<u8>) -> Option<Seq<u8>>
+    ensures is { result ≡ fitting MOST_BYTES text }
+    ensures size { IfSome result (λ t. length t ≤ MOST_BYTES) }
+{
+    if text.len() > MOST_BYTES {
+        None
+    } else {
+        Some(text)
+    }
+}

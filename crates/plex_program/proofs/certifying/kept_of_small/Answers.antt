@@ -1,5 +1,0 @@
-use Rattle.plex_program.proofs.Stages.{text_kept}
-use Rattle.plex_program.proofs.certifying.kept_of_small.Goals as goal
-
-pub returns-in-Ok : goal.returns-in-Ok
-returns-in-Ok c = text_kept c.args.exchange.now c.args.text.now c.in-Ok.certificate c.kept_of.result c.in-Ok.ensures.told c.kept_of.ensures

@@ -1,8 +1,0 @@
-use Rattle.plex_program.proofs.Tables.{lines_of_text, merged_again}
-use Rattle.plex_program.proofs.laws.written_lines_of_texts_are_read.Goals as goal
-
-pub returns-clause-lines : goal.returns-clause-lines
-returns-clause-lines c = lines_of_text
-
-pub returns-clause-merged : goal.returns-clause-merged
-returns-clause-merged c = merged_again
