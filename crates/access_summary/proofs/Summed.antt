@@ -3,12 +3,8 @@ use Rattle.std.proofs.Common.{◌≡◌, ◌⊎◌, ◌↔◌, inl, inr, ⊎_eli
 use Rattle.std.proofs.lemmas.List.Elements.{Contains-append_left, Contains-append_right, Contains-append_cases}
 use Rattle.std.proofs.lemmas.Option.{none-some, slice_get_within}
 use Rattle.std.specs.List.Sorted.{IsStrictlySortedBy}
-use Rattle.std.specs.declared.cmp.Ordering.TheVariants.{Less}
-use Rattle.std.specs.Ordering.{nat_cmp, ordering_then}
 use Rattle.std.proofs.lemmas.Bool.{ltb-true, ltb-false}
 use Rattle.plex_num.proofs.Lists.{get_push}
-use Rattle.flow_points.specs.contracts.fact.SlotOrd.TheImpl as slots
-use Rattle.flow_points.specs.contracts.fact.ValueOrd.TheImpl as values
 use Rattle.exchange_model.specs.declared.exchange.Exchange.{Exchange}
 use Rattle.flow_points.specs.declared.fact.Fact.{Fact}
 use Rattle.flow_points.specs.Facts.{Facts, IsLeast}
@@ -17,7 +13,8 @@ use Rattle.flow_points.specs.Orders.{fact_order}
 use Rattle.flow_table.specs.declared.place.PlaceAt.{PlaceAt}
 use Rattle.flow_table.specs.Texts.{ArePlaces, AreReachedAmong, seen}
 use Rattle.fact_rows.specs.Known.{BitRows, Knows}
-use Rattle.fact_rows.proofs.Listing.{nat_less, sorted_append, sorted_none}
+use Rattle.fact_rows.proofs.Listing.{sorted_append, sorted_none}
+use Rattle.fact_list.proofs.Ordering.{entry_less}
 use Rattle.least_facts.specs.declared.looks.Looked.{Looked}
 use Rattle.least_facts.specs.declared.looks.Looked.TheVariants.{Whole, Over}
 use Rattle.least_facts.specs.Least.{KnowLeast}
@@ -101,9 +98,6 @@ facts_begin x facts none = subst (FactsGo x 0) (sym none) (record {
   listed = λ f lt least. absurd (omega (arith, lt));
   rising = sorted_none fact_order;
 })
-
-pub entry_less : (f g : Fact) → f.entry < g.entry → fact_order f g ≡ Less
-entry_less f g lt = ap (λ o. ordering_then o (ordering_then (nat_cmp f.point g.point) (ordering_then (slots.ghosts.cmp f.slot g.slot) (values.ghosts.cmp f.value g.value)))) (nat_less f.entry g.entry lt)
 
 pub below_or_last : (m n : ℕ) → m < n + 1 → (m < n) ⊎ (m ≡ n)
 below_or_last m n lt = by (nat_lt m n) refl

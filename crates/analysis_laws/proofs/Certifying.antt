@@ -6,7 +6,7 @@ use Rattle.flow_points.specs.Orders.{fact_order}
 use Rattle.certificate_text.specs.declared.certificate.Certificate.{Certificate}
 use Rattle.certificate_text.specs.Text.{certificate_text}
 use Rattle.certificate.specs.Certified.{IsCertificate, IsTextOfCertificate}
-use Rattle.checked.proofs.Checking.{same_shape}
+use Rattle.certificate_check.proofs.Checking.{same_shape}
 use Rattle.analysis_laws.proofs.Rising.{rising_once, same_sides}
 
 pub certificate_once : (x : Exchange) (c d : Certificate) → IsCertificate x c → IsCertificate x d → c ≡ d

@@ -1,11 +1,5 @@
 pub mod Counts
-pub mod Firsts
 pub mod Fitting
-pub mod Joining
-pub mod Lowered
-pub mod Ordering
 pub mod Pointing
 pub mod Reaching
-pub mod Slotted
-pub mod Standing
 pub mod Told

@@ -3,17 +3,9 @@ use Rattle.std.specs.Prelude.{◌≡◌, ◌↔◌, ℕ, ◌<◌, List, ◌++◌
 use Rattle.std.specs.List.Sorted.{IsStrictlySortedBy}
 use Rattle.exchange_model.specs.declared.exchange.Exchange.{Exchange}
 use Rattle.flow_points.specs.declared.fact.Fact.{Fact}
-use Rattle.flow_points.specs.declared.fact.Slot.{Slot}
 use Rattle.flow_points.specs.Facts.{Facts, IsLeast}
 use Rattle.flow_points.specs.Orders.{fact_order}
 use Rattle.certificate_text.specs.Text.{facts_text}
-
--- a fact that is known, of the entry and the point, in one of some slots
-pub record IsKnownIn (P : Facts) (e p : ℕ) (S : Slot → Type 0) (f : Fact) : Type 0 where
-  pub entry : f.entry ≡ e
-  pub point : f.point ≡ p
-  pub slot : S f.slot
-  pub known : P f
 
 -- the least facts of the entry: all of them, those at the point, and those before it
 abbrev pub LeastOf : Exchange → ℕ → Facts

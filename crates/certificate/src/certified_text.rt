@@ -7,11 +7,10 @@ ghost use Rattle.certificate_text.specs.Text.{fact_line, facts_text, last_text};
 ghost use Rattle.certificate.specs.Certified.{IsTextOfCertificate};
 ghost use Rattle.certificate.specs.Entries.{AddsLines, LeastAt, LeastOf};
 
-use crate::point_facts::facts_at;
 use crate::shape::shape_of;
 use certificate_text::{print_end, print_head, print_line};
 use exchange_model::Exchange;
-use fact_rows::FactRows;
+use fact_rows::{FactRows, PointFacts};
 use flow_points::Fact;
 use flow_table::{FlowTable, KnownFacts, table_of};
 use least_facts::Analyser;
@@ -71,32 +70,33 @@ fn add_points(
     ensures { OnOk result (AddsLines (LeastOf exchange.now entry) text.old text.new) }
 {
     exchange.kept();
+    let _ = &table.rows;
+    let mut list = PointFacts::new(alloc);
     for point in 0..exchange.points.len() {
-        add_point(text, alloc, exchange, table, known, entry, point as u32)?;
+        add_point(text, exchange, known, entry, point as u32, &mut list)?;
     }
     Ok(())
 }
 
-/// Appends the lines of those at a point.
+/// Appends the lines of those at a point, which are listed in the place of others.
 #[tactic(auto, using(crate::proofs::Pointing::point_left, crate::proofs::Pointing::point_added))]
 fn add_point(
     text: &mut Text,
-    alloc: Global,
     exchange: &Exchange,
-    table: &FlowTable,
     known: &FactRows,
     entry: u32,
     point: u32,
+    list: &mut PointFacts,
 ) -> Result<(), Memory>
-    requires table { IsFlowTable exchange.now table.now }
-    requires least { KnowLeast exchange.now entry known.now }
+    requires { KnowLeast exchange.now entry known.now }
     ensures { OnOk result (AddsLines (LeastAt exchange.now entry point) text.old text.new) }
 {
+    exchange.kept();
     if !known.is_reached(entry, point) {
         return Ok(());
     }
-    let facts = facts_at(alloc, exchange, table, known, entry, point)?;
-    add_facts(text, facts.as_slice())?;
+    known.list_at(point, list)?;
+    add_facts(text, &list.facts)?;
     Ok(())
 }
 

@@ -5,9 +5,9 @@ ghost use Rattle.exchange_model.specs.Kept.{IsExchange};
 ghost use Rattle.certificate_text.specs.declared.certificate.Certificate.{Certificate};
 ghost use Rattle.certificate_text.specs.Lines.{HasBadLine, IsTextOf};
 ghost use Rattle.certificate.specs.Certified.{IsCertificate};
-ghost use Rattle.checked.specs.declared.fault.CertFault.{CertFault};
-ghost use Rattle.checked.specs.declared.fault.CertFault.TheVariants.{Memory};
-ghost use Rattle.checked.specs.Verdicts.{IsClosedCertificate, Refuses};
+ghost use Rattle.certificate_check.specs.declared.fault.CertFault.{CertFault};
+ghost use Rattle.certificate_check.specs.declared.fault.CertFault.TheVariants.{Memory};
+ghost use Rattle.certificate_check.specs.Verdicts.{IsClosedCertificate, Refuses};
 
 /// An exchange has a certificate.
 pub fn certificates_come()

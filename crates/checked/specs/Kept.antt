@@ -5,7 +5,7 @@ use Rattle.flow_points.specs.declared.fact.Fact.{Fact}
 use Rattle.flow_points.specs.Facts.{Facts, IsClosed}
 use Rattle.entry_summary.specs.declared.summary.Summary.{Summary}
 use Rattle.entry_summary.specs.Summaries.{IsSummary}
-use Rattle.certificate.specs.Strange.{IsOfExchange}
+use Rattle.checked.specs.Belonging.{IsOfExchange}
 
 -- summaries by the numbers of their entries
 pub record KeptSummaries : Type 0 where

@@ -1,3 +1,2 @@
+pub mod Belonging
 pub mod Kept
-pub mod Own
-pub mod Verdicts

@@ -34,8 +34,8 @@ impl Model for Checked {
 }
 
 impl Checked {
-    /// What keeps these summaries, one for each entry.
-    pub(crate) fn new(summaries: Summaries) -> Checked
+    /// What keeps these summaries, one for each entry, of which there are no more than an exchange may have.
+    pub fn new(summaries: Summaries) -> Checked
         requires { length summaries ≤ MOST_ENTRIES }
         ensures { result.summaries ≡ summaries }
     {

@@ -4,7 +4,7 @@ ghost use Rattle.machine_code.specs.declared.op.Op.TheVariants as op;
 ghost use Rattle.machine_code.specs.Operands.{OpFits};
 ghost use Rattle.exchange_model.specs.declared.entry.Entry.{Entry as Point};
 ghost use Rattle.store_layout.specs.Laid.{IsLayout};
-ghost use Rattle.register_machine.specs.Faithful.{Faithful};
+ghost use Rattle.machine_meaning.specs.Faithful.{Faithful};
 ghost use Rattle.stmt_code.specs.StmtCode.{codes, stmt_code};
 ghost use Rattle.stmt_code.specs.Whole.{code_upto, entry_addresses, whole_code};
 ghost use Rattle.code_gen.specs.Addresses.{addresses_by, addresses_from, enter_in, no_addresses, table_in};
@@ -13,6 +13,7 @@ ghost use Rattle.code_gen.specs.Settings.{AreIn, places_in};
 use crate::addresses::{Addresses, address_after};
 use crate::setting::{Setting, Spot};
 use crate::text::emit_kind;
+use code_forms::prepared_code;
 use exchange_model::{Exchange, Stmt};
 use machine_code::{Code, Op};
 use plex_num::{Memory, Seq};
@@ -36,7 +37,7 @@ pub fn compile(alloc: Global, exchange: &Exchange, layout: &Layout) -> Result<Co
     let mut ops = pass.ops;
     ops.push(Op::End)?;
     check_length(&ops)?;
-    let code = Code::new(alloc, ops, entries)?;
+    let code = prepared_code(alloc, ops, entries)?;
     whole_code_is_faithful(exchange, &code);
     Ok(code)
 }

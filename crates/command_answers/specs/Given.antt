@@ -1,5 +1,5 @@
 -- The exchange and the signal lines that files hold.
-use Rattle.std.specs.Prelude.{ℕ, nat_lt, List, length, Option, Some, None, Ok, Err, if◌then◌else◌}
+use Rattle.std.specs.Prelude.{ℕ, nat_lt, List, length, Option, Some, None, Result, Ok, Err, if◌then◌else◌}
 use Rattle.plex_io.specs.Files.{Files}
 use Rattle.plex_limits.specs.declared.limits.TheConstants.{MOST_BYTES}
 use Rattle.exchange_model.specs.declared.exchange.Exchange.{Exchange}
@@ -9,8 +9,10 @@ use Rattle.signal_file.specs.Lines.{signal_lines}
 use Rattle.signal_file.specs.Rules.{breach}
 use Rattle.command_answers.specs.Reading.{exchange_of_text}
 use Rattle.command_words.specs.Words.{Word}
+use Rattle.command_answers.specs.declared.answer.Stop.{Stop}
 use Rattle.command_answers.specs.declared.fault.Which.{Which}
 use Rattle.command_answers.specs.declared.fault.Which.TheVariants.{First}
+use Rattle.command_answers.specs.declared.known.KnownExchange.{KnownExchange}
 use Rattle.command_answers.specs.Outcome.{Out, goes_on, not_held, or_refused}
 use Rattle.command_answers.specs.Text.{signals_refusal, source_refusal}
 
@@ -36,6 +38,11 @@ exchange_as which name files = goes_on (text_at name files) (λ text. exchange_o
 
 abbrev pub exchange_at : Word → Files → Out Exchange
 exchange_at name files = exchange_as First name files
+
+-- a stage that makes an exchange known comes to that exchange
+abbrev pub exchange_from : Result KnownExchange Stop → Result Exchange Stop
+exchange_from (Ok known) = Ok known.exchange
+exchange_from (Err stop) = Err stop
 
 -- the signal lines of a text, or its first fault; a text that is too large has no line
 abbrev pub lines_of_file : Exchange → Option (List ℕ) → Out (List Line)

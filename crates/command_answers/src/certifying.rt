@@ -4,8 +4,9 @@ ghost use Rattle.plex_limits.specs.declared.limits.TheConstants.{MOST_BYTES};
 ghost use Rattle.command_answers.specs.Certificates.{IsAcceptedOrNot, IsKeptOrNot};
 
 use crate::fault::CertificateFault;
+use certificate_check::{CertFault, check};
 use certificate_text::{Certificate, TextFault, read_certificate};
-use checked::{CertFault, Checked, check};
+use checked::Checked;
 use exchange_model::Exchange;
 use plex_num::{Memory, Seq};
 use std::alloc::Global;

@@ -1,21 +1,21 @@
 // What files hold: a text, an exchange, signal lines, or the answer at the first fault.
 ghost use Rattle.std.specs.Prelude.{◌≡◌, ◌≤◌, IfOk, IfSome, length};
 ghost use Rattle.plex_limits.specs.declared.limits.TheConstants.{MOST_BYTES};
-ghost use Rattle.signal_file.specs.Rules.{IsDirectory};
 ghost use Rattle.command_answers.specs.Stages.{Comes, ReadAs};
 ghost use Rattle.command_answers.specs.Given.{exchange_as, exchange_at, exchange_of_file, fitting};
-ghost use Rattle.command_answers.specs.Given.{lines_at, lines_of_file, text_at};
+ghost use Rattle.command_answers.specs.Given.{exchange_from, lines_at, lines_of_file, text_at};
 ghost use Rattle.command_answers.specs.Lines.{AreOfText, AreRead};
 
 use crate::answer::Stop;
 use crate::fault::Which;
+use crate::known::KnownExchange;
 use crate::reading::exchange_of_text;
 use crate::text::{signals_stop, source_stop};
 use exchange_model::Exchange;
 use plex_io::{Shelf, ShelfFault, Word};
 use plex_limits::MOST_BYTES;
-use plex_num::{Memory, Seq};
-use signal_file::{Directory, Known, Line, SignalsFault, SignalsRule, read_signals};
+use plex_num::Seq;
+use signal_file::{Known, Line, SignalsFault, SignalsRule, directory_of, read_signals};
 use std::alloc::Global;
 
 /// The text of a file, where it is not too large; none where it is. It stops where the file cannot
@@ -78,29 +78,42 @@ pub fn exchange_of_file(
     }
 }
 
-/// What an exchange has by its names, for a `Known` of it. A command makes it once, and reads each
-/// further file by that.
-pub fn directory_of(alloc: Global, exchange: &Exchange) -> Result<Directory, Memory>
-    ensures { IfOk result (λ names. IsDirectory exchange.now names) }
+/// The exchange of a file, with what it has by its names. It stops as `exchange_in` does.
+#[tactic(auto, using(crate::proofs::Stages::comes_rules))]
+pub fn known_in<S: Shelf>(alloc: Global, shelf: &mut S, name: &Word) -> Result<KnownExchange, Stop>
+    ensures comes { Comes (S.held shelf.old) (exchange_at name.now) (S.faults shelf.old)
+        (S.faults shelf.new) (exchange_from result) }
+    ensures kept { S.held shelf.new ≡ S.held shelf.old }
 {
-    let known = Known::of(alloc, exchange)?;
-    Ok(known.names)
+    let text = text_in(alloc, shelf, name)?;
+    known_of_file(alloc, &text)
 }
 
-/// The signal lines of a file, or its first faulty line. It stops where the file cannot be read, and
-/// wherever memory is refused.
+/// The same of a file's text, which may be too large.
+#[tactic(auto, using(crate::proofs::Stages::reads_memory))]
+pub fn known_of_file(alloc: Global, text: &Option<Seq<u8>>) -> Result<KnownExchange, Stop>
+    requires { IfSome text.now (λ t. length t ≤ MOST_BYTES) }
+    ensures { ReadAs (exchange_of_file Which.First text.now) (exchange_from result) }
+{
+    let exchange = exchange_of_file(alloc, Which::First, text)?;
+    let names = directory_of(alloc, &exchange)?;
+    Ok(KnownExchange { exchange, names })
+}
+
+/// The signal lines of a file, or its first faulty line. It stops where the file cannot be read,
+/// and wherever memory is refused.
 #[tactic(auto, using(crate::proofs::Stages::comes_rules))]
 pub fn lines_in<S: Shelf>(
     alloc: Global,
     shelf: &mut S,
-    known: &Known<'_>,
+    known: &KnownExchange,
     name: &Word,
 ) -> Result<Seq<Line>, Stop>
-    ensures comes { Comes (S.held shelf.old) (lines_at known.now.exchange.now name.now)
+    ensures comes { Comes (S.held shelf.old) (lines_at known.now.exchange name.now)
         (S.faults shelf.old) (S.faults shelf.new) result }
     ensures kept { S.held shelf.new ≡ S.held shelf.old }
-    ensures read { IfOk result (AreRead known.now.exchange.now) }
-    ensures of_text { IfOk result (AreOfText known.now.exchange.now) }
+    ensures read { IfOk result (AreRead known.now.exchange) }
+    ensures of_text { IfOk result (AreOfText known.now.exchange) }
 {
     let text = text_in(alloc, shelf, name)?;
     lines_of_file(alloc, known, &text)
@@ -111,19 +124,23 @@ pub fn lines_in<S: Shelf>(
 #[tactic(auto, using(crate::proofs::Stages::refused_rules, crate::proofs::Tables::are_of_text))]
 pub fn lines_of_file(
     alloc: Global,
-    known: &Known<'_>,
+    known: &KnownExchange,
     text: &Option<Seq<u8>>,
 ) -> Result<Seq<Line>, Stop>
     requires { IfSome text.now (λ t. length t ≤ MOST_BYTES) }
-    ensures reads { ReadAs (lines_of_file known.now.exchange.now text.now) result }
-    ensures read { IfOk result (AreRead known.now.exchange.now) }
-    ensures of_text { IfOk result (AreOfText known.now.exchange.now) }
+    ensures reads { ReadAs (lines_of_file known.now.exchange text.now) result }
+    ensures read { IfOk result (AreRead known.now.exchange) }
+    ensures of_text { IfOk result (AreOfText known.now.exchange) }
 {
     let Some(text) = text else {
         let rule = SignalsRule::TooLarge;
         return Err(signals_stop(alloc, SignalsFault { line: 0, rule }));
     };
-    match read_signals(alloc, known, text.as_slice())? {
+    let reader = Known {
+        exchange: &known.exchange,
+        names: &known.names,
+    };
+    match read_signals(alloc, &reader, text.as_slice())? {
         Ok(lines) => Ok(lines),
         Err(fault) => Err(signals_stop(alloc, fault)),
     }

@@ -11,6 +11,7 @@ mod answer;
 mod certifying;
 mod fault;
 mod files;
+mod known;
 mod laws;
 mod merging;
 mod reading;
@@ -21,12 +22,9 @@ pub use answer::{Answer, Stop, write_answer};
 pub use certifying::kept_of_text;
 pub use fault::{CertificateFault, Rule, SourceFault, Which};
 pub use files::{
-    directory_of, exchange_as, exchange_in, exchange_of_file, fitting, lines_in, lines_of_file,
-    text_in,
+    exchange_as, exchange_in, fitting, known_in, known_of_file, lines_in, lines_of_file, text_in,
 };
-pub use job_table::{TableFault, TableRule};
+pub use known::KnownExchange;
 pub use laws::{timed_runs_are_runs, written_lines_of_texts_are_read};
 pub use merging::merged_in;
-pub use signal_file::{SignalsFault, SignalsRule};
-pub use signal_trace::{FilterFault, FilterRule};
 pub use text::{certificate_stop, filter_stop, usage_line};

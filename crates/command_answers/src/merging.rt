@@ -7,6 +7,7 @@ ghost use Rattle.command_answers.specs.Lines.{AreOfText, AreRead};
 
 use crate::answer::Stop;
 use crate::files::text_in;
+use crate::known::KnownExchange;
 use crate::text::table_stop;
 use job_table::{TableFault, TableRule, merge, read_table};
 use plex_io::{Shelf, Word};
@@ -20,16 +21,16 @@ use std::alloc::Global;
 pub fn merged_in<S: Shelf>(
     alloc: Global,
     shelf: &mut S,
-    known: &Known<'_>,
+    known: &KnownExchange,
     lines: &Seq<Line>,
     name: &Word,
 ) -> Result<Seq<Line>, Stop>
-    requires of_text { AreOfText known.now.exchange.now lines.now }
+    requires of_text { AreOfText known.now.exchange lines.now }
     requires few { length lines.now < 2 ^ 32 }
-    ensures comes { Comes (S.held shelf.old) (merged_at known.now.exchange.now lines.now name.now)
+    ensures comes { Comes (S.held shelf.old) (merged_at known.now.exchange lines.now name.now)
         (S.faults shelf.old) (S.faults shelf.new) result }
     ensures kept { S.held shelf.new ≡ S.held shelf.old }
-    ensures read { IfOk result (AreRead known.now.exchange.now) }
+    ensures read { IfOk result (AreRead known.now.exchange) }
 {
     let text = text_in(alloc, shelf, name)?;
     merged_of_file(alloc, known, lines, &text)
@@ -39,21 +40,25 @@ pub fn merged_in<S: Shelf>(
 #[tactic(auto, using(crate::proofs::Tables::table_rules, crate::proofs::Stages::reads_rules, crate::proofs::Stages::refused_rules))]
 fn merged_of_file(
     alloc: Global,
-    known: &Known<'_>,
+    known: &KnownExchange,
     lines: &Seq<Line>,
     text: &Option<Seq<u8>>,
 ) -> Result<Seq<Line>, Stop>
-    requires of_text { AreOfText known.now.exchange.now lines.now }
+    requires of_text { AreOfText known.now.exchange lines.now }
     requires few { length lines.now < 2 ^ 32 }
     requires size { IfSome text.now (λ t. length t ≤ MOST_BYTES) }
-    ensures reads { ReadAs (merged_of_file known.now.exchange.now lines.now text.now) result }
-    ensures read { IfOk result (AreRead known.now.exchange.now) }
+    ensures reads { ReadAs (merged_of_file known.now.exchange lines.now text.now) result }
+    ensures read { IfOk result (AreRead known.now.exchange) }
 {
     let Some(text) = text else {
         let rule = TableRule::TooLarge;
         return Err(table_stop(alloc, TableFault { line: 0, rule }));
     };
-    match read_table(alloc, known, lines, text.as_slice())? {
+    let reader = Known {
+        exchange: &known.exchange,
+        names: &known.names,
+    };
+    match read_table(alloc, &reader, lines, text.as_slice())? {
         Ok(periods) => {
             let all = merge(alloc, lines, &periods)?;
             Ok(all)

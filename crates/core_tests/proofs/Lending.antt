@@ -22,8 +22,8 @@ use Rattle.source_meaning.specs.Valid.{IsValid}
 use Rattle.source_meaning.proofs.Retiring.{start_fits}
 use Rattle.source_meaning.proofs.Touching.{touches_inside}
 use Rattle.retire_order.specs.Accounts.{Account, upcoming, with_words}
-use Rattle.register_machine.specs.Faithful.{MayMake, started}
-use Rattle.register_machine.specs.Private.{Private}
+use Rattle.machine_meaning.specs.Faithful.{MayMake, started}
+use Rattle.machine_meaning.specs.Private.{Private}
 use Rattle.exchange_run.specs.Runs.{MayRun}
 use Rattle.shared_store.specs.Loans.{FitsBeside, borrower, unlent}
 use Rattle.shared_store.specs.Seats.{JobView, RootView, StoreId}

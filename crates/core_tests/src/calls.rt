@@ -51,15 +51,13 @@ fn listed_again(alloc: Global, text: &[u8]) -> Result<Seq<u8>, NotMade> {
     }
 }
 
-/// Whether code is what its listing lists.
+/// Whether the code that a listing gives back has that listing too, which no other code has.
 fn comes_back(alloc: Global, code: &Code) -> Result<bool, NotMade>
     requires { All OpFits code.now.ops }
 {
     let text = print_code(alloc, code)?;
-    match code_of(alloc, text.as_slice()) {
-        Ok(read) => Ok(read.ops() == code.ops() && read.entries() == code.entries()),
-        Err(_) => Err(NotMade),
-    }
+    let again = listed_again(alloc, text.as_slice())?;
+    Ok(again.as_slice() == text.as_slice())
 }
 
 /// The same of the code of an exchange.

@@ -1,6 +1,6 @@
 // Which events are allowed.
 ghost use Rattle.store_layout.specs.Laid.{IsLayout};
-ghost use Rattle.register_machine.specs.Faithful.{Faithful};
+ghost use Rattle.machine_meaning.specs.Faithful.{Faithful};
 ghost use Rattle.checked.specs.Kept.{IsChecked};
 
 use crate::given::{NotMade, Tried, core_after, exchange_of, least_of, lines_of};

@@ -10,12 +10,13 @@ ghost use Rattle.source_meaning.specs.Arrivals.{arrivals};
 ghost use Rattle.source_meaning.specs.Valid.{IsValid, LinesFit};
 ghost use Rattle.retire_order.specs.Accounts.{with_words};
 ghost use Rattle.retire_order.specs.Lines.{coming_of};
-ghost use Rattle.register_machine.specs.Faithful.{Faithful};
+ghost use Rattle.machine_meaning.specs.Faithful.{Faithful};
 ghost use Rattle.checked.specs.Kept.{IsChecked};
 
 use certificate::certificate_of;
+use certificate_check::check;
 use certificate_text::{Certificate, read_certificate};
-use checked::{Checked, check};
+use checked::Checked;
 use exchange_model::Exchange;
 use front_end::resolve;
 use interleave_core::{CoreEvent, CoreFault, CoreState, run_events};
@@ -26,7 +27,7 @@ use plex_limits::MOST_BYTES;
 use plex_num::{Memory, Seq};
 use plex_parser::parse;
 use retire_order::{Books, let_arrive};
-use signal_file::{Known, Line, read_signals};
+use signal_file::{Known, Line, directory_of, read_signals};
 use std::alloc::Global;
 use store_layout::{Layout, opening};
 
@@ -88,7 +89,11 @@ pub fn lines_of(alloc: Global, exchange: &Exchange, text: &str) -> Result<Seq<Li
     if text.len() > MOST_BYTES {
         return Err(NotMade);
     }
-    let known = Known::of(alloc, exchange)?;
+    let names = directory_of(alloc, exchange)?;
+    let known = Known {
+        exchange,
+        names: &names,
+    };
     match read_signals(alloc, &known, text)? {
         Ok(lines) => Ok(lines),
         Err(_) => Err(NotMade),
@@ -118,7 +123,7 @@ pub fn told_by(alloc: Global, exchange: &Exchange, text: &str) -> Result<Checked
 }
 
 /// A certificate that is one of the exchange, checked.
-#[tactic(auto, using(checked::proofs::Checking::accepted_is_checked))]
+#[tactic(auto, using(certificate_check::proofs::Checking::accepted_is_checked))]
 pub fn accepted(
     alloc: Global,
     exchange: &Exchange,

@@ -1,7 +1,7 @@
 // A job runs on words that are lent to it.
 ghost use Rattle.std.specs.Prelude.{◌≡◌, ◌<◌, ◌^◌, [], ◌∷◌, length, map, IfOk};
 ghost use Rattle.exchange_run.specs.Runs.{MayRun};
-ghost use Rattle.register_machine.specs.Faithful.{Faithful};
+ghost use Rattle.machine_meaning.specs.Faithful.{Faithful};
 ghost use Rattle.retire_order.specs.Lines.{coming_of};
 ghost use Rattle.source_meaning.specs.Valid.{LinesFit};
 

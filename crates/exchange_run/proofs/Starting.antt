@@ -15,8 +15,8 @@ use Rattle.source_meaning.specs.Job.{job}
 use Rattle.source_meaning.proofs.Budget.{job_over}
 use Rattle.source_meaning.proofs.Touching.{touches_inside}
 use Rattle.source_meaning.specs.Traces.{AreOfCells}
-use Rattle.register_machine.specs.Private.{Private}
-use Rattle.register_machine.specs.Faithful.{Begins, ComesToMeaning, Faithful, MayMake, started}
+use Rattle.machine_meaning.specs.Private.{Private}
+use Rattle.machine_meaning.specs.Faithful.{Begins, ComesToMeaning, Faithful, MayMake, started}
 use Rattle.exchange_run.specs.Machines.{Leaves}
 use Rattle.exchange_run.specs.Runs.{MayRun, left_by}
 

@@ -1,7 +1,7 @@
 // Jobs run by compiled code.
 ghost use Rattle.std.specs.Prelude.{◌≡◌};
 
-use crate::lengths::{Lengths, Rest};
+use crate::lengths::{Lengths, Rest, length_of};
 use crate::runner::Runner;
 use exchange_model::Exchange;
 use job_types::{JobDone, JobStart};
@@ -39,7 +39,7 @@ impl<'a, G: Gate> ByCode<'a, G> {
 
 impl<'a, G: Gate> Runner for ByCode<'a, G> {
     ghost use Rattle.exchange_run.specs.Machines.{Leaves};
-    ghost use Rattle.register_machine.specs.Faithful.{Faithful};
+    ghost use Rattle.machine_meaning.specs.Faithful.{Faithful};
 
     ghost runs = { λ r x. Faithful x r.code.now };
 
@@ -58,7 +58,7 @@ impl<'a, G: Gate> Runner for ByCode<'a, G> {
         self.run.begin(self.code, start);
         run_to_end(exchange, &mut self.run, self.code, words);
         let steps = self.run.steps();
-        self.lengths.add(steps);
+        self.lengths.add(length_of(&self.run));
         self.gate.at(self.begun, Moment::After { steps });
         Ok(())
     }

@@ -1,5 +1,13 @@
 // How long the jobs of a run have been of late. Nothing here has a contract: what comes out of a run
 // is the same whatever is told.
+use register_machine::JobRun;
+
+/// What a statement counts for at most by itself, in instructions.
+const STATEMENT: u64 = 32;
+
+/// Of the instructions that a job made this part counts beside that: those of the looks of a SEIZE or a
+/// FOR FIRST, and of the choices of a CASE, are made in one go, in a small part of the time that others take.
+const IN_ONE_GO: u64 = 16;
 
 /// What a job makes at the least, in instructions, that is worth it to be run at once with others,
 /// however many are.
@@ -22,8 +30,17 @@ pub fn long_job(workers: u32) -> u64 {
     LEAST.saturating_add(ALONE / u64::from(workers).max(1))
 }
 
-/// Where a run may rest: behind a job, where the jobs of late made more than `mean` instructions in the
-/// mean, and all jobs of its runner made at least so many.
+/// How long the job of a run is that has ended: how many instructions it made, but no more than so many
+/// for each statement that it counted and a part of all. So a job that looks through many records is no
+/// long one by that alone.
+pub fn length_of(run: &JobRun) -> u64 {
+    let steps = run.steps();
+    let by_statements = u64::from(run.counted()).saturating_mul(STATEMENT);
+    steps.min(by_statements.saturating_add(steps / IN_ONE_GO))
+}
+
+/// Where a run may rest: behind a job, where the jobs of late were longer than `mean` instructions in the
+/// mean, and all jobs of its runner together at least so long.
 #[derive(Clone, Copy)]
 pub struct Rest {
     mean: u64,
@@ -31,7 +48,7 @@ pub struct Rest {
 }
 
 impl Rest {
-    /// Where jobs are long for so many workers, and all made at least so many instructions.
+    /// Where jobs are long for so many workers, and all together at least so long, in instructions.
     pub fn when(workers: u32, least: u64) -> Rest {
         Rest {
             mean: long_job(workers),
@@ -40,13 +57,13 @@ impl Rest {
     }
 }
 
-/// How many jobs count, how many instructions they made, of each at most so many as count, and how
-/// many instructions all jobs made.
+/// How many jobs count, how long they were, each at most so long as counts, and how long all jobs were,
+/// in instructions.
 #[derive(Drop)]
 pub(crate) struct Lengths {
     jobs: u64,
     counted: u64,
-    made: u64,
+    all: u64,
 }
 
 impl Lengths {
@@ -55,23 +72,23 @@ impl Lengths {
         Lengths {
             jobs: 0,
             counted: 0,
-            made: 0,
+            all: 0,
         }
     }
 
-    /// A job has ended that made so many instructions.
-    pub fn add(&mut self, steps: u64) {
+    /// A job has ended that was so long.
+    pub fn add(&mut self, length: u64) {
         if self.jobs >= LATE {
             self.jobs /= 2;
             self.counted /= 2;
         }
         self.jobs = self.jobs.saturating_add(1);
-        self.counted = self.counted.saturating_add(steps.min(MOST_COUNTED));
-        self.made = self.made.saturating_add(steps);
+        self.counted = self.counted.saturating_add(length.min(MOST_COUNTED));
+        self.all = self.all.saturating_add(length);
     }
 
     /// Whether the jobs are as long as they must be for a rest.
     pub fn allow(&self, rest: Rest) -> bool {
-        self.counted > self.jobs.saturating_mul(rest.mean) && self.made >= rest.least
+        self.counted > self.jobs.saturating_mul(rest.mean) && self.all >= rest.least
     }
 }

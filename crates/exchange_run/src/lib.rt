@@ -16,7 +16,7 @@ mod watcher;
 
 pub use by_code::ByCode;
 pub use by_source::BySource;
-pub use lengths::{MOST_COUNTED, Rest, long_job};
+pub use lengths::{MOST_COUNTED, Rest, length_of, long_job};
 pub use runner::Runner;
 pub use turns::{Come, Ended, Standing, before_lines, run_books, run_until};
 pub use watcher::{Unwatched, Watcher};

@@ -16,7 +16,7 @@ use Rattle.exchange_model.specs.Fits.{Scope, ExprFits, ExprsFit}
 use Rattle.source_meaning.specs.Value.{Got, Gives, Fails, Sight, after_loads, with_value, stands, expr_value, relation_value, all_value, any_value, cond_value}
 use Rattle.job_types.specs.declared.touch.Touch.{Touch}
 use Rattle.job_types.specs.Truth.{one_if, is_set}
-use Rattle.register_machine.specs.Machine.{Machine, HasRoom, machine_step, reg, sets, made_one, next}
+use Rattle.machine_meaning.specs.Machine.{Machine, HasRoom, machine_step, reg, sets, made_one, next}
 use Rattle.expr_code.specs.Code.{rel_op, and_local, or_local, expr_code, relation_code, and_code, all_code, or_code, any_code, cond_code}
 use Rattle.expr_code.specs.Sites.{IsLimited}
 use Rattle.expr_code.specs.Runs.{HasAt, site_of, Agrees, Calc, Computes}

@@ -24,7 +24,7 @@ use Rattle.job_types.specs.Own.{seen}
 use Rattle.source_meaning.specs.Value.{Got, Gives, Fails, Eval, Sight, with_value, load_of, cell_value, field_value, load_or_fault, may_use, joined, summed, sum_value, product_value, summand_of, multiplier_of, expr_value, term_value, factor_value}
 use Rattle.job_types.specs.Chain.{holds}
 use Rattle.source_meaning.proofs.Layers.{expr_value-out, term_value-out, factor_value-Number, factor_value-Variable, factor_value-Temporary, factor_value-Field, factor_value-Bracket, factor_value-Reference}
-use Rattle.register_machine.specs.Machine.{Machine, HasRoom, machine_step, reg, sets, checks, fails, divides, made_one}
+use Rattle.machine_meaning.specs.Machine.{Machine, HasRoom, machine_step, reg, sets, checks, fails, divides, made_one}
 use Rattle.expr_code.specs.Code.{Code, term_op, factor_op, own_code, field_code, sum_code, product_code, whole_sum, whole_product, expr_code, term_code, factor_code, joined_code, summand_code}
 use Rattle.expr_code.specs.Runs.{HasOp, HasAt, site_of, Agrees, Computes}
 use Rattle.expr_code.specs.Sites.{IsLimited}

@@ -9,7 +9,7 @@ use Rattle.machine_code.specs.declared.op.Op.{Op}
 use Rattle.job_types.specs.declared.touch.Touch.{Touch}
 use Rattle.job_types.specs.Own.{World, seen}
 use Rattle.source_meaning.specs.Value.{Got, Gives, Fails, Sight, after_loads, with_value}
-use Rattle.register_machine.specs.Machine.{Machine, Goes, here, by_op, HasRoom, machine_step, reg, sets, fails, checks, made_one}
+use Rattle.machine_meaning.specs.Machine.{Machine, Goes, here, by_op, HasRoom, machine_step, reg, sets, fails, checks, made_one}
 use Rattle.expr_code.specs.Runs.{HasOp, Agrees, Calc, Computes, gives, stops}
 
 pub goes_on : {code : List Op} {a b c : Machine} → Goes code a b → Goes code b c → Goes code a c

@@ -12,7 +12,7 @@ use Rattle.machine_code.specs.Operands.{OpFits}
 use Rattle.job_types.specs.declared.touch.Touch.{Touch}
 use Rattle.job_types.specs.Own.{seen}
 use Rattle.source_meaning.specs.Value.{Got, Gives, Fails, Sight}
-use Rattle.register_machine.specs.Machine.{Machine, Goes, reg}
+use Rattle.machine_meaning.specs.Machine.{Machine, Goes, reg}
 use Rattle.expr_code.specs.Code.{Site}
 
 -- an instruction stands at an address, and its operands are in their ranges

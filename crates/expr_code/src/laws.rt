@@ -8,7 +8,7 @@ ghost use Rattle.exchange_model.specs.declared.expr.Cond.{Cond};
 ghost use Rattle.exchange_model.specs.Inside.{bracket_depth, cond_exprs};
 ghost use Rattle.exchange_model.specs.Fits.{Scope, ExprFits, ExprsFit};
 ghost use Rattle.source_meaning.specs.Value.{Sight, expr_value, cond_value};
-ghost use Rattle.register_machine.specs.Machine.{Machine};
+ghost use Rattle.machine_meaning.specs.Machine.{Machine};
 ghost use Rattle.expr_code.specs.Code.{Site as Place, expr_code, cond_code};
 ghost use Rattle.expr_code.specs.Runs.{HasAt, site_of, Agrees, Computes};
 ghost use Rattle.expr_code.specs.Sites.{IsLimited, IsSite};

@@ -1,19 +1,21 @@
 -- Words that get the bits of others, and a set that gets the numbers of another one.
-use Rattle.std.proofs.Common.{◌≡◌, ◌⊎◌, inl, inr, ⊎_elim, ℕ, zero, suc, ◌+◌, ◌-◌, ◌*◌, ◌/◌, ◌%◌, ◌^◌, ◌<◌, ◌≤◌, ◌||◌, Bool, true, false, not, cond, eqb, List, [], ◌∷◌, length, get_or, set, Contains, refl, sym, subst, ap, ◌∙◌, arith, length-set, get_or-set_same, get_or-set_other, eq-eqb, ne_eqb}
-use Rattle.std.specs.Prelude.{bit_or, max}
+use Rattle.std.proofs.Common.{◌≡◌, ◌⊎◌, inl, inr, ⊎_elim, ℕ, zero, suc, ◌+◌, ◌-◌, ◌*◌, ◌/◌, ◌%◌, ◌^◌, ◌<◌, ◌≤◌, ◌||◌, ◌↔◌, Bool, true, false, not, cond, eqb, List, [], ◌∷◌, length, get_or, set, Contains, refl, sym, subst, ap, ◌∙◌, arith, length-set, get_or-set_same, get_or-set_other, eq-eqb, ne_eqb}
+use Rattle.std.specs.Prelude.{bit_or, max, IsTrue}
 use Rattle.std.specs.Bool.{MatchBool}
 use Rattle.std.specs.Int.{bit_at}
-use Rattle.std.specs.List.{filter, range_with_len}
+use Rattle.std.specs.List.{All, filter, range_with_len}
 use Rattle.std.specs.List.Sorted.{IsStrictlySortedBy}
 use Rattle.std.specs.Ordering.{nat_cmp}
 use Rattle.std.proofs.lemmas.Bool.{cases_eq, cases_lt, eqb-true, eqb-false, true≢false}
-use Rattle.std.proofs.lemmas.List.{set-get_or}
+use Rattle.std.proofs.lemmas.List.{ext_get_or, set-get_or}
+use Rattle.std.proofs.lemmas.List.Elements.{All-set}
 use Rattle.std.proofs.lemmas.Nat.Bits.{bit_at_above, bit_at_or, bit_at-lt, same_from_bits}
 use Rattle.plex_num.proofs.Members.{first_or_later, later_is, none_in}
+use Rattle.fact_rows.specs.declared.sets.Sets.{Sets}
 use Rattle.fact_rows.specs.declared.planes.Planes.{Planes}
 use Rattle.fact_rows.specs.Numbers.{AreNumbers, has_bit, numbers}
 use Rattle.fact_rows.specs.Grids.{IsJoinedAt}
-use Rattle.fact_rows.specs.Spread.{IsAlike, IsSound, IsWordsOf, row_of, set_in}
+use Rattle.fact_rows.specs.Spread.{IsAlike, IsSound, IsWordsOf, row_of, set_in, shown_at}
 use Rattle.fact_rows.proofs.Numbering.{at_row, in_range, number_there, number_set, numbers_rise, range_has}
 use Rattle.fact_rows.proofs.Spreading.{number_inside, row_at, row_changed, row_long, set_below, set_there, shown_kept, shown_own, words_long}
 
@@ -291,3 +293,69 @@ module _ (old : Planes) (from n : ℕ) (from_in : from < length old.set_numbers)
       let from_first = h.from in
       let inside = number_inside old from n sound from_in is in
       ap length h.is ∙ words_long old.sets.words.items old.sets.width (n - old.sets.first) (omega (arith, from_first, inside)) ∙ sym sound.laid_so
+
+-- ---- a set that is none of those that are kept gets the number of another one
+
+some_long : (ns : List ℕ) → (ns ≡ [] → ⊥) → 0 < length ns
+some_long [] some = absurd (some refl)
+some_long (n ∷ ns) some = omega arith
+
+module _ (old : Planes) (from to : ℕ) (past : length old.set_numbers ≤ old.own) (to_in : to < length old.set_numbers) where
+  pub none_shared : (blank : Bool) → (IsTrue blank ↔ (get_or (row_of old) from [] ≡ [])) → blank ≡ true → IsJoinedAt (row_of old) from to false (row_of old)
+  none_shared blank tells is = none_joined old from to to_in (λ n c. absurd (none_in n (subst (λ l. Contains l n) (tells.0 is) c)))
+
+  module _ (new : Planes) (n : ℕ) (from_in : from < length old.set_numbers) (is : n ≡ get_or old.set_numbers from 0)
+      (sets_so : new.sets ≡ old.sets) (own_so : new.own ≡ old.own) (numbers_so : new.set_numbers ≡ set old.set_numbers to n) where
+    abbrev given : List ℕ
+    given = get_or (row_of old) from []
+
+    as_many : length new.set_numbers ≡ length old.set_numbers
+    as_many = ap length numbers_so ∙ length-set old.set_numbers to n
+
+    out : (i : ℕ) → i < length old.set_numbers → shown_at old i ≡ set_in old.sets.words.items old.sets.first old.sets.width (get_or old.set_numbers i 0)
+    out i lt = shown_kept old i (λ e. omega (arith, e, lt, past))
+
+    out_new : (i : ℕ) → i < length old.set_numbers → shown_at new i ≡ set_in old.sets.words.items old.sets.first old.sets.width (get_or (set old.set_numbers to n) i 0)
+    out_new i lt = shown_kept new i (λ e. omega (arith, e, lt, past, own_so)) ∙ (λ k. set_in (sets_so k).words.items (sets_so k).first (sets_so k).width (get_or (numbers_so k) i 0))
+
+    row_shared : row_of new ≡ set (row_of old) to given
+    row_shared = ext_get_or [] (row_of new) (set (row_of old) to given) (row_long new ∙ as_many ∙ sym (length-set (row_of old) to given ∙ row_long old)) each
+      where
+        each : (i : ℕ) → i < length (row_of new) → get_or (row_of new) i [] ≡ get_or (set (row_of old) to given) i []
+        each i below =
+            let whole = row_long new in
+            let in_new : i < length new.set_numbers = omega (arith, whole, below) in
+            let in_old : i < length old.set_numbers = omega (arith, in_new, as_many) in
+            let in_row : to < length (row_of old) = (let all = row_long old in omega (arith, all, to_in)) in
+            elim (cases_eq i to) as (λ _. get_or (row_of new) i [] ≡ get_or (set (row_of old) to given) i []) [
+              | inl here ↦
+                  (row_at new i in_new ∙ out_new i in_old
+                  ∙ ap (set_in old.sets.words.items old.sets.first old.sets.width) (ap (λ k. get_or (set old.set_numbers to n) k 0) here ∙ get_or-set_same old.set_numbers to n 0 to_in ∙ is)
+                  ∙ sym (row_at old from from_in ∙ out from from_in)
+                  ∙ sym (ap (λ k. get_or (set (row_of old) to given) k []) here ∙ get_or-set_same (row_of old) to given [] in_row))
+              | inr apart ↦
+                  (row_at new i in_new ∙ out_new i in_old
+                  ∙ ap (set_in old.sets.words.items old.sets.first old.sets.width) (get_or-set_other old.set_numbers to i n 0 apart)
+                  ∙ sym (row_at old i in_old ∙ out i in_old) ∙ sym (get_or-set_other (row_of old) to i given [] apart))
+            ]
+
+    pub some_shared : (blank : Bool) → (IsTrue blank ↔ (given ≡ [])) → blank ≡ false → get_or old.set_numbers to 0 < old.sets.first → IsJoinedAt (row_of old) from to true (row_of new)
+    some_shared blank tells filled below = record {
+      within = (let whole = row_long old in omega (arith, whole, to_in));
+      list = given;
+      is = row_shared;
+      numbers = record { rising = row_rises old from from_in; each = λ m c. inl c; listed = λ m c. ⊎_elim (λ there. there) (λ own. absurd (none_in m (subst (λ l. Contains l m) none own))) c };
+      counted = omega (arith, ap length none, some_long given (λ e. true≢false (sym (tells.1 e) ∙ filled)));
+    }
+      where
+        none : get_or (row_of old) to [] ≡ []
+        none = row_at old to to_in ∙ out to to_in ∙ set_below old.sets.words.items old.sets.first old.sets.width (get_or old.set_numbers to 0) below
+
+    pub shared_sound : IsSound old → new.laid.items ≡ old.laid.items → IsSound new
+    shared_sound sound laid_so = record {
+      wide = subst (λ (s : Sets). 0 < s.width) (sym sets_so) sound.wide;
+      fits = subst (λ (s : Sets). 64 * s.width ≤ 2 ^ 32) (sym sets_so) sound.fits;
+      laid_so = ap length laid_so ∙ sound.laid_so ∙ sym (ap (λ (s : Sets). s.width) sets_so);
+      within = subst (λ l. All (λ m. m + new.sets.width ≤ new.sets.first + length new.sets.words.items) l) (sym numbers_so) (subst (λ (s : Sets). All (λ m. m + s.width ≤ s.first + length s.words.items) (set old.set_numbers to n)) (sym sets_so)
+          (All-set (λ m. m + old.sets.width ≤ old.sets.first + length old.sets.words.items) old.set_numbers to n (number_inside old from n sound from_in is) sound.within));
+    }

@@ -23,38 +23,13 @@ use Rattle.fact_rows.specs.declared.place.Counts.{Counts}
 use Rattle.fact_rows.specs.declared.place.Spot.{Spot}
 use Rattle.fact_rows.specs.Numbers.{AreNumbers}
 use Rattle.fact_rows.specs.Places.{Marks, HasPlace, numbers_at, spot_of}
-use Rattle.fact_rows.specs.Known.{BitRows, Knows, AreFacts}
+use Rattle.fact_rows.specs.Known.{BitRows, Knows, KnowsAt, AreFacts}
+use Rattle.fact_rows.specs.Values.{value_in}
 use Rattle.fact_rows.specs.Touched.{key_order, key, IsKept, facts_at, facts_of, keys_at, keys_before, keys_if, keys_of, numbered_keys, numbered_slot}
 use Rattle.fact_rows.proofs.Numbering.{in_range, range_has, range_rises}
 use Rattle.fact_rows.proofs.Laying.{numbers_by, slot_placed}
 use Rattle.fact_rows.proofs.Holding.{from_map, rising_past, to_map}
 use Rattle.fact_rows.proofs.Listing.{facts_exact, nat_less, sorted_append, sorted_cons, sorted_map, sorted_none}
-
--- ---- a loop over numbers
-
-pub numbered_begin : (m : Numbered) (p : ℕ) (old now : List Key) → now ≡ old → now ≡ old ++ numbered_keys p m 0
-numbered_begin m p old now same = same ∙ sym (append-nil old)
-
-pub numbered_more : (m : Numbered) (p n : ℕ) (s : Slot) (old now new : List Key) → s ≡ numbered_slot m n → new ≡ now ++ key p s ∷ [] → now ≡ old ++ numbered_keys p m n → new ≡ old ++ numbered_keys p m (n + 1)
-numbered_more m p n s old now new is pushed before =
-    let e : 0 + n ≡ n = omega arith in
-    pushed ∙ ap (λ l. l ++ key p s ∷ []) before ∙ append_assoc old (numbered_keys p m n) (key p s ∷ []) ∙ ap (λ z. old ++ (numbered_keys p m n ++ key p z ∷ [])) is ∙ ap (λ l. old ++ l) (sym (map-range_with_len_more (λ k. key p (numbered_slot m k)) 0 n n e))
-
-pub numbered_end : (m : Numbered) (p n count : ℕ) (old now : List Key) → n ≤ count → count ≤ n → now ≡ old ++ numbered_keys p m n → now ≡ old ++ numbered_keys p m count
-numbered_end m p n count old now low high is = (let e : n ≡ count = omega arith in is ∙ ap (λ k. old ++ numbered_keys p m k) e)
-
-pub all_listed : (p : ℕ) (c : Counts) (a b d f g h : List Key) → a ≡ [] → b ≡ a ++ numbered_keys p Temp c.temps → d ≡ b ++ numbered_keys p Given c.given → f ≡ d ++ numbered_keys p Answered c.answered → g ≡ f ++ key p slot.Depth ∷ [] → h ≡ g ++ key p slot.Awaits ∷ [] → h ≡ keys_at p c
-all_listed p c a b d f g h none temps given answered depth awaits =
-    let ts = numbered_keys p Temp c.temps in
-    let gs = numbered_keys p Given c.given in
-    let as' = numbered_keys p Answered c.answered in
-    let dk = key p slot.Depth in
-    let ak = key p slot.Awaits in
-    let b' : b ≡ ts = temps ∙ ap (λ l. l ++ ts) none in
-    let d' : d ≡ ts ++ gs = given ∙ ap (λ l. l ++ gs) b' in
-    let f' : f ≡ ts ++ (gs ++ as') = answered ∙ ap (λ l. l ++ as') d' ∙ append_assoc ts gs as' in
-    let g' : g ≡ ts ++ (gs ++ (as' ++ dk ∷ [])) = depth ∙ ap (λ l. l ++ dk ∷ []) f' ∙ append_assoc ts (gs ++ as') (dk ∷ []) ∙ ap (λ l. ts ++ l) (append_assoc gs as' (dk ∷ [])) in
-    awaits ∙ ap (λ l. l ++ ak ∷ []) g' ∙ append_assoc ts (gs ++ (as' ++ dk ∷ [])) (ak ∷ []) ∙ ap (λ l. ts ++ l) (append_assoc gs (as' ++ dk ∷ []) (ak ∷ []) ∙ ap (λ l. gs ++ l) (append_assoc as' (dk ∷ []) (ak ∷ [])))
 
 -- ---- the slots before a point rise
 
@@ -234,37 +209,56 @@ keys_rise all (p ∷ ps) up =
     let past = rising_past p ps up k.point (of_points all ps k d) in
     later_point j k (omega (arith, at, past)))
 
-keys_has : (all : List Counts) (ps : List ℕ) (p : ℕ) (s : Slot) (c : Counts) → Contains ps p → slice_get all p ≡ Some c → HasPlace c s → Contains (keys_of all ps) (key p s)
-keys_has all [] p s c there at place = absurd (none_in p there)
-keys_has all (q ∷ ps) p s c there at place =
+keys_has : (all : List Counts) (ps : List ℕ) (p : ℕ) (k : Key) → Contains ps p → Contains (keys_before all p) k → Contains (keys_of all ps) k
+keys_has all [] p k there own = absurd (none_in p there)
+keys_has all (q ∷ ps) p k there own =
     ⊎_elim
-    (λ (same : q ≡ p). Contains-append_left (keys_before all q) (keys_of all ps) (key p s)
-    (subst (λ r. Contains (keys_before all r) (key p s)) (sym same) (subst (λ o. Contains (keys_if p o) (key p s)) (sym at) (at_has p c s place))))
-    (λ later. Contains-append_right (keys_before all q) (keys_of all ps) (key p s) (keys_has all ps p s c later at place))
+    (λ (same : q ≡ p). Contains-append_left (keys_before all q) (keys_of all ps) k (subst (λ r. Contains (keys_before all r) k) (sym same) own))
+    (λ later. Contains-append_right (keys_before all q) (keys_of all ps) k (keys_has all ps p k later own))
     (first_or_later q p ps there)
 
 -- ---- the facts of all slots before points
 
-module _ (e : ℕ) (m : Marks) (touched ps : List ℕ) (kept : IsKept m touched) (are : AreNumbers (Contains touched) ps) where
-  key_there : (p : ℕ) (s : Slot) (n : ℕ) → Contains (numbers_at m p s) n → Contains (keys_of m.slots ps) (key p s)
-  key_there p s n c =
-      ⊎_elim
-      (λ none. absurd (none_in n (subst (λ l. Contains l n) none c)))
-      (λ noted. by (spot_of m.slots p s) refl (are.listed p noted))
-      (kept.listed p s)
-    where
-      by : (o : Option Spot) → spot_of m.slots p s ≡ o → Contains ps p → Contains (keys_of m.slots ps) (key p s)
-      by None none there = absurd (none_in n (subst (λ l. Contains l n) (numbers_by m p s None none) c))
-      by (Some spot) is there = (let at = slot_placed m.slots p s spot is in keys_has m.slots ps p s at.counts there at.there at.slot)
+-- a slot with a number stands before its point
+key_before : (m : Marks) (p : ℕ) (s : Slot) (n : ℕ) → Contains (numbers_at m p s) n → Contains (keys_before m.slots p) (key p s)
+key_before m p s n c = by (spot_of m.slots p s) refl
+  where
+    by : (o : Option Spot) → spot_of m.slots p s ≡ o → Contains (keys_before m.slots p) (key p s)
+    by None none = absurd (none_in n (subst (λ l. Contains l n) (numbers_by m p s None none) c))
+    by (Some spot) is = (let at = slot_placed m.slots p s spot is in subst (λ o. Contains (keys_if p o) (key p s)) (sym at.there) (at_has p at.counts s at.slot))
 
-  points_exact : AreFacts (Knows (record { entry = e; marks = m })) (facts_of e m (keys_of m.slots ps))
-  points_exact = facts_exact e m touched kept (keys_of m.slots ps) (keys_rise m.slots ps are.rising) key_there
+module _ (e : ℕ) (m : Marks) (touched : List ℕ) (kept : IsKept m touched) where
+  abbrev own_rows : BitRows
+  own_rows = record { entry = e; marks = m }
+
+  known_before : (f : Fact) → Knows own_rows f → Contains (keys_before m.slots f.point) (key f.point f.slot)
+  known_before f known = (let there = from_map (value_in f.slot) (numbers_at m f.point f.slot) f.value known.value in key_before m f.point f.slot there.0 there.1)
+
+  points_exact : (ps : List ℕ) → AreNumbers (Contains touched) ps → AreFacts (Knows own_rows) (facts_of e m (keys_of m.slots ps))
+  points_exact ps are = facts_exact e m touched kept (Knows own_rows) (keys_of m.slots ps) (keys_rise m.slots ps are.rising) (λ f known. known) (λ f c known. known) there
+    where
+      there : (f : Fact) → Knows own_rows f → Contains (keys_of m.slots ps) (key f.point f.slot)
+      there f known =
+          ⊎_elim
+          (λ none. let number = from_map (value_in f.slot) (numbers_at m f.point f.slot) f.value known.value in absurd (none_in number.0 (subst (λ l. Contains l number.0) none number.1)))
+          (λ noted. keys_has m.slots ps f.point (key f.point f.slot) (are.listed f.point noted) (known_before f known))
+          (kept.listed f.point f.slot)
+
+  point_exact : (p : ℕ) → AreFacts (KnowsAt own_rows p) (facts_of e m (keys_before m.slots p))
+  point_exact p =
+      facts_exact e m touched kept (KnowsAt own_rows p) (keys_before m.slots p) (before_rise p (slice_get m.slots p)) (λ f k. k.1)
+      (λ f c known. (before_at p (slice_get m.slots p) (key f.point f.slot) c, known))
+      (λ f k. subst (λ q. Contains (keys_before m.slots q) (key f.point f.slot)) k.0 (known_before f k.1))
+
+pub point_ok : (k : BitRows) (e p : ℕ) (m : Marks) (touched : List ℕ) (none facts : List Fact) → record { entry = e; marks = m } ≡ k → IsKept m touched → none ≡ [] → facts ≡ none ++ facts_of e m (keys_before m.slots p) → AreFacts (KnowsAt k p) facts
+point_ok k e p m touched none facts same kept empty is =
+    subst (λ (rows : BitRows). AreFacts (KnowsAt rows p) facts) same (subst (AreFacts (KnowsAt (record { entry = e; marks = m }) p)) (sym (is ∙ ap (λ l. l ++ facts_of e m (keys_before m.slots p)) empty)) (point_exact e m touched kept p))
 
 pub facts_ok : {E : Type 0} (k : BitRows) (e : ℕ) (m : Marks) (touched seen once points : List ℕ) (r : Result (List Fact) E) → record { entry = e; marks = m } ≡ k → IsKept m touched → seen ≡ touched → AreNumbers (Contains seen) once → points ≡ once
     → IfOk r (λ facts. facts ≡ facts_of e m (keys_of m.slots points)) → IfOk r (AreFacts (Knows k))
 facts_ok k e m touched seen once points (Ok facts) same kept are_touched are are_once h =
     let all : AreNumbers (Contains touched) points = subst (AreNumbers (Contains touched)) (sym are_once) (subst (λ l. AreNumbers (Contains l) once) are_touched are) in
-    subst (λ (rows : BitRows). AreFacts (Knows rows) facts) same (subst (AreFacts (Knows (record { entry = e; marks = m }))) (sym h) (points_exact e m touched points kept all))
+    subst (λ (rows : BitRows). AreFacts (Knows rows) facts) same (subst (AreFacts (Knows (record { entry = e; marks = m }))) (sym h) (points_exact e m touched kept points all))
 facts_ok k e m touched seen once points (Err x) same kept are_touched are are_once h = h
 
 -- ---- the list of facts grows by a point
@@ -275,13 +269,54 @@ facts_both e m (j ∷ js) ks =
     ap (λ l. facts_at e j (numbers_at m j.point j.slot) ++ l) (facts_both e m js ks)
     ∙ sym (append_assoc (facts_at e j (numbers_at m j.point j.slot)) (facts_of e m js) (facts_of e m ks))
 
-pub points_more : (e : ℕ) (m : Marks) (ps : List ℕ) (i d : ℕ) (keys : List Key) (now new all : List Fact) → i < length ps → keys ≡ keys_before m.slots (get_or ps i d) → new ≡ now ++ facts_of e m keys
+-- the facts of slots, and behind them those of others
+facts_on : (e : ℕ) (m : Marks) (js ks : List Key) (old mid new : List Fact) → mid ≡ old ++ facts_of e m js → new ≡ mid ++ facts_of e m ks → new ≡ old ++ facts_of e m (js ++ ks)
+facts_on e m js ks old mid new first second =
+    second ∙ ap (λ l. l ++ facts_of e m ks) first ∙ append_assoc old (facts_of e m js) (facts_of e m ks) ∙ ap (λ l. old ++ l) (sym (facts_both e m js ks))
+
+pub none_pushed : (e p : ℕ) (m : Marks) (old : List Fact) → None ≡ slice_get m.slots p → old ≡ old ++ facts_of e m (keys_before m.slots p)
+none_pushed e p m old none = sym (append-nil old) ∙ ap (λ o. old ++ facts_of e m (keys_if p o)) none
+
+pub point_pushed : (e p : ℕ) (m : Marks) (c : Counts) (old new : List Fact) → Some c ≡ slice_get m.slots p → new ≡ old ++ facts_of e m (keys_at p c) → new ≡ old ++ facts_of e m (keys_before m.slots p)
+point_pushed e p m c old new some is = is ∙ ap (λ o. old ++ facts_of e m (keys_if p o)) some
+
+-- one slot more
+slot_pushed : (e : ℕ) (m : Marks) (ks : List Key) (k own : Key) (old mid new : List Fact) → own ≡ k → mid ≡ old ++ facts_of e m ks → new ≡ mid ++ facts_at e own (numbers_at m own.point own.slot) → new ≡ old ++ facts_of e m (ks ++ k ∷ [])
+slot_pushed e m ks k own old mid new same before is =
+    facts_on e m ks (k ∷ []) old mid new before (is ∙ ap (λ (j : Key). mid ++ facts_at e j (numbers_at m j.point j.slot)) same ∙ ap (λ l. mid ++ l) (sym (append-nil (facts_at e k (numbers_at m k.point k.slot)))))
+
+pub slots_pushed : (e p : ℕ) (m : Marks) (c : Counts) (dk ak : Key) (a b d f g h : List Fact) → b ≡ a ++ facts_of e m (numbered_keys p Temp c.temps) → d ≡ b ++ facts_of e m (numbered_keys p Given c.given) → f ≡ d ++ facts_of e m (numbered_keys p Answered c.answered)
+    → dk ≡ key p slot.Depth → g ≡ f ++ facts_at e dk (numbers_at m dk.point dk.slot) → ak ≡ key p slot.Awaits → h ≡ g ++ facts_at e ak (numbers_at m ak.point ak.slot) → h ≡ a ++ facts_of e m (keys_at p c)
+slots_pushed e p m c dk ak a b d f g h temps given answered depth_key depth awaits_key awaits =
+    let first : g ≡ f ++ facts_of e m (key p slot.Depth ∷ []) = slot_pushed e m [] (key p slot.Depth) dk f f g depth_key (sym (append-nil f)) depth in
+    let last : h ≡ f ++ facts_of e m (last_keys p) = slot_pushed e m (key p slot.Depth ∷ []) (key p slot.Awaits) ak f g h awaits_key first awaits in
+    facts_on e m (numbered_keys p Temp c.temps) (given_on p c) a b h temps
+    (facts_on e m (numbered_keys p Given c.given) (answered_on p c) b d h given (facts_on e m (numbered_keys p Answered c.answered) (last_keys p) d f h answered last))
+
+-- a loop over numbers
+
+pub numbered_begin : (e p : ℕ) (m : Marks) (kind : Numbered) (old : List Fact) → old ≡ old ++ facts_of e m (numbered_keys p kind 0)
+numbered_begin e p m kind old = sym (append-nil old)
+
+pub numbered_more : (e p : ℕ) (m : Marks) (kind : Numbered) (n : ℕ) (s : Slot) (own : Key) (old mid new : List Fact) → s ≡ numbered_slot kind n → own ≡ key p s → mid ≡ old ++ facts_of e m (numbered_keys p kind n)
+    → new ≡ mid ++ facts_at e own (numbers_at m own.point own.slot) → new ≡ old ++ facts_of e m (numbered_keys p kind (n + 1))
+numbered_more e p m kind n s own old mid new slot_is own_is before is =
+    let from : 0 + n ≡ n = omega arith in
+    slot_pushed e m (numbered_keys p kind n) (key p (numbered_slot kind n)) own old mid new (own_is ∙ ap (key p) slot_is) before is
+    ∙ ap (λ l. old ++ facts_of e m l) (sym (map-range_with_len_more (λ k. key p (numbered_slot kind k)) 0 n n from))
+
+pub numbered_end : (e p : ℕ) (m : Marks) (kind : Numbered) (n count : ℕ) (old now : List Fact) → n ≤ count → count ≤ n → now ≡ old ++ facts_of e m (numbered_keys p kind n) → now ≡ old ++ facts_of e m (numbered_keys p kind count)
+numbered_end e p m kind n count old now low high is = (let all : n ≡ count = omega arith in is ∙ ap (λ k. old ++ facts_of e m (numbered_keys p kind k)) all)
+
+-- a loop over points
+
+pub points_more : (e : ℕ) (m : Marks) (ps : List ℕ) (i d : ℕ) (now new all : List Fact) → i < length ps → new ≡ now ++ facts_of e m (keys_before m.slots (get_or ps i d))
     → now ++ facts_of e m (keys_of m.slots (drop i ps)) ≡ all → new ++ facts_of e m (keys_of m.slots (drop (i + 1) ps)) ≡ all
-points_more e m ps i d keys now new all lt are to h =
+points_more e m ps i d now new all lt to h =
     let p : ℕ = get_or ps i d in
     let is : p ≡ get_or ps i p = get_or_default ps i d p lt in
     let rest : List Key = keys_of m.slots (drop (i + 1) ps) in
-    ap (λ l. l ++ facts_of e m rest) (to ∙ ap (λ k. now ++ facts_of e m k) are)
+    ap (λ l. l ++ facts_of e m rest) to
     ∙ append_assoc now (facts_of e m (keys_before m.slots p)) (facts_of e m rest)
     ∙ ap (λ l. now ++ l) (sym (facts_both e m (keys_before m.slots p) rest) ∙ sym (ap (λ l. facts_of e m (keys_of m.slots l)) (opens ps i p lt is)))
     ∙ h

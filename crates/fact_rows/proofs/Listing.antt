@@ -1,5 +1,5 @@
 -- Facts in their order: slot by slot, and of each slot by their numbers.
-use Rattle.std.proofs.Common.{◌≡◌, inl, inr, ⊎_elim, ℕ, ◌+◌, ◌-◌, ◌<◌, ◌≤◌, List, [], ◌∷◌, ◌++◌, length, get_or, drop, map, Contains, refl, sym, subst, ap, ◌∙◌, arith, append-nil, append_assoc}
+use Rattle.std.proofs.Common.{◌≡◌, inl, inr, ⊎_elim, ℕ, ◌+◌, ◌-◌, ◌<◌, ◌≤◌, List, [], ◌∷◌, ◌++◌, get_or, map, Contains, refl, sym, subst, ap, ◌∙◌, arith}
 use Rattle.std.specs.declared.cmp.Ordering.{Ordering}
 use Rattle.std.specs.declared.cmp.Ordering.TheVariants.{Less, Equal, Greater}
 use Rattle.std.specs.List.{dedup}
@@ -10,16 +10,13 @@ use Rattle.std.specs.Prelude.{nat_lt, nat_eq, if◌then◌else◌}
 use Rattle.std.proofs.lemmas.Bool.{cases_lt, cond-true, lt-ltb}
 use Rattle.std.specs.Cmp.{unsigned_ties}
 use Rattle.std.proofs.lemmas.Cmp.{nat_cmp_total, tied_itself}
-use Rattle.std.proofs.lemmas.List.{get_or_default}
 use Rattle.std.proofs.lemmas.List.Elements.{All-contains, All-from_recursion, recursion_from_All, Contains-append_cases, Contains-append_left, Contains-append_right, Contains-get_or}
 use Rattle.std.proofs.lemmas.List.Filters.{dedup_is}
 use Rattle.std.proofs.lemmas.List.Kept.{Contains-dedup_nat, Contains-from_dedup, IsStrictlySortedBy-dedup}
 use Rattle.std.proofs.lemmas.List.Sorted.{Contains-permutation, IsPermutation-sym}
 use Rattle.std.proofs.lemmas.Map.Keys.{sorted_head, sorted_tail}
-use Rattle.std.proofs.Math.ListN.{drop_of_length-le}
 use Rattle.plex_limits.specs.declared.limits.TheConstants.{MOST_VALUES}
 use Rattle.plex_num.proofs.Members.{none_in, first_or_later, later_is}
-use Rattle.plex_num.proofs.Lists.{opens}
 use Rattle.plex_num.proofs.Numbers.{nat_same}
 use Rattle.flow_points.specs.declared.fact.Slot.{Slot}
 use Rattle.flow_points.specs.declared.fact.Slot.TheVariants.{Temp, Given, Answered, Depth, Awaits}
@@ -173,19 +170,20 @@ module _ (e : ℕ) (m : Marks) (touched : List ℕ) (kept : IsKept m touched) wh
       (fact_less_key e k.point later.own.point k.slot later.own.slot (value_in k.slot here.0) (value_in later.own.slot later.number)
       (before_rest key_order k ks up later.own later.one))))
 
-  pub facts_exact : (ks : List Key) → IsStrictlySortedBy key_order ks → ((p : ℕ) (s : Slot) (n : ℕ) → Contains (numbers_at m p s) n → Contains ks (key p s)) → AreFacts (Knows rows) (facts_of e m ks)
-  facts_exact ks up all = record { rising = facts_rise ks up; each = each_known; listed = all_listed }
+  pub facts_exact : (P : Fact → Type 0) (ks : List Key) → IsStrictlySortedBy key_order ks → ((f : Fact) → P f → Knows rows f) → ((f : Fact) → Contains ks (key f.point f.slot) → Knows rows f → P f) → ((f : Fact) → P f → Contains ks (key f.point f.slot)) → AreFacts P (facts_of e m ks)
+  facts_exact P ks up known is_one there = record { rising = facts_rise ks up; each = each_one; listed = all_listed }
     where
-      each_known : (f : Fact) → Contains (facts_of e m ks) f → Knows rows f
-      each_known f c =
+      each_one : (f : Fact) → Contains (facts_of e m ks) f → P f
+      each_one f c =
           let l = listed_from e m ks f c in
-          subst (Knows rows) l.is (record { entry = refl; value = to_map (value_in l.own.slot) (numbers_at m l.own.point l.own.slot) l.number l.there })
+          subst P l.is (is_one (fact e l.own.point l.own.slot (value_in l.own.slot l.number)) l.one (record { entry = refl; value = to_map (value_in l.own.slot) (numbers_at m l.own.point l.own.slot) l.number l.there }))
 
-      all_listed : (f : Fact) → Knows rows f → Contains (facts_of e m ks) f
-      all_listed f known =
-          let there = from_map (value_in f.slot) (numbers_at m f.point f.slot) f.value known.value in
-          let is : fact e f.point f.slot (value_in f.slot there.0) ≡ f = (λ i. record { entry = sym known.entry i; point = f.point; slot = f.slot; value = there.2 i }) in
-          subst (Contains (facts_of e m ks)) is (listed_to e m ks (key f.point f.slot) there.0 (all f.point f.slot there.0 there.1) there.1)
+      all_listed : (f : Fact) → P f → Contains (facts_of e m ks) f
+      all_listed f h =
+          let k = known f h in
+          let number = from_map (value_in f.slot) (numbers_at m f.point f.slot) f.value k.value in
+          let is : fact e f.point f.slot (value_in f.slot number.0) ≡ f = (λ i. record { entry = sym k.entry i; point = f.point; slot = f.slot; value = number.2 i }) in
+          subst (Contains (facts_of e m ks)) is (listed_to e m ks (key f.point f.slot) number.0 (there f h) number.1)
 
 -- ---- slots that are the same
 
@@ -227,17 +225,3 @@ points_in_order points copy sorted once same moved up kept = record {
   where
     is : once ≡ dedup nat_eq sorted
     is = dedup_is nat_eq sorted once kept
-
--- ---- the list of facts grows by a slot
-
-pub facts_more : (e : ℕ) (m : Marks) (ks : List Key) (i : ℕ) (d : Key) (numbers : List ℕ) (now new all : List Fact) → i < length ks → numbers ≡ numbers_at m (get_or ks i d).point (get_or ks i d).slot → new ≡ now ++ facts_at e (get_or ks i d) numbers
-    → now ++ facts_of e m (drop i ks) ≡ all → new ++ facts_of e m (drop (i + 1) ks) ≡ all
-facts_more e m ks i d numbers now new all lt are to h =
-    let k : Key = get_or ks i d in
-    let is : k ≡ get_or ks i k = get_or_default ks i d k lt in
-    ap (λ l. l ++ facts_of e m (drop (i + 1) ks)) (to ∙ ap (λ l. now ++ facts_at e k l) are)
-    ∙ append_assoc now (facts_at e k (numbers_at m k.point k.slot)) (facts_of e m (drop (i + 1) ks))
-    ∙ ap (λ l. now ++ facts_of e m l) (sym (opens ks i k lt is)) ∙ h
-
-pub facts_end : (e : ℕ) (m : Marks) (ks : List Key) (i : ℕ) (now all : List Fact) → length ks ≤ i → now ++ facts_of e m (drop i ks) ≡ all → now ≡ all
-facts_end e m ks i now all past h = sym (append-nil now) ∙ sym (ap (λ l. now ++ facts_of e m l) (drop_of_length-le ks past)) ∙ h

@@ -4,7 +4,7 @@ use Rattle.std.specs.Prelude.{bit_and, bit_or, nat_eq, IsTrue}
 use Rattle.std.specs.Cmp.Lexicographic.{pointwise}
 use Rattle.std.proofs.lemmas.Slice.Eq.{bytes_eq-Decides}
 use Rattle.std.specs.Bool.{MatchBool}
-use Rattle.std.specs.Int.{bit_at}
+use Rattle.std.specs.Int.{bit_at, leading_zeros, trailing_zeros}
 use Rattle.std.specs.List.{filter, list_all, range_with_len}
 use Rattle.std.specs.List.Sorted.{IsStrictlySortedBy}
 use Rattle.std.specs.Ordering.{nat_cmp}
@@ -14,8 +14,8 @@ use Rattle.std.proofs.lemmas.List.Elements.{All-contains, All-contains_itself, A
 use Rattle.std.proofs.lemmas.List.FromFn.{length-range_with_len, get_or-range_with_len}
 use Rattle.std.proofs.lemmas.List.Kept.{IsStrictlySortedBy-filter}
 use Rattle.std.proofs.lemmas.Map.Keys.{sorted_from_strictly_increasing}
-use Rattle.std.proofs.lemmas.Nat.{one_shl, pow_pos}
-use Rattle.std.proofs.lemmas.Nat.Bits.{bit_at_set_same, bit_at_set_other, bit_at-zero, bit_at-lt, and_pow, same_from_bits_below}
+use Rattle.std.proofs.lemmas.Nat.{leading_length, one_shl, pow_pos}
+use Rattle.std.proofs.lemmas.Nat.Bits.{bit_at_set_same, bit_at_set_other, bit_at-trailing_zeros, bit_at_above, bit_at-zero, bit_at-lt, and_pow, same_from_bits_below}
 use Rattle.plex_num.proofs.Members.{later_is, in_filter}
 use Rattle.fact_rows.specs.Numbers.{has_bit, numbers, AreNumbers, bit_number, bits_of}
 
@@ -266,9 +266,38 @@ zero_exact words r fits is = (
 
 -- ---- the numbers in order
 
-pub bits_begin : (word first : ℕ) (old : List ℕ) → old ≡ old ++ bits_of word first 0
+-- nothing stands below the lowest bit that is set
+bits_below : (word first b : ℕ) → ((i : ℕ) → i < b → bit_at word i ≡ 0) → bits_of word first b ≡ []
 unfolding bits_of
-bits_begin word first old = sym (append-nil old)
+bits_below word first zero clear = refl
+bits_below word first (suc b) clear =
+    ap (λ l. l ++ bit_number word first b) (bits_below word first b (λ i lt. clear i (omega (arith, lt))))
+    ∙ ap (λ t. cond (eqb t 1) ((first + b) ∷ []) []) (clear b (omega arith))
+
+-- nor above the highest
+bits_above : (word first m b : ℕ) → word < 2 ^ m → m ≤ b → bits_of word first b ≡ bits_of word first m
+unfolding bits_of
+bits_above word first m zero fits le = (let e : 0 ≡ m = omega arith in ap (bits_of word first) e)
+bits_above word first m (suc b) fits le = elim (cases_lt b m) as (λ _. bits_of word first (suc b) ≡ bits_of word first m) [
+  | inl lt ↦ (let e : suc b ≡ m = omega arith in ap (bits_of word first) e)
+  | inr ge ↦
+      (ap (λ t. bits_of word first b ++ cond (eqb t 1) ((first + b) ∷ []) []) (bit_at_above word m b fits ge)
+      ∙ append-nil (bits_of word first b) ∙ bits_above word first m b fits ge)
+]
+
+some_word : (word : ℕ) → (word ≡ 0 → ⊥) → 0 < word
+some_word zero h = absurd (h refl)
+some_word (suc word) h = omega arith
+
+pub bits_begin : (word first : ℕ) (old : List ℕ) → word < 2 ^ 64 → (word ≡ 0 → ⊥) → old ≡ old ++ bits_of word first (trailing_zeros w64 word)
+bits_begin word first old fits some =
+    sym (append-nil old) ∙ ap (λ l. old ++ l) (sym (bits_below word first (trailing_zeros w64 word) (bit_at-trailing_zeros w64 word (some_word word some) fits).2))
+
+pub bits_end : (word first b : ℕ) (start now : List ℕ) → word < 2 ^ 64 → 64 - leading_zeros w64 word ≤ b → now ≡ start ++ bits_of word first b → now ≡ start ++ bits_of word first 64
+bits_end word first b start now fits past h =
+    let top = leading_length 64 word fits in
+    let all = top.1 in
+    h ∙ ap (λ l. start ++ l) (bits_above word first top.0 b top.2 (omega (arith, all, past)) ∙ sym (bits_above word first top.0 64 top.2 (omega (arith, all))))
 
 pub bits_more : (word first b : ℕ) (start old new : List ℕ) → old ≡ start ++ bits_of word first b → new ≡ old ++ bit_number word first b → new ≡ start ++ bits_of word first (b + 1)
 unfolding bits_of

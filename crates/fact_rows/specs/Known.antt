@@ -23,6 +23,10 @@ pub record Knows (k : BitRows) (f : Fact) : Type 0 where
   pub entry : f.entry ≡ k.entry
   pub value : Contains (map (value_in f.slot) (numbers_at k.marks f.point f.slot)) f.value
 
+-- so it is, and the fact is of the point
+abbrev pub KnowsAt : BitRows → ℕ → Fact → Type 0
+KnowsAt k p f = (f.point ≡ p) × Knows k f
+
 -- a fact has a place in the rows: its slot stands before its point, and its value has a number there
 pub record Fits (slots : List Counts) (f : Fact) : Type 0 where
   pub counts : Counts

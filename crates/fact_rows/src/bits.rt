@@ -1,11 +1,10 @@
 // Numbers as bits of words, 64 to a word.
-ghost use Rattle.std.specs.Prelude.{◌≡◌, ◌⊎◌, ◌↔◌, ◌+◌, ◌*◌, ◌<◌, ◌≤◌, ◌^◌, ◌++◌, ◌==◌, [], length, take, drop, IfOk, OnOk, IsTrue};
+ghost use Rattle.std.specs.Prelude.{◌≡◌, ◌⊎◌, ◌↔◌, ◌+◌, ◌*◌, ◌<◌, ◌≤◌, ◌^◌, ◌++◌, ◌∷◌, ◌==◌, [], length, take, drop, OnOk, IsTrue};
 ghost use Rattle.std.specs.Bool.{MatchBool};
 ghost use Rattle.std.specs.List.{Contains, list_all};
 ghost use Rattle.fact_rows.specs.Numbers.{AreNumbers, bit_number, bits_of, numbers};
 
-use plex_num::{Memory, Seq};
-use std::alloc::Global;
+use plex_num::Memory;
 
 /// Sets the bit of a number; true exactly where it was not set.
 pub(crate) fn set_bit(words: &mut [u64], i: u32) -> bool
@@ -83,40 +82,53 @@ fn all_zero(words: &[u64]) -> bool
     words.iter().all(|word| *word == 0)
 }
 
-/// The numbers of all bits that are set, rising.
-pub(crate) fn numbers_in(alloc: Global, words: &[u64]) -> Result<Seq<u32>, Memory>
+/// Puts the numbers of all bits that are set, rising, in the place of those of a list.
+pub(crate) fn list_numbers(words: &[u64], list: &mut Vec<u32>) -> Result<(), Memory>
     requires { 64 * length words.now ≤ 2 ^ 32 }
-    ensures { IfOk result (λ list. list ≡ numbers words.now) }
+    ensures { OnOk result (list.new.items ≡ numbers words.now) }
 {
-    let mut list = Seq::new(alloc);
+    list.clear();
     for place in 0..words.len() {
-        push_bits(words[place], 64 * place as u32, &mut list)?;
+        push_bits(words[place], 64 * place as u32, list)?;
     }
-    Ok(list)
+    Ok(())
 }
 
-/// Appends the numbers of the bits of a word, the lowest of which has this number.
-fn push_bits(word: u64, first: u32, list: &mut Seq<u32>) -> Result<(), Memory>
+/// Appends the numbers of the bits of a word, the lowest of which has this number. No bit is looked at below the first that is set, nor
+/// above the last.
+fn push_bits(word: u64, first: u32, list: &mut Vec<u32>) -> Result<(), Memory>
     requires { first + 64 ≤ 2 ^ 32 }
-    ensures { OnOk result (list.new ≡ list.old ++ bits_of word first 64) }
+    ensures { OnOk result (list.new.items ≡ list.old.items ++ bits_of word first 64) }
 {
     if word == 0 {
         return Ok(());
     }
-    for bit in 0..64 {
+    let low = word.trailing_zeros();
+    let end = 64 - word.leading_zeros();
+    for bit in low..end {
         push_bit(word, bit, first, list)?;
     }
     Ok(())
 }
 
 /// Appends the number of a bit, if it is set.
-fn push_bit(word: u64, bit: u32, first: u32, list: &mut Seq<u32>) -> Result<(), Memory>
+fn push_bit(word: u64, bit: u32, first: u32, list: &mut Vec<u32>) -> Result<(), Memory>
     requires within { bit < 64 }
     requires fits { first + 64 ≤ 2 ^ 32 }
-    ensures { OnOk result (list.new ≡ list.old ++ bit_number word first bit) }
+    ensures { OnOk result (list.new.items ≡ list.old.items ++ bit_number word first bit) }
 {
     if (word >> bit) & 1 == 1 {
-        list.push(first + bit)?;
+        append(list, first + bit)?;
     }
     Ok(())
+}
+
+/// Appends an item.
+pub(crate) fn append<T: Drop>(list: &mut Vec<T>, item: T) -> Result<(), Memory>
+    ensures { OnOk result (list.new.items ≡ list.old.items ++ item ∷ []) }
+{
+    match list.push(item) {
+        Ok(()) => Ok(()),
+        Err(_) => Err(Memory),
+    }
 }

@@ -1,12 +1,11 @@
 // A set of numbers for each slot before each point.
-ghost use Rattle.std.specs.Prelude.{◌≡◌, ◌↔◌, ◌+◌, ◌<◌, [], map, IfOk, OnErr, IsTrue};
+ghost use Rattle.std.specs.Prelude.{◌≡◌, ◌↔◌, ◌+◌, ◌<◌, [], map, slice_get, IfOk, OnErr, OnOk, IsTrue};
 ghost use Rattle.std.specs.Option.{IsSome};
 ghost use Rattle.fact_rows.specs.Places.{counts_of as counts_of_row, numbers_at, spot_of as spot_of_slots};
 ghost use Rattle.fact_rows.specs.Values.{is_awaits, numbers_of};
 ghost use Rattle.fact_rows.specs.Grids.{IsBlank, JoinsAt, SetsAt};
-ghost use Rattle.fact_rows.specs.Touched.{keys_before};
 
-use crate::keys::{Key, keys_at};
+use crate::keys::Key;
 use crate::place::{Counts, Spot, spot_in};
 use crate::planes::Planes;
 use crate::value::{AWAITED_WORDS, PLANE_WORDS};
@@ -88,24 +87,32 @@ impl Grid {
         }
     }
 
-    /// The numbers of a slot before a point, rising; none where the slot is not there.
-    pub(crate) fn numbers(&self, alloc: Global, point: u32, slot: Slot) -> Result<Seq<u32>, Memory>
-        ensures { IfOk result (λ list. list ≡ numbers_at self.now point slot) }
+    /// Puts the numbers of a slot before a point, rising, in the place of those of a list; none where the slot is not there.
+    pub(crate) fn list_numbers(
+        &self,
+        point: u32,
+        slot: Slot,
+        list: &mut Vec<u32>,
+    ) -> Result<(), Memory>
+        ensures { OnOk result (list.new.items ≡ numbers_at self.now point slot) }
     {
         match self.spot_of(point, slot) {
-            Some(Spot::Plane(i)) => self.planes.numbers(alloc, i),
-            Some(Spot::Awaited(i)) => self.awaits.numbers(alloc, i),
-            None => Ok(Seq::new(alloc)),
+            Some(Spot::Plane(i)) => self.planes.list_numbers(i, list),
+            Some(Spot::Awaited(i)) => self.awaits.list_numbers(i, list),
+            None => {
+                list.clear();
+                Ok(())
+            }
         }
     }
 
-    /// All slots before a point, in order; none where the point is not there.
-    pub(crate) fn keys(&self, alloc: Global, point: u32) -> Result<Seq<Key>, Memory>
-        ensures { IfOk result (λ keys. keys ≡ keys_before self.now.slots point) }
+    /// How many slots stand before a point, if it is there.
+    pub(crate) fn counts(&self, point: u32) -> Option<Counts>
+        ensures { result ≡ slice_get self.now.slots point }
     {
         match self.slots.get(point as usize) {
-            Some(counts) => keys_at(alloc, point, *counts),
-            None => Ok(Seq::new(alloc)),
+            Some(counts) => Some(*counts),
+            None => None,
         }
     }
 

@@ -4,10 +4,10 @@ ghost use Rattle.std.specs.List.{All};
 ghost use Rattle.fact_rows.specs.Grids.{IsJoinedAt, IsSetAt};
 ghost use Rattle.fact_rows.specs.Spread.{AreWordsAt, IsAlike, IsSound, row_of};
 
-use crate::bits::{are_zero, join, numbers_in, set_bit};
+use crate::bits::{are_zero, join, list_numbers, set_bit};
 use crate::narrow::NumberRow;
 use crate::sets::Sets;
-use plex_num::{Memory, Seq};
+use plex_num::Memory;
 use std::alloc::Global;
 
 /// A row of sets of numbers. Each takes two bytes, or four where very many sets are met: the number of its set among those that
@@ -77,16 +77,19 @@ impl Planes {
         }
     }
 
-    /// The numbers of a set of the row, rising.
+    /// Puts the numbers of a set of the row, rising, in the place of those of a list.
     #[tactic(auto, using(crate::proofs::Spreading::words_fit))]
-    pub(crate) fn numbers(&self, alloc: Global, i: usize) -> Result<Seq<u32>, Memory>
+    pub(crate) fn list_numbers(&self, i: usize, list: &mut Vec<u32>) -> Result<(), Memory>
         requires sound { IsSound self.now }
         requires place { i < length self.now.set_numbers }
-        ensures { IfOk result (λ list. list ≡ slice_index_or (row_of self.now) i []) }
+        ensures { OnOk result (list.new.items ≡ slice_index_or (row_of self.now) i []) }
     {
         match self.words(i) {
-            Some(words) => numbers_in(alloc, words),
-            None => Ok(Seq::new(alloc)),
+            Some(words) => list_numbers(words, list),
+            None => {
+                list.clear();
+                Ok(())
+            }
         }
     }
 
@@ -108,7 +111,7 @@ impl Planes {
     }
 
     /// Adds to a set of the row all numbers of another one; true exactly where one of them was not there. Sets with the same number
-    /// are not looked at. Where memory is refused, all sets stay as they were.
+    /// are not looked at, and a set without one gets that of the other. Where memory is refused, all sets stay as they were.
     pub(crate) fn join(&mut self, from: usize, to: usize) -> Result<bool, Memory>
         requires sound { IsSound self.old }
         requires from { from < length self.old.set_numbers }
@@ -126,8 +129,34 @@ impl Planes {
         if own == more {
             return Ok(false);
         }
+        if own < self.sets.first {
+            return self.share(from, to);
+        }
         self.take_out(to);
         Ok(self.join_laid(from))
+    }
+
+    /// Gives a set of the row that is none of those that are kept the number of another one, where none is laid out; true exactly where that one
+    /// has numbers. Where memory is refused, all sets stay as they were.
+    fn share(&mut self, from: usize, to: usize) -> Result<bool, Memory>
+        requires sound { IsSound self.old }
+        requires none { length self.old.set_numbers ≤ self.old.own }
+        requires from { from < length self.old.set_numbers }
+        requires to { to < length self.old.set_numbers }
+        requires blank { slice_index_or self.old.set_numbers to 0 < self.old.sets.first }
+        ensures ok { IfOk result (λ grown.
+            IsJoinedAt (row_of self.old) from to grown (row_of self.new)) }
+        ensures err { OnErr result (row_of self.new ≡ row_of self.old) }
+        ensures sound { IsSound self.new }
+        ensures long { length self.new.set_numbers ≡ length self.old.set_numbers }
+        ensures width { self.new.sets.width ≡ self.old.sets.width }
+    {
+        if self.is_blank(from) {
+            return Ok(false);
+        }
+        let number = self.set_numbers.number(from);
+        self.set_numbers.put(to, number)?;
+        Ok(true)
     }
 
     /// Adds to the set that is laid out all numbers of another one; true exactly where one of them was not there.

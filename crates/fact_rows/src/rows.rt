@@ -7,14 +7,15 @@ ghost use Rattle.flow_points.specs.declared.fact.Fact.{Fact};
 ghost use Rattle.flow_points.specs.Facts.{Reached, fact};
 ghost use Rattle.flow_table.specs.Giving.{AreValues};
 ghost use Rattle.fact_rows.specs.Places.{numbers_at};
-ghost use Rattle.fact_rows.specs.Known.{AddsFact, AreFacts, Fits, HasSpot, Joins, KnowNothing, Knows, missing, slots_of};
+ghost use Rattle.fact_rows.specs.Known.{AddsFact, AreFacts, Fits, HasSpot, Joins, KnowNothing, Knows, KnowsAt, missing, slots_of};
 ghost use Rattle.fact_rows.specs.Values.{is_awaits};
 ghost use Rattle.fact_rows.specs.Numbers.{AreNumbers};
-ghost use Rattle.fact_rows.specs.Touched.{IsTouched, facts_at, facts_of, keys_of};
+ghost use Rattle.fact_rows.specs.Touched.{IsTouched, facts_of, keys_of};
 
 use crate::grid::Grid;
 use crate::keys::Key;
-use crate::value::{number_in, value_in, values_in};
+use crate::point_facts::{PointFacts, push_point};
+use crate::value::{number_in, values_in};
 use flow_points::{Fact, Slot, Value};
 use flow_table::{FlowTable, KnownFacts};
 use plex_num::{Memory, Seq};
@@ -119,6 +120,15 @@ impl FactRows {
         let points = in_order(alloc, &self.touched)?;
         listed(alloc, self.entry, &self.grid, &points)
     }
+
+    /// Puts the facts that are known before a point, in their order, in the place of those of a list.
+    pub fn list_at(&self, point: u32, list: &mut PointFacts) -> Result<(), Memory>
+        ensures { OnOk result (AreFacts (KnowsAt self.now point) list.new.facts.items) }
+    {
+        list.facts.clear();
+        push_point(self.entry, &self.grid, point, list)?;
+        Ok(())
+    }
 }
 
 impl KnownFacts for FactRows {
@@ -134,8 +144,9 @@ impl KnownFacts for FactRows {
         if entry != self.entry {
             return Ok(Seq::new(alloc));
         }
-        let numbers = self.grid.numbers(alloc, point, slot)?;
-        values_in(alloc, slot, numbers.as_slice())
+        let mut numbers = Vec::new(alloc);
+        self.grid.list_numbers(point, slot, &mut numbers)?;
+        values_in(alloc, slot, &numbers)
     }
 
     fn is_reached(&self, entry: u32, point: u32) -> bool {
@@ -193,42 +204,9 @@ fn listed(alloc: Global, entry: u32, grid: &Grid, points: &[u32]) -> Result<Seq<
     ensures { IfOk result (λ facts.
         facts ≡ facts_of entry grid.now (keys_of grid.now.slots points.now)) }
 {
-    let mut facts = Seq::new(alloc);
+    let mut list = PointFacts::new(alloc);
     for point in points {
-        let keys = grid.keys(alloc, *point)?;
-        push_listed(alloc, entry, grid, keys.as_slice(), &mut facts)?;
+        push_point(entry, grid, *point, &mut list)?;
     }
-    Ok(facts)
-}
-
-/// Appends the facts of these slots, one slot after the other.
-fn push_listed(
-    alloc: Global,
-    entry: u32,
-    grid: &Grid,
-    keys: &[Key],
-    facts: &mut Seq<Fact>,
-) -> Result<(), Memory>
-    ensures { OnOk result (facts.new ≡ facts.old ++ facts_of entry grid.now keys.now) }
-{
-    for key in keys {
-        let numbers = grid.numbers(alloc, key.point, key.slot)?;
-        push_facts(entry, *key, numbers.as_slice(), facts)?;
-    }
-    Ok(())
-}
-
-/// Appends the facts of these numbers of a slot.
-fn push_facts(entry: u32, key: Key, numbers: &[u32], facts: &mut Seq<Fact>) -> Result<(), Memory>
-    ensures { OnOk result (facts.new ≡ facts.old ++ facts_at entry key numbers.now) }
-{
-    for number in numbers {
-        facts.push(Fact {
-            entry,
-            point: key.point,
-            slot: key.slot,
-            value: value_in(key.slot, *number),
-        })?;
-    }
-    Ok(())
+    Ok(list.into_facts())
 }

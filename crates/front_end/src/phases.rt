@@ -12,14 +12,16 @@ ghost use Rattle.front_end.specs.Resolved.{resolved, IsToldOf, Resolves};
 use crate::collected::exchange_with;
 use crate::fault::TextFault;
 use crate::seed::seed_of;
+use block_resolver::resolve_blocks;
 use exchange_model::{Block, Exchange, SignalKind};
 use plex_ast::Tree;
 use plex_num::{Memory, Seed, Seq};
-use resolved_block::resolve_blocks;
+use rule_checks::{check_blocks, check_links, check_signals};
 use signal_types::{SignalTable, kinds_of_signals};
 use std::alloc::Global;
-use text_events::{Event, walk_text};
-use text_rules::{BlockTable, Fault, Rule, check_blocks, check_links, check_signals};
+use text_events::Event;
+use text_rules::{BlockTable, Fault, Rule};
+use text_walk::walk_text;
 
 /// Whether a text keeps the rules of signals and of names of blocks.
 #[tactic(auto, using(crate::proofs::Told::signals_first))]

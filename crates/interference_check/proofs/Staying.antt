@@ -19,7 +19,7 @@ use Rattle.start_permit.specs.Granted.{MayRead, MayWrite}
 use Rattle.permit_laws.specs.Permitted.{ArePermitted}
 use Rattle.permit_laws.proofs.Stepping.{job_stays}
 use Rattle.pair_laws.proofs.Keeping.{may_fault}
-use Rattle.register_machine.specs.Faithful.{MayMake}
+use Rattle.machine_meaning.specs.Faithful.{MayMake}
 use Rattle.checked.specs.Kept.{IsChecked, KeptSummaries}
 use Rattle.interference_check.specs.Permits.{IsPermitOf, OfEntry, StaysWithin}
 

@@ -13,7 +13,7 @@ use Rattle.start_permit.specs.Granted.{MayRead, MayWrite}
 use Rattle.permit_laws.specs.Permitted.{AreToLevels}
 use Rattle.order_laws.specs.Windows.{done_by}
 use Rattle.pair_laws.specs.Pairs.{IsFaulted}
-use Rattle.register_machine.specs.Faithful.{MayMake}
+use Rattle.machine_meaning.specs.Faithful.{MayMake}
 use Rattle.checked.specs.Kept.{KeptSummaries}
 
 -- the entry has a summary, and this holds of it

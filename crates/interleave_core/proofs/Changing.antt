@@ -15,8 +15,8 @@ use Rattle.source_meaning.specs.State.{State}
 use Rattle.retire_order.specs.Accounts.{Account, upcoming, with_words}
 use Rattle.retire_order.specs.Retired.{retired_world}
 use Rattle.retire_order.specs.Stores.{MayStore}
-use Rattle.register_machine.specs.Private.{Private}
-use Rattle.register_machine.specs.Machine.{stepped}
+use Rattle.machine_meaning.specs.Private.{Private}
+use Rattle.machine_meaning.specs.Machine.{stepped}
 use Rattle.retire_order.proofs.Arriving.{arrivals_with}
 use Rattle.checked.specs.Kept.{KeptSummaries}
 use Rattle.interleave_core.specs.declared.event.CoreEvent.{CoreEvent}

@@ -23,8 +23,8 @@ use Rattle.source_meaning.specs.Valid.{IsValid}
 use Rattle.source_meaning.proofs.Agreeing.{stored_alike}
 use Rattle.source_meaning.proofs.Retiring.{turn_valid}
 use Rattle.retire_order.specs.Accounts.{next_count}
-use Rattle.register_machine.specs.Faithful.{Faithful, started}
-use Rattle.register_machine.specs.Machine.{Machine, stepped}
+use Rattle.machine_meaning.specs.Faithful.{Faithful, started}
+use Rattle.machine_meaning.specs.Machine.{Machine, stepped}
 use Rattle.checked.specs.Kept.{KeptSummaries}
 use Rattle.order_laws.specs.Books.{AreAhead}
 use Rattle.order_laws.specs.Books as books

@@ -6,8 +6,8 @@ use Rattle.job_types.specs.declared.touch.Touch.{Touch}
 use Rattle.job_types.specs.Touches.{stored}
 use Rattle.machine_code.specs.declared.op.Op.{Op}
 use Rattle.source_meaning.specs.Traces.{IsTouched, touched_word}
-use Rattle.register_machine.specs.Private.{Private}
-use Rattle.register_machine.specs.Machine.{Apart, Loads, Machine, MayTouch, Reach, Stores, act, loaded, op_at, reach, stepped, untouched}
+use Rattle.machine_meaning.specs.Private.{Private}
+use Rattle.machine_meaning.specs.Machine.{Apart, Loads, Machine, MayTouch, Reach, Stores, act, loaded, op_at, reach, stepped, untouched}
 use Rattle.run_laws.specs.Alone.{alone, goes_on, makes, makes_unless}
 use Rattle.run_laws.proofs.Told.{is_touch, touch_of}
 

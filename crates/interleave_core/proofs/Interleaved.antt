@@ -7,7 +7,7 @@ use Rattle.source_meaning.specs.Arrivals.{arrivals}
 use Rattle.source_meaning.specs.State.{State}
 use Rattle.source_meaning.specs.Valid.{IsValid}
 use Rattle.retire_order.specs.Accounts.{Account, with_words}
-use Rattle.register_machine.specs.Faithful.{Faithful}
+use Rattle.machine_meaning.specs.Faithful.{Faithful}
 use Rattle.checked.specs.Kept.{IsChecked, KeptSummaries}
 use Rattle.interleave_core.specs.declared.event.CoreEvent.{CoreEvent}
 use Rattle.interleave_core.specs.declared.event.CoreFault.{CoreFault}

@@ -31,9 +31,9 @@ use Rattle.source_meaning.proofs.Agreeing.{agree_answers, left_alone}
 use Rattle.source_meaning.proofs.Growing.{job_store}
 use Rattle.source_meaning.proofs.Retiring.{begun_valid, start_fits, turn_valid}
 use Rattle.source_meaning.proofs.Touching.{touches_inside}
-use Rattle.register_machine.specs.Faithful.{Faithful, Means, RunsAsMeant, started}
-use Rattle.register_machine.specs.Machine.{Machine, op_at, reach, stepped}
-use Rattle.register_machine.specs.Steps.{MayStep}
+use Rattle.machine_meaning.specs.Faithful.{Faithful, Means, RunsAsMeant, started}
+use Rattle.machine_meaning.specs.Machine.{Machine, op_at, reach, stepped}
+use Rattle.machine_meaning.specs.Steps.{MayStep}
 use Rattle.order_laws.specs.Books.{AreAhead, settles}
 use Rattle.order_laws.specs.Ends.{Spares, words_left}
 use Rattle.order_laws.specs.Keeps.{NoLineBefore}

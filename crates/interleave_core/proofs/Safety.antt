@@ -17,8 +17,8 @@ use Rattle.retire_order.specs.Accounts.{with_words}
 use Rattle.retire_order.specs.Retired.{retired_world}
 use Rattle.retire_order.specs.Stores.{MayStore}
 use Rattle.retire_order.proofs.Cells.{may_store, retired_inside}
-use Rattle.register_machine.specs.Faithful.{Faithful}
-use Rattle.register_machine.specs.Steps.{MayStep}
+use Rattle.machine_meaning.specs.Faithful.{Faithful}
+use Rattle.machine_meaning.specs.Steps.{MayStep}
 use Rattle.checked.specs.Kept.{KeptSummaries}
 use Rattle.order_laws.specs.Windows.{done_by}
 use Rattle.order_laws.proofs.Following.{ahead_live}

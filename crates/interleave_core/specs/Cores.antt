@@ -12,8 +12,8 @@ use Rattle.source_meaning.specs.Arrivals.{arrivals}
 use Rattle.source_meaning.specs.Retirement.{retires}
 use Rattle.source_meaning.specs.SingleRun.{begun}
 use Rattle.retire_order.specs.Accounts.{Account, with_words}
-use Rattle.register_machine.specs.Machine.{stepped}
-use Rattle.register_machine.specs.Faithful.{started}
+use Rattle.machine_meaning.specs.Machine.{stepped}
+use Rattle.machine_meaning.specs.Faithful.{started}
 use Rattle.interleave_core.specs.declared.window.WindowJob.{WindowJob}
 use Rattle.interleave_core.specs.declared.window.CoreState.{CoreState}
 use Rattle.interleave_core.specs.declared.window.RunningCore.{RunningCore}

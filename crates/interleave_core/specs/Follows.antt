@@ -9,8 +9,8 @@ use Rattle.exchange_model.specs.declared.exchange.Exchange.{Exchange}
 use Rattle.source_meaning.specs.SingleRun.{after, next_start}
 use Rattle.source_meaning.specs.State.{State}
 use Rattle.source_meaning.specs.Traces.{IsTouched, LeavesAlone}
-use Rattle.register_machine.specs.Faithful.{started}
-use Rattle.register_machine.specs.Machine.{Machine}
+use Rattle.machine_meaning.specs.Faithful.{started}
+use Rattle.machine_meaning.specs.Machine.{Machine}
 use Rattle.run_laws.specs.Alone.{alone}
 use Rattle.retire_order.specs.Accounts.{Account, with_words}
 use Rattle.interleave_core.specs.declared.event.CoreEvent.{CoreEvent}

@@ -9,8 +9,8 @@ use Rattle.exchange_model.specs.declared.exchange.Exchange.{Exchange}
 use Rattle.source_meaning.specs.Retirement.{retires}
 use Rattle.source_meaning.specs.SingleRun.{next_start}
 use Rattle.retire_order.specs.Accounts.{with_words}
-use Rattle.register_machine.specs.Machine.{stepped}
-use Rattle.register_machine.specs.Steps.{MayStep}
+use Rattle.machine_meaning.specs.Machine.{stepped}
+use Rattle.machine_meaning.specs.Steps.{MayStep}
 use Rattle.interleave_core.specs.declared.event.CoreEvent.{CoreEvent}
 use Rattle.interleave_core.specs.declared.event.CoreEvent.TheVariants.{Issue, Step, Retire}
 use Rattle.interleave_core.specs.declared.window.RunningCore.{RunningCore}

@@ -15,7 +15,7 @@ use Rattle.source_meaning.specs.Valid.{MayBe}
 use Rattle.retire_order.specs.Accounts.{with_words}
 use Rattle.retire_order.specs.Retired.{retired_world}
 use Rattle.retire_order.specs.Stores.{MayStore}
-use Rattle.register_machine.specs.Steps.{MayStep}
+use Rattle.machine_meaning.specs.Steps.{MayStep}
 use Rattle.checked.specs.Kept.{KeptSummaries}
 use Rattle.interleave_core.specs.declared.event.CoreEvent.{CoreEvent}
 use Rattle.interleave_core.specs.declared.window.WindowJob.{WindowJob}

@@ -4,7 +4,7 @@ ghost use Rattle.store_layout.specs.Laid.{IsLayout};
 ghost use Rattle.source_meaning.specs.Arrivals.{arrivals};
 ghost use Rattle.source_meaning.specs.Valid.{IsValid};
 ghost use Rattle.retire_order.specs.Accounts.{with_words};
-ghost use Rattle.register_machine.specs.Faithful.{Faithful};
+ghost use Rattle.machine_meaning.specs.Faithful.{Faithful};
 ghost use Rattle.checked.specs.Kept.{IsChecked};
 ghost use Rattle.interleave_core.specs.Follows.{Interleaves};
 ghost use Rattle.interleave_core.specs.Runs.{IsFault, setting};

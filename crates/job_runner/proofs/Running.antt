@@ -16,8 +16,8 @@ use Rattle.machine_code.proofs.Listed.{word_of}
 use Rattle.source_meaning.specs.Job.{job}
 use Rattle.source_meaning.specs.Traces.{AreOfCells, trace_of}
 use Rattle.source_meaning.proofs.Touching.{touches_inside}
-use Rattle.register_machine.specs.Faithful.{Begins, ComesToEnd, ComesToMeaning, MayMake, started}
-use Rattle.register_machine.specs.Private.{Private}
+use Rattle.machine_meaning.specs.Faithful.{Begins, ComesToEnd, ComesToMeaning, MayMake, started}
+use Rattle.machine_meaning.specs.Private.{Private}
 use Rattle.shared_store.specs.declared.view.Lent.{Lent}
 use Rattle.shared_store.specs.Loans.{current}
 use Rattle.shared_store.specs.Seats.{JobView, StoreId}

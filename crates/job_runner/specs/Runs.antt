@@ -10,9 +10,9 @@ use Rattle.source_meaning.specs.Job.{job}
 use Rattle.source_meaning.specs.State.{State}
 use Rattle.source_meaning.specs.Traces.{trace_of}
 use Rattle.source_meaning.specs.Valid.{IsValid, IsFitting}
-use Rattle.register_machine.specs.Faithful.{Ends, MayMake, Means, begun, started}
-use Rattle.register_machine.specs.Machine.{Machine}
-use Rattle.register_machine.specs.Private.{Private}
+use Rattle.machine_meaning.specs.Faithful.{Ends, MayMake, Means, begun, started}
+use Rattle.machine_meaning.specs.Machine.{Machine}
+use Rattle.machine_meaning.specs.Private.{Private}
 use Rattle.shared_store.specs.declared.view.Lent.{Lent}
 use Rattle.shared_store.specs.Seats.{JobView, StoreId}
 

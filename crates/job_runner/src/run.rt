@@ -1,5 +1,5 @@
 // A job runs on the shared words.
-ghost use Rattle.register_machine.specs.Faithful.{Faithful};
+ghost use Rattle.machine_meaning.specs.Faithful.{Faithful};
 ghost use Rattle.job_runner.specs.Runs.{IsReady, HasRun};
 
 use crate::loan_words::LoanWords;

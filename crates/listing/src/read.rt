@@ -10,6 +10,7 @@ use crate::fault::ListFault;
 use crate::read_line::statement;
 use crate::statement::Statement;
 use case_table::operations;
+use code_forms::prepared_code;
 use machine_code::{Code, Op};
 use plex_num::{Memory, Seq};
 use std::alloc::Global;
@@ -78,7 +79,7 @@ fn read_lines(alloc: Global, text: &[u8], rest: &[u8]) -> Result<Code, ListFault
 fn code_of(alloc: Global, ops: Seq<Op>, entries: Seq<u32>) -> Result<Code, ListFault>
     ensures { IsUnlessMemory result (Ok (record { ops = ops; entries = entries })) }
 {
-    match Code::new(alloc, ops, entries) {
+    match prepared_code(alloc, ops, entries) {
         Ok(code) => Ok(code),
         Err(_) => Err(ListFault::Memory),
     }

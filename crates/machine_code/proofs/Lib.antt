@@ -1,5 +1,5 @@
 pub mod Listed
 pub mod Spanned
 pub mod Told
-pub mod Fusing
 pub mod Passing
+pub mod Fusing

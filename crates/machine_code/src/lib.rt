@@ -14,14 +14,12 @@ mod form;
 mod laws;
 mod op;
 mod permit;
-mod prepare;
-mod propose;
 mod words;
 
-pub use choices::{Choices, Passed, passed_at};
+pub use choices::{Choices, Passed, has_row, passed_at, rows_of};
 pub use code::Code;
 pub use crossing::{code_crosses, permit_crosses};
-pub use form::Form;
+pub use form::{Form, Shape};
 pub use laws::span_has_its_words_alone;
 pub use op::Op;
 pub use permit::{Permit, Span};

@@ -1,6 +1,6 @@
 /// An instruction. `r` and `s` are registers, `i` a local, `k` the place of a value, `w` a word, `a` an address, `p` a point,
 /// `f` a file, `m` a signal, `x` an entry or a signal, `l` a level from 0 for A, `q` the kind of a send, `d` a width in bits, and `n` any number.
-#[derive(Clone, Copy, PartialEq, Eq)]
+#[derive(Clone, Copy)]
 pub enum Op {
     /// A statement begins, at the point p.
     Stmt { p: u32 },

@@ -11,8 +11,9 @@ ghost use Rattle.command_words.specs.Words.{Word};
 ghost use Rattle.command_words.specs.declared.command.TimedWords.{TimedWords};
 ghost use Rattle.merge_program.specs.Merge.{IsMergeAnswer};
 
-/// Where the answer to an exchange, a signal file and a table is `Done` and its text is not too large for a file, `run` of a file with
-/// that text in place of the signal file is answered as `timed` of all three.
+/// Where the answer to an exchange, a signal file and a table is `Done` and its text is not too
+/// large for a file, `run` of a file with that text in place of the signal file is answered as
+/// `timed` of all three.
 pub fn merged_files_run()
     ensures { (w : TimedWords) (files others : Files) (name : Word) (a : Answer)
         → IsMergeAnswer (w.run.exchange ∷ w.run.signals ∷ w.table ∷ []) files a

@@ -7,22 +7,22 @@ ghost use Rattle.command_answers.specs.Program.{Makes, ReadCause, WriteCause};
 ghost use Rattle.merge_program.specs.Merge.{AreOthers, IsMergeAnswer, lines_answer, merge_of};
 ghost use Rattle.merge_program.specs.Merge.{usage_answer, usage_text};
 
-use command_answers::{Answer, Stop, directory_of, exchange_in, lines_in, merged_in, write_answer};
+use command_answers::{Answer, Stop, known_in, lines_in, merged_in, write_answer};
 use command_words::Status;
 use exchange_model::Exchange;
 use job_table::write_out;
 use plex_io::{Shelf, Sink, Word};
 use plex_num::Seq;
-use signal_file::{Known, Line};
+use signal_file::Line;
 use std::alloc::Global;
 use text_parts::Text;
 
 /// The program: reads the three files that the words name, and writes the answer.
 ///
 /// `words` are the command's words without the program's name. Where the shelf tells its files, the
-/// status and the text are those of the answer (`IsMergeAnswer`), but for `Read` where a read failed,
-/// `Write` where the sink failed or is full, and then a proper front of the text was written, and
-/// `Memory`.
+/// status and the text are those of the answer (`IsMergeAnswer`), but for `Read` where a read
+/// failed, `Write` where the sink failed or is full, and then a proper front of the text was
+/// written, and `Memory`.
 #[tactic(auto, using(command_answers::proofs::Endings::ending))]
 pub fn plex_merge<S: Shelf, K: Sink>(
     alloc: Global,
@@ -80,14 +80,10 @@ fn merge_files<S: Shelf>(
         (S.faults shelf.old) (S.faults shelf.new) result }
     ensures ending { IfOk result (λ a. IsEnding a.status) }
 {
-    let exchange = exchange_in(alloc, shelf, exchange)?;
-    let known = Known {
-        exchange: &exchange,
-        names: directory_of(alloc, &exchange)?,
-    };
+    let known = known_in(alloc, shelf, exchange)?;
     let lines = lines_in(alloc, shelf, &known, signals)?;
     let all = merged_in(alloc, shelf, &known, &lines, table)?;
-    lines_answer(alloc, &exchange, &all)
+    lines_answer(alloc, &known.exchange, &all)
 }
 
 /// The text of the signal file that has these lines, as a stage.

@@ -23,8 +23,8 @@ use Rattle.checked.specs.Kept.{KeptSummaries}
 use Rattle.order_laws.specs.Books.{AreAhead}
 use Rattle.order_laws.proofs.Following.{ahead_none}
 use Rattle.order_laws.proofs.Wording.{over}
-use Rattle.register_machine.specs.Faithful.{Begins, ComesToEnd, ComesToMeaning, Faithful, MayMake, started}
-use Rattle.register_machine.specs.Private.{Private}
+use Rattle.machine_meaning.specs.Faithful.{Begins, ComesToEnd, ComesToMeaning, Faithful, MayMake, started}
+use Rattle.machine_meaning.specs.Private.{Private}
 use Rattle.retire_order.specs.Accounts.{Account, after_start, upcoming, with_words}
 use Rattle.retire_order.specs.Retired.{HasRetired, retired_world}
 use Rattle.retire_order.specs.Stores.{MayStore}

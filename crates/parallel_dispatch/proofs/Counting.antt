@@ -4,9 +4,9 @@ use Rattle.std.proofs.Math.Nat.{mod-add-mod}
 use Rattle.job_types.specs.Truth.{at_zero}
 use Rattle.machine_code.specs.declared.op.Op.{Op}
 use Rattle.machine_code.specs.declared.op.Op.TheVariants.{Stmt, Ldi, Ldt, Stt, Lde, Lda, Add, Sub, Mul, Div, Rem, Eq, Ne, Lt, Le, Gt, Ge, And, Or, Jmp, Jz, Ldw, Stw, Ckw, Ckp, Own, Ldx, Stx, Ckf, Chn, Unc, Arg, Snd, Dir, Call, Ret, Trf, End}
-use Rattle.register_machine.specs.declared.frames.Frame.{Frame}
-use Rattle.register_machine.specs.Machine.{Machine, ends, loaded, machine_step, made_one, reach, returns, row}
-use Rattle.register_machine.specs.Private.{Private}
+use Rattle.machine_meaning.specs.declared.frame.Frame.{Frame}
+use Rattle.machine_meaning.specs.Machine.{Machine, ends, loaded, machine_step, made_one, reach, returns, row}
+use Rattle.machine_meaning.specs.Private.{Private}
 use Rattle.interleave_core.specs.declared.event.CoreEvent.{CoreEvent}
 use Rattle.interleave_core.specs.declared.event.CoreEvent.TheVariants.{Issue, Step, Retire}
 use Rattle.parallel_dispatch.specs.Turning.{so_many_steps, steps_in, turn_of}

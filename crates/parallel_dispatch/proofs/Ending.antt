@@ -10,12 +10,12 @@ use Rattle.exchange_model.specs.Kept.{IsExchange}
 use Rattle.source_meaning.specs.Retirement.{retires}
 use Rattle.source_meaning.specs.SingleRun.{Ending, after, ending_at, jobs_at_end}
 use Rattle.source_meaning.specs.State.{State}
-use Rattle.register_machine.specs.Faithful.{Faithful, started}
+use Rattle.machine_meaning.specs.Faithful.{Faithful, started}
 use Rattle.checked.specs.Kept.{KeptSummaries}
 use Rattle.order_laws.proofs.Arriving.{arrivals_keep}
 use Rattle.order_laws.proofs.Keeping.{retire_keeps}
 use Rattle.order_laws.specs.Windows.{turns}
-use Rattle.register_machine.specs.Machine.{stepped}
+use Rattle.machine_meaning.specs.Machine.{stepped}
 use Rattle.order_laws.proofs.Turning.{after_more, window_limit}
 use Rattle.exchange_run.proofs.Ending.{ends_at}
 use Rattle.interleave_core.specs.declared.event.CoreEvent.{CoreEvent}

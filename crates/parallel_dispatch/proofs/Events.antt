@@ -10,8 +10,8 @@ use Rattle.exchange_model.specs.declared.exchange.Exchange.{Exchange}
 use Rattle.source_meaning.specs.Arrivals.{arrivals}
 use Rattle.source_meaning.specs.Retirement.{retires}
 use Rattle.source_meaning.specs.State.{State, Coming}
-use Rattle.register_machine.specs.Faithful.{Ends, begun, started}
-use Rattle.register_machine.specs.Machine.{Machine}
+use Rattle.machine_meaning.specs.Faithful.{Ends, begun, started}
+use Rattle.machine_meaning.specs.Machine.{Machine}
 use Rattle.checked.specs.Kept.{KeptSummaries}
 use Rattle.order_laws.specs.Keeps.{NoLineBefore}
 use Rattle.order_laws.proofs.Wording.{arrivals_over}

@@ -3,7 +3,7 @@ use Rattle.std.proofs.Common.{◌≡◌, ◌≢◌, inl, inr, List, [], ◌∷�
 use Rattle.machine_code.specs.Coded.{Code}
 use Rattle.exchange_model.specs.declared.exchange.Exchange.{Exchange}
 use Rattle.checked.specs.Kept.{KeptSummaries}
-use Rattle.register_machine.specs.Private.{Private}
+use Rattle.machine_meaning.specs.Private.{Private}
 use Rattle.retire_order.specs.Accounts.{Account}
 use Rattle.shared_store.specs.declared.view.Lent.{Lent}
 use Rattle.shared_store.specs.Loans.{Has, taken_back}

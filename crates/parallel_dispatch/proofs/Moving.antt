@@ -16,8 +16,8 @@ use Rattle.source_meaning.specs.Traces.{trace_of}
 use Rattle.entry_summary.specs.declared.summary.Summary.{Summary}
 use Rattle.checked.specs.Kept.{IsChecked, KeptSummaries}
 use Rattle.order_laws.specs.Windows.{done_by}
-use Rattle.register_machine.specs.Faithful.{started}
-use Rattle.register_machine.specs.Private.{Private}
+use Rattle.machine_meaning.specs.Faithful.{started}
+use Rattle.machine_meaning.specs.Private.{Private}
 use Rattle.retire_order.specs.Accounts.{Account, after_start, upcoming, with_words}
 use Rattle.retire_order.specs.Retired.{HasRetired, retired_world}
 use Rattle.retire_order.specs.Stores.{MayStore}

@@ -15,8 +15,8 @@ use Rattle.source_meaning.specs.Valid.{IsValid}
 use Rattle.source_meaning.proofs.Agreeing.{agree_answers}
 use Rattle.source_meaning.proofs.Growing.{job_told}
 use Rattle.source_meaning.proofs.Retiring.{after_valid}
-use Rattle.register_machine.specs.Faithful.{Faithful, started}
-use Rattle.register_machine.specs.Private.{Private}
+use Rattle.machine_meaning.specs.Faithful.{Faithful, started}
+use Rattle.machine_meaning.specs.Private.{Private}
 use Rattle.run_laws.specs.Alone.{on_words}
 use Rattle.run_laws.proofs.Going.{end_framed}
 use Rattle.checked.specs.Kept.{IsChecked, KeptSummaries}

@@ -32,8 +32,8 @@ use Rattle.retire_order.specs.Accounts.{Account, with_words}
 use Rattle.retire_order.specs.Retired.{retired_world}
 use Rattle.retire_order.specs.Stores.{MayStore}
 use Rattle.retire_order.proofs.Cells.{may_store, retired_inside}
-use Rattle.register_machine.specs.Faithful.{started}
-use Rattle.register_machine.specs.Private.{Private}
+use Rattle.machine_meaning.specs.Faithful.{started}
+use Rattle.machine_meaning.specs.Private.{Private}
 use Rattle.run_laws.specs.Alone.{on_words}
 use Rattle.run_laws.proofs.Going.{end_framed}
 use Rattle.shared_store.specs.declared.view.Lent.{Lent}

@@ -4,8 +4,8 @@ use Rattle.std.proofs.lemmas.Option.{get_or_from_slice_get}
 use Rattle.job_types.specs.declared.job.JobStart.{JobStart}
 use Rattle.machine_code.specs.declared.op.Op.{Op}
 use Rattle.machine_code.specs.declared.op.Op.TheVariants.{End}
-use Rattle.register_machine.specs.Faithful.{Ends, begun, started}
-use Rattle.register_machine.specs.Machine.{Goes, Machine, by_op, here, machine_step, reach, untouched}
+use Rattle.machine_meaning.specs.Faithful.{Ends, begun, started}
+use Rattle.machine_meaning.specs.Machine.{Goes, Machine, by_op, here, machine_step, reach, untouched}
 use Rattle.register_machine.proofs.Stopping.{step_store}
 use Rattle.interleave_core.specs.declared.event.CoreEvent.{CoreEvent}
 use Rattle.interleave_core.specs.declared.event.CoreEvent.TheVariants.{Retire}

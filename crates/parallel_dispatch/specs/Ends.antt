@@ -9,7 +9,7 @@ use Rattle.retire_order.specs.Accounts.{Account, with_words}
 use Rattle.retire_order.specs.Events.{ending_of}
 use Rattle.source_meaning.specs.Valid.{IsValid}
 use Rattle.store_layout.specs.Laid.{IsLayout}
-use Rattle.register_machine.specs.Faithful.{Faithful}
+use Rattle.machine_meaning.specs.Faithful.{Faithful}
 use Rattle.checked.specs.Kept.{IsChecked, KeptSummaries}
 use Rattle.interleave_core.specs.declared.event.CoreEvent.{CoreEvent}
 use Rattle.interleave_core.specs.Cores.{Core}

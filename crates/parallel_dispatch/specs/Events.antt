@@ -5,7 +5,7 @@ use Rattle.exchange_model.specs.declared.exchange.Exchange.{Exchange}
 use Rattle.source_meaning.specs.Arrivals.{arrivals}
 use Rattle.source_meaning.specs.SingleRun.{after}
 use Rattle.source_meaning.specs.State.{State}
-use Rattle.register_machine.specs.Faithful.{started}
+use Rattle.machine_meaning.specs.Faithful.{started}
 use Rattle.retire_order.specs.Accounts.{Account}
 use Rattle.checked.specs.Kept.{KeptSummaries}
 use Rattle.interleave_core.specs.declared.event.CoreEvent.{CoreEvent}

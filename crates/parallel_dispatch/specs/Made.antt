@@ -7,9 +7,9 @@ use Rattle.source_meaning.specs.SingleRun.{after, next_start}
 use Rattle.source_meaning.specs.State.{State}
 use Rattle.exchange_run.specs.Machines.{Leaves}
 use Rattle.exchange_run.specs.Runs.{left_by, words_after}
-use Rattle.register_machine.specs.Faithful.{Ends, begun, started}
-use Rattle.register_machine.specs.Machine.{Machine}
-use Rattle.register_machine.specs.Private.{Private}
+use Rattle.machine_meaning.specs.Faithful.{Ends, begun, started}
+use Rattle.machine_meaning.specs.Machine.{Machine}
+use Rattle.machine_meaning.specs.Private.{Private}
 use Rattle.shared_store.specs.declared.view.Top.{Top}
 use Rattle.shared_store.specs.Loans.{unlent}
 

@@ -13,7 +13,7 @@ use Rattle.source_meaning.specs.State.{State}
 use Rattle.source_meaning.specs.Valid.{IsValid}
 use Rattle.checked.specs.Kept.{IsChecked, KeptSummaries}
 use Rattle.order_laws.specs.Keeps.{NoLineBefore}
-use Rattle.register_machine.specs.Faithful.{Faithful}
+use Rattle.machine_meaning.specs.Faithful.{Faithful}
 use Rattle.retire_order.specs.Accounts.{Account, upcoming, with_words}
 use Rattle.shared_store.specs.declared.view.Top.{Top}
 use Rattle.shared_store.specs.declared.view.Lent.{Lent}

@@ -1,7 +1,7 @@
 -- The events by which the oldest job of a window, which stands at its start, comes to its end and retires.
 use Rattle.std.specs.Prelude.{ℕ, zero, suc, List, [], ◌∷◌, ◌++◌}
 use Rattle.job_types.specs.declared.job.JobStart.{JobStart}
-use Rattle.register_machine.specs.Machine.{Machine}
+use Rattle.machine_meaning.specs.Machine.{Machine}
 use Rattle.interleave_core.specs.declared.event.CoreEvent.{CoreEvent}
 use Rattle.interleave_core.specs.declared.event.CoreEvent.TheVariants.{Issue, Step, Retire}
 use Rattle.interleave_core.specs.declared.window.WindowJob.{WindowJob}

@@ -86,14 +86,8 @@ fn relieve<B: Naming, R: Wait, G: Gate>(hall: &Hall<'_, B, R, G>, pace: &Pace, w
         && shop.are_all_busy()
         && !window.oldest_is_in_hand()
     {
-        let setting = &hall.setting;
-        shop.help(
-            hall.rt,
-            setting.work.exchange,
-            setting.work.code,
-            setting.store,
-            hall.gate,
-        );
+        let means = hall.means();
+        shop.help(hall.rt, &means, hall.gate);
     }
 }
 
@@ -135,14 +129,6 @@ fn hire<'s, 'e: 's, B: Naming + Send + Sync, R: Threads + Wait + Sync, G: Gate +
 )
     requires { HasNames B.exchange B.code B.store B.book hall.now.setting }
 {
-    start_workers(
-        hall.rt,
-        scope,
-        hall.shop,
-        hall.setting.work.exchange,
-        hall.setting.work.code,
-        hall.setting.store,
-        hall.gate,
-        wanted,
-    );
+    let means = hall.means();
+    start_workers(hall.rt, scope, hall.shop, &means, hall.gate, wanted);
 }

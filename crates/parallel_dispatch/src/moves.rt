@@ -4,7 +4,7 @@ ghost use Rattle.std.specs.List.{AllByRecursion};
 ghost use Rattle.job_types.specs.declared.job.JobStart.{JobStart as StartType};
 ghost use Rattle.exchange_run.specs.Runs.{MayRun};
 ghost use Rattle.order_laws.specs.Keeps.{NoLineBefore};
-ghost use Rattle.register_machine.specs.Faithful.{Faithful, started};
+ghost use Rattle.machine_meaning.specs.Faithful.{Faithful, started};
 ghost use Rattle.retire_order.specs.Accounts.{upcoming};
 ghost use Rattle.source_meaning.specs.SingleRun.{ending_at};
 ghost use Rattle.job_runner.specs.Runs.{HasRun};
@@ -18,6 +18,7 @@ use crate::pace::{Pace, Way};
 use crate::setting::{Hall, Setting};
 use crate::window::{Oldest, Window};
 use exchange_model::Exchange;
+use exchange_run::length_of;
 use interference_check::PairTable;
 use job_runner::RootWords;
 use job_types::JobStart;
@@ -187,9 +188,8 @@ fn set_out<B: Naming, R: Wait, G: Gate>(
         Way::InHand => flight,
         Way::Brought => flight.bring(hall.rt, hall.shop),
         Way::Here => {
-            let setting = &hall.setting;
-            let work = &setting.work;
-            flight.run_here(work.exchange, work.code, setting.store, hall.gate)
+            let means = hall.means();
+            flight.run_here(&means, hall.gate)
         }
     }
 }
@@ -235,7 +235,7 @@ pub(crate) fn run_alone<B: Naming, G: Gate>(
     let steps = run.steps();
     gate.at(job, Moment::After { steps });
     let done = run.done();
-    pace.has_ended(start.job.entry, steps);
+    pace.has_ended(start.job.entry, length_of(&run));
     let mut words = RootWords::new(setting.store, root);
     let work = &setting.work;
     let retired = books.retire(work.exchange, work.layout, &start, done, &mut words);
@@ -299,7 +299,7 @@ pub(crate) fn retire<B: Naming, R: Wait, G: Gate>(
     let (seat, run) = finish(hall, flight);
     let steps = run.steps();
     let done = run.done();
-    pace.has_ended(start.job.entry, steps);
+    pace.has_ended(start.job.entry, length_of(&run));
     pace.has_retired();
     let mut root = root;
     let setting = &hall.setting;
@@ -331,15 +331,8 @@ fn finish<B: Naming, R: Wait, G: Gate>(
     requires { HasNames B.exchange B.code B.store B.book hall.now.setting }
     ensures { HasRun B.exchange B.code B.store flight result.0 result.1.value }
 {
-    flight.finish(
-        hall.rt,
-        hall.shop,
-        hall.setting.work.exchange,
-        hall.setting.work.code,
-        hall.setting.store,
-        hall.setting.book,
-        hall.gate,
-    )
+    let means = hall.means();
+    flight.finish(hall.rt, hall.shop, &means, hall.setting.book, hall.gate)
 }
 
 /// Whether a flight that has left the window is in hand, and no other flies.

@@ -58,14 +58,14 @@ enum Partner {
 struct Known {
     /// Whether one has ended.
     ended: bool,
-    /// How many instructions they make, about, those not counted by which a job is longer than all
+    /// How long they are, in instructions, about, that not counted by which a job is longer than all
     /// that may fly with it.
     mean: u64,
     /// The same with all counted.
     whole: u64,
     /// Whether they are long enough for a loan.
     long: bool,
-    /// How many they must make, all counted, to be worth asking whether they pass beside one job:
+    /// How long they must be, all counted, to be worth asking whether they pass beside one job:
     /// they do not fly else.
     asking: u64,
     partner: Partner,
@@ -264,10 +264,10 @@ impl Pace {
 
     /// A job of this entry flies, or flew, beside another one.
     pub fn has_company(&mut self, entry: u32) {
-        let mut known = self.known(entry);
-        known.lonely = 0;
-        known.next_rest = FIRST_REST;
-        self.put(entry, known);
+        if let Some(known) = self.entries.get_mut(entry as usize) {
+            known.lonely = 0;
+            known.next_rest = FIRST_REST;
+        }
     }
 
     /// A job of this entry that flew is to end, with nobody beside it from first to last or not.
@@ -285,13 +285,13 @@ impl Pace {
         self.put(entry, known);
     }
 
-    /// A job of this entry has ended, which made so many instructions.
-    pub fn has_ended(&mut self, entry: u32, steps: u64) {
+    /// A job of this entry has ended, which was so long, in instructions.
+    pub fn has_ended(&mut self, entry: u32, length: u64) {
         let mut known = self.known(entry);
         known.rest = known.rest.saturating_sub(1);
         if known.ended {
-            known.mean = mean_after(known.mean, self.counted(known.mean, steps));
-            known.whole = mean_after(known.whole, steps);
+            known.mean = mean_after(known.mean, self.counted(known.mean, length));
+            known.whole = mean_after(known.whole, length);
             let bound = if known.long {
                 self.short_job
             } else {
@@ -300,19 +300,19 @@ impl Pace {
             known.long = known.mean >= bound;
         } else {
             known.ended = true;
-            known.mean = steps.min(MOST_COUNTED);
-            known.whole = steps;
+            known.mean = length.min(MOST_COUNTED);
+            known.whole = length;
             known.long = known.mean >= self.long_job;
         }
         self.put(entry, known);
         self.ended = true;
     }
 
-    /// How many instructions of a job count in this mean, where it made so many. A job that is
-    /// longer than all that may fly with it has no company for the rest of its time.
-    fn counted(&self, mean: u64, steps: u64) -> u64 {
+    /// How much of a job counts in this mean, where it was so long. A job that is longer than all
+    /// that may fly with it has no company for the rest of its time.
+    fn counted(&self, mean: u64, length: u64) -> u64 {
         let most = mean.max(LEAST_MEAN).saturating_mul(self.room);
-        steps.min(most).min(MOST_COUNTED)
+        length.min(most).min(MOST_COUNTED)
     }
 
     /// One that flew has retired.
@@ -373,7 +373,7 @@ fn flies(known: Known) -> bool {
     }
 }
 
-/// The mean after a job of so many instructions.
-fn mean_after(mean: u64, steps: u64) -> u64 {
-    (mean - mean / PART).saturating_add(steps / PART)
+/// The mean after a job that was so long.
+fn mean_after(mean: u64, length: u64) -> u64 {
+    (mean - mean / PART).saturating_add(length / PART)
 }

@@ -2,7 +2,7 @@
 ghost use Rattle.std.specs.Prelude.{◌≡◌, ◌+◌, ◌<◌, ◌^◌, ◌∷◌, ◌++◌, [], length, IsTrue, IfOk, MatchOption};
 ghost use Rattle.std.specs.List.{AllByRecursion};
 ghost use Rattle.job_runner.specs.Runs.{IsReady};
-ghost use Rattle.register_machine.specs.Faithful.{Faithful};
+ghost use Rattle.machine_meaning.specs.Faithful.{Faithful};
 ghost use Rattle.parallel_dispatch.specs.Flying.{starts_of};
 ghost use Rattle.parallel_dispatch.specs.Moves.{FollowsAll, HasSummary};
 ghost use Rattle.interleave_core.specs.Allowed.{MayFollow};

@@ -1,5 +1,6 @@
-// The program `plex`: the words of its command, real files and the standard output, given to the one call that does the work.
-// What the standard output does not tell, lines on the standard error do.
+// The program `plex`: the words of its command, real files and the standard output, given to the
+// one call that does the work. What the standard output does not tell, lines on the standard error
+// do.
 #![tactic(auto)]
 
 use command_usage::{PROGRAM, say_wrong};
@@ -25,7 +26,8 @@ fn main(rt: HostRuntime) -> ExitCode {
     ExitCode::from(status.number())
 }
 
-/// The program over real files and the standard output, and what is to be said of its end. Words that are no text are none here.
+/// The program over real files and the standard output, and what is to be said of its end. Words
+/// that are no text are none here.
 fn run<R: Threads + Wait + Sync + Files + Print + Eprint + Clock + Env>(
     rt: &R,
     alloc: Global,

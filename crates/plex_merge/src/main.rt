@@ -1,5 +1,6 @@
-// The program `plex-merge`: the words of its command, real files and the standard output, given to the one call that does the work.
-// What the standard output does not tell, lines on the standard error do.
+// The program `plex-merge`: the words of its command, real files and the standard output, given to
+// the one call that does the work. What the standard output does not tell, lines on the standard
+// error do.
 #![tactic(auto)]
 
 mod usage;
@@ -23,7 +24,8 @@ fn main(rt: HostRuntime) -> ExitCode {
     ExitCode::from(status.number())
 }
 
-/// The program over real files and the standard output, and what is to be said of its end. Words that are no text are none here.
+/// The program over real files and the standard output, and what is to be said of its end. Words
+/// that are no text are none here.
 fn run<R: Files + Print + Eprint>(rt: &R, alloc: Global, words: &[Word], are_text: bool) -> Status {
     let no_progress: Option<Progress<'_, R>> = None;
     let mut shelf = NotingShelf::new(FileShelf::new(rt), words);

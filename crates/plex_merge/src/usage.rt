@@ -12,7 +12,8 @@ pub const PROGRAM: Program = Program {
 /// What the program wants, as a sentence tells it.
 const WANTS: &str = "three files: an exchange text, a signal file and a table";
 
-/// Says on the standard error what is wrong with words that are not three names, or what they ask for.
+/// Says on the standard error what is wrong with words that are not three names, or what they ask
+/// for.
 pub fn say_wrong<R: Eprint>(rt: &R, words: &[Word], are_text: bool) -> io::Result<()> {
     if !are_text {
         return eprintln!(rt; "plex-merge: a word is no UTF-8 text");

@@ -9,7 +9,6 @@ use Rattle.source_meaning.specs.SingleRun.{Ending, Finished, Limited, Restarted,
 use Rattle.source_meaning.specs.State.{State, has_stopped}
 use Rattle.exchange_run.proofs.Ending.{before_end, ends_at}
 use Rattle.exchange_run.proofs.Turning.{counted, goes_on}
-use Rattle.plex_limits.specs.declared.limits.TheConstants.{MOST_JOBS}
 use Rattle.plex_num.specs.declared.seq.Memory.{Memory}
 use Rattle.exchange_model.specs.Kept.{IsExchange}
 use Rattle.signal_file.specs.declared.line.Line.{Line}
@@ -23,19 +22,19 @@ use Rattle.retire_order.specs.Parts.{AreParts, account_of}
 use Rattle.retire_order.specs.Events.{ending_of as told_ending}
 use Rattle.exchange_run.specs.declared.turns.Ended.{Ended}
 use Rattle.exchange_run.specs.declared.turns.Standing.{Standing}
-use Rattle.exchange_run.specs.Runs.{IsEndOf, MayGoOn, state_of}
+use Rattle.exchange_run.specs.Runs.{IsEndOf, state_of}
 use Rattle.report_text.specs.Report.{event_lines, text_of}
 use Rattle.block_change.specs.declared.misfit.Misfit.{Misfit}
-use Rattle.block_change.specs.Carried.{AreStanding, IsCarried, state_with}
+use Rattle.block_change.specs.Carried.{AreStanding, state_with}
 use Rattle.block_change.specs.Misfits.{misfit}
 use Rattle.command_answers.specs.Outcome.{headed_by}
 use Rattle.command_answers.specs.RunAnswer.{end_of, ended_answer, ending_answer, ending_of, run_answer}
 use Rattle.command_answers.specs.ChangeAnswer.{AnswersChange, ChangesOrNot, IsChanged, changed_answer, ends_before, further_answer, is_changed, misfit_answer}
 use Rattle.command_answers.specs.Lines.{AreRead}
-use Rattle.plex_program.specs.Runs.{IsRunOf}
+use Rattle.run_answers.specs.Runs.{CarriesOn, IsRunOf}
 use Rattle.command_answers.specs.Text.{change_text}
 use Rattle.command_answers.specs.declared.answer.Answer.{Answer}
-use Rattle.plex_program.proofs.Answering.{answer_is}
+use Rattle.run_answers.proofs.Telling.{answer_is}
 
 -- ## A run that ends after fewer jobs at the latest, beside the same run with a higher limit
 
@@ -237,62 +236,29 @@ module _ (x y : Exchange) (lines : List Line) (jobs at : ℕ) (le : at ≤ jobs)
     is_changed_so (Err m) on told = tt
     is_changed_so (Ok a) on told = tested x y lines jobs at true a (tests_are on) (subst (λ t. IsChanged x y t jobs at a) parts_state told)
 
--- the run goes on
-
--- a higher limit, which is not below what has ended
-pub raised_parts : (p : BookParts) (n jobs : ℕ) → n ≡ jobs → AreParts p → p.ended ≤ jobs → jobs ≤ MOST_JOBS → AreParts (record p { limit = n })
-raised_parts p n jobs same are few most = record {
-  next_line = are.next_line;
-  within = are.within;
-  numbers = are.numbers;
-  kept = record {
-    few = subst (λ k. k ≤ MOST_JOBS) (sym same) most;
-    within = omega (arith, few, same);
-    restarts = are.kept.restarts;
-    some = are.kept.some;
-    next = are.kept.next;
-    lines = are.kept.lines;
-    below = are.kept.below;
-    chains = are.kept.chains;
-  };
-}
-
-pub raised_books : (p : BookParts) (n jobs : ℕ) (b : Account) → n ≡ jobs → b ≡ account_of (record p { limit = n }) → b ≡ account_of (record p { limit = jobs })
-raised_books p n jobs b same is = is ∙ ap (λ k. account_of (record p { limit = k })) same
-
-module _ (x : Exchange) (p : BookParts) (jobs : ℕ) (words : List ℕ) (run : Standing) (is : run.books ≡ account_of (record p { limit = jobs })) (same : run.words ≡ words) where
-  raised_state : state_of run ≡ state_with p words
-  raised_state = (λ i. with_words (is i).state (same i))
-
-  pub raised_may : AreStanding x p words → MayGoOn x run
-  raised_may stands = record { nobody = ap (λ (a : Account). a.running) is; valid = subst (IsValid x) (sym raised_state) stands.valid }
-
-  pub raised_few : jobs ≤ MOST_JOBS → run.books.limit ≤ MOST_JOBS
-  raised_few most = subst (λ k. k ≤ MOST_JOBS) (sym (ap (λ (a : Account). a.limit) is)) most
-
-  pub raised_run : (end : Ended) → IsEndOf x (state_of run) run.books.limit end → IsEndOf x (state_with p words) jobs end
-  raised_run end ends = subst (λ n. IsEndOf x (state_with p words) n end) (ap (λ (a : Account). a.limit) is) (subst (λ s. IsEndOf x s run.books.limit end) raised_state ends)
-
--- as many jobs have ended as before the change
-pub carried_few : (x y : Exchange) (p q : BookParts) (words carried : List ℕ) (jobs : ℕ) → IsCarried x y (state_with p words) (state_with q carried) → p.ended ≤ jobs → q.ended ≤ jobs
-carried_few x y p q words carried jobs is few = (let same : q.ended ≡ p.ended = ap (λ (t : State). t.ended) is.books in omega (arith, same, few))
-
 -- the answer of a change
-pub changes : (x y : Exchange) (before : State) (q : BookParts) (carried : List ℕ) (jobs at : ℕ) (end : Ended) (front : List ℕ) (a : Answer) → IsCarried x y before (state_with q carried)
-    → IsEndOf y (state_with q carried) jobs end → front ≡ text_of (event_lines x before.events) ++ change_text at → a ≡ headed_by front (ending_answer y end) → IsChanged x y before jobs at a
-changes x y before q carried jobs at end front a is over begins told = record { carried = t; is = is; answers = answers }
+pub changes : (x y : Exchange) (before : State) (jobs at : ℕ) (run : Standing) (end : Ended) (front : List ℕ) (a : Answer) → CarriesOn x y before jobs run
+    → IsEndOf y (state_of run) run.books.limit end → front ≡ text_of (event_lines x before.events) ++ change_text at → a ≡ headed_by front (ending_answer y end) → IsChanged x y before jobs at a
+changes x y before jobs at run end front a on over begins told = record { carried = t; is = on.carried; answers = answers }
   where
     t : State
-    t = state_with q carried
+    t = state_of run
 
     e : Ending
     e = told_ending end.ending
 
+    limited : IsEndOf y t jobs end
+    limited = subst (λ n. IsEndOf y t n end) on.limited over
+
     ends : e ≡ ending_of jobs (end_state y jobs t)
-    ends = ap (λ o. unwrap_or o Limited) (sym over.runs.ends)
+    ends = ap (λ o. unwrap_or o Limited) (sym limited.runs.ends)
 
     further : ending_answer y end ≡ further_answer y t jobs
-    further = ap (λ u. ended_answer y u e) over.runs.state ∙ ap (ended_answer y (end_state y jobs t)) ends
+    further = ap (λ u. ended_answer y u e) limited.runs.state ∙ ap (ended_answer y (end_state y jobs t)) ends
 
     answers : a ≡ changed_answer x y before t jobs at
     answers = told ∙ ap (λ f. headed_by f (ending_answer y end)) begins ∙ ap (headed_by (text_of (event_lines x before.events) ++ change_text at)) further
+
+pub ruleset change_rules = (answers_misfit, answers_fit, never_reached)
+
+pub ruleset fitting_rules = (not_changed, is_changed_so, parts_few, parts_stand)

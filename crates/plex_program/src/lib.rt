@@ -13,7 +13,6 @@ mod program;
 mod running;
 mod steady;
 mod timing;
-mod tracing;
 
 pub use program::plex;
 pub use steady::plex_steady;

@@ -1,11 +1,10 @@
 // The work of each command, up to its answer.
-ghost use Rattle.std.specs.Prelude.{◌≤◌, IfOk, IfSome, length};
-ghost use Rattle.plex_limits.specs.declared.limits.TheConstants.{MOST_BYTES, MOST_JOBS};
+ghost use Rattle.std.specs.Prelude.{◌≡◌, ◌≤◌, IfOk, IfSome, length};
+ghost use Rattle.plex_limits.specs.declared.limits.TheConstants.{MOST_BYTES};
 ghost use Rattle.command_answers.specs.Program.{IsEnding};
 ghost use Rattle.command_answers.specs.Stages.{Comes, Performs, ReadAs, TellsOutcome};
 ghost use Rattle.command_answers.specs.RunAnswer.{IsCertifiedRun, RunsWith, run_answer};
 ghost use Rattle.command_answers.specs.RunAnswer.{run_of};
-ghost use Rattle.command_answers.specs.ListAnswer.{list_of};
 ghost use Rattle.command_answers.specs.LoadAnswer.{load_of};
 ghost use Rattle.command_answers.specs.Answer.{performed};
 ghost use Rattle.command_answers.specs.Lines.{AreRead};
@@ -13,66 +12,68 @@ ghost use Rattle.command_words.specs.Bounded.{AreWithin, HasBounds, IsBounded};
 
 use crate::changing::perform_change;
 use crate::going::Host;
-use crate::running::{listing_answer, load_answer, run_answer, source_answer};
+use crate::running::{load_answer, run_answer};
 use crate::timing::perform_timed;
-use crate::tracing::perform_trace;
 use command_answers::{
-    Answer, Stop, Which, certificate_stop, directory_of, exchange_in, exchange_of_file, fitting,
-    kept_of_text, lines_in, lines_of_file, perform_analysis, perform_certificate, text_in,
+    Answer, Stop, certificate_stop, fitting, kept_of_text, known_in, known_of_file, lines_in,
+    lines_of_file, perform_analysis, perform_certificate, text_in,
 };
 use command_words::{Bounds, Command, RunWords};
 use exchange_model::Exchange;
 use load_maker::{load_exchange, load_signals};
 use plex_io::{Gate, Shelf, Word};
 use plex_limits::MOST_BYTES;
-use plex_num::Seq;
-use signal_file::{Known, Line};
-use std::alloc::Global;
+use plex_num::{Memory, Seq};
+use run_answers::{perform_list, perform_trace, source_answer};
+use signal_file::Line;
 use std::sync::Wait;
 use std::thread::Threads;
 
-/// `single`.
-#[tactic(auto, using(command_answers::proofs::Stages::comes_rules))]
-fn perform_single<R, S: Shelf, G: Gate>(
-    host: &Host<'_, R, G>,
-    shelf: &mut S,
-    words: &RunWords,
-) -> Result<Answer, Stop>
-    requires { words.now.bounds.jobs ≤ MOST_JOBS }
-    ensures ending { IfOk result (λ a. IsEnding a.status) }
-    ensures comes { Comes (S.held shelf.old) (run_of words.now) (S.faults shelf.old)
-        (S.faults shelf.new) result }
-{
-    let exchange = exchange_in(host.alloc, shelf, &words.exchange)?;
-    let known = Known {
-        exchange: &exchange,
-        names: directory_of(host.alloc, &exchange)?,
-    };
-    let lines = lines_in(host.alloc, shelf, &known, &words.signals)?;
-    let answer = source_answer(host, &exchange, lines, words.bounds.jobs)?;
-    Ok(answer)
+/// By what the jobs of a run without a certificate are.
+#[derive(Clone, Copy)]
+enum Way {
+    /// By the source itself, one after the other.
+    Source,
+    /// By compiled code.
+    Code,
 }
 
-/// `run` without a certificate.
+/// `single`, and `run` without a certificate.
 #[tactic(auto, using(command_answers::proofs::Stages::comes_rules))]
-fn perform_plain<R: Threads + Wait + Sync, S: Shelf, G: Gate + Sync>(
+fn perform_run<R: Threads + Wait + Sync, S: Shelf, G: Gate + Sync>(
     host: &Host<'_, R, G>,
     shelf: &mut S,
     words: &RunWords,
+    way: Way,
 ) -> Result<Answer, Stop>
     requires { HasBounds words.now }
     ensures comes { Comes (S.held shelf.old) (run_of words.now) (S.faults shelf.old)
         (S.faults shelf.new) result }
     ensures ending { IfOk result (λ a. IsEnding a.status) }
 {
-    let exchange = exchange_in(host.alloc, shelf, &words.exchange)?;
-    let known = Known {
-        exchange: &exchange,
-        names: directory_of(host.alloc, &exchange)?,
-    };
+    let known = known_in(host.alloc, shelf, &words.exchange)?;
     let lines = lines_in(host.alloc, shelf, &known, &words.signals)?;
-    let answer = run_answer(host, &exchange, None, lines, words.bounds)?;
+    let answer = answer_by(host, way, &known.exchange, lines, words.bounds)?;
     Ok(answer)
+}
+
+/// The answer of the run of these lines, in this way.
+fn answer_by<R: Threads + Wait + Sync, G: Gate + Sync>(
+    host: &Host<'_, R, G>,
+    way: Way,
+    exchange: &Exchange,
+    lines: Seq<Line>,
+    bounds: Bounds,
+) -> Result<Answer, Memory>
+    requires lines { AreRead exchange.now lines }
+    requires bounds { AreWithin bounds }
+    ensures answer { IfOk result (λ a. a ≡ run_answer exchange.now lines bounds.jobs) }
+    ensures ending { IfOk result (λ a. IsEnding a.status) }
+{
+    match way {
+        Way::Source => source_answer(host.alloc, host.gate, exchange, lines, bounds.jobs),
+        Way::Code => run_answer(host, exchange, None, lines, bounds),
+    }
 }
 
 /// `run` with a certificate.
@@ -88,14 +89,10 @@ fn perform_certified<R: Threads + Wait + Sync, S: Shelf, G: Gate + Sync>(
         (S.faults shelf.old) (S.faults shelf.new) result }
     ensures ending { IfOk result (λ a. IsEnding a.status) }
 {
-    let exchange = exchange_in(host.alloc, shelf, &words.exchange)?;
-    let known = Known {
-        exchange: &exchange,
-        names: directory_of(host.alloc, &exchange)?,
-    };
+    let known = known_in(host.alloc, shelf, &words.exchange)?;
     let lines = lines_in(host.alloc, shelf, &known, &words.signals)?;
     let text = text_in(host.alloc, shelf, name)?;
-    certified_answer(host, &exchange, &text, lines, words.bounds)
+    certified_answer(host, &known.exchange, &text, lines, words.bounds)
 }
 
 /// The answer of a run whose certificate has this text, which may be too large.
@@ -123,18 +120,6 @@ fn certified_answer<R: Threads + Wait + Sync, G: Gate + Sync>(
     }
 }
 
-/// `list`.
-#[tactic(auto, using(command_answers::proofs::Stages::comes_rules))]
-fn perform_list<S: Shelf>(alloc: Global, shelf: &mut S, name: &Word) -> Result<Answer, Stop>
-    ensures comes { Comes (S.held shelf.old) (list_of name.now) (S.faults shelf.old)
-        (S.faults shelf.new) result }
-    ensures ending { IfOk result (λ a. IsEnding a.status) }
-{
-    let exchange = exchange_in(alloc, shelf, name)?;
-    let answer = listing_answer(alloc, &exchange)?;
-    Ok(answer)
-}
-
 /// `load`.
 #[tactic(auto, using(command_answers::proofs::Stages::reads_rules))]
 fn perform_load<R: Threads + Wait + Sync, G: Gate + Sync>(
@@ -145,14 +130,10 @@ fn perform_load<R: Threads + Wait + Sync, G: Gate + Sync>(
     ensures ending { IfOk result (λ a. IsEnding a.status) }
 {
     let text = load_exchange(host.alloc, calls)?;
-    let exchange = exchange_of_file(host.alloc, Which::First, &fitting(text))?;
-    let known = Known {
-        exchange: &exchange,
-        names: directory_of(host.alloc, &exchange)?,
-    };
+    let known = known_of_file(host.alloc, &fitting(text))?;
     let text = load_signals(host.alloc, calls)?;
     let lines = lines_of_file(host.alloc, &known, &fitting(text))?;
-    let answer = load_answer(host, calls, &exchange, lines)?;
+    let answer = load_answer(host, calls, &known.exchange, lines)?;
     Ok(answer)
 }
 
@@ -172,9 +153,9 @@ pub fn perform<R: Threads + Wait + Sync, S: Shelf, G: Gate + Sync>(
     match command {
         Command::Run(words) => match &words.certificate {
             Some(name) => perform_certified(host, shelf, words, name),
-            None => perform_plain(host, shelf, words),
+            None => perform_run(host, shelf, words, Way::Code),
         },
-        Command::Single(words) => perform_single(host, shelf, words),
+        Command::Single(words) => perform_run(host, shelf, words, Way::Source),
         Command::Analyse(name) => perform_analysis(host.alloc, shelf, name),
         Command::Certify(name) => perform_certificate(host.alloc, shelf, name),
         Command::List(name) => perform_list(host.alloc, shelf, name),

@@ -23,8 +23,9 @@ use text_parts::Text;
 /// `words` are the command's words without the program's name. Where the shelf tells its files, the
 /// status and the text are those of the answer (`IsAnswer`), but for `Read` where a read failed,
 /// `Write` where the sink failed or is full, and then a proper front of the text was written, and
-/// `Memory`. Where the words allow more than one worker, jobs may run at once on threads of `rt`, each
-/// of which calls `gate` before and after its job; the answer is that of the single run all the same.
+/// `Memory`. Where the words allow more than one worker, jobs may run at once on threads of `rt`,
+/// each of which calls `gate` before and after its job; the answer is that of the single run all
+/// the same.
 #[tactic(auto, using(command_answers::proofs::Endings::ending))]
 pub fn plex<R: Threads + Wait + Sync, S: Shelf, K: Sink, G: Gate + Sync>(
     rt: &R,

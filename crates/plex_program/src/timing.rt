@@ -7,10 +7,9 @@ ghost use Rattle.command_words.specs.Bounded.{HasBounds};
 
 use crate::going::Host;
 use crate::running::run_answer;
-use command_answers::{Answer, Stop, directory_of, exchange_in, lines_in, merged_in};
+use command_answers::{Answer, Stop, known_in, lines_in, merged_in};
 use command_words::TimedWords;
 use plex_io::{Gate, Shelf};
-use signal_file::Known;
 use std::sync::Wait;
 use std::thread::Threads;
 
@@ -26,13 +25,9 @@ pub fn perform_timed<R: Threads + Wait + Sync, S: Shelf, G: Gate + Sync>(
         (S.faults shelf.new) result }
     ensures ending { IfOk result (λ a. IsEnding a.status) }
 {
-    let exchange = exchange_in(host.alloc, shelf, &words.run.exchange)?;
-    let known = Known {
-        exchange: &exchange,
-        names: directory_of(host.alloc, &exchange)?,
-    };
+    let known = known_in(host.alloc, shelf, &words.run.exchange)?;
     let lines = lines_in(host.alloc, shelf, &known, &words.run.signals)?;
     let all = merged_in(host.alloc, shelf, &known, &lines, &words.table)?;
-    let answer = run_answer(host, &exchange, None, all, words.run.bounds)?;
+    let answer = run_answer(host, &known.exchange, None, all, words.run.bounds)?;
     Ok(answer)
 }

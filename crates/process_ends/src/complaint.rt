@@ -27,7 +27,8 @@ pub struct Program {
 pub struct Known<'a> {
     /// The program.
     pub program: Program,
-    /// The words of the command from the first file on: the exchange text, the signal file, the other files and what stands behind them.
+    /// The words of the command from the first file on: the exchange text, the signal file, the
+    /// other files and what stands behind them.
     pub files: &'a [Word],
     /// The name of the file of which a read failed.
     pub unread: Option<&'a Word>,
@@ -76,8 +77,9 @@ fn matter_of(status: Status) -> Matter
     }
 }
 
-/// Says on the standard error what a status means where the standard output does not tell it all, and gives the status back. Of `Usage`
-/// it says nothing, since the program alone knows what its words may be.
+/// Says on the standard error what a status means where the standard output does not tell it all,
+/// and gives the status back. Of `Usage` it says nothing, since the program alone knows what its
+/// words may be.
 pub fn complain<R: Eprint>(rt: &R, status: Status, known: &Known<'_>) -> Status
     ensures { result ≡ status }
 {
@@ -166,7 +168,8 @@ fn file_of<'a>(first: &str, files: &'a [Word]) -> Option<&'a Word> {
     }
 }
 
-/// The name of the certificate of a run: it stands behind `--cert`, and options stand in pairs behind two files.
+/// The name of the certificate of a run: it stands behind `--cert`, and options stand in pairs
+/// behind two files.
 fn certificate_in(files: &[Word]) -> Option<&Word> {
     let (_, options) = files.split_at_checked(2)?;
     let pair = options.chunks(2).find(

@@ -1,9 +1,10 @@
-// What a program has around its one call: the words of its command, devices that note what went wrong and what was written first, how far
-// a run has come, and what is said on the standard error of how it ended.
+// What a program has around its one call: the words of its command, devices that note what went
+// wrong and what was written first, how far a run has come, and what is said on the standard error
+// of how it ended.
 //
-// What goes in: a runtime, and the devices of `plex_io`. What comes out: lines on the standard error; the standard output and the status
-// are those of the call, and no line changes them.
-// It does not know which commands there are, or how many files they have.
+// What goes in: a runtime, and the devices of `plex_io`. What comes out: lines on the standard
+// error; the standard output and the status are those of the call, and no line changes them. It
+// does not know which commands there are, or how many files they have.
 #![tactic(auto)]
 
 mod complaint;

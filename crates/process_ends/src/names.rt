@@ -2,8 +2,8 @@
 use plex_io::Word;
 use std::fmt;
 
-/// A name as it stands on the command line, where nothing in it steers a terminal; else, and where it is empty, in quotation marks, with
-/// escapes as in `\n`.
+/// A name as it stands on the command line, where nothing in it steers a terminal; else, and where
+/// it is empty, in quotation marks, with escapes as in `\n`.
 #[derive(Clone, Copy)]
 pub struct Named<'a>(pub &'a str);
 

@@ -8,7 +8,8 @@ use plex_io::{Shelf, ShelfFault, Word};
 use plex_num::Seq;
 use std::alloc::Global;
 
-/// A shelf that keeps the place among the words of a command at which the last file stands of which a read failed. So it takes no memory.
+/// A shelf that keeps the place among the words of a command at which the last file stands of which
+/// a read failed. So it takes no memory.
 #[derive(Drop)]
 pub struct NotingShelf<'a, S> {
     shelf: S,
@@ -30,7 +31,8 @@ impl<'a, S: Shelf> NotingShelf<'a, S> {
         }
     }
 
-    /// The name of the last file of which a read failed; none, too, where no word of the command is that name.
+    /// The name of the last file of which a read failed; none, too, where no word of the command is
+    /// that name.
     pub fn unread(&self) -> Option<&Word>
         ensures { MatchOption self.now.unread
             (result ≡ None)

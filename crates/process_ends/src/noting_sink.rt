@@ -2,6 +2,7 @@
 ghost use Rattle.std.specs.Prelude.{◌≡◌, ◌≤◌, ◌++◌, [], length, take, IfOk, OnErr};
 ghost use Rattle.plex_io.specs.Causes.{Rose};
 ghost use Rattle.plex_io.specs.Written.{appended, IsFull, TakesSome};
+ghost use Rattle.process_ends.specs.Noted.{noted};
 
 use crate::progress::Progress;
 use arrayvec::ArrayVec;
@@ -10,7 +11,8 @@ use plex_io::{Sink, SinkFailed};
 /// How many bytes it keeps. The words of a line that tells a fault stand among these.
 pub const FRONT: usize = 64;
 
-/// A sink that keeps the first bytes that it wrote, and clears the line of the progress before it writes.
+/// A sink that keeps the first bytes that it wrote, and clears the line of the progress before it
+/// writes.
 #[derive(Drop)]
 pub struct NotingSink<'a, K, R> {
     sink: K,
@@ -62,9 +64,7 @@ impl<'a, K: Sink, R: Eprint> Sink for NotingSink<'a, K, R> {
         ensures full { OnErr result (IsFull (K.size self.new.sink) (K.written self.new.sink)) }
         ensures size { K.size self.new.sink ≡ K.size self.old.sink }
         ensures later { K.faults self.old.sink ≤ K.faults self.new.sink }
-        ensures noted { IfOk result (λ n.
-            self.new.front.items ≡ take FRONT (self.old.front.items ++ take n piece.now)) }
-        ensures other { OnErr result (self.new.front.items ≡ self.old.front.items) }
+        ensures noted { self.new.front.items ≡ noted self.old.front.items piece.now result }
     {
         if let Some(progress) = self.progress {
             progress.clear();

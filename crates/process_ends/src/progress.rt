@@ -15,20 +15,23 @@ const JOBS_A_LOOK: u64 = 256;
 /// The clock is looked at after each job of so many instructions.
 const LONG: u64 = 4096;
 
-/// The clock is looked at after each job whose number is a multiple of this one, where no steps are counted.
+/// The clock is looked at after each job whose number is a multiple of this one, where no steps are
+/// counted.
 const UNCOUNTED_A_LOOK: u64 = 16;
 
 /// How many milliseconds pass between two lines.
 const PAUSE: u64 = 1000;
 
-/// A gate that tells, once a second, how many jobs have ended and how many end in a second, on one line that it writes over.
+/// A gate that tells, once a second, how many jobs have ended and how many end in a second, on one
+/// line that it writes over.
 #[derive(Drop)]
 pub struct Progress<'a, R> {
     rt: &'a R,
     begun: Instant,
     /// The number of the job that was seen last.
     seen: AtomicU64,
-    /// How many jobs had ended when the numbers began anew: a run that goes on with another exchange may count from 1 again.
+    /// How many jobs had ended when the numbers began anew: a run that goes on with another
+    /// exchange may count from 1 again.
     before: AtomicU64,
     /// When the line was told last, in milliseconds since the beginning.
     told: AtomicU64,
@@ -63,8 +66,9 @@ impl<'a, R: Clock + Eprint> Progress<'a, R> {
         })
     }
 
-    /// The job of this number has ended: tells the line where a second has passed. Of jobs that run at once a later one may have been seen
-    /// before; a number that is farther below is one of numbers that began anew.
+    /// The job of this number has ended: tells the line where a second has passed. Of jobs that run
+    /// at once a later one may have been seen before; a number that is farther below is one of
+    /// numbers that began anew.
     #[cold]
     #[inline(never)]
     fn look(&self, job: u64) {
@@ -120,7 +124,8 @@ impl<R: Clock + Eprint> Gate for Progress<'_, R> {
     }
 }
 
-/// Whether the clock is to be looked at after the job of this number, which ran so many steps; none of them where they are not counted.
+/// Whether the clock is to be looked at after the job of this number, which ran so many steps; none
+/// of them where they are not counted.
 #[inline]
 fn is_due(job: u64, steps: u64) -> bool {
     if steps == 0 {

@@ -1,5 +1,6 @@
-// What the programs say of each fault: for each word that the lines of the output have, a sentence. docs/FORMATS.md has these sentences too, and
-// tools/sentences_table compares them: keep each table a list of pairs of texts, and each reason a text behind an arrow.
+// What the programs say of each fault: for each word that the lines of the output have, a sentence.
+// docs/FORMATS.md has these sentences too, and tools/sentences_table compares them: keep each table
+// a list of pairs of texts, and each reason a text behind an arrow.
 use std::io::ErrorKind;
 
 /// A word that stands in a line of the output, and the sentence that says what is wrong.
@@ -43,7 +44,8 @@ pub static SOURCE: [Row; 31] = [
     ("LIMIT", "a limit of the whole text is passed"),
 ];
 
-/// `SIGNALS`: faults of a signal file. `TABLE` and `FILTER` have these sentences too, but for the words of their own tables.
+/// `SIGNALS`: faults of a signal file. `TABLE` and `FILTER` have these sentences too, but for the
+/// words of their own tables.
 pub static SIGNALS: [Row; 7] = [
     ("TOOLARGE", "the file is over 16,777,216 bytes"),
     (

@@ -1,6 +1,7 @@
 // What the first line of the output tells of a fault.
 
-/// What a line tells, as `SOURCE line 8 NOTINSURVEY` or `CERTIFICATE MISSING` with a fact behind it.
+/// What a line tells, as `SOURCE line 8 NOTINSURVEY` or `CERTIFICATE MISSING` with a fact behind
+/// it.
 #[derive(Clone, Copy)]
 pub struct Told<'a> {
     /// The first word of the line, which says what the fault is in.

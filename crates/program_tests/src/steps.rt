@@ -2,16 +2,17 @@
 ghost use Rattle.std.specs.Prelude.{◌≤◌};
 ghost use Rattle.plex_limits.specs.declared.limits.TheConstants.{MOST_JOBS};
 ghost use Rattle.store_layout.specs.Laid.{IsLayout};
-ghost use Rattle.register_machine.specs.Faithful.{Faithful};
+ghost use Rattle.machine_meaning.specs.Faithful.{Faithful};
 ghost use Rattle.checked.specs.Kept.{IsChecked};
 ghost use Rattle.exchange_run.specs.Runs.{MayGoOn};
 ghost use Rattle.command_answers.specs.Lines.{AreRead};
 
 use crate::devices::files_of;
 use crate::whole::NotMade;
-use checked::{Checked, Own, keep_own_if_few};
+use certificate_check::{Own, keep_own_if_few};
+use checked::Checked;
 use code_gen::compile;
-use command_answers::{exchange_in, lines_in};
+use command_answers::{known_in, lines_in};
 use exchange_model::Exchange;
 use exchange_run::{Standing, before_lines};
 use machine_code::Code;
@@ -19,7 +20,7 @@ use parallel_dispatch::{StoredRun, Work, dispatch};
 use plex_io::{NoGate, SteadyShelf};
 use plex_num::Seq;
 use shared_store::SharedStore;
-use signal_file::{Known, Line};
+use signal_file::Line;
 use std::alloc::Global;
 use std::sync::Wait;
 use std::thread::Threads;
@@ -40,14 +41,13 @@ pub fn steps_of<R: Threads + Wait + Sync>(
     let exchange = Seq::copied(alloc, b"E")?;
     let signals = Seq::copied(alloc, b"S")?;
     let mut shelf = SteadyShelf::new(files);
-    let exchange = exchange_in(alloc, &mut shelf, &exchange)?;
-    let known = Known::of(alloc, &exchange)?;
+    let known = known_in(alloc, &mut shelf, &exchange)?;
     let lines = lines_in(alloc, &mut shelf, &known, &signals)?;
-    counted(rt, alloc, known.exchange, lines)
+    counted(rt, alloc, &known.exchange, lines)
 }
 
 /// The same of lines that were read.
-#[tactic(auto, using(plex_program::proofs::Answering::opened_rules))]
+#[tactic(auto, using(run_answers::proofs::Opened::opened_rules))]
 fn counted<R: Threads + Wait + Sync>(
     rt: &R,
     alloc: Global,
@@ -67,7 +67,7 @@ fn counted<R: Threads + Wait + Sync>(
 }
 
 /// The same of a run on its way.
-#[tactic(auto, using(plex_program::proofs::Answering::root_rules))]
+#[tactic(auto, using(plex_program::proofs::Rooted::root_rules))]
 fn dispatched<R: Threads + Wait + Sync>(
     rt: &R,
     alloc: Global,

@@ -1,19 +1,11 @@
 // The callers that wait for an answer.
 ghost use Rattle.std.specs.Prelude.{◌≡◌, ◌<◌, ◌∷◌, [], drop, length};
-ghost use Rattle.register_machine.specs.Private.{awaits};
+ghost use Rattle.machine_meaning.specs.Private.{awaits};
 
 use crate::locals::copy_locals;
+use machine_meaning::Frame;
 use plex_limits::MOST_CALLERS;
 use std::marker::Model;
-
-/// A caller that waits: the address at which it goes on, its locals and entry values, and the number of the signal that answers it.
-#[derive(Clone, Copy)]
-pub struct Frame {
-    pub back: usize,
-    pub locals: [u32; 50],
-    pub given: [u32; 8],
-    pub awaits: u32,
-}
 
 /// What a place holds that was never used; no list of frames ever shows it.
 const UNUSED: Frame = Frame {
@@ -34,7 +26,7 @@ pub struct Frames {
 impl Model for Frames {
     ghost use Rattle.std.specs.Prelude.{List, reverse, take, ◌≤◌};
     ghost use Rattle.plex_limits.specs.declared.limits.TheConstants.{MOST_CALLERS};
-    ghost use Rattle.register_machine.specs.declared.frames.Frame.{Frame};
+    ghost use Rattle.machine_meaning.specs.declared.frame.Frame.{Frame};
 
     ghost Value = { List Frame };
 

@@ -2,7 +2,7 @@
 ghost use Rattle.std.specs.Prelude.{◌≡◌, ◌<◌, ◌^◌, None, length};
 ghost use Rattle.machine_code.specs.Operands.{OpFits};
 ghost use Rattle.machine_code.specs.Told.{told_all};
-ghost use Rattle.register_machine.specs.Machine.{op_at, stepped, reach, HasRoom, MayTouch};
+ghost use Rattle.machine_meaning.specs.Machine.{op_at, stepped, reach, HasRoom, MayTouch};
 
 use crate::left::spot_at;
 use crate::run::JobRun;

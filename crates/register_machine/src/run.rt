@@ -10,7 +10,7 @@ mod unseen;
 
 ghost use Rattle.std.specs.Prelude.{◌≡◌, ◌<◌, ◌≤◌, ◌^◌, Some, length, slice_index, is_some, IsSome};
 ghost use Rattle.job_types.specs.Own.{eight};
-ghost use Rattle.register_machine.specs.Private.{fresh, idle};
+ghost use Rattle.machine_meaning.specs.Private.{fresh, idle};
 ghost use Rattle.register_machine.specs.Standing.{standing};
 
 use self::stand::Stand;
@@ -48,7 +48,7 @@ pub struct JobRun {
 }
 
 impl Model for JobRun {
-    ghost use Rattle.register_machine.specs.Private.{Private, WithinBudget, counted_of, if_over};
+    ghost use Rattle.machine_meaning.specs.Private.{Private, WithinBudget, counted_of, if_over};
 
     ghost Value = { Private };
 
@@ -145,6 +145,14 @@ impl JobRun {
         ensures { result ≡ self.now.made }
     {
         self.made
+    }
+
+    /// How many statements were counted so far, at most so many as a job may begin.
+    #[tactic(auto, unfolding(job_types::specs::Own::budget))]
+    pub fn counted(&self) -> u32
+        ensures { result ≡ self.now.own.count }
+    {
+        FIRST_REMAINING.saturating_sub(self.remaining)
     }
 
     /// The address of the next instruction.

@@ -1,12 +1,2 @@
-pub mod Among
-pub mod BlockSteps
-pub mod Files
-pub mod Found
-pub mod Items
 pub mod Layers
-pub mod Lists
-pub mod Meanings
-pub mod Mentioned
-pub mod Picked
-pub mod Rows
 pub mod Turns

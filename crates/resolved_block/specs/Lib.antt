@@ -1,8 +1,6 @@
-pub mod Added
 pub mod Blocks
 pub mod Expressions
 pub mod Meant
 pub mod Names
 pub mod Statements
-pub mod Tables
 pub mod Texts

@@ -10,8 +10,8 @@ use Rattle.job_types.proofs.Touched.{stored-append}
 use Rattle.machine_code.specs.declared.op.Op.{Op}
 use Rattle.source_meaning.specs.Traces.{Answers}
 use Rattle.source_meaning.proofs.Framed.{answers_split}
-use Rattle.register_machine.specs.Private.{Private}
-use Rattle.register_machine.specs.Machine.{Apart, Loads, Machine, Reach, Stores, act, loaded, machine_step, op_at, reach, touched}
+use Rattle.machine_meaning.specs.Private.{Private}
+use Rattle.machine_meaning.specs.Machine.{Apart, Loads, Machine, Reach, Stores, act, loaded, machine_step, op_at, reach, touched}
 use Rattle.run_laws.specs.Alone.{alone, goes_on, makes_unless, on_words}
 use Rattle.run_laws.proofs.Told.{is_touch, touch_of}
 

@@ -10,9 +10,9 @@ use Rattle.machine_code.specs.declared.op.Op.{Op}
 use Rattle.machine_code.specs.declared.op.Op.TheVariants.{End}
 use Rattle.source_meaning.specs.Traces.{Answers}
 use Rattle.source_meaning.proofs.Framed.{answers_split}
-use Rattle.register_machine.specs.Private.{Private}
-use Rattle.register_machine.specs.Machine.{Allowed, Goes, Machine, by_op, here, machine_step, reach}
-use Rattle.register_machine.specs.Faithful.{Ends, begun}
+use Rattle.machine_meaning.specs.Private.{Private}
+use Rattle.machine_meaning.specs.Machine.{Allowed, Goes, Machine, by_op, here, machine_step, reach}
+use Rattle.machine_meaning.specs.Faithful.{Ends, begun}
 use Rattle.run_laws.specs.Alone.{CanGoOn, TraceGrows, alone, goes_on, makes, makes_unless, on_words}
 use Rattle.run_laws.proofs.Framed.{step_framed}
 use Rattle.run_laws.proofs.Told.{is_touch, touch_of}

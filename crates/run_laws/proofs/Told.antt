@@ -11,8 +11,8 @@ use Rattle.job_types.proofs.Touched.{stored-append}
 use Rattle.machine_code.specs.declared.op.Op.{Op}
 use Rattle.source_meaning.specs.Traces.{Answers}
 use Rattle.source_meaning.proofs.Growing.{answers_append}
-use Rattle.register_machine.specs.Private.{Private}
-use Rattle.register_machine.specs.Machine.{Apart, Loads, Machine, Reach, Stores, op_at, reach, touched}
+use Rattle.machine_meaning.specs.Private.{Private}
+use Rattle.machine_meaning.specs.Machine.{Apart, Loads, Machine, Reach, Stores, op_at, reach, touched}
 use Rattle.run_laws.specs.Alone.{IsTold, alone, goes_on, makes_unless}
 
 -- the touch of an instruction that reaches so, over these words

@@ -3,9 +3,9 @@ ghost use Rattle.std.specs.Prelude.{◌≡◌, ℕ, List, IsSome, None};
 ghost use Rattle.job_types.specs.declared.outcome.Outcome.{Outcome};
 ghost use Rattle.machine_code.specs.declared.op.Op.{Op};
 ghost use Rattle.source_meaning.specs.Traces.{Answers};
-ghost use Rattle.register_machine.specs.Private.{Private};
-ghost use Rattle.register_machine.specs.Faithful.{Ends, begun};
-ghost use Rattle.register_machine.specs.Machine.{Machine};
+ghost use Rattle.machine_meaning.specs.Private.{Private};
+ghost use Rattle.machine_meaning.specs.Faithful.{Ends, begun};
+ghost use Rattle.machine_meaning.specs.Machine.{Machine};
 ghost use Rattle.run_laws.specs.Alone.{CanGoOn, IsTold, TraceGrows, alone, on_words};
 
 /// The trace of a run tells the words that it leaves, and each of its loads found the value that the word had then.

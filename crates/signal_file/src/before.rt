@@ -1,12 +1,13 @@
 // What counts of the lines before a line.
 ghost use Rattle.std.specs.Prelude.{◌≡◌, ◌<◌, ◌^◌, OnOk, length};
-ghost use Rattle.signal_file.specs.Rules.{behind_line, behind_skipped, gives, has_origin, next_number};
+ghost use Rattle.signal_file.specs.Rules.{behind_line, behind_skipped, gives, has_origin};
+ghost use Rattle.signal_file.specs.Rules.{next_number};
 
 use crate::line::{Line, LineKind};
 use plex_num::{Memory, Seq};
 
-/// What counts of the lines before a line: the count of the last signal line, 0 where there is none; and of each line, whether
-/// a later one may take its forlopp.
+/// What counts of the lines before a line: the count of the last signal line, 0 where there is
+/// none; and of each line, whether a later one may take its forlopp.
 pub struct Before {
     pub last: u32,
     pub origins: Seq<bool>,

@@ -29,8 +29,8 @@ impl Drop for Directory {
 #[derive(Drop)]
 pub struct Known<'a> {
     pub exchange: &'a Exchange,
-    pub names: Directory,
-    pub ghost named: { IsDirectory exchange.now names },
+    pub names: &'a Directory,
+    pub ghost named: { IsDirectory exchange.now names.now },
 }
 
 /// A single buffered signal: its number, and how many values it has.
@@ -40,9 +40,10 @@ pub struct Signal {
     pub count: u8,
 }
 
-/// The directory of an exchange.
+/// What an exchange has by its names. It is made once for each exchange, and each file about that
+/// is read by it. Memory is the only reason for an error.
 #[tactic(auto, using(crate::proofs::Found::directory))]
-fn directory_of(alloc: Global, exchange: &Exchange) -> Result<Directory, Memory>
+pub fn directory_of(alloc: Global, exchange: &Exchange) -> Result<Directory, Memory>
     ensures { IfOk result (λ directory. IsDirectory exchange.now directory) }
 {
     exchange.kept();
@@ -76,14 +77,6 @@ fn block_names(alloc: Global, exchange: &Exchange) -> Result<Names, Memory>
 }
 
 impl<'a> Known<'a> {
-    /// The exchange, with its directory.
-    pub fn of(alloc: Global, exchange: &'a Exchange) -> Result<Known<'a>, Memory>
-        ensures { IfOk result (λ known. known.exchange.now ≡ exchange.now) }
-    {
-        let names = directory_of(alloc, exchange)?;
-        Ok(Known { exchange, names })
-    }
-
     /// The single buffered signal of this name.
     pub fn signal_of(&self, name: &[u8]) -> Option<Signal>
         ensures { result ≡ signal_of self.now.exchange.now name.now }

@@ -2,7 +2,8 @@
 ghost use Rattle.std.specs.Prelude.{◌≡◌};
 ghost use Rattle.signal_file.specs.Rules.{signals_rule_name};
 
-/// The first fault of a signal file: its first faulty line, and the first rule that this line breaks.
+/// The first fault of a signal file: its first faulty line, and the first rule that this line
+/// breaks.
 #[derive(Clone, Copy, Debug)]
 pub struct SignalsFault {
     /// The line, from 1; 0 where the text is too large.
@@ -10,7 +11,8 @@ pub struct SignalsFault {
     pub rule: SignalsRule,
 }
 
-/// The rules of a signal file (docs/FORMATS.md, Signal file), in the order in which a line is looked at.
+/// The rules of a signal file (docs/FORMATS.md, Signal file), in the order in which a line is
+/// looked at.
 #[derive(Clone, Copy, Debug)]
 pub enum SignalsRule {
     /// The text has more than 16,777,216 bytes; told where it is read from a file.

@@ -1,7 +1,8 @@
 // The form of a line: what its words say, whatever their names mean.
 ghost use Rattle.std.specs.Prelude.{◌≡◌, ◌<◌, ◌∷◌, length};
 ghost use Rattle.plex_limits.specs.declared.limits.TheConstants.{MOST_VALUES};
-ghost use Rattle.signal_file.specs.Form.{IsSaidOf, IsTailOf, KeepsOneMore, bare_ending, ending, same_ending};
+ghost use Rattle.signal_file.specs.Form.{IsSaidOf, IsTailOf, KeepsOneMore, bare_ending, ending};
+ghost use Rattle.signal_file.specs.Form.{same_ending};
 ghost use Rattle.text_lines.specs.Words.{is_comment, is_skipped, words};
 
 use crate::line::LineKind;
@@ -9,7 +10,8 @@ use plex_limits::MOST_VALUES;
 use plex_num::{Values, read_number};
 use text_lines::{is_word, next_word};
 
-/// What a signal line says, with the names of its signal and its block. The first eight values are kept, and all are counted.
+/// What a signal line says, with the names of its signal and its block. The first eight values are
+/// kept, and all are counted.
 #[derive(Drop)]
 pub struct Said<'a> {
     pub after: u32,
@@ -20,7 +22,8 @@ pub struct Said<'a> {
     pub kind: LineKind,
 }
 
-/// The values at the end of a line, of which the first eight are kept and all are counted, and where the forlopp comes from.
+/// The values at the end of a line, of which the first eight are kept and all are counted, and
+/// where the forlopp comes from.
 #[derive(Drop)]
 pub struct Tail {
     pub values: Values,
@@ -64,7 +67,8 @@ pub fn said_of(line: &[u8]) -> Option<Said<'_>>
     })
 }
 
-/// The values, and the end of the line; `None` where a word before the end is no number, or there is no end.
+/// The values, and the end of the line; `None` where a word before the end is no number, or there
+/// is no end.
 #[tactic(auto, using(crate::proofs::Tails::tail_read))]
 pub fn tail_of(line: &[u8]) -> Option<Tail>
     ensures { IsTailOf (words line.now) result }
@@ -101,7 +105,8 @@ fn keep(values: &mut Values, count: usize, value: u32)
     }
 }
 
-/// What a word says that is the last of a line, or has the last behind it; `None` where it is no end of a line.
+/// What a word says that is the last of a line, or has the last behind it; `None` where it is no
+/// end of a line.
 fn ending(word: &[u8], after: &[u8]) -> Option<LineKind>
     ensures { result ≡ ending (word.now ∷ words after.now) }
 {

@@ -1,7 +1,8 @@
 use plex_num::Values;
 
-/// A signal line of a signal file: its number in the file, from 1; how many jobs must have ended before it arrives, if others
-/// wait; the entry at which its job starts; the values of its signal; and where its forlopp comes from.
+/// A signal line of a signal file: its number in the file, from 1; how many jobs must have ended
+/// before it arrives, if others wait; the entry at which its job starts; the values of its signal;
+/// and where its forlopp comes from.
 #[derive(Drop)]
 pub struct Line {
     pub number: u32,

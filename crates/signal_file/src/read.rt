@@ -11,7 +11,8 @@ use plex_num::{Memory, Seq};
 use std::alloc::Global;
 use text_lines::next_line;
 
-/// The signal lines of a text of at most 16 MiB, in order; or its first fault. It stops where memory is refused.
+/// The signal lines of a text of at most 16 MiB, in order; or its first fault. It stops where
+/// memory is refused.
 #[tactic(auto, using(crate::proofs::Behind::file_read))]
 pub fn read_signals(
     alloc: Global,

@@ -13,7 +13,7 @@ use text_lines::is_skipped;
 /// What a line of this number shows, `None` where it is skipped; or its first fault.
 #[tactic(auto, unfolding(crate::specs::Filter::added))]
 pub fn added(known: &Known<'_>, number: u32, line: &[u8]) -> Result<Option<Show>, FilterFault>
-    ensures { result ≡ added known.now.names number line.now }
+    ensures { result ≡ added known.now.names.now number line.now }
 {
     if is_skipped(line) {
         return Ok(None);
@@ -30,7 +30,7 @@ pub fn added(known: &Known<'_>, number: u32, line: &[u8]) -> Result<Option<Show>
 /// What a line of this number shows that asks for this, or its first fault.
 #[tactic(auto, unfolding(crate::specs::Filter::meaning))]
 fn meaning(known: &Known<'_>, number: u32, asked: &Asked<'_>) -> Result<Show, FilterFault>
-    ensures { result ≡ meaning known.now.names number (asking_of asked.now) }
+    ensures { result ≡ meaning known.now.names.now number (asking_of asked.now) }
 {
     let Some(block) = sought(&known.names.blocks, asked.block) else {
         return Err(breach(number, FilterRule::UnknownBlock));

@@ -10,7 +10,7 @@ use Rattle.exchange_model.specs.declared.stmt.StmtKind.TheOpen.{Case as CaseOf}
 use Rattle.source_meaning.specs.Config.{Item, Do, Config}
 use Rattle.source_meaning.specs.Step.{does}
 use Rattle.source_meaning.specs.Changes.{goes, chosen}
-use Rattle.register_machine.specs.Machine.{Machine, reg}
+use Rattle.machine_meaning.specs.Machine.{Machine, reg}
 use Rattle.expr_code.specs.Code.{expr_code}
 use Rattle.expr_code.specs.Runs.{HasAt}
 use Rattle.expr_code.proofs.Places.{has_front, has_back}

@@ -3,7 +3,7 @@ use Rattle.std.proofs.Common.{◌≡◌, ◌≢◌, ℕ, ◌+◌, true, false, L
 use Rattle.std.specs.Prelude.{nat_eq, ◌==◌}
 use Rattle.job_types.specs.Truth.{one_if}
 use Rattle.source_meaning.specs.Config.{Config}
-use Rattle.register_machine.specs.Machine.{Machine, reg}
+use Rattle.machine_meaning.specs.Machine.{Machine, reg}
 use Rattle.expr_code.specs.Runs.{HasAt}
 use Rattle.stmt_code.specs.declared.lengths.TheConstants.{COMPARE_LENGTH}
 use Rattle.stmt_code.specs.StmtCode.{compare_code}

@@ -12,7 +12,7 @@ use Rattle.source_meaning.specs.Config.{Item, Config, files_of}
 use Rattle.source_meaning.specs.Step.{does}
 use Rattle.source_meaning.specs.Changes.{goes, opens_fields, at_record, frees}
 use Rattle.job_types.specs.Chain.{without}
-use Rattle.register_machine.specs.Machine.{Machine, made_one, reg, next}
+use Rattle.machine_meaning.specs.Machine.{Machine, made_one, reg, next}
 use Rattle.expr_code.specs.Code.{pointer_code}
 use Rattle.expr_code.specs.Runs.{HasOp, HasAt}
 use Rattle.expr_code.proofs.Places.{has_front, has_back}

@@ -15,7 +15,7 @@ use Rattle.source_meaning.specs.Config.{Config}
 use Rattle.source_meaning.specs.Changes.{fails as c_fails}
 use Rattle.exchange_model.specs.declared.expr.Rel.{Rel}
 use Rattle.exchange_model.specs.declared.expr.Rel.TheVariants.{Equal, Unequal, Below, AtMost, Above, AtLeast}
-use Rattle.register_machine.specs.Machine.{Machine, HasRoom, machine_step, made_one, reg, sets, next, goes, checks}
+use Rattle.machine_meaning.specs.Machine.{Machine, HasRoom, machine_step, made_one, reg, sets, next, goes, checks}
 use Rattle.expr_code.specs.Code.{rel_op}
 use Rattle.expr_code.specs.Runs.{HasOp}
 use Rattle.stmt_code.proofs.Setting.{Setting}

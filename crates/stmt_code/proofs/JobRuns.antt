@@ -8,9 +8,9 @@ use Rattle.exchange_model.specs.declared.entry.Entry.{Entry}
 use Rattle.job_types.specs.Own.{budget}
 use Rattle.source_meaning.specs.Config.{Config}
 use Rattle.source_meaning.specs.Job.{begins, place_of, todo_of, job}
-use Rattle.register_machine.specs.Machine.{Machine}
-use Rattle.register_machine.specs.Private.{fresh}
-use Rattle.register_machine.specs.Faithful.{Ends, Means, begun}
+use Rattle.machine_meaning.specs.Machine.{Machine}
+use Rattle.machine_meaning.specs.Private.{fresh}
+use Rattle.machine_meaning.specs.Faithful.{Ends, Means, begun}
 use Rattle.stmt_code.proofs.Setting.{Setting}
 use Rattle.stmt_code.proofs.At.{At}
 use Rattle.stmt_code.proofs.Same.{AllSmall, append_small, none_small, zeros_small, zeros_length, blank_temps, Same, Sim, alive, heads, ended}

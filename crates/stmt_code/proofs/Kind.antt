@@ -9,8 +9,8 @@ use Rattle.source_meaning.specs.Config.{Item, Caller, Config, from_place, label_
 use Rattle.source_meaning.specs.Step.{does, count}
 use Rattle.source_meaning.specs.Changes.{ends, goes, to_label}
 use Rattle.job_types.specs.Truth.{at_zero}
-use Rattle.register_machine.specs.declared.frames.Frame.{Frame}
-use Rattle.register_machine.specs.Machine.{Machine, made_one, reg, ends as m_ends}
+use Rattle.machine_meaning.specs.declared.frame.Frame.{Frame}
+use Rattle.machine_meaning.specs.Machine.{Machine, made_one, reg, ends as m_ends}
 use Rattle.expr_code.specs.Runs.{HasOp, HasAt}
 use Rattle.stmt_code.specs.StmtCode.{opened}
 use Rattle.stmt_code.specs.Within.{LayerIn}

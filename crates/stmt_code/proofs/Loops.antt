@@ -15,7 +15,7 @@ use Rattle.job_types.specs.Truth.{one_if}
 use Rattle.source_meaning.specs.Config.{Item, Do, Turns, Config, sight}
 use Rattle.source_meaning.specs.Step.{does, count}
 use Rattle.source_meaning.specs.Changes.{goes, sets_temp, on_value}
-use Rattle.register_machine.specs.Machine.{Machine, here, reg}
+use Rattle.machine_meaning.specs.Machine.{Machine, here, reg}
 use Rattle.expr_code.specs.Code.{expr_code}
 use Rattle.expr_code.specs.Runs.{HasAt}
 use Rattle.expr_code.proofs.Places.{has_front, has_back}

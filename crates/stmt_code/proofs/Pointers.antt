@@ -12,7 +12,7 @@ use Rattle.job_types.specs.Chain.{holds}
 use Rattle.source_meaning.specs.Config.{Item, Config, files_of}
 use Rattle.source_meaning.specs.Step.{does}
 use Rattle.source_meaning.specs.Changes.{fails as c_fails, goes, unless_fault, where_fits, field_width, sets_cell, at_record, sets_field}
-use Rattle.register_machine.specs.Machine.{Machine, made_one, reg, checks}
+use Rattle.machine_meaning.specs.Machine.{Machine, made_one, reg, checks}
 use Rattle.expr_code.specs.Code.{expr_code, own_code, pointer_code}
 use Rattle.expr_code.specs.Runs.{HasAt}
 use Rattle.expr_code.proofs.Places.{has_front, has_back}

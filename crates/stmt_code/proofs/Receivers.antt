@@ -19,7 +19,7 @@ use Rattle.job_types.specs.Own.{World, seen}
 use Rattle.source_meaning.specs.Value.{Sight, holder_value}
 use Rattle.source_meaning.specs.Config.{Item, Config, is_receiver, receiver_of, sight}
 use Rattle.source_meaning.specs.Changes.{on_values, at_receiver, to_receiver}
-use Rattle.register_machine.specs.Machine.{Machine, made_one, reg, checks}
+use Rattle.machine_meaning.specs.Machine.{Machine, made_one, reg, checks}
 use Rattle.expr_code.specs.Code.{Site}
 use Rattle.expr_code.specs.Runs.{HasAt, site_of, Agrees, Computes}
 use Rattle.expr_code.proofs.ExprRuns.{temporary_runs, variable_runs}

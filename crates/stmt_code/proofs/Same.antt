@@ -11,8 +11,8 @@ use Rattle.job_types.specs.declared.outcome.Outcome.TheVariants.{Faulted}
 use Rattle.machine_code.specs.declared.op.Op.{Op}
 use Rattle.source_meaning.specs.Config.{Caller, Config}
 use Rattle.source_meaning.specs.Changes.{fails as c_fails}
-use Rattle.register_machine.specs.declared.frames.Frame.{Frame}
-use Rattle.register_machine.specs.Machine.{Machine, Goes, here, by_op, HasRoom, machine_step, made_one, fails}
+use Rattle.machine_meaning.specs.declared.frame.Frame.{Frame}
+use Rattle.machine_meaning.specs.Machine.{Machine, Goes, here, by_op, HasRoom, machine_step, made_one, fails}
 use Rattle.expr_code.proofs.Runs.{goes_on}
 use Rattle.expr_code.specs.Runs.{HasOp}
 use Rattle.stmt_code.proofs.Setting.{Setting}

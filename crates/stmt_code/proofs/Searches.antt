@@ -15,7 +15,7 @@ use Rattle.job_types.specs.Truth.{one_if}
 use Rattle.source_meaning.specs.Config.{Item, Config, files_of}
 use Rattle.source_meaning.specs.Step.{does}
 use Rattle.source_meaning.specs.Changes.{least_record, looked_at, record_loads, on_record, at_found, for_first}
-use Rattle.register_machine.specs.Machine.{Machine, reg}
+use Rattle.machine_meaning.specs.Machine.{Machine, reg}
 use Rattle.expr_code.specs.Code.{expr_code}
 use Rattle.expr_code.specs.Runs.{HasAt}
 use Rattle.expr_code.proofs.Places.{has_front, has_back}

@@ -10,7 +10,7 @@ use Rattle.job_types.specs.Own.{Own}
 use Rattle.source_meaning.specs.Config.{Item, Config, files_of}
 use Rattle.source_meaning.specs.Step.{does}
 use Rattle.source_meaning.specs.Changes.{fails as c_fails, joins_chain, at_free, on_record, seizes}
-use Rattle.register_machine.specs.Machine.{Machine, made_one, reg, next, fails, checks}
+use Rattle.machine_meaning.specs.Machine.{Machine, made_one, reg, next, fails, checks}
 use Rattle.expr_code.specs.Runs.{HasOp, HasAt}
 use Rattle.stmt_code.specs.declared.lengths.TheConstants.{LOOK_LENGTH, AGAIN_LENGTH}
 use Rattle.stmt_code.specs.RecordCode.{again_code, take_code, seize_code}

@@ -21,8 +21,8 @@ use Rattle.job_types.specs.Own.{Own, eight}
 use Rattle.source_meaning.specs.Config.{Item, Caller, Config, entry_number}
 use Rattle.source_meaning.specs.Step.{does}
 use Rattle.source_meaning.specs.Changes.{fails as c_fails, goes, activates, sends, returns, value_count}
-use Rattle.register_machine.specs.declared.frames.Frame.{Frame}
-use Rattle.register_machine.specs.Machine.{Machine, HasRoom, machine_step, made_one, next, fails, send_to, sends as m_sends, enters, activates as m_activates, returns as m_returns}
+use Rattle.machine_meaning.specs.declared.frame.Frame.{Frame}
+use Rattle.machine_meaning.specs.Machine.{Machine, HasRoom, machine_step, made_one, next, fails, send_to, sends as m_sends, enters, activates as m_activates, returns as m_returns}
 use Rattle.expr_code.specs.Runs.{HasOp, HasAt}
 use Rattle.expr_code.proofs.Places.{has_front, has_back}
 use Rattle.stmt_code.specs.StmtCode.{values_code, send_code, queue_number, level_number, receiver_code, count_in}

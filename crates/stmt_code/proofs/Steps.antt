@@ -9,7 +9,7 @@ use Rattle.source_meaning.specs.Config.{Item, Do, Turns, Config, next_counted}
 use Rattle.exchange_model.specs.Kept.{is_enter}
 use Rattle.source_meaning.specs.Step.{does, starts as begins_with, count, does_first, step}
 use Rattle.source_meaning.specs.Job.{unless_over, after_steps}
-use Rattle.register_machine.specs.Machine.{Machine, here}
+use Rattle.machine_meaning.specs.Machine.{Machine, here}
 use Rattle.stmt_code.specs.StmtCode.{turn, last}
 use Rattle.stmt_code.proofs.Setting.{Setting}
 use Rattle.stmt_code.proofs.At.{SameLoops, At, Ready, ready, jumps, skips, over, again, nothing, does as doing, starts, AtHead, turns, fewer, at_keeps, ready_keeps}

@@ -8,7 +8,7 @@ use Rattle.exchange_model.specs.Kept.{scope_of}
 use Rattle.source_meaning.specs.Config.{Item, Config}
 use Rattle.source_meaning.specs.Step.{does}
 use Rattle.source_meaning.specs.Changes.{takes}
-use Rattle.register_machine.specs.Machine.{Machine}
+use Rattle.machine_meaning.specs.Machine.{Machine}
 use Rattle.expr_code.specs.Runs.{HasAt}
 use Rattle.stmt_code.specs.StmtCode.{takes_code, retrieve_code}
 use Rattle.stmt_code.proofs.Setting.{Setting, few_loops}

@@ -21,7 +21,7 @@ use Rattle.source_meaning.specs.Value.{Got, expr_value, cond_value}
 use Rattle.source_meaning.specs.Config.{Config, sight, from_place, from_signal, label_of}
 use Rattle.source_meaning.specs.Step.{count}
 use Rattle.source_meaning.specs.Changes.{fails as c_fails, on_value, on_values}
-use Rattle.register_machine.specs.Machine.{Machine, machine_step, made_one, reg, next, fails}
+use Rattle.machine_meaning.specs.Machine.{Machine, machine_step, made_one, reg, next, fails}
 use Rattle.expr_code.specs.Code.{expr_code, cond_code}
 use Rattle.expr_code.specs.Sites.{IsLimited}
 use Rattle.expr_code.specs.Runs.{HasOp, HasAt, Agrees, Calc, Computes, KeepsRegisters, gives, stops}

@@ -7,8 +7,8 @@ use Rattle.machine_code.specs.Coded.{Code}
 use Rattle.exchange_model.specs.declared.exchange.Exchange.{Exchange}
 use Rattle.exchange_model.specs.declared.entry.Entry.{Entry}
 use Rattle.exchange_model.specs.Kept.{IsExchange}
-use Rattle.register_machine.specs.Private.{fresh}
-use Rattle.register_machine.specs.Faithful.{Faithful, Ends, begun, started}
+use Rattle.machine_meaning.specs.Private.{fresh}
+use Rattle.machine_meaning.specs.Faithful.{Faithful, Ends, begun, started}
 use Rattle.stmt_code.specs.Whole.{enter_at, whole_code, entry_addresses}
 use Rattle.stmt_code.proofs.Texts.{TextsAt, laid}
 use Rattle.source_meaning.specs.Valid.{IsWord}

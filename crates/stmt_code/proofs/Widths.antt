@@ -6,7 +6,7 @@ use Rattle.job_types.specs.declared.fault.Fault.TheVariants.{Range}
 use Rattle.machine_code.specs.declared.op.Op.TheVariants as op
 use Rattle.source_meaning.specs.Config.{Config}
 use Rattle.source_meaning.specs.Changes.{fails as c_fails}
-use Rattle.register_machine.specs.Machine.{Machine, reg, made_one, checks}
+use Rattle.machine_meaning.specs.Machine.{Machine, reg, made_one, checks}
 use Rattle.expr_code.specs.Runs.{HasAt}
 use Rattle.stmt_code.specs.StmtCode.{range_code}
 use Rattle.stmt_code.proofs.Setting.{Setting}

@@ -1,7 +1,7 @@
 // What the code of an exchange does, said by a clause.
 ghost use Rattle.std.specs.Prelude.{◌≡◌, All};
 ghost use Rattle.machine_code.specs.Operands.{OpFits};
-ghost use Rattle.register_machine.specs.Faithful.{Faithful};
+ghost use Rattle.machine_meaning.specs.Faithful.{Faithful};
 ghost use Rattle.stmt_code.specs.Whole.{entry_addresses, whole_code};
 
 use crate::ranges::{files_are_numbered, numbers_are_words};

@@ -1,5 +1,3 @@
-pub mod BlockSteps
-pub mod Choices
 pub mod There
 pub mod Layers
 pub mod Steps

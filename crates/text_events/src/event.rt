@@ -138,6 +138,13 @@ impl<'a> Model for Event<'a> {
 }
 
 impl<'a> Event<'a> {
+    /// The event of which this is kept.
+    pub fn of(kept: PackedEvent<'a>) -> Event<'a>
+        ensures { result ≡ said_of kept.entry }
+    {
+        Event { kept }
+    }
+
     /// The line, counted from 1.
     pub fn line(&self) -> u32
         ensures { result ≡ self.now.line }
@@ -151,11 +158,4 @@ impl<'a> Event<'a> {
     {
         self.kept.kind()
     }
-}
-
-/// The event of which this is kept.
-pub(crate) fn made(kept: PackedEvent<'_>) -> Event<'_>
-    ensures { result ≡ said_of kept.entry }
-{
-    Event { kept }
 }

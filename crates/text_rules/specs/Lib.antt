@@ -3,5 +3,4 @@ pub mod Links
 pub mod Received
 pub mod Signals
 pub mod Surveys
-pub mod Tables
 pub mod Texts

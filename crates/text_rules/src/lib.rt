@@ -1,20 +1,16 @@
-// The rules of a text.
+// The rules of a text: each a test of an event with what is known there, and which fault of a text
+// they tell.
+//
+// What goes in: the events of a text, its signals and its blocks. What comes out: the rules with
+// their numbers, a fault, the blocks of a text by their names and by what they receive, and, as
+// definitions alone, the first fault of each set of rules. `rule_checks` finds it.
+// It knows nothing of how the lists of events came to be, nor of the exchange that a text makes.
 #![tactic(auto)]
 
-mod amounts;
-mod block_tables;
-mod blocks;
 mod fault;
-mod links;
-mod names;
-mod operand_counts;
 mod rule;
-mod signals;
 mod surveys;
 
-pub use blocks::check_blocks;
 pub use fault::Fault;
-pub use links::check_links;
 pub use rule::{BlockRule, LinkRule, Rule, SignalRule};
-pub use signals::check_signals;
 pub use surveys::BlockTable;

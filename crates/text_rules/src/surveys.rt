@@ -2,14 +2,12 @@
 ghost use Rattle.std.specs.Prelude.{◌≡◌, ◌+◌, ◌||◌, ◌&&◌, ℕ, List, false, not, nat_eq, IfOk, OnOk, if◌then◌else◌, Option};
 ghost use Rattle.std.specs.Str.{bytes_eq};
 ghost use Rattle.indexmap.specs.IndexMap.{get};
-ghost use Rattle.indexmap.specs.IndexSet.{contains};
 ghost use Rattle.first_fault.specs.First.{any, or_else};
 ghost use Rattle.text_rules.specs.Surveys.{line_receives, block_named, first_receiver, receiver_count, receives_at};
 ghost use Rattle.text_rules.specs.Received.{has_pair, counted_in, first_in, chosen};
 
-use crate::names::NameSet;
 use indexmap::{IndexMap, IndexSet};
-use plex_ast::{Block, Item, ItemKind, Survey, SurveyKind};
+use plex_ast::{Block, Survey, SurveyKind};
 use plex_num::{Memory, Name, Seed};
 use std::alloc::Global;
 use token_grammar::KeptName;
@@ -312,7 +310,7 @@ impl<'a> BlockTable<'a> {
     }
 
     /// How many blocks receive this signal.
-    pub(crate) fn receiver_count(&self, signal: &KeptName) -> u64
+    pub fn receiver_count(&self, signal: &KeptName) -> u64
         ensures kept { result ≡ counted_in self.now.received signal.now }
         ensures found { result ≡ receiver_count self.now.blocks.now signal.now }
     {
@@ -320,7 +318,7 @@ impl<'a> BlockTable<'a> {
     }
 
     /// Whether the block of a number receives this signal.
-    pub(crate) fn receives(&self, block: u32, signal: &KeptName) -> bool
+    pub fn receives(&self, block: u32, signal: &KeptName) -> bool
         ensures kept { result ≡ has_pair self.now.received block signal.now }
         ensures found { result ≡ receives_at self.now.blocks.now block signal.now }
     {

@@ -3,8 +3,8 @@ use Rattle.std.specs.Prelude.{◌≡◌, []}
 use Rattle.exchange_model.specs.declared.exchange.Exchange.{Exchange}
 use Rattle.exchange_model.specs.Parts.{parts}
 use Rattle.machine_code.specs.Coded.{Code}
-use Rattle.register_machine.specs.Faithful.{Faithful}
-use Rattle.register_machine.specs.Private.{Private}
+use Rattle.machine_meaning.specs.Faithful.{Faithful}
+use Rattle.machine_meaning.specs.Private.{Private}
 use Rattle.job_runner.specs.Runs.{IsReady, HasRun}
 use Rattle.shared_store.specs.Seats.{StoreId, JobView}
 use Rattle.ticket_book.specs.Pages.{BookId, TicketView}

@@ -1,16 +1,16 @@
 // A job that was lent its words, and its end.
 ghost use Rattle.std.specs.Prelude.{◌≡◌, ◌+◌, ◌<◌, ◌^◌};
 ghost use Rattle.job_runner.specs.Runs.{IsReady, HasRun};
-ghost use Rattle.register_machine.specs.Faithful.{Faithful};
+ghost use Rattle.machine_meaning.specs.Faithful.{Faithful};
+ghost use Rattle.worker_pool.specs.Ways.{AreMeans};
 
+use crate::means::Means;
 use crate::naming::Naming;
 use crate::shop::Shop;
 use crate::task::{Ended, Task};
-use exchange_model::Exchange;
-use machine_code::Code;
 use plex_io::Gate;
 use register_machine::JobRun;
-use shared_store::{JobSeat, SharedStore};
+use shared_store::JobSeat;
 use std::marker::{Model, PhantomData};
 use std::sync::Wait;
 use ticket_book::{Pen, Ticket, TicketBook};
@@ -105,19 +105,13 @@ impl<B: Naming> Flight<B> {
     }
 
     /// The job is run to its end in the thread that calls, if it is in hand.
-    pub fn run_here<G: Gate>(
-        self,
-        exchange: &Exchange,
-        code: &Code,
-        store: &SharedStore,
-        gate: &G,
-    ) -> Flight<B>
-        requires named { (exchange.now ≡ B.exchange) × (code.now ≡ B.code) × (store.now ≡ B.store) }
+    pub fn run_here<G: Gate>(self, means: &Means<'_>, gate: &G) -> Flight<B>
+        requires means { AreMeans B.exchange B.code B.store means.now }
         ensures { result ≡ self }
     {
         let Flight { ticket, at } = self;
         let at = match at {
-            Whereabouts::InHand(task) => Whereabouts::Over(task.run(exchange, code, store, gate)),
+            Whereabouts::InHand(task) => Whereabouts::Over(task.run(means, gate)),
             elsewhere => elsewhere,
         };
         Flight { ticket, at }
@@ -129,20 +123,18 @@ impl<B: Naming> Flight<B> {
         self,
         rt: &R,
         shop: &Shop<B>,
-        exchange: &Exchange,
-        code: &Code,
-        store: &SharedStore,
+        means: &Means<'_>,
         book: &TicketBook,
         gate: &G,
     ) -> (JobSeat, Box<JobRun>)
-        requires named { (exchange.now ≡ B.exchange) × (code.now ≡ B.code) × (store.now ≡ B.store) }
+        requires means { AreMeans B.exchange B.code B.store means.now }
         requires book { book.now ≡ B.book }
         ensures { HasRun B.exchange B.code B.store self result.0 result.1.value }
     {
         let Flight { ticket, at } = self;
         let ended = match at {
-            Whereabouts::InHand(task) => task.run(exchange, code, store, gate),
-            Whereabouts::AtShop(number) => shop.end_of(rt, number, exchange, code, store, gate),
+            Whereabouts::InHand(task) => task.run(means, gate),
+            Whereabouts::AtShop(number) => shop.end_of(rt, number, means, gate),
             Whereabouts::Over(ended) => ended,
         };
         if ended.number() == ticket.number() {

@@ -10,12 +10,14 @@
 
 mod flight;
 mod line;
+mod means;
 mod naming;
 mod shop;
 mod task;
 mod workers;
 
 pub use flight::{Flight, launch};
+pub use means::Means;
 pub use naming::Naming;
 pub use shop::{Closing, Shop};
 pub use workers::start_workers;

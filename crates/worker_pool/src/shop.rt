@@ -1,15 +1,14 @@
 // What the dispatcher and its workers share: a row of places for jobs, which are filled and emptied in turn, and a few counts by which
 // threads find jobs, sleep and are woken.
 ghost use Rattle.std.specs.Prelude.{◌≡◌, ◌<◌, IfOk, vec_len};
+ghost use Rattle.worker_pool.specs.Ways.{AreMeans};
 
 use crate::line::Line;
+use crate::means::Means;
 use crate::naming::Naming;
 use crate::task::{Ended, Task};
-use exchange_model::Exchange;
-use machine_code::Code;
 use plex_io::Gate;
 use plex_num::Memory;
-use shared_store::SharedStore;
 use std::alloc::{AllocError, Global};
 use std::marker::Model;
 use std::sync::{Mutex, Wait};
@@ -155,7 +154,7 @@ impl<B: Naming> Shop<B> {
     /// Wakes a worker where one sleeps that may be woken, enough jobs wait, and none looks for a
     /// job or was woken and is on its way.
     fn call(&self) {
-        if self.waiting() < self.batch.get()
+        if self.waiting() < self.batch.get().max(1)
             || self.searching.get() > 0
             || !self.has_sleepers()
             || !self.called.follows(0)
@@ -211,12 +210,10 @@ impl<B: Naming> Shop<B> {
         &self,
         rt: &R,
         number: u64,
-        exchange: &Exchange,
-        code: &Code,
-        store: &SharedStore,
+        means: &Means<'_>,
         gate: &G,
     ) -> Ended<B>
-        requires named { (exchange.now ≡ B.exchange) × (code.now ≡ B.code) × (store.now ≡ B.store) }
+        requires means { AreMeans B.exchange B.code B.store means.now }
     {
         for _ in rt.forever() {
             if self.has_ended(number) {
@@ -225,7 +222,7 @@ impl<B: Naming> Shop<B> {
                     return ended;
                 }
             }
-            if !self.help(rt, exchange, code, store, gate) {
+            if !self.help(rt, means, gate) {
                 self.wait_for(rt, number);
             }
         }
@@ -247,41 +244,26 @@ impl<B: Naming> Shop<B> {
     }
 
     /// Runs the oldest job that waits, if there is one, in the thread that calls. Whether there was.
-    pub fn help<R: Wait, G: Gate>(
-        &self,
-        rt: &R,
-        exchange: &Exchange,
-        code: &Code,
-        store: &SharedStore,
-        gate: &G,
-    ) -> bool
-        requires named { (exchange.now ≡ B.exchange) × (code.now ≡ B.code) × (store.now ≡ B.store) }
+    pub fn help<R: Wait, G: Gate>(&self, rt: &R, means: &Means<'_>, gate: &G) -> bool
+        requires means { AreMeans B.exchange B.code B.store means.now }
     {
         let Some(number) = self.claim() else {
             return false;
         };
-        self.run_taken(rt, number, exchange, code, store, gate);
+        self.run_taken(rt, number, means, gate);
         true
     }
 
     /// Runs the job of this number, which the caller has taken.
-    fn run_taken<R: Wait, G: Gate>(
-        &self,
-        rt: &R,
-        number: u64,
-        exchange: &Exchange,
-        code: &Code,
-        store: &SharedStore,
-        gate: &G,
-    )
-        requires named { (exchange.now ≡ B.exchange) × (code.now ≡ B.code) × (store.now ≡ B.store) }
+    fn run_taken<R: Wait, G: Gate>(&self, rt: &R, number: u64, means: &Means<'_>, gate: &G)
+        requires means { AreMeans B.exchange B.code B.store means.now }
     {
         let place = self.place(number);
         let found = take(&mut *place.slot.lock(rt));
         let Slot::Waits(task) = found else {
             return;
         };
-        let ended = task.run(exchange, code, store, gate);
+        let ended = task.run(means, gate);
         *place.slot.lock(rt) = Slot::Has(ended);
         let after = number.wrapping_add(1);
         place.ended.set(after);
@@ -304,59 +286,34 @@ impl<B: Naming> Shop<B> {
         self.waits_for.set(0);
     }
 
-    /// A worker that looks for jobs runs those that wait, the oldest first, until none has come for some time. Whether it ran any.
-    pub(crate) fn serve<R: Wait, G: Gate>(
-        &self,
-        rt: &R,
-        exchange: &Exchange,
-        code: &Code,
-        store: &SharedStore,
-        gate: &G,
-    ) -> bool
-        requires named { (exchange.now ≡ B.exchange) × (code.now ≡ B.code) × (store.now ≡ B.store) }
+    /// A worker that looks for jobs runs those that wait, the oldest first, until none has come for some time. Whether it ran any. While
+    /// it runs them it does not count as one that looks, and before each another worker is woken where enough are left.
+    pub(crate) fn serve<R: Wait, G: Gate>(&self, rt: &R, means: &Means<'_>, gate: &G) -> bool
+        requires means { AreMeans B.exchange B.code B.store means.now }
     {
         let mut served = false;
+        let mut searches = true;
         let mut looks: u32 = 0;
         for _ in rt.forever() {
             if let Some(number) = self.claim() {
-                self.searching.take_one();
-                self.run_row(number, rt, exchange, code, store, gate);
-                self.searching.add_one();
+                if searches {
+                    self.looks_less();
+                }
+                self.call();
+                self.run_taken(rt, number, means, gate);
                 served = true;
+                searches = false;
                 looks = 0;
             } else if looks < LOOKS {
+                if !searches {
+                    self.looks_more();
+                }
+                searches = true;
                 looks += 1;
                 hint::spin_loop();
             } else {
                 return served;
             }
-        }
-        unreachable!()
-    }
-
-    /// A worker runs the job of this number, which it has taken, and then those that wait, the
-    /// oldest first, until none does. Each time another worker is woken where enough are left.
-    fn run_row<R: Wait, G: Gate>(
-        &self,
-        number: u64,
-        rt: &R,
-        exchange: &Exchange,
-        code: &Code,
-        store: &SharedStore,
-        gate: &G,
-    )
-        requires named { (exchange.now ≡ B.exchange) × (code.now ≡ B.code) × (store.now ≡ B.store) }
-    {
-        let mut next = Some(number);
-        for _ in rt.forever() {
-            let Some(number) = next else {
-                return;
-            };
-            if self.waiting() > 0 {
-                self.call();
-            }
-            self.run_taken(rt, number, exchange, code, store, gate);
-            next = self.claim();
         }
         unreachable!()
     }

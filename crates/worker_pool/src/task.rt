@@ -1,14 +1,14 @@
 // What crosses threads: a job that waits, and a job that has run.
 ghost use Rattle.std.specs.Prelude.{◌≡◌};
 ghost use Rattle.job_runner.specs.Runs.{HasRun};
+ghost use Rattle.worker_pool.specs.Ways.{AreMeans};
 
+use crate::means::Means;
 use crate::naming::Naming;
-use exchange_model::Exchange;
 use job_runner::run_in_place;
-use machine_code::Code;
 use plex_io::{Gate, Moment};
 use register_machine::JobRun;
-use shared_store::{JobSeat, SharedStore};
+use shared_store::JobSeat;
 use std::marker::{Model, PhantomData};
 use ticket_book::{Ticket, TicketBook};
 
@@ -57,14 +57,8 @@ impl<B: Naming> Model for Ended<B> {
 impl<B: Naming> Task<B> {
     /// Runs the job in the thread that calls. The gate is told before and after it, by the job's number there; after it also how many
     /// instructions the run made.
-    pub fn run<G: Gate>(
-        self,
-        exchange: &Exchange,
-        code: &Code,
-        store: &SharedStore,
-        gate: &G,
-    ) -> Ended<B>
-        requires named { (exchange.now ≡ B.exchange) × (code.now ≡ B.code) × (store.now ≡ B.store) }
+    pub fn run<G: Gate>(self, means: &Means<'_>, gate: &G) -> Ended<B>
+        requires means { AreMeans B.exchange B.code B.store means.now }
         ensures { result ≡ self }
     {
         let Task {
@@ -74,6 +68,11 @@ impl<B: Naming> Task<B> {
             job,
             of: _,
         } = self;
+        let Means {
+            exchange,
+            code,
+            store,
+        } = *means;
         gate.at(job, Moment::Before);
         let seat = run_in_place(exchange, store, seat, &mut run, code);
         gate.at(job, Moment::After { steps: run.steps() });

@@ -1,12 +1,11 @@
 // The threads that run jobs.
 ghost use Rattle.std.specs.Prelude.{◌≡◌};
+ghost use Rattle.worker_pool.specs.Ways.{AreMeans};
 
+use crate::means::Means;
 use crate::naming::Naming;
 use crate::shop::{Shop, first_nap, longer_nap};
-use exchange_model::Exchange;
-use machine_code::Code;
 use plex_io::Gate;
-use shared_store::SharedStore;
 use std::sync::Wait;
 use std::thread::{Scope, Threads};
 
@@ -16,22 +15,36 @@ pub fn start_workers<'s, 'e: 's, B: Naming + Send + Sync, R: Threads + Wait + Sy
     rt: &'e R,
     scope: &'s Scope<'s, &'e ()>,
     shop: &'e Shop<B>,
-    exchange: &'e Exchange,
-    code: &'e Code,
-    store: &'e SharedStore,
+    means: &Means<'e>,
     gate: &'e G,
     wanted: u64,
 )
-    requires named { (exchange.now ≡ B.exchange) × (code.now ≡ B.code) × (store.now ≡ B.store) }
+    requires means { AreMeans B.exchange B.code B.store means.now }
 {
     let started = shop.started();
     if wanted <= started {
         return;
     }
+    let Means {
+        exchange,
+        code,
+        store,
+    } = *means;
     for _ in started..wanted {
         let worker = move ||
             requires { (exchange.now ≡ B.exchange) × (code.now ≡ B.code) × (store.now ≡ B.store) }
-        { work(rt, shop, exchange, code, store, gate) };
+        {
+            work(
+                rt,
+                shop,
+                &Means {
+                    exchange,
+                    code,
+                    store,
+                },
+                gate,
+            )
+        };
         shop.looks_more();
         if scope.spawn(worker).is_err() {
             shop.looks_less();
@@ -43,15 +56,8 @@ pub fn start_workers<'s, 'e: 's, B: Naming + Send + Sync, R: Threads + Wait + Sy
 }
 
 /// A worker: it runs jobs until the shop is closed.
-fn work<R: Wait, B: Naming, G: Gate>(
-    rt: &R,
-    shop: &Shop<B>,
-    exchange: &Exchange,
-    code: &Code,
-    store: &SharedStore,
-    gate: &G,
-)
-    requires named { (exchange.now ≡ B.exchange) × (code.now ≡ B.code) × (store.now ≡ B.store) }
+fn work<R: Wait, B: Naming, G: Gate>(rt: &R, shop: &Shop<B>, means: &Means<'_>, gate: &G)
+    requires means { AreMeans B.exchange B.code B.store means.now }
 {
     let mut nap = first_nap();
     for _ in rt.forever() {
@@ -59,7 +65,7 @@ fn work<R: Wait, B: Naming, G: Gate>(
             shop.looks_less();
             return;
         }
-        let served = shop.serve(rt, exchange, code, store, gate);
+        let served = shop.serve(rt, means, gate);
         nap = if served { first_nap() } else { nap };
         shop.nap(rt, nap);
         nap = longer_nap(nap);

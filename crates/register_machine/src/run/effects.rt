@@ -3,11 +3,11 @@ ghost use Rattle.std.specs.Prelude.{◌≡◌, ℕ, ◌+◌, ◌-◌, ◌≤◌,
 ghost use Rattle.job_types.specs.Own.{budget, eight};
 ghost use Rattle.job_types.specs.Chain.{holds, without};
 ghost use Rattle.job_types.specs.Truth.{at_zero};
-ghost use Rattle.register_machine.specs.Machine.{reg, goes, next, fails, checks, counts, divides, joins, sends, calls, returns, ends};
+ghost use Rattle.machine_meaning.specs.Machine.{reg, goes, next, fails, checks, counts, divides, joins, sends, calls, returns, ends};
 ghost use Rattle.register_machine.specs.Standing.{beyond, leads, standing, stood};
 ghost use Rattle.register_machine.specs.declared.run.stand.Way.TheVariants.{On, To, Over};
 ghost use Rattle.job_types.specs.declared.chain.Held.{Held};
-ghost use Rattle.register_machine.specs.Private.{counted_of};
+ghost use Rattle.machine_meaning.specs.Private.{counted_of};
 
 use super::stand::{Spot, Way};
 use super::{JobRun, eight_of};

@@ -4,7 +4,7 @@ ghost use Rattle.machine_code.specs.Operands.{OpFits};
 ghost use Rattle.machine_code.specs.Told.{told_all, told_more};
 ghost use Rattle.job_types.specs.declared.touch.Touch.TheVariants.{Load, Store};
 ghost use Rattle.job_types.specs.Own.{untouched};
-ghost use Rattle.register_machine.specs.Machine.{act, reach, loaded, touched, HasRoom, MayTouch, send_to, level_of};
+ghost use Rattle.machine_meaning.specs.Machine.{act, reach, loaded, touched, HasRoom, MayTouch, send_to, level_of};
 ghost use Rattle.register_machine.specs.Standing.{beyond, leads, stand_of, standing, stood};
 
 use super::JobRun;

@@ -1,5 +1,5 @@
 use Rattle.std.proofs.Common.{◌∙◌, sym, ap}
-use Rattle.register_machine.specs.Private.{Private}
+use Rattle.machine_meaning.specs.Private.{Private}
 use Rattle.shared_store.specs.Seats.{RootView}
 use Rattle.parallel_dispatch.specs.Windows.{View}
 use Rattle.parallel_dispatch.proofs.Moving.{stores_here, turned_then}

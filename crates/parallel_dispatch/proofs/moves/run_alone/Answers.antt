@@ -2,7 +2,7 @@ use Rattle.std.proofs.Common.{◌∙◌, Some, refl, sym, ap, subst}
 use Rattle.std.specs.Prelude.{IsSome}
 use Rattle.machine_code.specs.Coded.{Code}
 use Rattle.exchange_run.specs.Runs.{left_by}
-use Rattle.register_machine.specs.Private.{Private}
+use Rattle.machine_meaning.specs.Private.{Private}
 use Rattle.shared_store.specs.Seats.{RootView}
 use Rattle.parallel_dispatch.specs.Made.{RunEnds}
 use Rattle.interleave_core.proofs.Changing.{done_is}

@@ -1,5 +1,5 @@
 use Rattle.exchange_run.specs.Runs.{state_of}
-use Rattle.plex_program.proofs.Answering.{grown_ends}
+use Rattle.run_answers.proofs.Growth.{grown_ends}
 use Rattle.plex_program.proofs.going.go_on.Goals as goal
 
 pub returns : goal.returns

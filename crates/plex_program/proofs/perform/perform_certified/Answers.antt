@@ -25,4 +25,4 @@ runs_with held held' held'' w name b m n a x lines text r first same second same
 
 pub returns-clause-comes : goal.returns-clause-comes
 returns-clause-comes g c =
-    runs_with _ _ _ c.args.words.now c.args.name.now _ _ _ _ c.in_ok-exchange.exchange c.in_ok-lines.lines c.in_ok-text.text c.certified_answer.result c.in_ok-exchange.ensures.comes c.in_ok-exchange.ensures.kept c.in_ok-lines.ensures.comes c.in_ok-lines.ensures.kept c.in_ok-text.ensures.comes c.certified_answer.ensures.told
+    runs_with _ _ _ c.args.words.now c.args.name.now _ _ _ _ c.in_ok-known.known.exchange c.in_ok-lines.lines c.in_ok-text.text c.certified_answer.result c.in_ok-known.ensures.comes c.in_ok-known.ensures.kept c.in_ok-lines.ensures.comes c.in_ok-lines.ensures.kept c.in_ok-text.ensures.comes c.certified_answer.ensures.told

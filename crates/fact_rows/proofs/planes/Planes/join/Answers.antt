@@ -1,4 +1,5 @@
 use Rattle.std.proofs.Common.{◌∙◌, subst}
+use Rattle.std.specs.Prelude.{IfOk}
 use Rattle.fact_rows.specs.Grids.{IsJoinedAt}
 use Rattle.fact_rows.specs.Spread.{row_of}
 use Rattle.fact_rows.proofs.Joining.{apart_numbers, same_joined}
@@ -14,3 +15,6 @@ pub returns-clause-ok : goal.returns-clause-ok
 returns-clause-ok c =
     subst (λ r. IsJoinedAt r c.args.from c.args.to c.join_laid.result (row_of c.join_laid.new.self)) (c.take_out.ensures.alike.same ∙ c.put_away.ensures.alike.same)
     (subst (λ j. IsJoinedAt (row_of c.take_out.new.self) c.args.from j c.join_laid.result (row_of c.join_laid.new.self)) c.take_out.ensures.own c.join_laid.ensures.joined)
+
+pub returns-then-own-self-clause-ok : goal.returns-then-own-self-clause-ok
+returns-then-own-self-clause-ok c = subst (λ r. IfOk c.share.result (λ grown. IsJoinedAt r c.args.from c.args.to grown (row_of c.share.new.self))) c.put_away.ensures.alike.same c.share.ensures.ok

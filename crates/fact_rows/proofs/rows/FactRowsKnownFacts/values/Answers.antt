@@ -7,5 +7,5 @@ returns-then-entry-self c = none_ok c.args.self.now c.args.entry c.self.inside.e
 
 pub returns : goal.returns
 returns c =
-    values_ok c.args.self.now c.args.entry c.self.inside.entry c.args.point c.self.inside.grid c.args.slot c.as_slice.result.now c.values_in.result
-    c.self.view_is c.if-entry-self.false (c.as_slice.ensures ∙ c.in_ok-numbers.ensures) c.values_in.ensures
+    values_ok c.args.self.now c.args.entry c.self.inside.entry c.args.point c.self.inside.grid c.args.slot c.deref.result.now c.values_in.result
+    c.self.view_is c.if-entry-self.false (c.deref.ensures.value ∙ c.in_ok-list_numbers.ensures) c.values_in.ensures

@@ -1,0 +1,10 @@
+pub mod Among
+pub mod BlockSteps
+pub mod Files
+pub mod Found
+pub mod Items
+pub mod Lists
+pub mod Meanings
+pub mod Mentioned
+pub mod Picked
+pub mod Rows

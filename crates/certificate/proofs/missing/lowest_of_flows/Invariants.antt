@@ -1,6 +1,0 @@
-use Rattle.fact_flows.specs.Flows.{FlowsTo}
-use Rattle.certificate.proofs.Lowered.{Lowers}
-use Rattle.certificate.proofs.missing.lowest_of_flows.Given as goal
-
-abbrev pub invariant-loop-to : goal.invariant-loop-to
-invariant-loop-to g l = Lowers (g.K.KnownFacts.knows l.known) (FlowsTo l.exchange (g.K.KnownFacts.knows l.known) l.entry l.point l.how) l.ends l.fn.first l.to-index l.least

@@ -1,0 +1,5 @@
+pub mod Firsts
+pub mod Joining
+pub mod Lowered
+pub mod Slotted
+pub mod Standing

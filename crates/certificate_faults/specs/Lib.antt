@@ -1,0 +1,4 @@
+pub mod Missing
+pub mod Reached
+pub mod Returned
+pub mod Strange

@@ -1,0 +1,4 @@
+pub mod Private
+pub mod Machine
+pub mod Faithful
+pub mod Steps

@@ -1,5 +1,0 @@
-use Rattle.plex_program.proofs.Changed.{raised_parts}
-use Rattle.plex_program.proofs.changing.raised.Goals as goal
-
-pub from_parts-books-requires : goal.from_parts-books-requires
-from_parts-books-requires c = raised_parts c.args.parts c.from.result c.args.jobs c.from.ensures c.requires.parts c.requires.few c.requires.most

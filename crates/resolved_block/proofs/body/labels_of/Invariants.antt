@@ -1,5 +1,0 @@
-use Rattle.resolved_block.proofs.Items.{Placed}
-use Rattle.resolved_block.proofs.body.labels_of.Given as goal
-
-abbrev pub invariant-loop-item : goal.invariant-loop-item
-invariant-loop-item l = Placed l.items l.item-index l.place l.list

@@ -1,6 +1,0 @@
-use Rattle.resolved_block.specs.Tables.{env_in}
-use Rattle.resolved_block.proofs.Items.{ItemsLeft}
-use Rattle.resolved_block.proofs.body.make_items.Given as goal
-
-abbrev pub invariant-loop-item : goal.invariant-loop-item
-invariant-loop-item l = ItemsLeft (env_in l.names) l.items l.item-index l.made l.point l.fn.point

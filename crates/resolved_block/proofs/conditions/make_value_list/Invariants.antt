@@ -1,8 +1,0 @@
-use Rattle.std.proofs.Common.{[], ◌∷◌}
-use Rattle.resolved_block.specs.Tables.{env_in}
-use Rattle.resolved_block.specs.Expressions.{typed_expr}
-use Rattle.resolved_block.proofs.Lists.{Making}
-use Rattle.resolved_block.proofs.conditions.make_value_list.Given as goal
-
-abbrev pub invariant-loop-e : goal.invariant-loop-e
-invariant-loop-e l = Making (typed_expr (env_in l.names)) l.rest (l.fn.first ∷ []) l.e-index l.values

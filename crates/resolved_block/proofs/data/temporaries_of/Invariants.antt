@@ -1,6 +1,0 @@
-use Rattle.resolved_block.specs.Blocks.{temporary_in}
-use Rattle.resolved_block.proofs.Picked.{Picked}
-use Rattle.resolved_block.proofs.data.temporaries_of.Given as goal
-
-abbrev pub invariant-loop-decl : goal.invariant-loop-decl
-invariant-loop-decl l = Picked temporary_in l.decls l.decl-index l.list

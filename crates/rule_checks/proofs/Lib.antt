@@ -1,0 +1,4 @@
+pub mod CountSteps
+pub mod Parts
+pub mod RuleSteps
+pub mod Widths

@@ -1,0 +1,4 @@
+pub mod Carrying
+pub mod Growth
+pub mod Opened
+pub mod Telling

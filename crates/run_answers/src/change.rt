@@ -1,0 +1,163 @@
+// What a change tells, and what it carries over to the new exchange.
+ghost use Rattle.std.specs.Prelude.{◌≡◌, ◌≤◌, ◌++◌, IfOk, None, OnOk};
+ghost use Rattle.plex_limits.specs.declared.limits.TheConstants.{MOST_JOBS};
+ghost use Rattle.store_layout.specs.Laid.{IsLayout};
+ghost use Rattle.block_change.specs.Carried.{AreStanding, state_with};
+ghost use Rattle.block_change.specs.Misfits.{misfit};
+ghost use Rattle.retire_order.specs.Events.{ending_of};
+ghost use Rattle.retire_order.specs.Parts.{AreParts, account_of};
+ghost use Rattle.report_text.specs.Report.{event_lines, text_of};
+ghost use Rattle.command_answers.specs.ChangeAnswer.{ends_before, misfit_answer};
+ghost use Rattle.command_answers.specs.Program.{IsEnding};
+ghost use Rattle.command_answers.specs.Text.{change_text, file_words, misfit_text};
+ghost use Rattle.run_answers.specs.Runs.{CarriesOn};
+
+use block_change::{Misfit, Named, carry};
+use command_answers::Answer;
+use command_words::Status;
+use exchange_model::Exchange;
+use exchange_run::{Ended, Standing};
+use plex_num::{Memory, Seq, print_number};
+use report_text::event_lines;
+use retire_order::{BookParts, Books, Ending};
+use std::alloc::Global;
+use store_layout::Layout;
+use text_parts::Text;
+
+/// A change from one exchange to another after so many jobs.
+#[derive(Clone, Copy)]
+pub struct Change<'a> {
+    pub old: &'a Exchange,
+    pub new: &'a Named<'a>,
+    pub at: u32,
+}
+
+/// The answer with what the new exchange has not. Memory is the only reason for an error.
+pub fn misfit_answer(alloc: Global, old: &Exchange, misfit: Misfit) -> Result<Answer, Memory>
+    ensures answer { IfOk result (λ a. a ≡ misfit_answer old.now misfit) }
+    ensures ending { IfOk result (λ a. IsEnding a.status) }
+{
+    let text = misfit_text(alloc, old, misfit)?;
+    Ok(Answer {
+        status: Status::Change,
+        text: Text::whole(alloc, text),
+    })
+}
+
+/// `CHANGE ENTRY SIG BLOCK` or `CHANGE FILE BLOCK.FILE`.
+fn misfit_text(alloc: Global, old: &Exchange, misfit: Misfit) -> Result<Seq<u8>, Memory>
+    ensures { IfOk result (λ text. text ≡ misfit_text old.now misfit) }
+{
+    match misfit {
+        Misfit::Entry { entry } => entry_text(alloc, old, entry),
+        Misfit::File { file } => file_text(alloc, old, file),
+    }
+}
+
+fn entry_text(alloc: Global, old: &Exchange, entry: u32) -> Result<Seq<u8>, Memory>
+    ensures { IfOk result (λ text. text ≡ misfit_text old.now (Misfit.Entry entry)) }
+{
+    let mut text = Seq::copied(alloc, b"CHANGE ENTRY ")?;
+    old.add_entry(&mut text, entry as usize)?;
+    text.append(b"\n")?;
+    Ok(text)
+}
+
+fn file_text(alloc: Global, old: &Exchange, file: u32) -> Result<Seq<u8>, Memory>
+    ensures { IfOk result (λ text. text ≡ misfit_text old.now (Misfit.File file)) }
+{
+    let mut text = Seq::copied(alloc, b"CHANGE FILE ")?;
+    add_file(&mut text, old, file)?;
+    text.append(b"\n")?;
+    Ok(text)
+}
+
+/// `BLOCK.FILE` of a file; no bytes where there is none of this number.
+fn add_file(text: &mut Seq<u8>, exchange: &Exchange, file: u32) -> Result<(), Memory>
+    ensures { OnOk result (text.new ≡ text.old ++ file_words exchange.now file) }
+{
+    let Some(place) = exchange.file(file) else {
+        return Ok(());
+    };
+    text.append(exchange.block_name(place.block))?;
+    text.append(b".")?;
+    text.append(place.file.name.as_slice())
+}
+
+/// Whether a run that ended so has not so many jobs as this, or stopped with the last of them.
+pub fn ends_before(end: &Ended, at: u32) -> bool
+    ensures { result ≡ ends_before (ending_of end.now.ending) end.now.books.state.ended at }
+{
+    match end.ending {
+        Ending::Restart => true,
+        Ending::Done => end.books.ended() < u64::from(at),
+        Ending::Limit => end.books.ended() < u64::from(at),
+    }
+}
+
+/// The events up to the change, and the change. Memory is the only reason for an error.
+pub fn text_before(
+    alloc: Global,
+    old: &Exchange,
+    parts: &BookParts,
+    at: u32,
+) -> Result<Text, Memory>
+    ensures { IfOk result (λ text. text
+        ≡ text_of (event_lines old.now (account_of parts.now).state.events) ++ change_text at) }
+{
+    let line = change_text(alloc, at)?;
+    let mut text = event_lines(alloc, old, parts.events.queue(alloc)?)?;
+    text.append(line.as_slice())?;
+    Ok(text)
+}
+
+/// `CHANGE job K`.
+fn change_text(alloc: Global, at: u32) -> Result<Seq<u8>, Memory>
+    ensures { IfOk result (λ text. text ≡ change_text at) }
+{
+    let mut text = Seq::copied(alloc, b"CHANGE job ")?;
+    print_number(u64::from(at), &mut text)?;
+    text.append(b"\n")?;
+    Ok(text)
+}
+
+/// What the old exchange has between two jobs, its books in parts and its words, carried over to
+/// the new one, where the run may go on to so many jobs. The layouts are those of the old and the
+/// new exchange. Memory is the only reason for an error.
+pub fn carried_run(
+    alloc: Global,
+    change: &Change<'_>,
+    layout: &Layout,
+    to: &Layout,
+    parts: BookParts,
+    words: &Seq<u32>,
+    jobs: u32,
+) -> Result<Standing, Memory>
+    requires fits { misfit change.now.old.now change.now.new.now.exchange.now ≡ None }
+    requires layout { IsLayout change.now.old.now.blocks layout.now }
+    requires to { IsLayout change.now.new.now.exchange.now.blocks to.now }
+    requires standing { AreStanding change.now.old.now parts words.now }
+    requires few { parts.ended ≤ jobs }
+    requires most { jobs ≤ MOST_JOBS }
+    ensures { IfOk result (CarriesOn change.now.old.now change.now.new.now.exchange.now
+        (state_with parts words.now) jobs) }
+{
+    let (moved, carried) = carry(alloc, change.old, change.new, layout, to, parts, words)?;
+    let run = raised(moved, carried, jobs);
+    Ok(run)
+}
+
+/// These parts of books and these words, which may go on to so many jobs.
+#[tactic(auto, using(crate::proofs::Carrying::raised_books))]
+fn raised(parts: BookParts, words: Seq<u32>, jobs: u32) -> Standing
+    requires parts { AreParts parts }
+    requires few { parts.ended ≤ jobs }
+    requires most { jobs ≤ MOST_JOBS }
+    ensures books { result.books ≡ account_of (record parts { limit = jobs }) }
+    ensures words { result.words ≡ words }
+{
+    let mut parts = parts;
+    parts.limit = u64::from(jobs);
+    let books = Books::from_parts(parts);
+    Standing { books, words }
+}

@@ -1,0 +1,83 @@
+// The answer at the end of a run, whoever ran it.
+ghost use Rattle.std.specs.Prelude.{◌≡◌, IfOk};
+ghost use Rattle.retire_order.specs.Accounts.{with_words};
+ghost use Rattle.retire_order.specs.Events.{ending_of};
+ghost use Rattle.command_answers.specs.LoadAnswer.{summed_answer};
+ghost use Rattle.command_answers.specs.Outcome.{headed_by};
+ghost use Rattle.command_answers.specs.Program.{IsEnding};
+ghost use Rattle.command_answers.specs.RunAnswer.{ended_status, ending_answer};
+
+use command_answers::Answer;
+use command_words::Status;
+use exchange_model::Exchange;
+use exchange_run::Ended;
+use plex_num::Memory;
+use report_text::{add_report, load_summary, report};
+use retire_order::Ending;
+use std::alloc::Global;
+use text_parts::Text;
+
+/// The report of a run that has come to this end, and the status of its ending. Memory is the only
+/// reason for an error.
+#[tactic(auto, using(crate::proofs::Telling::told_at, crate::proofs::Telling::status_ends))]
+pub fn end_answer(alloc: Global, exchange: &Exchange, end: Ended) -> Result<Answer, Memory>
+    ensures answer { IfOk result (λ a. a ≡ ending_answer exchange.now end) }
+    ensures ending { IfOk result (λ a. IsEnding a.status) }
+{
+    let Ended {
+        mut books,
+        words,
+        ending,
+    } = end;
+    let text = report(alloc, exchange, &mut books, &words, ending)?;
+    Ok(Answer {
+        status: status_of(ending),
+        text,
+    })
+}
+
+/// The same report behind a text, and the status of its ending.
+#[tactic(auto, using(crate::proofs::Telling::told_headed, crate::proofs::Telling::status_ends))]
+pub fn headed_answer(text: Text, exchange: &Exchange, end: Ended) -> Result<Answer, Memory>
+    ensures answer { IfOk result (λ a. a ≡ headed_by text (ending_answer exchange.now end)) }
+    ensures ending { IfOk result (λ a. IsEnding a.status) }
+{
+    let Ended {
+        mut books,
+        words,
+        ending,
+    } = end;
+    let mut text = text;
+    add_report(&mut text, exchange, &mut books, &words, ending)?;
+    Ok(Answer {
+        status: status_of(ending),
+        text,
+    })
+}
+
+/// The summary of the run of a load of so many calls that has come to this end, and the status of
+/// its ending. Memory is the only reason for an error.
+#[tactic(auto, using(crate::proofs::Telling::told_summed, crate::proofs::Telling::status_ends))]
+pub fn summed_answer(alloc: Global, calls: u32, end: Ended) -> Result<Answer, Memory>
+    ensures answer { IfOk result (λ a. a ≡ summed_answer calls
+        (with_words end.books.state end.words) (ending_of end.ending)) }
+    ensures ending { IfOk result (λ a. IsEnding a.status) }
+{
+    let mut end = end;
+    let text = load_summary(alloc, calls, &mut end.books, end.ending)?;
+    Ok(Answer {
+        status: status_of(end.ending),
+        text,
+    })
+}
+
+/// The status of an ending.
+fn status_of(ending: Ending) -> Status
+    ensures { result ≡ ended_status (ending_of ending) }
+{
+    match ending {
+        Ending::Done => Status::Done,
+        Ending::Restart => Status::Restart,
+        Ending::Limit => Status::Limit,
+    }
+}

@@ -1,5 +1,0 @@
-use Rattle.text_events.proofs.BlockSteps.{PartsMade}
-use Rattle.text_events.proofs.text.walk_blocks.Given as goal
-
-abbrev pub invariant-loop-b : goal.invariant-loop-b
-invariant-loop-b l = PartsMade l.blocks l.b-index l.parts l.fn.parts

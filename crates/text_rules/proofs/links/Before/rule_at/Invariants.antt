@@ -1,7 +1,0 @@
-use Rattle.text_rules.specs.Links.{broken, all_rules}
-use Rattle.text_rules.specs.Tables.{links_in}
-use Rattle.text_rules.proofs.RuleSteps.{Left}
-use Rattle.text_rules.proofs.links.Before.rule_at.Given as goal
-
-abbrev pub invariant-loop-rule : goal.invariant-loop-rule
-invariant-loop-rule l = Left (λ r k e. broken r k e.note) all_rules (links_in l.self l.links) l.event l.rule-items l.rule-index
