@@ -12,20 +12,20 @@ use Rattle.command_words.specs.declared.command.Command.{Command}
 use Rattle.command_words.specs.declared.command.Command.TheVariants.{Run, Single, Analyse, Certify, List as Listing, Load, Timed, Change, Trace}
 use Rattle.command_words.specs.declared.command.ChangeWords.{ChangeWords}
 use Rattle.command_words.specs.declared.command.RunWords.{RunWords}
-use Rattle.command_answers.specs.Outcome.{ComesOf, Out}
-use Rattle.command_answers.specs.declared.fault.Which.TheVariants.{First, New}
-use Rattle.command_answers.specs.Given.{exchange_as, exchange_at, lines_at, text_at}
-use Rattle.command_answers.specs.RunAnswer.{IsCertifiedRun, RunComes, end_of, or_certificate_fault, run_answer, run_of}
-use Rattle.command_answers.specs.TimedAnswer.{timed_of}
-use Rattle.command_answers.specs.TraceAnswer.{trace_of}
-use Rattle.command_answers.specs.ChangeAnswer.{AnswersChange, ChangeComes, ChangesOrNot, changed_answer, is_changed, misfit_answer}
-use Rattle.command_answers.specs.ListAnswer.{list_of}
-use Rattle.command_answers.specs.LoadAnswer.{load_of}
-use Rattle.command_answers.specs.ExchangeAnswer.{AnswersAnalysis, AnswersCertificate, FromExchange}
-use Rattle.command_answers.specs.Answer.{IsAnswer, IsAnswerBy, answer_of, performed, usage_answer}
-use Rattle.command_answers.specs.declared.answer.Answer.{Answer}
+use Rattle.answer_meaning.specs.Outcome.{ComesOf, Out}
+use Rattle.answer_meaning.specs.declared.fault.Which.TheVariants.{First, New}
+use Rattle.answer_meaning.specs.Given.{exchange_as, exchange_at, lines_at, text_at}
+use Rattle.answer_meaning.specs.RunAnswer.{IsCertifiedRun, RunComes, end_of, or_certificate_fault, run_answer, run_of}
+use Rattle.answer_meaning.specs.TimedAnswer.{timed_of}
+use Rattle.answer_meaning.specs.TraceAnswer.{trace_of}
+use Rattle.answer_meaning.specs.ChangeAnswer.{AnswersChange, ChangeComes, ChangesOrNot, changed_answer, is_changed, misfit_answer}
+use Rattle.answer_meaning.specs.ListAnswer.{list_of}
+use Rattle.answer_meaning.specs.LoadAnswer.{load_of}
+use Rattle.answer_meaning.specs.ExchangeAnswer.{AnswersAnalysis, AnswersCertificate, FromExchange}
+use Rattle.answer_meaning.specs.Answer.{IsAnswer, IsAnswerBy, answer_of, performed, usage_answer}
+use Rattle.answer_meaning.specs.declared.answer.Answer.{Answer}
 use Rattle.command_words.specs.declared.status.Status.TheVariants as status
-use Rattle.command_answers.proofs.Accepted.{accepted}
+use Rattle.answer_meaning.proofs.Accepted.{accepted}
 use Rattle.answer_comes.proofs.Carrying.{carried}
 use Rattle.certificate_comes.proofs.Certifying.{certificate}
 use Rattle.answer_comes.proofs.Judging.{judged}

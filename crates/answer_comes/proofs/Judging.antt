@@ -4,9 +4,9 @@ use Rattle.exchange_model.specs.declared.exchange.Exchange.{Exchange}
 use Rattle.exchange_model.specs.Kept.{IsExchange}
 use Rattle.certificate_text.specs.declared.certificate.Certificate.{Certificate}
 use Rattle.certificate_check.specs.declared.fault.CertFault.TheVariants as refused
-use Rattle.command_answers.specs.Certificates.{IsJudged, Judges, bad, large, read}
-use Rattle.command_answers.specs.declared.fault.CertificateFault.{CertificateFault}
-use Rattle.command_answers.specs.declared.fault.CertificateFault.TheVariants.{BadText, Missing, Strange, TooLarge, WrongExchange}
+use Rattle.answer_meaning.specs.Certificates.{IsJudged, Judges, bad, large, read}
+use Rattle.answer_meaning.specs.declared.fault.CertificateFault.{CertificateFault}
+use Rattle.answer_meaning.specs.declared.fault.CertificateFault.TheVariants.{BadText, Missing, Strange, TooLarge, WrongExchange}
 use Rattle.certificate_comes.proofs.Certifying.{Found, found}
 use Rattle.certificate_comes.proofs.Reading.{Outcome, text_read}
 

@@ -6,8 +6,8 @@ ghost use Rattle.exchange_model.specs.Kept.{IsExchange};
 ghost use Rattle.source_meaning.specs.State.{State};
 ghost use Rattle.block_change.specs.Carried.{IsCarried};
 ghost use Rattle.command_words.specs.Words.{Word};
-ghost use Rattle.command_answers.specs.Answer.{IsAnswer};
-ghost use Rattle.command_answers.specs.declared.answer.Answer.{Answer};
+ghost use Rattle.answer_meaning.specs.Answer.{IsAnswer};
+ghost use Rattle.answer_meaning.specs.declared.answer.Answer.{Answer};
 
 /// A state of any exchange can be carried over to each exchange.
 pub fn states_are_carried()

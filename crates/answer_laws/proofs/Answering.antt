@@ -17,15 +17,15 @@ use Rattle.command_words.specs.declared.command.RunWords.{RunWords}
 use Rattle.analysis_laws.proofs.Certifying.{certificate_once}
 use Rattle.analysis_laws.proofs.Summing.{all_summaries_once}
 use Rattle.analysis_laws.proofs.Telling.{analysis_once}
-use Rattle.command_answers.specs.Outcome.{ComesOf, IsAnAnswer, Out}
-use Rattle.command_answers.specs.declared.fault.Which.TheVariants.{New}
-use Rattle.command_answers.specs.Given.{exchange_as, exchange_at, lines_at, text_at}
-use Rattle.command_answers.specs.RunAnswer.{IsCertifiedRun, RunComes, end_of, or_certificate_fault, run_answer}
-use Rattle.command_answers.specs.ChangeAnswer.{AnswersChange, ChangeAnswers, ChangeComes, ChangesOrNot, changed_answer, is_changed}
-use Rattle.command_answers.specs.ExchangeAnswer.{AnswersAnalysis, AnswersCertificate, FromExchange}
-use Rattle.command_answers.specs.Answer.{IsAnswer, IsAnswerBy, answer_of, performed}
-use Rattle.command_answers.specs.declared.answer.Answer.{Answer}
-use Rattle.command_answers.proofs.Accepted.{accepted}
+use Rattle.answer_meaning.specs.Outcome.{ComesOf, IsAnAnswer, Out}
+use Rattle.answer_meaning.specs.declared.fault.Which.TheVariants.{New}
+use Rattle.answer_meaning.specs.Given.{exchange_as, exchange_at, lines_at, text_at}
+use Rattle.answer_meaning.specs.RunAnswer.{IsCertifiedRun, RunComes, end_of, or_certificate_fault, run_answer}
+use Rattle.answer_meaning.specs.ChangeAnswer.{AnswersChange, ChangeAnswers, ChangeComes, ChangesOrNot, changed_answer, is_changed}
+use Rattle.answer_meaning.specs.ExchangeAnswer.{AnswersAnalysis, AnswersCertificate, FromExchange}
+use Rattle.answer_meaning.specs.Answer.{IsAnswer, IsAnswerBy, answer_of, performed}
+use Rattle.answer_meaning.specs.declared.answer.Answer.{Answer}
+use Rattle.answer_meaning.proofs.Accepted.{accepted}
 use Rattle.answer_laws.proofs.Judging.{judged_once}
 
 -- a stage that is followed by one that comes to one outcome comes to one

@@ -7,9 +7,9 @@ use Rattle.certificate_text.proofs.Once.{bad_line_told, one_certificate, one_lin
 use Rattle.certificate_check.specs.declared.fault.CertFault.TheVariants as fault
 use Rattle.certificate_check.proofs.Checking.{never_closed}
 use Rattle.analysis_laws.proofs.Refusing.{refused_once}
-use Rattle.command_answers.specs.Certificates.{IsJudged, Judges, large, bad, read}
-use Rattle.command_answers.specs.declared.fault.CertificateFault.{CertificateFault}
-use Rattle.command_answers.specs.declared.fault.CertificateFault.TheVariants.{TooLarge, BadText, WrongExchange, Strange, Missing}
+use Rattle.answer_meaning.specs.Certificates.{IsJudged, Judges, large, bad, read}
+use Rattle.answer_meaning.specs.declared.fault.CertificateFault.{CertificateFault}
+use Rattle.answer_meaning.specs.declared.fault.CertificateFault.TheVariants.{TooLarge, BadText, WrongExchange, Strange, Missing}
 
 -- a text with a bad line is that of no certificate
 

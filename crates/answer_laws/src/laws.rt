@@ -2,8 +2,8 @@
 ghost use Rattle.std.specs.Prelude.{◌≡◌, List};
 ghost use Rattle.plex_io.specs.Files.{Files};
 ghost use Rattle.command_words.specs.Words.{Word};
-ghost use Rattle.command_answers.specs.Answer.{IsAnswer};
-ghost use Rattle.command_answers.specs.declared.answer.Answer.{Answer};
+ghost use Rattle.answer_meaning.specs.Answer.{IsAnswer};
+ghost use Rattle.answer_meaning.specs.declared.answer.Answer.{Answer};
 
 /// Two answers to the same words over the same files have the same status and the same text: of `analyse`, `certify`, a run
 /// with a certificate and a change, whose definitions name what they tell by what holds of it, no less than of all others.

@@ -62,7 +62,7 @@ fn variable_in(decl: &Decl) -> Option<Variable>
 
 /// The variables, in order.
 #[tactic(auto, using(crate::proofs::Picked::list_picked))]
-pub(crate) fn variables_of(alloc: Global, decls: &[Decl]) -> Result<Seq<Variable>, Memory>
+fn variables_of(alloc: Global, decls: &[Decl]) -> Result<Seq<Variable>, Memory>
     ensures { IfOk result (λ list. list ≡ filter_map variable_in decls.now) }
 {
     let mut list = Seq::new(alloc);
@@ -86,7 +86,7 @@ fn temporary_in(decl: &Decl) -> Option<Name>
 
 /// The temporaries, in order.
 #[tactic(auto, using(crate::proofs::Picked::list_picked))]
-pub(crate) fn temporaries_of(alloc: Global, decls: &[Decl]) -> Result<Seq<Name>, Memory>
+fn temporaries_of(alloc: Global, decls: &[Decl]) -> Result<Seq<Name>, Memory>
     ensures { IfOk result (λ list. list ≡ filter_map temporary_in decls.now) }
 {
     let mut list = Seq::new(alloc);
@@ -134,7 +134,7 @@ fn add_file(
 
 /// The files, numbered from `first`.
 #[tactic(auto, using(crate::proofs::Files::files_numbered))]
-pub(crate) fn files_of(alloc: Global, decls: &[Decl], first: u32) -> Result<Seq<File>, Memory>
+fn files_of(alloc: Global, decls: &[Decl], first: u32) -> Result<Seq<File>, Memory>
     ensures { IfOk result (λ list. list ≡ files_from decls.now first) }
 {
     let mut list = Seq::new(alloc);
@@ -143,4 +143,19 @@ pub(crate) fn files_of(alloc: Global, decls: &[Decl], first: u32) -> Result<Seq<
         add_file(alloc, &decl.kind, &mut number, &mut list)?;
     }
     Ok(list)
+}
+
+/// What a block declares: its variables, its temporaries and its files.
+pub(crate) type Data = (Seq<Variable>, (Seq<Name>, Seq<File>));
+
+/// All that is declared. The files are numbered from `first_file`.
+pub(crate) fn data_of(alloc: Global, decls: &[Decl], first_file: u32) -> Result<Data, Memory>
+    ensures variables { IfOk result (λ d. d.0 ≡ filter_map variable_in decls.now) }
+    ensures temporaries { IfOk result (λ d. d.1.0 ≡ filter_map temporary_in decls.now) }
+    ensures files { IfOk result (λ d. d.1.1 ≡ files_from decls.now first_file) }
+{
+    let variables = variables_of(alloc, decls)?;
+    let temporaries = temporaries_of(alloc, decls)?;
+    let files = files_of(alloc, decls, first_file)?;
+    Ok((variables, (temporaries, files)))
 }

@@ -12,6 +12,7 @@ mod conditions;
 mod data;
 mod declared;
 mod expressions;
+mod kinds;
 mod names;
 mod numbers;
 mod statements;

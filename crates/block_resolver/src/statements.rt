@@ -3,8 +3,9 @@ ghost use Rattle.std.specs.Prelude.{◌≡◌, IfOk, OnOk};
 ghost use Rattle.resolved_block.specs.Statements.{typed_kind, typed_list, typed_stmt, typed_when, typed_whens};
 ghost use Rattle.block_resolver.specs.Tables.{env_in};
 
-use crate::conditions::{make_cond, make_rel, make_temps, make_values};
+use crate::conditions::{make_cond, make_temps, make_values};
 use crate::expressions::make_expr;
+use crate::kinds::{make_case, make_if, make_on, make_search, make_send};
 use crate::names::Names;
 use crate::numbers::next;
 use exchange_model::{Stmt, StmtKind, When};
@@ -130,17 +131,16 @@ fn make_kind(
             })
         }
         tree::StmtKind::If { cond, first, other } => {
-            let cond = make_cond(alloc, names, cond.get())?;
             let yes = make_list(alloc, names, first.as_slice(), point)?;
             match other {
-                None => Ok(StmtKind::If {
-                    cond,
-                    yes,
-                    no: Seq::new(alloc),
-                }),
+                None => {
+                    let made = make_if(alloc, names, cond.get(), yes, Seq::new(alloc))?;
+                    Ok(made)
+                }
                 Some(stmts) => {
                     let no = make_list(alloc, names, stmts.get().as_slice(), point)?;
-                    Ok(StmtKind::If { cond, yes, no })
+                    let made = make_if(alloc, names, cond.get(), yes, no)?;
+                    Ok(made)
                 }
             }
         }
@@ -149,14 +149,10 @@ fn make_kind(
             whens,
             otherwise,
         } => {
-            let value = make_expr(alloc, names, value.get())?;
             let whens = make_whens(alloc, names, whens.as_slice(), point)?;
             let otherwise = make_list(alloc, names, otherwise.get().as_slice(), point)?;
-            Ok(StmtKind::Case {
-                value,
-                whens,
-                otherwise,
-            })
+            let made = make_case(alloc, names, value.get(), whens, otherwise)?;
+            Ok(made)
         }
         tree::StmtKind::On {
             name,
@@ -164,15 +160,9 @@ fn make_kind(
             upto,
             body,
         } => {
-            let from = make_expr(alloc, names, from.get())?;
-            let upto = make_expr(alloc, names, upto.get())?;
             let body = make_list(alloc, names, body.as_slice(), point)?;
-            Ok(StmtKind::On {
-                temp: names.temporary(name.get()),
-                from,
-                upto,
-                body,
-            })
+            let made = make_on(alloc, names, name.get(), from.get(), upto.get(), body)?;
+            Ok(made)
         }
         tree::StmtKind::ForFirst {
             name,
@@ -183,14 +173,15 @@ fn make_kind(
             label,
         } => {
             let value = make_expr(alloc, names, value.get())?;
-            Ok(StmtKind::ForFirst {
-                temp: names.temporary(name.get()),
-                file: names.file(file.get()),
-                field: names.field_place(field.get()),
-                rel: make_rel(rel.kind),
+            Ok(make_search(
+                names,
+                name.get(),
+                file.get(),
+                field.get(),
+                rel.kind,
                 value,
-                label: names.label(label.get()),
-            })
+                label.get(),
+            ))
         }
         tree::StmtKind::Send {
             signal,
@@ -199,12 +190,7 @@ fn make_kind(
             fresh,
         } => {
             let values = make_values(alloc, names, values)?;
-            Ok(StmtKind::Send {
-                signal: names.signal(signal.get()),
-                to: names.sent_to(signal.get(), reference),
-                values,
-                fresh: *fresh,
-            })
+            Ok(make_send(names, signal.get(), reference, values, *fresh))
         }
         tree::StmtKind::Retrieve {
             signal,

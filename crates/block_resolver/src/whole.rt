@@ -5,7 +5,7 @@ ghost use Rattle.resolved_block.specs.Blocks.{body_of, ended, items_made, typed_
 ghost use Rattle.block_resolver.specs.Tables.{env_in};
 
 use crate::body::{enters_of, labels_of, make_items};
-use crate::data::{files_of, temporaries_of, variables_of};
+use crate::data::data_of;
 use crate::names::Names;
 use crate::numbers::{after_files, next};
 use crate::survey::sends_of;
@@ -50,10 +50,8 @@ fn with_body(
     requires { body ≡ body_of (env_in names.now) first block.now }
     ensures { IfOk result (λ b. b ≡ (typed_with (env_in names.now) first block.now).block) }
 {
-    let decls = block.decls.as_slice();
-    let variables = variables_of(alloc, decls)?;
-    let temporaries = temporaries_of(alloc, decls)?;
-    let files = files_of(alloc, decls, first.file)?;
+    let data = data_of(alloc, block.decls.as_slice(), first.file)?;
+    let (variables, (temporaries, files)) = data;
     let sends = sends_of(alloc, names, block)?;
     let enters = enters_of(alloc, body.as_slice())?;
     let labels = labels_of(alloc, block.items.as_slice())?;

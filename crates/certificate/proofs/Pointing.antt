@@ -1,26 +1,26 @@
 -- The facts of an entry, listed point by point.
-use Rattle.std.proofs.Common.{◌≡◌, ◌↔◌, ◌⊎◌, inl, inr, ⊎_elim, ℕ, ◌+◌, ◌<◌, ◌≤◌, Bool, false, IsTrue, List, [], ◌++◌, length, refl, sym, ap, ◌∙◌, subst, arith, append-nil, append_assoc}
+use Rattle.std.proofs.Common.{◌≡◌, ◌⊎◌, inl, inr, ⊎_elim, ℕ, zero, suc, ◌+◌, ◌<◌, ◌≤◌, List, [], ◌∷◌, ◌++◌, length, take, get_or, refl, sym, ap, ◌∙◌, subst, arith, append-nil, append_assoc}
 use Rattle.std.specs.declared.cmp.Ordering.TheVariants.{Less}
-use Rattle.std.proofs.lemmas.Bool.{true≢false}
-use Rattle.std.proofs.lemmas.List.Elements.{Contains-append_left, Contains-append_right, Contains-append_cases}
-use Rattle.std.proofs.lemmas.Option.{slice_get_within}
-use Rattle.plex_num.proofs.Members.{none_in}
+use Rattle.std.specs.List.{Contains}
+use Rattle.std.specs.List.Sorted.{IsStrictlySortedBy}
+use Rattle.std.specs.Ordering.{nat_cmp}
+use Rattle.std.proofs.lemmas.List.{take_all, take_more}
+use Rattle.std.proofs.lemmas.List.Elements.{Contains-append_left, Contains-append_right, Contains-append_cases, Contains-get_or}
+use Rattle.std.proofs.lemmas.Map.Keys.{sorted_tail}
+use Rattle.plex_num.proofs.Members.{first_or_later, none_in}
 use Rattle.exchange_model.specs.declared.exchange.Exchange.{Exchange}
 use Rattle.flow_points.specs.declared.fact.Fact.{Fact}
-use Rattle.flow_points.specs.declared.fact.Slot.TheVariants.{Depth}
-use Rattle.flow_points.specs.Facts.{Facts, IsLeast, Reached, fact}
+use Rattle.flow_points.specs.Facts.{Facts}
 use Rattle.flow_points.specs.Orders.{fact_order}
-use Rattle.flow_table.specs.declared.row.FlowTable.{FlowTable}
-use Rattle.flow_table.specs.Rows.{IsFlowTable}
-use Rattle.fact_rows.specs.Known.{AreFacts, BitRows, Knows, KnowsAt}
+use Rattle.fact_rows.specs.Known.{AreFacts, ArePointsOf, BitRows, Knows, KnowsAt}
+use Rattle.fact_rows.proofs.Holding.{rising_past}
 use Rattle.fact_rows.proofs.Listing.{sorted_append, sorted_none}
 use Rattle.fact_list.proofs.Ordering.{point_less}
 use Rattle.least_facts.specs.Least.{KnowLeast}
-use Rattle.access_summary.proofs.Summed.{below_or_last}
+use Rattle.least_facts.proofs.Filling.{before_or_here}
 use Rattle.certificate_text.specs.Text.{facts_text}
 use Rattle.certificate_text.proofs.Printed.{facts_append}
-use Rattle.certificate.specs.Entries.{AddsLines, LeastAt, LeastBefore, LeastOf}
-use Rattle.certificate.proofs.Reaching.{least_reached, least_slot}
+use Rattle.certificate.specs.Entries.{AddsLines, KnowsAmong, LeastOf}
 
 -- lines
 
@@ -38,50 +38,70 @@ both_added A B C old mid new first second either order a b = record {
   is = b.is ∙ ap (λ (t : List ℕ). t ++ facts_text b.facts) a.is ∙ append_assoc old (facts_text a.facts) (facts_text b.facts) ∙ ap (λ (t : List ℕ). old ++ t) (sym (facts_append a.facts b.facts));
 }
 
+-- some facts, and then those behind them
+pub some_added : (start text mid : List ℕ) (all rest some later : List Fact) → rest ≡ some ++ later → mid ≡ text ++ facts_text some → text ++ facts_text rest ≡ start ++ facts_text all → mid ++ facts_text later ≡ start ++ facts_text all
+some_added start text mid all rest some later split put before =
+    ap (λ (t : List ℕ). t ++ facts_text later) put ∙ append_assoc text (facts_text some) (facts_text later)
+    ∙ ap (λ (t : List ℕ). text ++ t) (sym (facts_append some later) ∙ ap facts_text (sym split)) ∙ before
+
 -- those of a point
 
-pub point_left : (x : Exchange) (e p : ℕ) (k : BitRows) (b : Bool) (text : List ℕ) → KnowLeast x e k → (IsTrue b ↔ Reached (Knows k) e p) → b ≡ false → AddsLines (LeastAt x e p) text text
-point_left x e p k b text know tells down = none_added (LeastAt x e p) text none
-  where
-    none : (f : Fact) → LeastAt x e p f → ⊥
-    none f l =
-        let r = least_reached x f l.1.1 in
-        let there : IsLeast x (fact e p Depth r.0) = subst (λ (q : ℕ). IsLeast x (fact e q Depth r.0)) l.0 (subst (λ (d : ℕ). IsLeast x (fact d f.point Depth r.0)) l.1.0 r.1) in
-        true≢false (sym (tells.1 (r.0, (know.exact (fact e p Depth r.0)).1 (refl, there))) ∙ down)
-
-pub point_added : (x : Exchange) (e p : ℕ) (k : BitRows) (facts given : List Fact) (text new : List ℕ) → KnowLeast x e k → AreFacts (KnowsAt k p) facts → given ≡ facts → new ≡ text ++ facts_text given → AddsLines (LeastAt x e p) text new
-point_added x e p k facts given text new know are same grown = record {
+pub point_added : (k : BitRows) (p : ℕ) (facts given : List Fact) (text new : List ℕ) → AreFacts (KnowsAt k p) facts → given ≡ facts → new ≡ text ++ facts_text given → AddsLines (KnowsAt k p) text new
+point_added k p facts given text new are same grown = record {
   facts = facts;
-  exact = λ f. ((λ c. let h = are.each f c in (h.0, (know.exact f).0 h.1)), (λ l. are.listed f (l.0, (know.exact f).1 l.1)));
+  exact = λ f. (are.each f, are.listed f);
   rising = are.rising;
   is = grown ∙ ap (λ (l : List Fact). text ++ facts_text l) same;
 }
 
 -- one point after the other
 
-pub points_begin : (x : Exchange) (e : ℕ) (text : List ℕ) → AddsLines (LeastBefore x e 0) text text
-points_begin x e text = none_added (LeastBefore x e 0) text (λ f l. let lt = l.0 in omega (arith, lt))
+pub points_begin : (k : BitRows) (points text : List ℕ) → AddsLines (KnowsAmong k (take 0 points)) text text
+points_begin k points text = none_added (KnowsAmong k []) text (λ f h. none_in f.point h.0)
 
-pub points_more : (x : Exchange) (e p : ℕ) (old mid new : List ℕ) → AddsLines (LeastAt x e p) mid new → AddsLines (LeastBefore x e p) old mid → AddsLines (LeastBefore x e (p + 1)) old new
-points_more x e p old mid new here before =
-    both_added (LeastBefore x e p) (LeastAt x e p) (LeastBefore x e (p + 1)) old mid new
-    (λ f l. let lt = l.0 in (omega (arith, lt), l.1))
-    (λ f l. let is = l.0 in (omega (arith, is), l.1))
-    (λ f l. ⊎_elim (λ lt. inl (lt, l.1)) (λ is. inr (is, l.1)) (below_or_last f.point p l.0))
-    (λ f g l m. let lt = l.0 in let is = m.0 in point_less f g (l.1.0 ∙ sym m.1.0) (omega (arith, lt, is)))
+-- the points in front of a place come before the one at it
+before_less : (xs : List ℕ) (i d : ℕ) → IsStrictlySortedBy nat_cmp xs → i < length xs → (a : ℕ) → Contains (take i xs) a → a < get_or xs i d
+before_less [] i d up lt a c = absurd (omega (arith, lt))
+before_less (x ∷ xs) zero d up lt a c = absurd (none_in a c)
+before_less (x ∷ xs) (suc i) d up lt a c =
+    let within : i < length xs = omega (arith, lt) in
+    ⊎_elim
+    (λ (here : x ≡ a). subst (λ y. y < get_or xs i d) here (rising_past x xs up (get_or xs i d) (Contains-get_or xs i d within)))
+    (λ later. before_less xs i d (sorted_tail nat_cmp x xs up) within a later)
+    (first_or_later x a (take i xs) c)
+
+pub points_more : (k : BitRows) (points : List ℕ) (i d : ℕ) (old mid new : List ℕ) → ArePointsOf (Knows k) points → i < length points → AddsLines (KnowsAt k (get_or points i d)) mid new → AddsLines (KnowsAmong k (take i points)) old mid
+    → AddsLines (KnowsAmong k (take (i + 1) points)) old new
+points_more k points i d old mid new are lt here before =
+    both_added (KnowsAmong k (take i points)) (KnowsAt k (get_or points i d)) (KnowsAmong k (take (i + 1) points)) old mid new
+    (λ f h. (Contains-take_more f.point h.0, h.1))
+    (λ f h. (subst (Contains (take (i + 1) points)) (sym h.0) last, h.1))
+    (λ f h. ⊎_elim (λ there. inl (there, h.1)) (λ is. inr (is, h.1)) (before_or_here points i d f.point lt h.0))
+    (λ f g h own. point_less f g (h.1.entry ∙ sym own.1.entry) (subst (λ p. f.point < p) (sym own.0) (before_less points i d are.rising lt f.point h.0)))
     before here
+  where
+    one_more : take (i + 1) points ≡ take i points ++ get_or points i d ∷ []
+    one_more = take_more points i d lt
 
-pub points_end : (x : Exchange) (t : FlowTable) (e count p : ℕ) (old new : List ℕ) → IsFlowTable x t → count ≡ length x.points → count ≤ p → AddsLines (LeastBefore x e p) old new → AddsLines (LeastOf x e) old new
-points_end x t e count p old new is all high l = record {
+    Contains-take_more : (p : ℕ) → Contains (take i points) p → Contains (take (i + 1) points) p
+    Contains-take_more p c = subst (λ l. Contains l p) (sym one_more) (Contains-append_left (take i points) (get_or points i d ∷ []) p c)
+
+    last : Contains (take (i + 1) points) (get_or points i d)
+    last = subst (λ l. Contains l (get_or points i d)) (sym one_more) (Contains-append_right (take i points) (get_or points i d ∷ []) (get_or points i d) (0, omega arith, refl))
+
+pub points_end : (k : BitRows) (points : List ℕ) (i : ℕ) (old new : List ℕ) → ArePointsOf (Knows k) points → length points ≤ i → AddsLines (KnowsAmong k (take i points)) old new → AddsLines (Knows k) old new
+points_end k points i old new are past l = record {
   facts = l.facts;
-  exact = λ f. ((λ c. ((l.exact f).0 c).1), (λ least. (l.exact f).1 (below f least.1, least)));
+  exact = λ f. ((λ c. ((l.exact f).0 c).1), (λ known. (l.exact f).1 (subst (λ ps. Contains ps f.point) (sym (take_all i points past)) (are.listed f known), known)));
   rising = l.rising;
   is = l.is;
 }
-  where
-    below : (f : Fact) → IsLeast x f → f.point < p
-    below f least =
-        let s = least_slot x f least in
-        let h = is.rows.each f.point s.place s.stands in
-        let within = slice_get_within t.rows f.point h.row h.there in
-        omega (arith, within, is.rows.each_point, all, high)
+
+-- rows that know the least facts of an entry
+pub entry_added : (x : Exchange) (e : ℕ) (k : BitRows) (old new : List ℕ) → KnowLeast x e k → AddsLines (Knows k) old new → AddsLines (LeastOf x e) old new
+entry_added x e k old new know l = record {
+  facts = l.facts;
+  exact = λ f. ((λ c. (know.exact f).0 ((l.exact f).0 c)), (λ least. (l.exact f).1 ((know.exact f).1 least)));
+  rising = l.rising;
+  is = l.is;
+}

@@ -1,21 +1,20 @@
 -- The lines of the facts of an entry.
-use Rattle.std.specs.Prelude.{◌≡◌, ◌↔◌, ℕ, ◌<◌, List, ◌++◌, Contains}
+use Rattle.std.specs.Prelude.{◌≡◌, ◌↔◌, ℕ, List, ◌++◌, Contains}
 use Rattle.std.specs.List.Sorted.{IsStrictlySortedBy}
 use Rattle.exchange_model.specs.declared.exchange.Exchange.{Exchange}
 use Rattle.flow_points.specs.declared.fact.Fact.{Fact}
 use Rattle.flow_points.specs.Facts.{Facts, IsLeast}
 use Rattle.flow_points.specs.Orders.{fact_order}
+use Rattle.fact_rows.specs.Known.{BitRows, Knows}
 use Rattle.certificate_text.specs.Text.{facts_text}
 
--- the least facts of the entry: all of them, those at the point, and those before it
+-- the least facts of the entry
 abbrev pub LeastOf : Exchange → ℕ → Facts
 LeastOf x e f = (f.entry ≡ e) × IsLeast x f
 
-abbrev pub LeastAt : Exchange → ℕ → ℕ → Facts
-LeastAt x e p f = (f.point ≡ p) × LeastOf x e f
-
-abbrev pub LeastBefore : Exchange → ℕ → ℕ → Facts
-LeastBefore x e p f = (f.point < p) × LeastOf x e f
+-- what rows know of these points
+abbrev pub KnowsAmong : BitRows → List ℕ → Facts
+KnowsAmong k points f = Contains points f.point × Knows k f
 
 -- behind a text come the lines of exactly these facts, in their order
 pub record AddsLines (G : Facts) (old new : List ℕ) : Type 0 where

@@ -1,22 +1,25 @@
 // The text of the certificate of an exchange.
 ghost use Rattle.std.specs.Prelude.{◌≡◌, ◌++◌, IfOk, OnOk};
-ghost use Rattle.text_lines.specs.Lines.{ended};
 ghost use Rattle.flow_table.specs.Rows.{IsFlowTable};
-ghost use Rattle.least_facts.specs.Least.{IsFor, KnowLeast};
-ghost use Rattle.certificate_text.specs.Text.{fact_line, facts_text, last_text};
+ghost use Rattle.fact_rows.specs.Known.{ArePointsOf, Knows, KnowsAt};
+ghost use Rattle.least_facts.specs.Least.{IsFor};
+ghost use Rattle.certificate_text.specs.Text.{facts_text, last_text};
 ghost use Rattle.certificate.specs.Certified.{IsTextOfCertificate};
-ghost use Rattle.certificate.specs.Entries.{AddsLines, LeastAt, LeastOf};
+ghost use Rattle.certificate.specs.Entries.{AddsLines, LeastOf};
 
 use crate::shape::shape_of;
-use certificate_text::{print_end, print_head, print_line};
+use certificate_text::{print_end, print_facts, print_head};
 use exchange_model::Exchange;
 use fact_rows::{FactRows, PointFacts};
 use flow_points::Fact;
-use flow_table::{FlowTable, KnownFacts, table_of};
+use flow_table::{FlowTable, table_of};
 use least_facts::Analyser;
 use plex_num::{Memory, Seq};
 use std::alloc::Global;
 use text_parts::Text;
+
+/// How many lines are written at once: so few that the end of a text has room for them.
+const AT_ONCE: usize = 16;
 
 /// The text of the certificate of an exchange, which is written entry by entry and point by point: the facts of one point alone are
 /// listed beside it. Memory is the only reason for an error.
@@ -52,71 +55,73 @@ fn add_entry(
     ensures own { OnOk result (IsFor exchange.now table.now analyser.new) }
 {
     analyser.learn(alloc, exchange, table, entry, None)?;
-    add_points(text, alloc, exchange, table, analyser.known(), entry)?;
+    add_known(text, alloc, analyser.known())?;
     Ok(())
 }
 
-/// Appends the lines of the same facts, which rows know, one point after the other.
+/// Appends the lines of all facts that rows know.
+fn add_known(text: &mut Text, alloc: Global, known: &FactRows) -> Result<(), Memory>
+    ensures { OnOk result (AddsLines (Knows known.now) text.old text.new) }
+{
+    let points = known.points(alloc)?;
+    add_points(text, alloc, known, &points)?;
+    Ok(())
+}
+
+/// Appends the lines of the same facts, of which these are the points, one point after the other.
 fn add_points(
     text: &mut Text,
     alloc: Global,
-    exchange: &Exchange,
-    table: &FlowTable,
     known: &FactRows,
-    entry: u32,
+    points: &[u32],
 ) -> Result<(), Memory>
-    requires table { IsFlowTable exchange.now table.now }
-    requires least { KnowLeast exchange.now entry known.now }
-    ensures { OnOk result (AddsLines (LeastOf exchange.now entry) text.old text.new) }
+    requires { ArePointsOf (Knows known.now) points.now }
+    ensures { OnOk result (AddsLines (Knows known.now) text.old text.new) }
 {
-    exchange.kept();
-    let _ = &table.rows;
     let mut list = PointFacts::new(alloc);
-    for point in 0..exchange.points.len() {
-        add_point(text, exchange, known, entry, point as u32, &mut list)?;
+    for point in points {
+        add_point(text, known, *point, &mut list)?;
     }
     Ok(())
 }
 
 /// Appends the lines of those at a point, which are listed in the place of others.
-#[tactic(auto, using(crate::proofs::Pointing::point_left, crate::proofs::Pointing::point_added))]
+#[tactic(auto, using(crate::proofs::Pointing::point_added))]
 fn add_point(
     text: &mut Text,
-    exchange: &Exchange,
     known: &FactRows,
-    entry: u32,
     point: u32,
     list: &mut PointFacts,
 ) -> Result<(), Memory>
-    requires { KnowLeast exchange.now entry known.now }
-    ensures { OnOk result (AddsLines (LeastAt exchange.now entry point) text.old text.new) }
+    ensures { OnOk result (AddsLines (KnowsAt known.now point) text.old text.new) }
 {
-    exchange.kept();
-    if !known.is_reached(entry, point) {
-        return Ok(());
-    }
     known.list_at(point, list)?;
     add_facts(text, &list.facts)?;
     Ok(())
 }
 
-/// Appends the lines of facts.
+/// Appends the lines of facts, some at a time.
+#[tactic(auto, using(crate::proofs::Pointing::some_added))]
 fn add_facts(text: &mut Text, facts: &[Fact]) -> Result<(), Memory>
     ensures { OnOk result (text.new ≡ text.old ++ facts_text facts.now) }
 {
-    for fact in facts {
-        add_fact(text, *fact)?;
+    let mut rest = facts;
+    while rest.len() > AT_ONCE {
+        let (some, later) = rest.split_at(AT_ONCE);
+        add_some(text, some)?;
+        rest = later;
     }
+    add_some(text, rest)?;
     Ok(())
 }
 
-/// Appends the line of a fact.
+/// Appends the lines of some facts at once.
 #[tactic(auto, using(text_parts::proofs::Joined::put_back))]
-fn add_fact(text: &mut Text, fact: Fact) -> Result<(), Memory>
-    ensures { OnOk result (text.new ≡ text.old ++ ended (fact_line fact)) }
+fn add_some(text: &mut Text, facts: &[Fact]) -> Result<(), Memory>
+    ensures { OnOk result (text.new ≡ text.old ++ facts_text facts.now) }
 {
     let mut end = text.take_end();
-    print_line(&mut end, fact)?;
+    print_facts(&mut end, facts)?;
     text.put(end)?;
     Ok(())
 }

@@ -32,10 +32,9 @@ use Rattle.fact_flows.proofs.Flowing.{ways_small as ways_small_at}
 use Rattle.fact_flows.proofs.Gathering.{given_as, given_none}
 use Rattle.fact_flows.proofs.Peopled.{point_stands}
 use Rattle.fact_flows.proofs.Slotting.{in_numbered, numbered_in}
-use Rattle.least_facts.specs.declared.answers.AnswerTable.{AnswerTable}
-use Rattle.least_facts.specs.Answers.{AreAnswers, awaited_at, known_answer}
-use Rattle.least_facts.specs.Growing.{is_answer}
-use Rattle.least_facts.proofs.Growing.{one_answer, retrieve_of}
+use Rattle.answer_table.specs.declared.answers.AnswerTable.{AnswerTable}
+use Rattle.answer_table.specs.Answers.{AreAnswers, awaited_at, is_answer, known_answer}
+use Rattle.answer_table.proofs.Answering.{one_answer, retrieve_of}
 use Rattle.certificate_faults.specs.Reached.{CoverReached}
 use Rattle.certificate_faults.specs.Returned.{AreAnswered, AreReturned, IsAnswered, IsAnsweredAt, IsHandedOut, IsReturned, PointReturns, WayReturns, handed, returned_at}
 

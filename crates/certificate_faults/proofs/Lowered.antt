@@ -28,11 +28,9 @@ use Rattle.flow_table.specs.Ways.{IsWayEnd}
 use Rattle.fact_flows.specs.Flows.{FlowsTo, OneGives, WayGives}
 use Rattle.fact_flows.specs.Given.{GivenAtStart}
 use Rattle.fact_flows.proofs.Flowing.{all_ways, no_retrieves, to_points, to_retrieves}
-use Rattle.least_facts.specs.declared.answers.AnswerTable.{AnswerTable}
-use Rattle.least_facts.specs.Answers.{AreAnswers, awaited_at}
-use Rattle.least_facts.specs.Giving.{IsFact}
-use Rattle.least_facts.specs.Growing.{answer_way, is_answer}
-use Rattle.least_facts.proofs.Growing.{awaited_of}
+use Rattle.answer_table.specs.declared.answers.AnswerTable.{AnswerTable}
+use Rattle.answer_table.specs.Answers.{AreAnswers, IsFact, answer_way, awaited_at, is_answer}
+use Rattle.answer_table.proofs.Answering.{awaited_of}
 use Rattle.fact_list.proofs.Ordering.{entry_less, point_less}
 use Rattle.certificate_faults.specs.Missing.{Among, IsBefore, IsLowerMissing, IsLowestOf, LeastIn, Misses, StartsBelow, lower}
 use Rattle.certificate_faults.specs.Reached.{CoverReached}

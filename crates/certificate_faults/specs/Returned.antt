@@ -18,7 +18,7 @@ use Rattle.flow_table.specs.declared.way.Ends.TheVariants as ends
 use Rattle.flow_table.specs.declared.way.Way.{Way}
 use Rattle.flow_table.specs.Giving.{SlotGives}
 use Rattle.fact_flows.specs.Flows.{OneGives, WayGives}
-use Rattle.least_facts.specs.Growing.{is_answer}
+use Rattle.answer_table.specs.Answers.{is_answer}
 
 -- the way goes back to the RETRIEVEs of the answer
 pub record IsBack (w : Way) (answer : ℕ) : Type 0 where

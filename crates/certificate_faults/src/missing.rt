@@ -8,8 +8,7 @@ ghost use Rattle.flow_table.specs.Rows.{IsFlowTable};
 ghost use Rattle.flow_table.specs.Small.{IsSmall};
 ghost use Rattle.fact_flows.specs.Flows.{FlowsTo, OneGives, WayGives};
 ghost use Rattle.fact_flows.specs.Given.{GivenAtStart};
-ghost use Rattle.least_facts.specs.Answers.{AreAnswers};
-ghost use Rattle.least_facts.specs.Growing.{answer_way};
+ghost use Rattle.answer_table.specs.Answers.{AreAnswers, answer_way};
 ghost use Rattle.certificate_faults.specs.Missing.{IsBefore, IsLowerMissing, IsLowestOf, LeastIn, Misses, StartsBelow, lower};
 ghost use Rattle.certificate_faults.specs.Returned.{AreReturned, IsAnsweredAt, PointSends, WaySends, given_about};
 ghost use Rattle.checked.specs.Belonging.{IsOfExchange};
@@ -17,12 +16,12 @@ ghost use Rattle.certificate_faults.specs.Strange.{AreListed};
 
 use crate::reached::reached_by;
 use crate::returned::{push_answered, returned_from};
+use answer_table::{AnswerTable, answers_of, awaited_in, gives_answer};
 use exchange_model::Exchange;
 use fact_flows::{push_flow_to, push_given_at_start};
 use fact_list::FactList;
 use flow_points::{Fact, Passing};
 use flow_table::{Ends, FlowTable, KnownFacts, Way};
-use least_facts::{AnswerTable, answers_of, awaited_in, gives_answer};
 use plex_num::{Memory, Seq};
 use std::alloc::Global;
 

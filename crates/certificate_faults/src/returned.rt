@@ -9,12 +9,12 @@ ghost use Rattle.fact_flows.specs.Flows.{OneGives};
 ghost use Rattle.certificate_faults.specs.Reached.{CoverReached};
 ghost use Rattle.certificate_faults.specs.Returned.{AreAnswered, AreReturned, IsHandedOut, PointReturns, WayReturns, handed, returned_at};
 
+use answer_table::gives_answer;
 use exchange_model::Exchange;
 use fact_flows::{Numbered, push_numbered};
 use fact_list::{FactList, in_order};
 use flow_points::{Fact, Slot, Source};
 use flow_table::{Ends, FlowTable, KnownFacts, Way, count_of, push_flow, push_given};
-use least_facts::gives_answer;
 use plex_num::{Memory, Seq};
 use std::alloc::Global;
 

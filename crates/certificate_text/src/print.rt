@@ -26,8 +26,8 @@ pub fn print_certificate(alloc: Global, certificate: &Certificate) -> Result<Seq
     Ok(text)
 }
 
-/// Appends the lines before the facts: of the version and of the shape. With `print_line` and `print_end` a certificate is written
-/// whose facts come one by one.
+/// Appends the lines before the facts: of the version and of the shape. With `print_facts` and `print_end` a certificate is written
+/// whose facts come some at a time.
 pub fn print_head(text: &mut Seq<u8>, shape: Shape) -> Result<(), Memory>
     ensures { OnOk result (text.new ≡ text.old ++ head_text shape) }
 {
@@ -37,7 +37,7 @@ pub fn print_head(text: &mut Seq<u8>, shape: Shape) -> Result<(), Memory>
 }
 
 /// Appends the lines of facts.
-fn print_facts(text: &mut Seq<u8>, facts: &[Fact]) -> Result<(), Memory>
+pub fn print_facts(text: &mut Seq<u8>, facts: &[Fact]) -> Result<(), Memory>
     ensures { OnOk result (text.new ≡ text.old ++ facts_text facts.now) }
 {
     for fact in facts {
@@ -67,7 +67,7 @@ pub fn print_fact(text: &mut Seq<u8>, fact: Fact) -> Result<(), Memory>
 }
 
 /// Appends the line of a fact, with its end.
-pub fn print_line(text: &mut Seq<u8>, fact: Fact) -> Result<(), Memory>
+fn print_line(text: &mut Seq<u8>, fact: Fact) -> Result<(), Memory>
     ensures { OnOk result (text.new ≡ text.old ++ ended (fact_line fact)) }
 {
     print_fact(text, fact)?;

@@ -1,4 +1,1 @@
-pub mod Accepted
-pub mod Endings
-pub mod Stages
 pub mod Tables

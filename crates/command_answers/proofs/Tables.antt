@@ -14,12 +14,12 @@ use Rattle.job_table.proofs.Fit.{merged_fit, merged_small, numbered_are}
 use Rattle.job_table.proofs.Numbering.{length-numbered}
 use Rattle.job_table.proofs.Sorting.{length-by_count}
 use Rattle.job_table.proofs.Turns.{length-all_lines}
-use Rattle.command_answers.specs.Outcome.{goes_on, or_refused}
-use Rattle.command_answers.specs.Stages.{IsStopOf, ReadAs}
-use Rattle.command_answers.specs.Lines.{AreOfText, AreRead}
-use Rattle.command_answers.specs.Text.{table_refusal, signals_refusal}
-use Rattle.command_answers.specs.declared.answer.Stop.{Stop}
-use Rattle.command_answers.proofs.Stages.{refused_so, is_fitting}
+use Rattle.answer_meaning.specs.Outcome.{goes_on, or_refused}
+use Rattle.answer_meaning.specs.Stages.{IsStopOf, ReadAs}
+use Rattle.answer_meaning.specs.Lines.{AreOfText, AreRead}
+use Rattle.answer_meaning.specs.Text.{table_refusal, signals_refusal}
+use Rattle.answer_meaning.specs.declared.answer.Stop.{Stop}
+use Rattle.answer_meaning.proofs.Stages.{refused_so, is_fitting}
 use Rattle.std.specs.List.{AllByRecursion}
 use Rattle.std.specs.Result.{result_ok}
 use Rattle.std.proofs.lemmas.Option.{none-some, same_Some}
@@ -30,13 +30,13 @@ use Rattle.job_table.specs.Fit.{AreNumberedFrom}
 use Rattle.job_table.specs.Writing.{written_out}
 use Rattle.job_table.proofs.Again.{written_read}
 use Rattle.job_table.proofs.Fitted.{table_few}
-use Rattle.command_answers.specs.Given.{exchange_at, lines_at, lines_of_file, text_at, text_of_file}
-use Rattle.command_answers.specs.RunAnswer.{run_answer, run_of}
-use Rattle.command_answers.specs.TimedAnswer.{merged_at, merged_of_file, timed_of}
+use Rattle.answer_meaning.specs.Given.{exchange_at, lines_at, lines_of_file, text_at, text_of_file}
+use Rattle.answer_meaning.specs.RunAnswer.{run_answer, run_of}
+use Rattle.answer_meaning.specs.TimedAnswer.{merged_at, merged_of_file, timed_of}
 use Rattle.command_words.specs.Words.{Word}
 use Rattle.command_words.specs.declared.command.TimedWords.{TimedWords}
-use Rattle.command_answers.specs.declared.fault.Which.TheVariants.{First}
-use Rattle.command_answers.proofs.Accepted.{IsAccepted, accepted, gone_on, read, text_small}
+use Rattle.answer_meaning.specs.declared.fault.Which.TheVariants.{First}
+use Rattle.answer_meaning.proofs.Accepted.{IsAccepted, accepted, gone_on, read, text_small}
 
 -- a text that is not too large for a file
 pub table_fits : (text : List ℕ) → length text ≤ MOST_BYTES → length text ≤ 2 ^ 24

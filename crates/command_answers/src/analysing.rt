@@ -1,14 +1,14 @@
 // What the analysis of an exchange says, and its certificate.
 ghost use Rattle.std.specs.Prelude.{IfOk};
-ghost use Rattle.command_answers.specs.ExchangeAnswer.{AnswersAnalysis, AnswersCertificate};
-ghost use Rattle.command_answers.specs.ExchangeAnswer.{FromExchange};
-ghost use Rattle.command_answers.specs.Program.{IsEnding};
-ghost use Rattle.command_answers.specs.Stages.{Performs};
+ghost use Rattle.answer_meaning.specs.ExchangeAnswer.{AnswersAnalysis, AnswersCertificate};
+ghost use Rattle.answer_meaning.specs.ExchangeAnswer.{FromExchange};
+ghost use Rattle.answer_meaning.specs.Program.{IsEnding};
+ghost use Rattle.answer_meaning.specs.Stages.{Performs};
 
-use crate::answer::{Answer, Stop};
 use crate::files::exchange_in;
 use access_summary::summaries_of;
 use analysis_text::analysis;
+use answer_meaning::{Answer, Stop};
 use certificate::text_of_certificate;
 use command_words::Status;
 use exchange_model::Exchange;
@@ -18,7 +18,7 @@ use std::alloc::Global;
 
 /// `analyse`. It stops where the file cannot be read or its text has a fault, and where memory is
 /// refused.
-#[tactic(auto, using(crate::proofs::Stages::performs_rules))]
+#[tactic(auto, using(answer_meaning::proofs::Stages::performs_rules))]
 pub fn perform_analysis<S: Shelf>(alloc: Global, shelf: &mut S, name: &Word) -> Result<Answer, Stop>
     ensures comes { Performs (S.held shelf.old) (FromExchange name.now AnswersAnalysis)
         (S.faults shelf.old) (S.faults shelf.new) result }
@@ -30,7 +30,7 @@ pub fn perform_analysis<S: Shelf>(alloc: Global, shelf: &mut S, name: &Word) -> 
 }
 
 /// `certify`. It stops as `analyse` does.
-#[tactic(auto, using(crate::proofs::Stages::performs_rules))]
+#[tactic(auto, using(answer_meaning::proofs::Stages::performs_rules))]
 pub fn perform_certificate<S: Shelf>(
     alloc: Global,
     shelf: &mut S,

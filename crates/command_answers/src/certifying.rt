@@ -1,9 +1,9 @@
 // What is kept of the certificate of the exchange that a text tells.
 ghost use Rattle.std.specs.Prelude.{◌≤◌, IfOk, IfSome, Some, length};
 ghost use Rattle.plex_limits.specs.declared.limits.TheConstants.{MOST_BYTES};
-ghost use Rattle.command_answers.specs.Certificates.{IsAcceptedOrNot, IsKeptOrNot};
+ghost use Rattle.answer_meaning.specs.Certificates.{IsAcceptedOrNot, IsKeptOrNot};
 
-use crate::fault::CertificateFault;
+use answer_meaning::CertificateFault;
 use certificate_check::{CertFault, check};
 use certificate_text::{Certificate, TextFault, read_certificate};
 use checked::Checked;
@@ -13,7 +13,7 @@ use std::alloc::Global;
 
 /// What is kept of the certificate of the exchange whose text this is, or the first fault of the
 /// text, which may be too large.
-#[tactic(auto, using(crate::proofs::Stages::judged_large))]
+#[tactic(auto, using(answer_meaning::proofs::Stages::judged_large))]
 pub fn kept_of_text(
     alloc: Global,
     exchange: &Exchange,
@@ -29,7 +29,7 @@ pub fn kept_of_text(
 }
 
 /// The same of a text that is not too large.
-#[tactic(auto, using(crate::proofs::Stages::judged_bad))]
+#[tactic(auto, using(answer_meaning::proofs::Stages::judged_bad))]
 fn kept_of_small(
     alloc: Global,
     exchange: &Exchange,

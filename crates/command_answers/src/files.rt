@@ -1,16 +1,14 @@
 // What files hold: a text, an exchange, signal lines, or the answer at the first fault.
 ghost use Rattle.std.specs.Prelude.{◌≡◌, ◌≤◌, IfOk, IfSome, length};
 ghost use Rattle.plex_limits.specs.declared.limits.TheConstants.{MOST_BYTES};
-ghost use Rattle.command_answers.specs.Stages.{Comes, ReadAs};
-ghost use Rattle.command_answers.specs.Given.{exchange_as, exchange_at, exchange_of_file, fitting};
-ghost use Rattle.command_answers.specs.Given.{exchange_from, lines_at, lines_of_file, text_at};
-ghost use Rattle.command_answers.specs.Lines.{AreOfText, AreRead};
+ghost use Rattle.answer_meaning.specs.Stages.{Comes, ReadAs};
+ghost use Rattle.answer_meaning.specs.Given.{exchange_as, exchange_at, exchange_of_file, fitting};
+ghost use Rattle.answer_meaning.specs.Given.{exchange_from, lines_at, lines_of_file, text_at};
+ghost use Rattle.answer_meaning.specs.Lines.{AreOfText, AreRead};
 
-use crate::answer::Stop;
-use crate::fault::Which;
-use crate::known::KnownExchange;
 use crate::reading::exchange_of_text;
 use crate::text::{signals_stop, source_stop};
+use answer_meaning::{KnownExchange, Stop, Which};
 use exchange_model::Exchange;
 use plex_io::{Shelf, ShelfFault, Word};
 use plex_limits::MOST_BYTES;
@@ -20,7 +18,7 @@ use std::alloc::Global;
 
 /// The text of a file, where it is not too large; none where it is. It stops where the file cannot
 /// be read, and where memory is refused.
-#[tactic(auto, using(crate::proofs::Stages::text_comes, crate::proofs::Stages::text_absent))]
+#[tactic(auto, using(answer_meaning::proofs::Stages::text_comes, answer_meaning::proofs::Stages::text_absent))]
 pub fn text_in<S: Shelf>(alloc: Global, shelf: &mut S, name: &Word) -> Result<Option<Seq<u8>>, Stop>
     ensures comes { Comes (S.held shelf.old) (text_at name.now) (S.faults shelf.old)
         (S.faults shelf.new) result }
@@ -46,7 +44,7 @@ pub fn exchange_in<S: Shelf>(alloc: Global, shelf: &mut S, name: &Word) -> Resul
 }
 
 /// The same of the first exchange of a command, or of another one.
-#[tactic(auto, using(crate::proofs::Stages::comes_rules))]
+#[tactic(auto, using(answer_meaning::proofs::Stages::comes_rules))]
 pub fn exchange_as<S: Shelf>(
     alloc: Global,
     shelf: &mut S,
@@ -63,7 +61,7 @@ pub fn exchange_as<S: Shelf>(
 
 /// The exchange that a file's text means, which may be too large. It stops at the first fault of
 /// the text, and where memory is refused.
-#[tactic(auto, using(crate::proofs::Stages::refused_rules))]
+#[tactic(auto, using(answer_meaning::proofs::Stages::refused_rules))]
 pub fn exchange_of_file(
     alloc: Global,
     which: Which,
@@ -79,7 +77,7 @@ pub fn exchange_of_file(
 }
 
 /// The exchange of a file, with what it has by its names. It stops as `exchange_in` does.
-#[tactic(auto, using(crate::proofs::Stages::comes_rules))]
+#[tactic(auto, using(answer_meaning::proofs::Stages::comes_rules))]
 pub fn known_in<S: Shelf>(alloc: Global, shelf: &mut S, name: &Word) -> Result<KnownExchange, Stop>
     ensures comes { Comes (S.held shelf.old) (exchange_at name.now) (S.faults shelf.old)
         (S.faults shelf.new) (exchange_from result) }
@@ -90,7 +88,7 @@ pub fn known_in<S: Shelf>(alloc: Global, shelf: &mut S, name: &Word) -> Result<K
 }
 
 /// The same of a file's text, which may be too large.
-#[tactic(auto, using(crate::proofs::Stages::reads_memory))]
+#[tactic(auto, using(answer_meaning::proofs::Stages::reads_memory))]
 pub fn known_of_file(alloc: Global, text: &Option<Seq<u8>>) -> Result<KnownExchange, Stop>
     requires { IfSome text.now (λ t. length t ≤ MOST_BYTES) }
     ensures { ReadAs (exchange_of_file Which.First text.now) (exchange_from result) }
@@ -102,7 +100,7 @@ pub fn known_of_file(alloc: Global, text: &Option<Seq<u8>>) -> Result<KnownExcha
 
 /// The signal lines of a file, or its first faulty line. It stops where the file cannot be read,
 /// and wherever memory is refused.
-#[tactic(auto, using(crate::proofs::Stages::comes_rules))]
+#[tactic(auto, using(answer_meaning::proofs::Stages::comes_rules))]
 pub fn lines_in<S: Shelf>(
     alloc: Global,
     shelf: &mut S,
@@ -121,7 +119,7 @@ pub fn lines_in<S: Shelf>(
 
 /// The signal lines of a file's text, which may be too large. It stops at its first faulty line,
 /// and where memory is refused.
-#[tactic(auto, using(crate::proofs::Stages::refused_rules, crate::proofs::Tables::are_of_text))]
+#[tactic(auto, using(answer_meaning::proofs::Stages::refused_rules, crate::proofs::Tables::are_of_text))]
 pub fn lines_of_file(
     alloc: Global,
     known: &KnownExchange,
@@ -147,7 +145,7 @@ pub fn lines_of_file(
 }
 
 /// A text, where it is not too large for a file.
-#[tactic(auto, using(crate::proofs::Stages::is_fitting, crate::proofs::Stages::none_fitting))]
+#[tactic(auto, using(answer_meaning::proofs::Stages::is_fitting, answer_meaning::proofs::Stages::none_fitting))]
 pub fn fitting(text: Seq<u8>) -> Option<Seq<u8>>
     ensures is { result ≡ fitting MOST_BYTES text }
     ensures size { IfSome result (λ t. length t ≤ MOST_BYTES) }

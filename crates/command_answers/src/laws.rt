@@ -10,9 +10,9 @@ ghost use Rattle.source_meaning.specs.Valid.{LinesFit};
 ghost use Rattle.retire_order.specs.Lines.{coming_of};
 ghost use Rattle.job_table.specs.Fit.{AreNumberedFrom};
 ghost use Rattle.job_table.specs.Writing.{written_out};
-ghost use Rattle.command_answers.specs.Given.{exchange_at, lines_at};
-ghost use Rattle.command_answers.specs.RunAnswer.{run_of};
-ghost use Rattle.command_answers.specs.TimedAnswer.{merged_at, timed_of};
+ghost use Rattle.answer_meaning.specs.Given.{exchange_at, lines_at};
+ghost use Rattle.answer_meaning.specs.RunAnswer.{run_of};
+ghost use Rattle.answer_meaning.specs.TimedAnswer.{merged_at, timed_of};
 ghost use Rattle.command_words.specs.Words.{Word};
 ghost use Rattle.command_words.specs.declared.command.TimedWords.{TimedWords};
 

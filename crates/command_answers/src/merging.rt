@@ -1,14 +1,13 @@
 // The lines of a signal file, merged with the signals of a table.
 ghost use Rattle.std.specs.Prelude.{◌≡◌, ◌≤◌, ◌<◌, ◌^◌, IfOk, IfSome, length};
 ghost use Rattle.plex_limits.specs.declared.limits.TheConstants.{MOST_BYTES};
-ghost use Rattle.command_answers.specs.Stages.{Comes, ReadAs};
-ghost use Rattle.command_answers.specs.TimedAnswer.{merged_at, merged_of_file};
-ghost use Rattle.command_answers.specs.Lines.{AreOfText, AreRead};
+ghost use Rattle.answer_meaning.specs.Stages.{Comes, ReadAs};
+ghost use Rattle.answer_meaning.specs.TimedAnswer.{merged_at, merged_of_file};
+ghost use Rattle.answer_meaning.specs.Lines.{AreOfText, AreRead};
 
-use crate::answer::Stop;
 use crate::files::text_in;
-use crate::known::KnownExchange;
 use crate::text::table_stop;
+use answer_meaning::{KnownExchange, Stop};
 use job_table::{TableFault, TableRule, merge, read_table};
 use plex_io::{Shelf, Word};
 use plex_num::Seq;
@@ -17,7 +16,7 @@ use std::alloc::Global;
 
 /// The lines of a signal file and the signals of a table's file, as one list, or the first faulty
 /// line of the table. It stops where the file cannot be read, and wherever memory is refused.
-#[tactic(auto, using(crate::proofs::Stages::comes_rules))]
+#[tactic(auto, using(answer_meaning::proofs::Stages::comes_rules))]
 pub fn merged_in<S: Shelf>(
     alloc: Global,
     shelf: &mut S,
@@ -37,7 +36,7 @@ pub fn merged_in<S: Shelf>(
 }
 
 /// The same with the text of a table, which may be too large.
-#[tactic(auto, using(crate::proofs::Tables::table_rules, crate::proofs::Stages::reads_rules, crate::proofs::Stages::refused_rules))]
+#[tactic(auto, using(crate::proofs::Tables::table_rules, answer_meaning::proofs::Stages::reads_rules, answer_meaning::proofs::Stages::refused_rules))]
 fn merged_of_file(
     alloc: Global,
     known: &KnownExchange,

@@ -4,12 +4,12 @@ ghost use Rattle.plex_ast.specs.Grammar.{Sentence};
 ghost use Rattle.plex_limits.specs.declared.limits.TheConstants.{MOST_BYTES, MOST_TOKENS};
 ghost use Rattle.plex_lexer.specs.Lines.{feeds};
 ghost use Rattle.front_end.specs.Resolved.{resolved};
-ghost use Rattle.command_answers.specs.Reading.{Finds, IsSpelled, at_line, end_line};
-ghost use Rattle.command_answers.specs.Reading.{exchange_of_text};
-ghost use Rattle.command_answers.specs.Reading.{resolved_or, rule_of, token_line, tree_of};
-ghost use Rattle.command_answers.specs.Reading.{tree_of_file, tree_of_tokens};
+ghost use Rattle.answer_meaning.specs.Reading.{Finds, IsSpelled, at_line, end_line};
+ghost use Rattle.answer_meaning.specs.Reading.{exchange_of_text};
+ghost use Rattle.answer_meaning.specs.Reading.{resolved_or, rule_of, token_line, tree_of};
+ghost use Rattle.answer_meaning.specs.Reading.{tree_of_file, tree_of_tokens};
 
-use crate::fault::{Rule, SourceFault};
+use answer_meaning::{Rule, SourceFault};
 use exchange_model::Exchange;
 use front_end::{TextFault, resolve};
 use plex_ast::Tree;
@@ -20,7 +20,7 @@ use std::alloc::Global;
 use text_rules::Rule as TextRule;
 
 /// The exchange that a file's text means, which may be too large, or its first fault.
-#[tactic(auto, using(crate::proofs::Accepted::found_rules))]
+#[tactic(auto, using(answer_meaning::proofs::Accepted::found_rules))]
 pub fn exchange_of_text(
     alloc: Global,
     text: &Option<Seq<u8>>,
@@ -38,7 +38,7 @@ pub fn exchange_of_text(
 }
 
 /// The exchange of a tree that breaks no rule.
-#[tactic(auto, using(crate::proofs::Accepted::resolve_rules))]
+#[tactic(auto, using(answer_meaning::proofs::Accepted::resolve_rules))]
 fn exchange_of_tree(alloc: Global, tree: &Tree) -> Result<Result<Exchange, SourceFault>, Memory>
     requires { IsSpelled tree.now }
     ensures { Finds (resolved_or (resolved tree.now)) result }
@@ -62,7 +62,7 @@ fn tree_of_file(alloc: Global, text: &Option<Seq<u8>>) -> Result<Result<Tree, So
     }
 }
 
-#[tactic(auto, unfolding(crate::specs::Reading::tree_of), using(crate::proofs::Accepted::all_found))]
+#[tactic(auto, unfolding(answer_meaning::specs::Reading::tree_of), using(answer_meaning::proofs::Accepted::all_found))]
 fn tree_of(alloc: Global, text: &[u8]) -> Result<Result<Tree, SourceFault>, Memory>
     requires { length text.now ≤ MOST_BYTES }
     ensures is { Finds (tree_of text.now) result }
@@ -119,7 +119,7 @@ fn fault_at(line: u32, rule: Rule) -> SourceFault
 }
 
 /// The line of the token at a place; 0 where there is none.
-#[tactic(auto, using(crate::proofs::Accepted::line_rules))]
+#[tactic(auto, using(answer_meaning::proofs::Accepted::line_rules))]
 fn token_line(tokens: &Tokens<'_>, place: u32) -> u32
     ensures { result ≡ token_line tokens.now place }
 {

@@ -1,15 +1,14 @@
 // The lines that are written in place of a report, and the stops that tell them.
 ghost use Rattle.std.specs.Prelude.{◌≡◌, ◌++◌, IfOk, OnOk};
 ghost use Rattle.std.specs.List.{flat_map};
-ghost use Rattle.command_answers.specs.Stages.{IsRefusal, IsStopOf, IsStopWith};
-ghost use Rattle.command_answers.specs.Text.{certificate_refusal, certificate_text, fact_text};
-ghost use Rattle.command_answers.specs.Text.{filter_refusal, link_name, numbered_name};
-ghost use Rattle.command_answers.specs.Text.{other_exchange, rule_line, rule_name, shape_numbers};
-ghost use Rattle.command_answers.specs.Text.{signals_refusal, source_refusal, source_words, spaced};
-ghost use Rattle.command_answers.specs.Text.{table_refusal, usage_text};
+ghost use Rattle.answer_meaning.specs.Stages.{IsRefusal, IsStopOf, IsStopWith};
+ghost use Rattle.answer_meaning.specs.Text.{certificate_refusal, certificate_text, fact_text};
+ghost use Rattle.answer_meaning.specs.Text.{filter_refusal, link_name, numbered_name};
+ghost use Rattle.answer_meaning.specs.Text.{other_exchange, rule_line, rule_name, shape_numbers};
+ghost use Rattle.answer_meaning.specs.Text.{signals_refusal, source_refusal, source_words, spaced};
+ghost use Rattle.answer_meaning.specs.Text.{table_refusal, usage_text};
 
-use crate::answer::{Answer, Stop};
-use crate::fault::{CertificateFault, Rule, SourceFault, Which};
+use answer_meaning::{Answer, CertificateFault, Rule, SourceFault, Stop, Which};
 use certificate_text::{Shape, print_fact};
 use command_words::Status;
 use flow_points::Fact;
@@ -22,7 +21,7 @@ use text_parts::Text;
 use text_rules::LinkRule;
 
 /// The usage line.
-#[tactic(auto, unfolding(crate::specs::Text::usage_text))]
+#[tactic(auto, unfolding(answer_meaning::specs::Text::usage_text))]
 pub fn usage_line() -> &'static [u8]
     ensures { result.now ≡ usage_text }
 {
@@ -30,7 +29,7 @@ pub fn usage_line() -> &'static [u8]
 }
 
 /// The stop at a fault of an exchange text.
-#[tactic(auto, unfolding(crate::specs::Text::source_refusal), using(crate::proofs::Stages::told_so))]
+#[tactic(auto, unfolding(answer_meaning::specs::Text::source_refusal), using(answer_meaning::proofs::Stages::told_so))]
 pub fn source_stop(alloc: Global, which: Which, fault: SourceFault) -> Stop
     ensures { IsStopOf (source_refusal which fault) result }
 {
@@ -49,7 +48,7 @@ fn source_words(which: Which) -> &'static [u8]
 }
 
 /// The stop at a fault of a signal file.
-#[tactic(auto, unfolding(crate::specs::Text::signals_refusal), using(crate::proofs::Stages::told_so))]
+#[tactic(auto, unfolding(answer_meaning::specs::Text::signals_refusal), using(answer_meaning::proofs::Stages::told_so))]
 pub fn signals_stop(alloc: Global, fault: SignalsFault) -> Stop
     ensures { IsStopOf (signals_refusal fault) result }
 {
@@ -59,7 +58,7 @@ pub fn signals_stop(alloc: Global, fault: SignalsFault) -> Stop
 }
 
 /// The stop at a fault of a certificate.
-#[tactic(auto, unfolding(crate::specs::Text::certificate_refusal), using(crate::proofs::Stages::told_so))]
+#[tactic(auto, unfolding(answer_meaning::specs::Text::certificate_refusal), using(answer_meaning::proofs::Stages::told_so))]
 pub fn certificate_stop(alloc: Global, fault: CertificateFault) -> Stop
     ensures { IsStopOf (certificate_refusal fault) result }
 {
@@ -68,7 +67,7 @@ pub fn certificate_stop(alloc: Global, fault: CertificateFault) -> Stop
 }
 
 /// The stop at a fault of a table.
-#[tactic(auto, unfolding(crate::specs::Text::table_refusal), using(crate::proofs::Stages::told_so))]
+#[tactic(auto, unfolding(answer_meaning::specs::Text::table_refusal), using(answer_meaning::proofs::Stages::told_so))]
 pub fn table_stop(alloc: Global, fault: TableFault) -> Stop
     ensures { IsStopOf (table_refusal fault) result }
 {
@@ -78,7 +77,7 @@ pub fn table_stop(alloc: Global, fault: TableFault) -> Stop
 }
 
 /// The stop at a fault of a filter.
-#[tactic(auto, unfolding(crate::specs::Text::filter_refusal), using(crate::proofs::Stages::told_so))]
+#[tactic(auto, unfolding(answer_meaning::specs::Text::filter_refusal), using(answer_meaning::proofs::Stages::told_so))]
 pub fn filter_stop(alloc: Global, fault: FilterFault) -> Stop
     ensures { IsStopOf (filter_refusal fault) result }
 {
@@ -185,7 +184,7 @@ fn add_numbers(text: &mut Seq<u8>, numbers: &[u32]) -> Result<(), Memory>
 }
 
 /// Appends a number behind a space.
-#[tactic(auto, using(crate::proofs::Stages::two_pieces))]
+#[tactic(auto, using(answer_meaning::proofs::Stages::two_pieces))]
 fn add_spaced(text: &mut Seq<u8>, number: u32) -> Result<(), Memory>
     ensures { OnOk result (text.new ≡ text.old ++ spaced number) }
 {
@@ -205,7 +204,7 @@ fn fact_line(alloc: Global, words: &[u8], fact: Fact) -> Result<Seq<u8>, Memory>
 }
 
 /// Appends `N` and the number of a rule.
-#[tactic(auto, using(crate::proofs::Stages::two_pieces))]
+#[tactic(auto, using(answer_meaning::proofs::Stages::two_pieces))]
 fn add_number(text: &mut Seq<u8>, number: u8) -> Result<(), Memory>
     ensures { OnOk result (text.new ≡ text.old ++ numbered_name number) }
 {

@@ -22,6 +22,7 @@ use Rattle.flow_points.specs.declared.fact.Fact.{Fact}
 use Rattle.flow_points.specs.Facts.{fact, Reached}
 use Rattle.flow_table.specs.declared.row.Row.{Row}
 use Rattle.flow_table.specs.Giving.{AreValues}
+use Rattle.fact_rows.specs.declared.keys.Key.{Key}
 use Rattle.fact_rows.specs.declared.place.Counts.{Counts}
 use Rattle.fact_rows.specs.declared.place.Spot.{Spot}
 use Rattle.fact_rows.specs.declared.place.Spot.TheVariants.{Plane, Awaited}
@@ -31,7 +32,7 @@ use Rattle.fact_rows.specs.Places.{Marks, at_spot, counts_of, spot_of, numbers_a
 use Rattle.fact_rows.specs.Values.{number_in, value_in, numbers_of}
 use Rattle.fact_rows.specs.Known.{BitRows, Knows, Fits, KnowNothing, AddsFact, missing}
 use Rattle.fact_rows.specs.Grids.{IsBlank, IsSetAt, SetsPlane, SetsAwaited, SetsAt}
-use Rattle.fact_rows.specs.Touched.{ArePlaned, IsKept, IsTouched}
+use Rattle.fact_rows.specs.Touched.{ArePlaned, IsKept, IsTouched, facts_at, key}
 use Rattle.fact_rows.proofs.Laying.{has_spot, numbers_by, spots_apart, plane_slot, await_slot}
 use Rattle.fact_rows.proofs.Valuing.{value_back, number_same}
 
@@ -205,9 +206,14 @@ spot_more m p s n added new lt planes awaits h = by (spot_of m.slots p s) refl h
 
 -- ---- what is kept then
 
-pub still_kept : (m : Marks) (p : ℕ) (s : Slot) (n : ℕ) (added : Bool) (new : Marks) (touched later : List ℕ) (fresh : Bool)
-    → IsKept m touched → IsMore m p s n added new → (IsTrue fresh ↔ (numbers_at m p s ≡ [])) → IsTouched touched fresh p later → IsKept new later
-still_kept m p s n added new touched later fresh kept more empty touch = record {
+-- the point of a slot that gets a number is listed
+pub listed_now : (m : Marks) (p : ℕ) (s : Slot) (spot : Spot) (touched later : List ℕ) → spot_of m.slots p s ≡ Some spot → IsKept m touched → IsTouched m spot touched p later → Contains later p
+listed_now m p s spot touched later is kept touch =
+    ⊎_elim (λ none. touch.there (sym (numbers_by m p s (Some spot) is) ∙ none)) (λ there. touch.still p there) (kept.listed p s)
+
+pub still_kept : (m : Marks) (p : ℕ) (s : Slot) (n : ℕ) (added : Bool) (new : Marks) (touched later : List ℕ) (spot : Spot)
+    → spot_of m.slots p s ≡ Some spot → IsKept m touched → IsMore m p s n added new → IsTouched m spot touched p later → IsKept new later
+still_kept m p s n added new touched later spot is kept more touch = record {
   planes = more.planes;
   awaits = more.awaits;
   listed = λ q t. ⊎_elim
@@ -217,7 +223,7 @@ still_kept m p s n added new touched later fresh kept more empty touch = record 
 }
   where
     here : Contains later p
-    here = ⊎_elim (λ none. touch.there (empty.1 none)) (λ there. touch.still p there) (kept.listed p s)
+    here = listed_now m p s spot touched later is kept touch
 
 pub planed_at : (bound : ℕ) (rows : List (List ℕ)) (i : ℕ) → All (ArePlaned bound) rows → ArePlaned bound (get_or rows i [])
 planed_at bound rows i all = elim (cases_lt i (length rows)) [
@@ -321,33 +327,33 @@ pub record IsAdded (f : Fact) (old new : BitRows) (added : Bool) : Type 0 where
 
 pub rows_added : (k : BitRows) (e : ℕ) (m new : Marks) (f : Fact) (n : ℕ) (added : Bool) (touched : List ℕ)
     → record { entry = e; marks = m } ≡ k → f.entry ≡ k.entry → Fits k.marks.slots f → IsKept m touched → n ≡ number_in f.slot f.value → n < numbers_of f.slot
-    → SetsAt m n added (spot_of m.slots f.point f.slot) new → IsAdded f k (record { entry = e; marks = new }) added
-rows_added k e m new f n added touched same of_entry fits kept is lt sets =
+    → (spot : Spot) → spot_of m.slots f.point f.slot ≡ Some spot → SetsAt m n added (Some spot) new → IsAdded f k (record { entry = e; marks = new }) added
+rows_added k e m new f n added touched same of_entry fits kept is lt spot found sets =
     let own_entry : f.entry ≡ e = of_entry ∙ sym (ap (λ (r : BitRows). r.entry) same) in
     let own_fits : Fits m.slots f = subst (λ (r : BitRows). Fits r.marks.slots f) (sym same) fits in
-    let more : IsMore m f.point f.slot (number_in f.slot f.value) added new = subst (λ i. IsMore m f.point f.slot i added new) is (spot_more m f.point f.slot n added new lt kept.planes kept.awaits sets) in
+    let more : IsMore m f.point f.slot (number_in f.slot f.value) added new = subst (λ i. IsMore m f.point f.slot i added new) is (spot_more m f.point f.slot n added new lt kept.planes kept.awaits (subst (λ o. SetsAt m n added o new) (sym found) sets)) in
     subst (λ (r : BitRows). IsAdded f r (record { entry = e; marks = new }) added) same (record {
       adds = fact_added e m f added new touched own_entry own_fits kept more;
       fresh = fact_new e m f added new touched own_entry own_fits kept more;
       one = fact_counted e m f added new touched own_entry own_fits kept more;
     })
 
-pub rows_kept : (m new : Marks) (p : ℕ) (s : Slot) (n : ℕ) (added fresh : Bool) (touched later : List ℕ)
-    → IsKept m touched → n < numbers_of s → SetsAt m n added (spot_of m.slots p s) new → (IsTrue fresh ↔ (numbers_at m p s ≡ [])) → IsTouched touched fresh p later → IsKept new later
-rows_kept m new p s n added fresh touched later kept lt sets empty touch =
-    still_kept m p s n added new touched later fresh kept (spot_more m p s n added new lt kept.planes kept.awaits sets) empty touch
+pub rows_kept : (m new : Marks) (p : ℕ) (s : Slot) (n : ℕ) (added : Bool) (touched later : List ℕ) (spot : Spot)
+    → spot_of m.slots p s ≡ Some spot → IsKept m touched → n < numbers_of s → SetsAt m n added (Some spot) new → IsTouched m spot touched p later → IsKept new later
+rows_kept m new p s n added touched later spot is kept lt sets touch =
+    still_kept m p s n added new touched later spot is kept (spot_more m p s n added new lt kept.planes kept.awaits (subst (λ o. SetsAt m n added o new) (sym is) sets)) touch
 
 -- a point that is noted
-pub not_fresh : (touched : List ℕ) (fresh : Bool) (p : ℕ) → fresh ≡ false → IsTouched touched fresh p touched
-not_fresh touched fresh p is = record { still = λ q c. c; there = λ t. absurd (true≢false (sym t ∙ is)) }
+pub not_blank : (m : Marks) (spot : Spot) (touched : List ℕ) (b : Bool) (p : ℕ) → (IsTrue b ↔ (at_spot m (Some spot) ≡ [])) → b ≡ false → IsTouched m spot touched p touched
+not_blank m spot touched b p tells off = record { still = λ q c. c; there = λ none. absurd (true≢false (sym (tells.1 none) ∙ off)) }
 
-pub noted_last : (touched : List ℕ) (fresh : Bool) (p : ℕ) → Contains touched p → IsTouched touched fresh p touched
-noted_last touched fresh p there = record { still = λ q c. c; there = λ t. there }
+pub noted_last : (m : Marks) (spot : Spot) (touched : List ℕ) (p : ℕ) → Contains touched p → IsTouched m spot touched p touched
+noted_last m spot touched p there = record { still = λ q c. c; there = λ none. there }
 
-pub noted_more : (touched later : List ℕ) (fresh : Bool) (p : ℕ) → later ≡ touched ++ p ∷ [] → IsTouched touched fresh p later
-noted_more touched later fresh p is = record {
+pub noted_more : (m : Marks) (spot : Spot) (touched later : List ℕ) (p : ℕ) → later ≡ touched ++ p ∷ [] → IsTouched m spot touched p later
+noted_more m spot touched later p is = record {
   still = λ q c. subst (λ l. Contains l q) (sym is) (Contains-append_left touched (p ∷ []) q c);
-  there = λ t. subst (λ l. Contains l p) (sym is) (Contains-append_right touched (p ∷ []) p (0, omega arith, refl));
+  there = λ none. subst (λ l. Contains l p) (sym is) (Contains-append_right touched (p ∷ []) p (0, omega arith, refl));
 }
 
 pub last_there : (points : List ℕ) (last p : ℕ) → Some last ≡ slice_get points (length points - 1) → IsTrue (nat_eq last p) → Contains points p
@@ -355,8 +361,8 @@ last_there points last p is same =
     subst (Contains points) (eqb-true last p same) (length points - 1, slice_get_within points (length points - 1) last (sym is), get_or_from_slice_get points (length points - 1) last last (sym is))
 
 -- where a point is listed and no number comes to it, all is kept
-pub touch_kept : (m : Marks) (touched later : List ℕ) (fresh : Bool) (q : ℕ) → IsKept m touched → IsTouched touched fresh q later → IsKept m later
-touch_kept m touched later fresh q kept touch = record {
+pub touch_kept : (m : Marks) (touched later : List ℕ) (spot : Spot) (q : ℕ) → IsKept m touched → IsTouched m spot touched q later → IsKept m later
+touch_kept m touched later spot q kept touch = record {
   planes = kept.planes;
   awaits = kept.awaits;
   listed = λ p s. ⊎_elim inl (λ there. inr (touch.still p there)) (kept.listed p s);
@@ -428,11 +434,16 @@ reached_known k e p empty of_entry is = (λ t. some (numbers_at k.marks p Depth)
     filled false e r = refl
     filled true e r = absurd (none_in r.0 (subst (λ l. Contains (map (value_in Depth) l) r.0) (is.0 e) r.1.value))
 
-pub values_ok : {E : Type 0} (k : BitRows) (e m_entry p : ℕ) (m : Marks) (s : Slot) (ns : List ℕ) (r : Result (List Value) E) → record { entry = m_entry; marks = m } ≡ k → e ≡ m_entry → ns ≡ numbers_at m p s
-    → IfOk r (λ values. values ≡ map (value_in s) ns) → IfOk r (AreValues (λ v. Knows k (fact e p s v)))
-values_ok k e m_entry p m s ns (Ok values) same of_entry are h =
-    subst (λ (r : BitRows). AreValues (λ v. Knows r (fact e p s v)) values) same (values_known (record { entry = m_entry; marks = m }) e p s values of_entry (h ∙ ap (map (value_in s)) are))
-values_ok k e m_entry p m s ns (Err x) same of_entry are h = h
+values_shown : (e : ℕ) (k : Key) (ns : List ℕ) → map (λ (f : Fact). f.value) (facts_at e k ns) ≡ map (value_in k.slot) ns
+values_shown e k [] = refl
+values_shown e k (n ∷ ns) = ap (λ l. value_in k.slot n ∷ l) (values_shown e k ns)
+
+pub values_ok : {E : Type 0} (k : BitRows) (e m_entry p : ℕ) (m : Marks) (s : Slot) (facts : List Fact) (r : Result (List Value) E) → record { entry = m_entry; marks = m } ≡ k → e ≡ m_entry → facts ≡ facts_at e (key p s) (numbers_at m p s)
+    → IfOk r (λ values. values ≡ map (λ (f : Fact). f.value) facts) → IfOk r (AreValues (λ v. Knows k (fact e p s v)))
+values_ok k e m_entry p m s facts (Ok values) same of_entry are h =
+    subst (λ (r : BitRows). AreValues (λ v. Knows r (fact e p s v)) values) same
+    (values_known (record { entry = m_entry; marks = m }) e p s values of_entry (h ∙ ap (map (λ (f : Fact). f.value)) are ∙ values_shown e (key p s) (numbers_at m p s)))
+values_ok k e m_entry p m s facts (Err x) same of_entry are h = h
 
 pub none_ok : (k : BitRows) (e m_entry p : ℕ) (m : Marks) (s : Slot) (values : List Value) → record { entry = m_entry; marks = m } ≡ k → (e ≡ m_entry → ⊥) → values ≡ [] → AreValues (λ v. Knows k (fact e p s v)) values
 none_ok k e m_entry p m s values same apart none = subst (λ (r : BitRows). AreValues (λ v. Knows r (fact e p s v)) values) same (no_values (record { entry = m_entry; marks = m }) e p s values apart none)

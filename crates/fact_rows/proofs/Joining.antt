@@ -15,7 +15,7 @@ use Rattle.fact_rows.specs.declared.sets.Sets.{Sets}
 use Rattle.fact_rows.specs.declared.planes.Planes.{Planes}
 use Rattle.fact_rows.specs.Numbers.{AreNumbers, has_bit, numbers}
 use Rattle.fact_rows.specs.Grids.{IsJoinedAt}
-use Rattle.fact_rows.specs.Spread.{IsAlike, IsSound, IsWordsOf, row_of, set_in, shown_at}
+use Rattle.fact_rows.specs.Spread.{IsAlike, IsSound, IsWordsOf, row_of, set_in, shown_at, KeepsRow}
 use Rattle.fact_rows.proofs.Numbering.{at_row, in_range, number_there, number_set, numbers_rise, range_has}
 use Rattle.fact_rows.proofs.Spreading.{number_inside, row_at, row_changed, row_long, set_below, set_there, shown_kept, shown_own, words_long}
 
@@ -248,8 +248,8 @@ none_joined p from to lt all = record {
 pub same_joined : (old p : Planes) (from to more own : ℕ) → IsAlike old p → length p.set_numbers ≤ p.own → from < length old.set_numbers → to < length old.set_numbers
     → more ≡ get_or p.set_numbers from 0 → own ≡ get_or p.set_numbers to 0 → own ≡ more → IsJoinedAt (row_of old) from to false (row_of p)
 same_joined old p from to more own alike past from_in to_in more_is own_is same =
-    let from_here : from < length p.set_numbers = omega (arith, from_in, alike.long) in
-    let to_here : to < length p.set_numbers = omega (arith, to_in, alike.long) in
+    let from_here : from < length p.set_numbers = omega (arith, from_in, alike.keeps.long) in
+    let to_here : to < length p.set_numbers = omega (arith, to_in, alike.keeps.long) in
     let sets : get_or (row_of p) from [] ≡ get_or (row_of p) to [] =
     row_at p from from_here ∙ shown_kept p from (λ e. omega (arith, e, from_here, past))
     ∙ ap (set_in p.sets.words.items p.sets.first p.sets.width) (sym more_is ∙ sym same ∙ own_is)
@@ -351,11 +351,15 @@ module _ (old : Planes) (from to : ℕ) (past : length old.set_numbers ≤ old.o
         none : get_or (row_of old) to [] ≡ []
         none = row_at old to to_in ∙ out to to_in ∙ set_below old.sets.words.items old.sets.first old.sets.width (get_or old.set_numbers to 0) below
 
-    pub shared_sound : IsSound old → new.laid.items ≡ old.laid.items → IsSound new
-    shared_sound sound laid_so = record {
-      wide = subst (λ (s : Sets). 0 < s.width) (sym sets_so) sound.wide;
-      fits = subst (λ (s : Sets). 64 * s.width ≤ 2 ^ 32) (sym sets_so) sound.fits;
-      laid_so = ap length laid_so ∙ sound.laid_so ∙ sym (ap (λ (s : Sets). s.width) sets_so);
-      within = subst (λ l. All (λ m. m + new.sets.width ≤ new.sets.first + length new.sets.words.items) l) (sym numbers_so) (subst (λ (s : Sets). All (λ m. m + s.width ≤ s.first + length s.words.items) (set old.set_numbers to n)) (sym sets_so)
-          (All-set (λ m. m + old.sets.width ≤ old.sets.first + length old.sets.words.items) old.set_numbers to n (number_inside old from n sound from_in is) sound.within));
+    pub shared_keeps : IsSound old → new.laid.items ≡ old.laid.items → KeepsRow old new
+    shared_keeps sound laid_so = record {
+      sound = record {
+        wide = subst (λ (s : Sets). 0 < s.width) (sym sets_so) sound.wide;
+        fits = subst (λ (s : Sets). 64 * s.width ≤ 2 ^ 32) (sym sets_so) sound.fits;
+        laid_so = ap length laid_so ∙ sound.laid_so ∙ sym (ap (λ (s : Sets). s.width) sets_so);
+        within = subst (λ l. All (λ m. m + new.sets.width ≤ new.sets.first + length new.sets.words.items) l) (sym numbers_so) (subst (λ (s : Sets). All (λ m. m + s.width ≤ s.first + length s.words.items) (set old.set_numbers to n)) (sym sets_so)
+            (All-set (λ m. m + old.sets.width ≤ old.sets.first + length old.sets.words.items) old.set_numbers to n (number_inside old from n sound from_in is) sound.within));
+      };
+      long = as_many;
+      width = ap (λ (s : Sets). s.width) sets_so;
     }

@@ -23,7 +23,7 @@ use Rattle.fact_rows.specs.declared.place.Counts.{Counts}
 use Rattle.fact_rows.specs.declared.place.Spot.{Spot}
 use Rattle.fact_rows.specs.Numbers.{AreNumbers}
 use Rattle.fact_rows.specs.Places.{Marks, HasPlace, numbers_at, spot_of}
-use Rattle.fact_rows.specs.Known.{BitRows, Knows, KnowsAt, AreFacts}
+use Rattle.fact_rows.specs.Known.{BitRows, Knows, KnowsAt, AreFacts, ArePointsOf}
 use Rattle.fact_rows.specs.Values.{value_in}
 use Rattle.fact_rows.specs.Touched.{key_order, key, IsKept, facts_at, facts_of, keys_at, keys_before, keys_if, keys_of, numbered_keys, numbered_slot}
 use Rattle.fact_rows.proofs.Numbering.{in_range, range_has, range_rises}
@@ -234,15 +234,21 @@ module _ (e : ℕ) (m : Marks) (touched : List ℕ) (kept : IsKept m touched) wh
   known_before : (f : Fact) → Knows own_rows f → Contains (keys_before m.slots f.point) (key f.point f.slot)
   known_before f known = (let there = from_map (value_in f.slot) (numbers_at m f.point f.slot) f.value known.value in key_before m f.point f.slot there.0 there.1)
 
-  points_exact : (ps : List ℕ) → AreNumbers (Contains touched) ps → AreFacts (Knows own_rows) (facts_of e m (keys_of m.slots ps))
-  points_exact ps are = facts_exact e m touched kept (Knows own_rows) (keys_of m.slots ps) (keys_rise m.slots ps are.rising) (λ f known. known) (λ f c known. known) there
+  pub points_found : (ps : List ℕ) → AreNumbers (Contains touched) ps → ArePointsOf (Knows own_rows) ps
+  points_found ps are = record { rising = are.rising; listed = there }
     where
-      there : (f : Fact) → Knows own_rows f → Contains (keys_of m.slots ps) (key f.point f.slot)
+      there : (f : Fact) → Knows own_rows f → Contains ps f.point
       there f known =
           ⊎_elim
           (λ none. let number = from_map (value_in f.slot) (numbers_at m f.point f.slot) f.value known.value in absurd (none_in number.0 (subst (λ l. Contains l number.0) none number.1)))
-          (λ noted. keys_has m.slots ps f.point (key f.point f.slot) (are.listed f.point noted) (known_before f known))
+          (are.listed f.point)
           (kept.listed f.point f.slot)
+
+  points_exact : (ps : List ℕ) → ArePointsOf (Knows own_rows) ps → AreFacts (Knows own_rows) (facts_of e m (keys_of m.slots ps))
+  points_exact ps are = facts_exact e m touched kept (Knows own_rows) (keys_of m.slots ps) (keys_rise m.slots ps are.rising) (λ f known. known) (λ f c known. known) there
+    where
+      there : (f : Fact) → Knows own_rows f → Contains (keys_of m.slots ps) (key f.point f.slot)
+      there f known = keys_has m.slots ps f.point (key f.point f.slot) (are.listed f known) (known_before f known)
 
   point_exact : (p : ℕ) → AreFacts (KnowsAt own_rows p) (facts_of e m (keys_before m.slots p))
   point_exact p =
@@ -254,12 +260,16 @@ pub point_ok : (k : BitRows) (e p : ℕ) (m : Marks) (touched : List ℕ) (none 
 point_ok k e p m touched none facts same kept empty is =
     subst (λ (rows : BitRows). AreFacts (KnowsAt rows p) facts) same (subst (AreFacts (KnowsAt (record { entry = e; marks = m }) p)) (sym (is ∙ ap (λ l. l ++ facts_of e m (keys_before m.slots p)) empty)) (point_exact e m touched kept p))
 
-pub facts_ok : {E : Type 0} (k : BitRows) (e : ℕ) (m : Marks) (touched seen once points : List ℕ) (r : Result (List Fact) E) → record { entry = e; marks = m } ≡ k → IsKept m touched → seen ≡ touched → AreNumbers (Contains seen) once → points ≡ once
+pub points_ok : (k : BitRows) (e : ℕ) (m : Marks) (touched seen once : List ℕ) → record { entry = e; marks = m } ≡ k → IsKept m touched → seen ≡ touched → AreNumbers (Contains seen) once → ArePointsOf (Knows k) once
+points_ok k e m touched seen once same kept are_touched are =
+    subst (λ (rows : BitRows). ArePointsOf (Knows rows) once) same (points_found e m touched kept once (subst (λ l. AreNumbers (Contains l) once) are_touched are))
+
+pub facts_ok : {E : Type 0} (k : BitRows) (e : ℕ) (m : Marks) (touched once points : List ℕ) (r : Result (List Fact) E) → record { entry = e; marks = m } ≡ k → IsKept m touched → ArePointsOf (Knows k) once → points ≡ once
     → IfOk r (λ facts. facts ≡ facts_of e m (keys_of m.slots points)) → IfOk r (AreFacts (Knows k))
-facts_ok k e m touched seen once points (Ok facts) same kept are_touched are are_once h =
-    let all : AreNumbers (Contains touched) points = subst (AreNumbers (Contains touched)) (sym are_once) (subst (λ l. AreNumbers (Contains l) once) are_touched are) in
+facts_ok k e m touched once points (Ok facts) same kept are are_once h =
+    let all : ArePointsOf (Knows (record { entry = e; marks = m })) points = subst (ArePointsOf (Knows (record { entry = e; marks = m }))) (sym are_once) (subst (λ (rows : BitRows). ArePointsOf (Knows rows) once) (sym same) are) in
     subst (λ (rows : BitRows). AreFacts (Knows rows) facts) same (subst (AreFacts (Knows (record { entry = e; marks = m }))) (sym h) (points_exact e m touched kept points all))
-facts_ok k e m touched seen once points (Err x) same kept are_touched are are_once h = h
+facts_ok k e m touched once points (Err x) same kept are are_once h = h
 
 -- ---- the list of facts grows by a point
 

@@ -12,12 +12,12 @@ use Rattle.fact_rows.specs.declared.place.Spot.{Spot}
 use Rattle.fact_rows.specs.declared.place.Spot.TheVariants.{Plane, Awaited}
 use Rattle.fact_rows.specs.declared.value.TheConstants.{ANY_NUMBER, AWAITED_NUMBERS}
 use Rattle.fact_rows.specs.Known.{HasSpot}
-use Rattle.fact_rows.specs.Values.{is_awaits, numbers_of}
-use Rattle.fact_rows.specs.Places.{Marks, HasPlace, at_spot, counts_of, numbers_at, size_of, start_of, spot_below, spot_in, spot_if, spot_of}
+use Rattle.fact_rows.specs.Values.{is_awaits, numbers_of, room_at}
+use Rattle.fact_rows.specs.Places.{Marks, HasPlace, at_spot, counts_of, numbers_at, size_of, start_of, spot_below, spot_in, spot_if, spot_of, HoldsSlot}
 use Rattle.plex_num.specs.declared.seq.Memory.{Memory}
 use Rattle.std.specs.List.{All}
 use Rattle.fact_rows.specs.declared.planes.Planes.{Planes}
-use Rattle.fact_rows.specs.Spread.{IsSound, row_of}
+use Rattle.fact_rows.specs.Spread.{row_of, KeepsRow}
 use Rattle.fact_rows.specs.Grids.{IsLaid, IsGrid, IsBlank, IsJoinedAt, IsSetAt, JoinsAt, SetsAt}
 
 -- ---- where the planes of a point begin
@@ -274,49 +274,49 @@ no_numbers m p s spot = sym (numbers_by m p s None spot)
 
 -- ---- a number more, unless memory is refused
 
-module _ (old : Marks) (slots : List Counts) (planes awaits new : List (List ℕ)) (p i n : ℕ) (s : Slot) (view : record { slots = slots; planes = planes; awaits = awaits } ≡ old) where
-  pub plane_set : (r : Result Bool Memory) → spot_of old.slots p s ≡ Some (Plane i) → IfOk r (λ added. IsSetAt planes i n added new)
-      → IfOk r (λ added. SetsAt old n added (spot_of old.slots p s) (record { slots = slots; planes = new; awaits = awaits }))
-  plane_set (Ok added) spot h = subst (λ o. SetsAt old n added o (record { slots = slots; planes = new; awaits = awaits })) (sym spot) (record {
+module _ (old : Marks) (slots : List Counts) (planes awaits new : List (List ℕ)) (spot : Spot) (i n : ℕ) (view : record { slots = slots; planes = planes; awaits = awaits } ≡ old) where
+  pub plane_set : (r : Result Bool Memory) → spot ≡ Plane i → IfOk r (λ added. IsSetAt planes i n added new)
+      → IfOk r (λ added. SetsAt old n added (Some spot) (record { slots = slots; planes = new; awaits = awaits }))
+  plane_set (Ok added) is h = subst (λ o. SetsAt old n added (Some o) (record { slots = slots; planes = new; awaits = awaits })) (sym is) (record {
     slots = ap (λ (m : Marks). m.slots) view;
     planes = subst (λ ps. IsSetAt ps i n added new) (ap (λ (m : Marks). m.planes) view) h;
     awaits = ap (λ (m : Marks). m.awaits) view;
   })
-  plane_set (Err e) spot u = u
+  plane_set (Err e) is u = u
 
-  pub await_set : (r : Result Bool Memory) → spot_of old.slots p s ≡ Some (Awaited i) → IfOk r (λ added. IsSetAt awaits i n added new)
-      → IfOk r (λ added. SetsAt old n added (spot_of old.slots p s) (record { slots = slots; planes = planes; awaits = new }))
-  await_set (Ok added) spot h = subst (λ o. SetsAt old n added o (record { slots = slots; planes = planes; awaits = new })) (sym spot) (record {
+  pub await_set : (r : Result Bool Memory) → spot ≡ Awaited i → IfOk r (λ added. IsSetAt awaits i n added new)
+      → IfOk r (λ added. SetsAt old n added (Some spot) (record { slots = slots; planes = planes; awaits = new }))
+  await_set (Ok added) is h = subst (λ o. SetsAt old n added (Some o) (record { slots = slots; planes = planes; awaits = new })) (sym is) (record {
     slots = ap (λ (m : Marks). m.slots) view;
     planes = ap (λ (m : Marks). m.planes) view;
     awaits = subst (λ ps. IsSetAt ps i n added new) (ap (λ (m : Marks). m.awaits) view) h;
   })
-  await_set (Err e) spot u = u
+  await_set (Err e) is u = u
 
 -- all numbers of one spot come to another one, unless memory is refused
 
-module _ (old : Marks) (slots : List Counts) (planes awaits new : List (List ℕ)) (p q i j : ℕ) (s t : Slot) (view : record { slots = slots; planes = planes; awaits = awaits } ≡ old) where
-  pub plane_joined : (r : Result Bool Memory) → spot_of old.slots p s ≡ Some (Plane i) → spot_of old.slots q t ≡ Some (Plane j) → IfOk r (λ grown. IsJoinedAt planes i j grown new)
-      → IfOk r (λ grown. JoinsAt old grown (spot_of old.slots p s) (spot_of old.slots q t) (record { slots = slots; planes = new; awaits = awaits }))
-  plane_joined (Ok grown) from to h = subst (λ o. JoinsAt old grown o (spot_of old.slots q t) (record { slots = slots; planes = new; awaits = awaits })) (sym from) (subst (λ o. JoinsAt old grown (Some (Plane i)) o (record { slots = slots; planes = new; awaits = awaits })) (sym to) (record {
+module _ (old : Marks) (slots : List Counts) (planes awaits new : List (List ℕ)) (from to : Spot) (i j : ℕ) (view : record { slots = slots; planes = planes; awaits = awaits } ≡ old) where
+  pub plane_joined : (r : Result Bool Memory) → from ≡ Plane i → to ≡ Plane j → IfOk r (λ grown. IsJoinedAt planes i j grown new)
+      → IfOk r (λ grown. JoinsAt old grown (Some from) (Some to) (record { slots = slots; planes = new; awaits = awaits }))
+  plane_joined (Ok grown) from_is to_is h = subst (λ o. JoinsAt old grown (Some o) (Some to) (record { slots = slots; planes = new; awaits = awaits })) (sym from_is) (subst (λ o. JoinsAt old grown (Some (Plane i)) (Some o) (record { slots = slots; planes = new; awaits = awaits })) (sym to_is) (record {
     slots = ap (λ (m : Marks). m.slots) view;
     planes = subst (λ ps. IsJoinedAt ps i j grown new) (ap (λ (m : Marks). m.planes) view) h;
     awaits = ap (λ (m : Marks). m.awaits) view;
   }))
-  plane_joined (Err e) from to u = u
+  plane_joined (Err e) from_is to_is u = u
 
-  pub await_joined : (r : Result Bool Memory) → spot_of old.slots p s ≡ Some (Awaited i) → spot_of old.slots q t ≡ Some (Awaited j) → IfOk r (λ grown. IsJoinedAt awaits i j grown new)
-      → IfOk r (λ grown. JoinsAt old grown (spot_of old.slots p s) (spot_of old.slots q t) (record { slots = slots; planes = planes; awaits = new }))
-  await_joined (Ok grown) from to h = subst (λ o. JoinsAt old grown o (spot_of old.slots q t) (record { slots = slots; planes = planes; awaits = new })) (sym from) (subst (λ o. JoinsAt old grown (Some (Awaited i)) o (record { slots = slots; planes = planes; awaits = new })) (sym to) (record {
+  pub await_joined : (r : Result Bool Memory) → from ≡ Awaited i → to ≡ Awaited j → IfOk r (λ grown. IsJoinedAt awaits i j grown new)
+      → IfOk r (λ grown. JoinsAt old grown (Some from) (Some to) (record { slots = slots; planes = planes; awaits = new }))
+  await_joined (Ok grown) from_is to_is h = subst (λ o. JoinsAt old grown (Some o) (Some to) (record { slots = slots; planes = planes; awaits = new })) (sym from_is) (subst (λ o. JoinsAt old grown (Some (Awaited i)) (Some o) (record { slots = slots; planes = planes; awaits = new })) (sym to_is) (record {
     slots = ap (λ (m : Marks). m.slots) view;
     planes = ap (λ (m : Marks). m.planes) view;
     awaits = subst (λ ps. IsJoinedAt ps i j grown new) (ap (λ (m : Marks). m.awaits) view) h;
   }))
-  await_joined (Err e) from to u = u
+  await_joined (Err e) from_is to_is u = u
 
 -- AWAITS stands in the planes of AWAITS, and nothing else does
-pub kinds_apart : {A : Type 0} (slots : List Counts) (p q i j : ℕ) (s t : Slot) → numbers_of s ≡ numbers_of t → spot_of slots p s ≡ Some (Plane i) → spot_of slots q t ≡ Some (Awaited j) → A
-kinds_apart slots p q i j s t alike from to = absurd (omega (arith, plane_slot slots p s i from, await_slot slots q t j to, alike))
+pub kinds_apart : {A : Type 0} (from to : Spot) (i j : ℕ) → from ≡ Plane i → to ≡ Awaited j → room_at from ≡ room_at to → A
+kinds_apart from to i j from_is to_is alike = absurd (let one = ap room_at from_is in let other = ap room_at to_is in omega (arith, one, other, alike))
 
 -- what memory refused leaves
 module _ (old : Marks) (slots : List Counts) (planes awaits new : List (List ℕ)) (view : record { slots = slots; planes = planes; awaits = awaits } ≡ old) where
@@ -421,22 +421,49 @@ module _ (now : Marks) (slots : List Counts) (starts : List ℕ) (planes awaits 
   pub await_place : spot_of now.slots p s ≡ Some (Awaited i) → i < length awaits.set_numbers
   await_place spot = await_inside now slots (row_of planes) (row_of awaits) p s view starts (length planes.set_numbers) (length awaits.set_numbers) g.laid i spot
 
-pub grid_planes : (slots : List Counts) (starts : List ℕ) (planes awaits new : Planes) → IsGrid slots starts planes awaits → IsSound new → length new.set_numbers ≡ length planes.set_numbers → new.sets.width ≡ planes.sets.width → IsGrid slots starts new awaits
-grid_planes slots starts planes awaits new g sound long width = record {
-  laid = subst (λ n. IsLaid slots starts n (length awaits.set_numbers)) (sym long) g.laid;
-  planes_sound = sound;
-  planes_wide = width ∙ g.planes_wide;
+-- so is a spot of which nothing else is known
+module _ (now : Marks) (slots : List Counts) (starts : List ℕ) (planes awaits : Planes) (spot : Spot) (i : ℕ) (view : record { slots = slots; planes = row_of planes; awaits = row_of awaits } ≡ now) (g : IsGrid slots starts planes awaits) (has : HoldsSlot now.slots spot) where
+  pub plane_held : spot ≡ Plane i → i < length planes.set_numbers
+  plane_held is = plane_place now slots starts planes awaits has.point has.slot i view g (has.is ∙ ap Some is)
+
+  pub await_held : spot ≡ Awaited i → i < length awaits.set_numbers
+  await_held is = await_place now slots starts planes awaits has.point has.slot i view g (has.is ∙ ap Some is)
+
+-- what stands at a spot
+module _ (now : Marks) (slots : List Counts) (planes awaits : List (List ℕ)) (spot : Spot) (i : ℕ) (view : record { slots = slots; planes = planes; awaits = awaits } ≡ now) where
+  pub plane_at : spot ≡ Plane i → get_or planes i [] ≡ at_spot now (Some spot)
+  plane_at is = ap (λ (m : Marks). get_or m.planes i []) view ∙ ap (λ o. at_spot now (Some o)) (sym is)
+
+  pub await_at : spot ≡ Awaited i → get_or awaits i [] ≡ at_spot now (Some spot)
+  await_at is = ap (λ (m : Marks). get_or m.awaits i []) view ∙ ap (λ o. at_spot now (Some o)) (sym is)
+
+pub held_at : (m : Marks) (p : ℕ) (s : Slot) (o : Option Spot) (spot : Spot) → o ≡ spot_of m.slots p s → o ≡ Some spot → at_spot m (Some spot) ≡ numbers_at m p s
+held_at m p s o spot found is = sym (numbers_by m p s (Some spot) (sym found ∙ is))
+
+pub holds_slot : (slots : List Counts) (p : ℕ) (s : Slot) (o : Option Spot) (spot : Spot) → o ≡ spot_of slots p s → o ≡ Some spot → HoldsSlot slots spot
+holds_slot slots p s o spot found is = record { point = p; slot = s; is = sym found ∙ is }
+
+-- how many numbers it may have
+pub slot_room : (slots : List Counts) (p : ℕ) (s : Slot) (spot : Spot) → spot_of slots p s ≡ Some spot → numbers_of s ≡ room_at spot
+slot_room slots p s (Plane i) is = plane_slot slots p s i is
+slot_room slots p s (Awaited i) is = await_slot slots p s i is
+
+pub grid_planes : (slots : List Counts) (starts : List ℕ) (planes awaits new : Planes) → IsGrid slots starts planes awaits → KeepsRow planes new → IsGrid slots starts new awaits
+grid_planes slots starts planes awaits new g keeps = record {
+  laid = subst (λ n. IsLaid slots starts n (length awaits.set_numbers)) (sym keeps.long) g.laid;
+  planes_sound = keeps.sound;
+  planes_wide = keeps.width ∙ g.planes_wide;
   awaits_sound = g.awaits_sound;
   awaits_wide = g.awaits_wide;
 }
 
-pub grid_awaits : (slots : List Counts) (starts : List ℕ) (planes awaits new : Planes) → IsGrid slots starts planes awaits → IsSound new → length new.set_numbers ≡ length awaits.set_numbers → new.sets.width ≡ awaits.sets.width → IsGrid slots starts planes new
-grid_awaits slots starts planes awaits new g sound long width = record {
-  laid = subst (λ n. IsLaid slots starts (length planes.set_numbers) n) (sym long) g.laid;
+pub grid_awaits : (slots : List Counts) (starts : List ℕ) (planes awaits new : Planes) → IsGrid slots starts planes awaits → KeepsRow awaits new → IsGrid slots starts planes new
+grid_awaits slots starts planes awaits new g keeps = record {
+  laid = subst (λ n. IsLaid slots starts (length planes.set_numbers) n) (sym keeps.long) g.laid;
   planes_sound = g.planes_sound;
   planes_wide = g.planes_wide;
-  awaits_sound = sound;
-  awaits_wide = width ∙ g.awaits_wide;
+  awaits_sound = keeps.sound;
+  awaits_wide = keeps.width ∙ g.awaits_wide;
 }
 
 pub plane_few : (slots : List Counts) (starts : List ℕ) (planes awaits : Planes) (n : ℕ) → IsGrid slots starts planes awaits → n < ANY_NUMBER + 1 → n < 64 * planes.sets.width

@@ -1,6 +1,7 @@
 pub mod Narrowing
 pub mod Numbering
 pub mod Spreading
+pub mod Pushing
 pub mod Joining
 pub mod Laying
 pub mod Valuing

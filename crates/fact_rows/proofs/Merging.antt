@@ -1,10 +1,10 @@
 -- What is known where one slot gets all that another one has.
-use Rattle.std.proofs.Common.{◌≡◌, ◌⊎◌, inl, inr, ⊎_elim, ◌↔◌, ℕ, ◌+◌, ◌<◌, Bool, true, false, List, [], length, get_or, set, map, Contains, Option, Some, None, refl, sym, subst, ap, ◌∙◌, arith, length-set, get_or-set_same, get_or-set_other}
-use Rattle.std.specs.Prelude.{IsTrue, if◌then◌else◌}
+use Rattle.std.proofs.Common.{◌≡◌, ◌⊎◌, inl, inr, ⊎_elim, ℕ, ◌+◌, ◌<◌, Bool, true, false, List, [], length, get_or, set, map, Contains, Option, Some, None, refl, sym, subst, ap, ◌∙◌, arith, length-set, get_or-set_same, get_or-set_other}
+use Rattle.std.specs.Prelude.{if◌then◌else◌}
 use Rattle.std.specs.Bool.{MatchBool}
 use Rattle.std.specs.List.{All, sum_by}
 use Rattle.std.specs.Option.{IsSome, is_some}
-use Rattle.std.proofs.lemmas.Bool.{cases_eq, true≢false}
+use Rattle.std.proofs.lemmas.Bool.{cases_eq}
 use Rattle.std.proofs.lemmas.List.{set-get_or}
 use Rattle.std.proofs.lemmas.List.Elements.{All-contains, All-set}
 use Rattle.std.proofs.lemmas.List.Sums.{sum_by-set}
@@ -19,12 +19,12 @@ use Rattle.fact_rows.specs.declared.place.Spot.TheVariants.{Plane, Awaited}
 use Rattle.fact_rows.specs.declared.value.TheConstants.{ANY_NUMBER, AWAITED_NUMBERS}
 use Rattle.fact_rows.specs.Numbers.{AreNumbers}
 use Rattle.fact_rows.specs.Places.{Marks, at_spot, spot_of, numbers_at}
-use Rattle.fact_rows.specs.Values.{is_awaits, numbered_value, value_in}
+use Rattle.fact_rows.specs.Values.{is_awaits, numbered_value, room_at, value_in}
 use Rattle.fact_rows.specs.Known.{HasSpot, Joins, Knows, BitRows, missing}
 use Rattle.fact_rows.specs.Grids.{IsJoinedAt, JoinsAt, JoinsPlane, JoinsAwaited}
 use Rattle.fact_rows.specs.Touched.{ArePlaned, IsKept, IsTouched}
-use Rattle.fact_rows.proofs.Laying.{has_spot, numbers_by, spots_apart}
-use Rattle.fact_rows.proofs.Holding.{counted, each_all, from_map, planed_at, sums_few, to_map}
+use Rattle.fact_rows.proofs.Laying.{has_spot, numbers_by, slot_room, spots_apart}
+use Rattle.fact_rows.proofs.Holding.{counted, each_all, from_map, listed_now, planed_at, sums_few, to_map}
 
 -- a slot gets the numbers of another one, and everything else is as it was
 pub record IsMerged (m : Marks) (p : ℕ) (s : Slot) (q : ℕ) (t : Slot) (grown : Bool) (new : Marks) : Type 0 where
@@ -134,21 +134,29 @@ spot_merged m p s q t grown new planes awaits h = by (spot_of m.slots p s) (spot
 
 -- ---- what is kept then
 
-pub merged_kept : (m new : Marks) (p : ℕ) (s : Slot) (q : ℕ) (t : Slot) (grown fresh : Bool) (touched later : List ℕ)
-    → IsKept m touched → JoinsAt m grown (spot_of m.slots p s) (spot_of m.slots q t) new → (IsTrue fresh ↔ (numbers_at m q t ≡ [])) → IsTouched touched fresh q later → IsKept new later
-merged_kept m new p s q t grown fresh touched later kept joins empty touch =
-    let merged = spot_merged m p s q t grown new kept.planes kept.awaits joins in
+-- two slots and their spots
+pub record AreSpots (m : Marks) (from to : Key) (source target : Spot) : Type 0 where
+  pub from_is : spot_of m.slots from.point from.slot ≡ Some source
+  pub to_is : spot_of m.slots to.point to.slot ≡ Some target
+
+of_spots : (m new : Marks) (from to : Key) (grown : Bool) (source target : Spot) → AreSpots m from to source target → JoinsAt m grown (Some source) (Some target) new → JoinsAt m grown (spot_of m.slots from.point from.slot) (spot_of m.slots to.point to.slot) new
+of_spots m new from to grown source target are joins = subst (λ o. JoinsAt m grown o (spot_of m.slots to.point to.slot) new) (sym are.from_is) (subst (λ o. JoinsAt m grown (Some source) o new) (sym are.to_is) joins)
+
+pub merged_kept : (m new : Marks) (from to : Key) (grown : Bool) (touched later : List ℕ) (source target : Spot)
+    → AreSpots m from to source target → IsKept m touched → JoinsAt m grown (Some source) (Some target) new → IsTouched m target touched to.point later → IsKept new later
+merged_kept m new from to grown touched later source target are kept joins touch =
+    let merged = spot_merged m from.point from.slot to.point to.slot grown new kept.planes kept.awaits (of_spots m new from to grown source target are joins) in
     record {
       planes = merged.planes;
       awaits = merged.awaits;
       listed = λ r u. ⊎_elim
-          (λ (same : (r ≡ q) × (u ≡ t)). inr (subst (Contains later) (sym same.0) here))
+          (λ (same : (r ≡ to.point) × (u ≡ to.slot)). inr (subst (Contains later) (sym same.0) here))
           (λ as_was. ⊎_elim (λ none. inl (as_was ∙ none)) (λ there. inr (touch.still r there)) (kept.listed r u))
           (merged.others r u);
     }
   where
-    here : Contains later q
-    here = ⊎_elim (λ none. touch.there (empty.1 none)) (λ there. touch.still q there) (kept.listed q t)
+    here : Contains later to.point
+    here = listed_now m to.point to.slot target touched later are.to_is kept touch
 
 -- ---- what is known then
 
@@ -224,9 +232,9 @@ pub record AreJoined (from to : Key) (old new : BitRows) (grown : Bool) : Type 0
 
 pub rows_joined : (k : BitRows) (e : ℕ) (m new : Marks) (from to : Key) (grown : Bool) (touched : List ℕ)
     → record { entry = e; marks = m } ≡ k → is_awaits from.slot ≡ is_awaits to.slot → IsKept m touched
-    → JoinsAt m grown (spot_of m.slots from.point from.slot) (spot_of m.slots to.point to.slot) new → AreJoined from to k (record { entry = e; marks = new }) grown
-rows_joined k e m new from to grown touched same alike kept joins =
-    let merged = spot_merged m from.point from.slot to.point to.slot grown new kept.planes kept.awaits joins in
+    → (source target : Spot) → AreSpots m from to source target → JoinsAt m grown (Some source) (Some target) new → AreJoined from to k (record { entry = e; marks = new }) grown
+rows_joined k e m new from to grown touched same alike kept source target are joins =
+    let merged = spot_merged m from.point from.slot to.point to.slot grown new kept.planes kept.awaits (of_spots m new from to grown source target are joins) in
     subst (λ (r : BitRows). AreJoined from to r (record { entry = e; marks = new }) grown) same (record { joins = joined e m new from to grown alike merged; fewer = fewer_missing e m new from to grown alike merged })
 
 -- a slot that has nothing gives nothing
@@ -238,12 +246,9 @@ none_joins k e m from to same none = record { entry = refl; slots = refl; knows 
 
 -- ---- what is asked of the spots
 
-pub spot_filled : (m : Marks) (p : ℕ) (s : Slot) (empty : Bool) → (IsTrue empty ↔ (numbers_at m p s ≡ [])) → empty ≡ false → IsSome (spot_of m.slots p s)
-spot_filled m p s empty is not_empty = by (spot_of m.slots p s) refl
-  where
-    by : (o : Option Spot) → spot_of m.slots p s ≡ o → IsSome (spot_of m.slots p s)
-    by None e = absurd (true≢false (sym (is.1 (numbers_by m p s None e)) ∙ not_empty))
-    by (Some spot) e = ap is_some e
+pub alike_room : (m : Marks) (from to : Key) (source target : Spot) → AreSpots m from to source target → is_awaits from.slot ≡ is_awaits to.slot → room_at source ≡ room_at target
+alike_room m from to source target are alike =
+    sym (slot_room m.slots from.point from.slot source are.from_is) ∙ ap (λ b. if b then AWAITED_NUMBERS else ANY_NUMBER + 1) alike ∙ slot_room m.slots to.point to.slot target are.to_is
 
 pub spot_there : (k : BitRows) (e : ℕ) (m : Marks) (p : ℕ) (s : Slot) → record { entry = e; marks = m } ≡ k → HasSpot k.marks.slots p s → IsSome (spot_of m.slots p s)
 spot_there k e m p s same has =

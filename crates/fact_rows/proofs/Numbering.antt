@@ -338,6 +338,10 @@ below_more words place old new before now =
     ∙ sym (filter-append (has_bit words) (range_with_len 0 (64 * place)) (range_with_len (64 * place) 64))
     ∙ ap (filter (has_bit words)) (sym (range_two 0 (64 * place) 64 (64 * (place + 1)) (omega arith) ∙ ap (λ a. range_with_len 0 (64 * place) ++ range_with_len a 64) (let from : 0 + 64 * place ≡ 64 * place = omega arith in from)))
 
+pub below_none : (words : List ℕ) (place : ℕ) (list : List ℕ) → list ≡ below words place → get_or words place 0 ≡ 0 → list ≡ below words (place + 1)
+below_none words place list before none =
+    below_more words place list list before (sym (ap (λ l. list ++ l) (bits_none (get_or words place 0) (64 * place) 64 none) ∙ append-nil list))
+
 pub below_all : (words : List ℕ) (place : ℕ) (list : List ℕ) → place ≡ length words → list ≡ below words place → list ≡ numbers words
 unfolding below numbers
 below_all words place list all is = is ∙ ap (λ n. filter (has_bit words) (range_with_len 0 (64 * n))) all

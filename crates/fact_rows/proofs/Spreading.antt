@@ -12,7 +12,7 @@ use Rattle.fact_rows.specs.declared.sets.Sets.{Sets}
 use Rattle.fact_rows.specs.declared.planes.Planes.{Planes}
 use Rattle.fact_rows.specs.Numbers.{AreNumbers, numbers}
 use Rattle.fact_rows.specs.Grids.{IsSetAt}
-use Rattle.fact_rows.specs.Spread.{words_at, set_in, shown_at, row_of, AreWordsAt, HasSet, IsAlike, IsGrown, IsLonger, IsPassed, IsSound, IsWordsOf}
+use Rattle.fact_rows.specs.Spread.{words_at, set_in, shown_at, row_of, AreWordsAt, HasSet, IsAlike, IsGrown, IsLonger, IsPassed, IsSound, IsWordsOf, KeepsRow}
 use Rattle.fact_rows.proofs.Numbering.{numbers_zero}
 
 -- ---- the words of a set
@@ -136,11 +136,30 @@ words_fit p i words sound h = subst (λ n. 64 * n ≤ 2 ^ 32) (sym h.long) sound
 
 -- ---- the same row, kept otherwise
 
+pub keeps_itself : (p : Planes) → IsSound p → KeepsRow p p
+keeps_itself p sound = record { sound = sound; long = refl; width = refl }
+
+-- another set is laid out, or this one is changed
+pub keeps_same : (old new : Planes) → IsSound old → new.sets ≡ old.sets → new.set_numbers ≡ old.set_numbers → length new.laid.items ≡ new.sets.width → KeepsRow old new
+keeps_same old new sound sets_so numbers_so wide_so = record {
+  sound = record {
+    wide = subst (λ (s : Sets). 0 < s.width) (sym sets_so) sound.wide;
+    fits = subst (λ (s : Sets). 64 * s.width ≤ 2 ^ 32) (sym sets_so) sound.fits;
+    laid_so = wide_so;
+    within = subst (λ l. All (λ m. m + new.sets.width ≤ new.sets.first + length new.sets.words.items) l) (sym numbers_so) (subst (λ (s : Sets). All (λ m. m + s.width ≤ s.first + length s.words.items) old.set_numbers) (sym sets_so) sound.within);
+  };
+  long = ap length numbers_so;
+  width = ap (λ (s : Sets). s.width) sets_so;
+}
+
+pub keeps_then : (a b c : Planes) → KeepsRow a b → KeepsRow b c → KeepsRow a c
+keeps_then a b c h k = record { sound = k.sound; long = k.long ∙ h.long; width = k.width ∙ h.width }
+
 pub alike_itself : (p : Planes) → IsSound p → IsAlike p p
-alike_itself p sound = record { sound = sound; same = refl; long = refl; width = refl }
+alike_itself p sound = record { keeps = keeps_itself p sound; same = refl }
 
 pub alike_then : (a b c : Planes) → IsAlike a b → IsAlike b c → IsAlike a c
-alike_then a b c h k = record { sound = k.sound; same = k.same ∙ h.same; long = k.long ∙ h.long; width = k.width ∙ h.width }
+alike_then a b c h k = record { keeps = keeps_then a b c h.keeps k.keeps; same = k.same ∙ h.same }
 
 module _ (old new : Planes) (sound : IsSound old) (longer : IsLonger old.sets new.sets) where
   abbrev InOld : ℕ → Type 0
@@ -163,15 +182,17 @@ module _ (old new : Planes) (sound : IsSound old) (longer : IsLonger old.sets ne
   -- other sets are kept beside those
   pub longer_alike : new.set_numbers ≡ old.set_numbers → new.own ≡ old.own → new.laid.items ≡ old.laid.items → IsAlike old new
   longer_alike numbers_so own_so open_so = record {
-    sound = record {
-      wide = omega (arith, longer.same_width, sound.wide);
-      fits = subst (λ n. 64 * n ≤ 2 ^ 32) (sym longer.same_width) sound.fits;
-      laid_so = ap length open_so ∙ sound.laid_so ∙ sym longer.same_width;
-      within = subst (All InNew) (sym numbers_so) all_inside;
+    keeps = record {
+      sound = record {
+        wide = omega (arith, longer.same_width, sound.wide);
+        fits = subst (λ n. 64 * n ≤ 2 ^ 32) (sym longer.same_width) sound.fits;
+        laid_so = ap length open_so ∙ sound.laid_so ∙ sym longer.same_width;
+        within = subst (All InNew) (sym numbers_so) all_inside;
+      };
+      long = ap length numbers_so;
+      width = longer.same_width;
     };
     same = row_same old new (ap length numbers_so) each;
-    long = ap length numbers_so;
-    width = longer.same_width;
   }
     where
       each : (j : ℕ) → j < length old.set_numbers → shown_at new j ≡ shown_at old j
@@ -187,15 +208,17 @@ module _ (old new : Planes) (sound : IsSound old) (longer : IsLonger old.sets ne
   pub away_alike : (n : ℕ) → old.own < length old.set_numbers → HasSet new.sets n old.laid.items → new.set_numbers ≡ set old.set_numbers old.own n
       → length old.set_numbers ≤ new.own → new.laid.items ≡ old.laid.items → IsAlike old new
   away_alike n inside has numbers_so past open_so = record {
-    sound = record {
-      wide = omega (arith, longer.same_width, sound.wide);
-      fits = subst (λ m. 64 * m ≤ 2 ^ 32) (sym longer.same_width) sound.fits;
-      laid_so = ap length open_so ∙ sound.laid_so ∙ sym longer.same_width;
-      within = subst (All InNew) (sym numbers_so) (All-set InNew old.set_numbers old.own n has.within all_inside);
+    keeps = record {
+      sound = record {
+        wide = omega (arith, longer.same_width, sound.wide);
+        fits = subst (λ m. 64 * m ≤ 2 ^ 32) (sym longer.same_width) sound.fits;
+        laid_so = ap length open_so ∙ sound.laid_so ∙ sym longer.same_width;
+        within = subst (All InNew) (sym numbers_so) (All-set InNew old.set_numbers old.own n has.within all_inside);
+      };
+      long = long_so;
+      width = longer.same_width;
     };
     same = row_same old new long_so each;
-    long = long_so;
-    width = longer.same_width;
   }
     where
       long_so : length new.set_numbers ≡ length old.set_numbers
@@ -221,15 +244,8 @@ module _ (old new : Planes) (i n : ℕ) (sound : IsSound old) (past : length old
     (sets_so : new.sets ≡ old.sets) (numbers_so : new.set_numbers ≡ old.set_numbers) (own_so : new.own ≡ i) where
   out_alike : length new.laid.items ≡ new.sets.width → numbers new.laid.items ≡ set_in old.sets.words.items old.sets.first old.sets.width n → IsAlike old new
   out_alike wide_so open_so = record {
-    sound = record {
-      wide = subst (λ (s : Sets). 0 < s.width) (sym sets_so) sound.wide;
-      fits = subst (λ (s : Sets). 64 * s.width ≤ 2 ^ 32) (sym sets_so) sound.fits;
-      laid_so = wide_so;
-      within = subst (λ l. All (λ m. m + new.sets.width ≤ new.sets.first + length new.sets.words.items) l) (sym numbers_so) (subst (λ (s : Sets). All (λ m. m + s.width ≤ s.first + length s.words.items) old.set_numbers) (sym sets_so) sound.within);
-    };
+    keeps = keeps_same old new sound sets_so numbers_so wide_so;
     same = row_same old new (ap length numbers_so) each;
-    long = ap length numbers_so;
-    width = ap (λ (s : Sets). s.width) sets_so;
   }
     where
       read : n ≡ get_or old.set_numbers i 0
@@ -287,7 +303,7 @@ row_changed mid new i words own sets_so numbers_so own_so words_so inside = ext_
 module _ (old mid new : Planes) (i n : ℕ) (added : Bool) (alike : IsAlike old mid) (own : mid.own ≡ i) (lt : i < length old.set_numbers)
     (sets_so : new.sets ≡ mid.sets) (numbers_so : new.set_numbers ≡ mid.set_numbers) (own_so : new.own ≡ mid.own) (long_so : length new.laid.items ≡ length mid.laid.items) where
   inside : i < length mid.set_numbers
-  inside = omega (arith, lt, alike.long)
+  inside = omega (arith, lt, alike.keeps.long)
 
   pub more_set : (seen words : List ℕ) → seen ≡ mid.laid.items → new.laid.items ≡ words → AreNumbers (λ m. (m ≡ n) ⊎ Contains (numbers seen) m) (numbers words) → (IsTrue added ↔ (Contains (numbers seen) n → ⊥))
       → MatchBool added (length (numbers words) ≡ length (numbers seen) + 1) (numbers words ≡ numbers seen)
@@ -304,16 +320,11 @@ module _ (old mid new : Planes) (i n : ℕ) (added : Bool) (alike : IsAlike old 
       was : numbers seen ≡ get_or (row_of mid) i []
       was = ap numbers seen_so ∙ sym (row_at mid i inside ∙ shown_own mid i (sym own))
 
-  pub more_sound : IsSound new
-  more_sound = record {
-    wide = subst (λ (s : Sets). 0 < s.width) (sym sets_so) alike.sound.wide;
-    fits = subst (λ (s : Sets). 64 * s.width ≤ 2 ^ 32) (sym sets_so) alike.sound.fits;
-    laid_so = long_so ∙ alike.sound.laid_so ∙ sym (ap (λ (s : Sets). s.width) sets_so);
-    within = subst (λ l. All (λ m. m + new.sets.width ≤ new.sets.first + length new.sets.words.items) l) (sym numbers_so) (subst (λ (s : Sets). All (λ m. m + s.width ≤ s.first + length s.words.items) mid.set_numbers) (sym sets_so) alike.sound.within);
-  }
+  pub more_keeps : KeepsRow old new
+  more_keeps = keeps_then old mid new alike.keeps (keeps_same mid new alike.keeps.sound sets_so numbers_so (long_so ∙ alike.keeps.sound.laid_so ∙ sym (ap (λ (s : Sets). s.width) sets_so)))
 
 pub open_wide : (old mid : Planes) (n : ℕ) → IsAlike old mid → n < 64 * old.sets.width → n < 64 * length mid.laid.items
-open_wide old mid n alike lt = subst (λ w. n < 64 * w) (sym (alike.sound.laid_so ∙ alike.width)) lt
+open_wide old mid n alike lt = subst (λ w. n < 64 * w) (sym (alike.keeps.sound.laid_so ∙ alike.keeps.width)) lt
 
 -- ---- no set has a number
 
@@ -339,24 +350,32 @@ module _ (p : Planes) (count : ℕ) (wide : 0 < p.sets.width) (first_so : p.sets
 
 -- a row begins anew
 module _ (old new : Planes) (mid : Sets) (done : Bool) (count : ℕ) (sound : IsSound old) (passed : IsPassed old.sets mid done) (width_so : new.sets.width ≡ mid.width) (first_so : new.sets.first ≡ mid.width) (numbers_so : new.set_numbers ≡ replicate count 0) where
-  pub anew_sound : new.laid.items ≡ old.laid.items → IsSound new
-  anew_sound open_so =
-      zeros_sound new count (omega (arith, width_so, passed.width, sound.wide)) (first_so ∙ sym width_so) numbers_so
-      (subst (λ n. 64 * n ≤ 2 ^ 32) (sym (width_so ∙ passed.width)) sound.fits) (ap length open_so ∙ sound.laid_so ∙ sym (width_so ∙ passed.width))
+  pub anew_keeps : count ≡ length old.set_numbers → new.laid.items ≡ old.laid.items → KeepsRow old new
+  anew_keeps many open_so = record {
+    sound =
+        zeros_sound new count (omega (arith, width_so, passed.width, sound.wide)) (first_so ∙ sym width_so) numbers_so
+        (subst (λ n. 64 * n ≤ 2 ^ 32) (sym (width_so ∙ passed.width)) sound.fits) (ap length open_so ∙ sound.laid_so ∙ sym (width_so ∙ passed.width));
+    long = ap length numbers_so ∙ length-replicate {A = ℕ} count 0 ∙ many;
+    width = width_so ∙ passed.width;
+  }
 
   pub anew_blank : length new.set_numbers ≤ new.own → All (λ ns. ns ≡ []) (row_of new)
   anew_blank past = zeros_blank new count (omega (arith, width_so, passed.width, sound.wide)) (first_so ∙ sym width_so) numbers_so past
 
 -- a row is cleared by counting on
 module _ (old new : Planes) (done : Bool) (sound : IsSound old) (passed : IsPassed old.sets new.sets done) (so : done ≡ true) (numbers_so : new.set_numbers ≡ old.set_numbers) where
-  pub passed_sound : new.laid.items ≡ old.laid.items → IsSound new
-  passed_sound open_so = record {
-    wide = omega (arith, passed.width, sound.wide);
-    fits = subst (λ n. 64 * n ≤ 2 ^ 32) (sym passed.width) sound.fits;
-    laid_so = ap length open_so ∙ sound.laid_so ∙ sym passed.width;
-    within = subst (All (λ n. n + new.sets.width ≤ new.sets.first + length new.sets.words.items)) (sym numbers_so)
-        (All-weaker (λ n. n + old.sets.width ≤ old.sets.first + length old.sets.words.items) (λ n. n + new.sets.width ≤ new.sets.first + length new.sets.words.items)
-        (λ n h. omega (arith, h, passed.width, passed.first so)) old.set_numbers sound.within);
+  pub passed_keeps : new.laid.items ≡ old.laid.items → KeepsRow old new
+  passed_keeps open_so = record {
+    sound = record {
+      wide = omega (arith, passed.width, sound.wide);
+      fits = subst (λ n. 64 * n ≤ 2 ^ 32) (sym passed.width) sound.fits;
+      laid_so = ap length open_so ∙ sound.laid_so ∙ sym passed.width;
+      within = subst (All (λ n. n + new.sets.width ≤ new.sets.first + length new.sets.words.items)) (sym numbers_so)
+          (All-weaker (λ n. n + old.sets.width ≤ old.sets.first + length old.sets.words.items) (λ n. n + new.sets.width ≤ new.sets.first + length new.sets.words.items)
+          (λ n h. omega (arith, h, passed.width, passed.first so)) old.set_numbers sound.within);
+    };
+    long = ap length numbers_so;
+    width = passed.width;
   }
 
   pub passed_blank : length old.set_numbers ≤ new.own → All (λ ns. ns ≡ []) (row_of new)

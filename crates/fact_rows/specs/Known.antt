@@ -2,6 +2,7 @@
 use Rattle.std.specs.Prelude.{◌≡◌, ◌⊎◌, ◌↔◌, ℕ, ◌+◌, ◌*◌, ◌-◌, List, length, map, Some, slice_get}
 use Rattle.std.specs.List.{Contains, sum_by}
 use Rattle.std.specs.List.Sorted.{IsStrictlySortedBy}
+use Rattle.std.specs.Ordering.{nat_cmp}
 use Rattle.flow_points.specs.declared.fact.Fact.{Fact}
 use Rattle.flow_points.specs.declared.fact.Slot.{Slot}
 use Rattle.flow_points.specs.Facts.{fact}
@@ -67,6 +68,11 @@ unfoldable pub missing : BitRows → ℕ
 missing k =
     ((ANY_NUMBER + 1) * length k.marks.planes + AWAITED_NUMBERS * length k.marks.awaits)
     - (sum_by length k.marks.planes + sum_by length k.marks.awaits)
+
+-- points in their order, among which are those of all these facts
+pub record ArePointsOf (P : Fact → Type 0) (points : List ℕ) : Type 0 where
+  pub rising : IsStrictlySortedBy nat_cmp points
+  pub listed : (f : Fact) → P f → Contains points f.point
 
 -- exactly these facts, in their order
 pub record AreFacts (P : Fact → Type 0) (facts : List Fact) : Type 0 where

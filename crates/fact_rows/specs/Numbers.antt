@@ -1,5 +1,5 @@
 -- Numbers kept as bits of words, 64 to a word.
-use Rattle.std.specs.Prelude.{ℕ, zero, suc, ◌+◌, ◌*◌, ◌/◌, ◌%◌, Bool, List, [], ◌∷◌, ◌++◌, length, ◌==◌, slice_index, if◌then◌else◌}
+use Rattle.std.specs.Prelude.{◌≡◌, ℕ, zero, suc, ◌+◌, ◌*◌, ◌/◌, ◌%◌, ◌^◌, ◌≤◌, Bool, List, [], ◌∷◌, ◌++◌, length, ◌==◌, slice_index, if◌then◌else◌}
 use Rattle.std.specs.List.{Contains, filter, range_with_len}
 use Rattle.std.specs.List.Sorted.{IsStrictlySortedBy}
 use Rattle.std.specs.Ordering.{nat_cmp}
@@ -18,6 +18,11 @@ pub record AreNumbers (P : ℕ → Type 0) (list : List ℕ) : Type 0 where
   pub rising : IsStrictlySortedBy nat_cmp list
   pub each : (n : ℕ) → Contains list n → P n
   pub listed : (n : ℕ) → P n → Contains list n
+
+-- words in which the bits of exactly these numbers are set, few enough for numbers of 32 bits
+pub record AreWordsOf (ns words : List ℕ) : Type 0 where
+  pub is : numbers words ≡ ns
+  pub few : 64 * length words ≤ 2 ^ 32
 
 -- the number of a bit of a word, if it is set, where the lowest bit has this number
 abbrev pub bit_number : ℕ → ℕ → ℕ → List ℕ

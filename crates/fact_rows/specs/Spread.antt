@@ -62,12 +62,16 @@ pub record IsSound (p : Planes) : Type 0 where
   pub laid_so : length p.laid.items ≡ p.sets.width
   pub within : All (λ n. n + p.sets.width ≤ p.sets.first + length p.sets.words.items) p.set_numbers
 
--- the same row, however it is kept
-pub record IsAlike (old new : Planes) : Type 0 where
+-- a row with its words that has as many sets, of as many words
+pub record KeepsRow (old new : Planes) : Type 0 where
   pub sound : IsSound new
-  pub same : row_of new ≡ row_of old
   pub long : length new.set_numbers ≡ length old.set_numbers
   pub width : new.sets.width ≡ old.sets.width
+
+-- the same row, however it is kept
+pub record IsAlike (old new : Planes) : Type 0 where
+  pub keeps : KeepsRow old new
+  pub same : row_of new ≡ row_of old
 
 -- the words of the i-th set of the row
 pub record AreWordsAt (p : Planes) (i : ℕ) (words : List ℕ) : Type 0 where

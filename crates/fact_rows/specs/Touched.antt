@@ -1,5 +1,5 @@
 -- The points before which slots have numbers, and the facts of slots.
-use Rattle.std.specs.Prelude.{◌≡◌, ◌⊎◌, ℕ, ◌+◌, ◌<◌, Bool, true, List, [], ◌∷◌, ◌++◌, map, Option, Some, None, slice_get}
+use Rattle.std.specs.Prelude.{◌≡◌, ◌⊎◌, ℕ, ◌+◌, ◌<◌, List, [], ◌∷◌, ◌++◌, map, Option, Some, None, slice_get}
 use Rattle.std.specs.declared.cmp.Ordering.{Ordering}
 use Rattle.std.specs.List.{All, Contains, range_with_len}
 use Rattle.std.specs.List.Sorted.{IsStrictlySortedBy}
@@ -12,9 +12,10 @@ use Rattle.fact_rows.specs.declared.keys.Key.{Key}
 use Rattle.fact_rows.specs.declared.keys.Numbered.{Numbered}
 use Rattle.fact_rows.specs.declared.keys.Numbered.TheVariants.{Temp, Given, Answered}
 use Rattle.fact_rows.specs.declared.place.Counts.{Counts}
+use Rattle.fact_rows.specs.declared.place.Spot.{Spot}
 use Rattle.fact_rows.specs.contracts.keys.KeyOrd.TheImpl as keys
 use Rattle.fact_rows.specs.declared.value.TheConstants.{ANY_NUMBER, AWAITED_NUMBERS}
-use Rattle.fact_rows.specs.Places.{Marks, numbers_at}
+use Rattle.fact_rows.specs.Places.{Marks, at_spot, numbers_at}
 use Rattle.fact_rows.specs.Values.{value_in}
 
 abbrev pub key_order : Key → Key → Ordering
@@ -34,10 +35,10 @@ pub record IsKept (m : Marks) (touched : List ℕ) : Type 0 where
   pub awaits : All (ArePlaned AWAITED_NUMBERS) m.awaits
   pub listed : (p : ℕ) (s : Slot) → (numbers_at m p s ≡ []) ⊎ Contains touched p
 
--- the point is listed beside the others, if one of its slots is fresh
-pub record IsTouched (old : List ℕ) (fresh : Bool) (p : ℕ) (new : List ℕ) : Type 0 where
+-- the point is listed beside the others, unless there are numbers at the spot
+pub record IsTouched (m : Marks) (spot : Spot) (old : List ℕ) (p : ℕ) (new : List ℕ) : Type 0 where
   pub still : (q : ℕ) → Contains old q → Contains new q
-  pub there : fresh ≡ true → Contains new p
+  pub there : at_spot m (Some spot) ≡ [] → Contains new p
 
 abbrev pub numbered_slot : Numbered → ℕ → Slot
 numbered_slot Temp n = slot.Temp n

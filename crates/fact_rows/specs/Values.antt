@@ -7,6 +7,8 @@ use Rattle.flow_points.specs.declared.fact.Slot.{Slot}
 use Rattle.flow_points.specs.declared.fact.Slot.TheVariants.{Temp, Given, Answered, Depth, Awaits}
 use Rattle.flow_points.specs.declared.fact.Value.{Value}
 use Rattle.flow_points.specs.declared.fact.Value.TheVariants.{Arg, Const, Any}
+use Rattle.fact_rows.specs.declared.place.Spot.{Spot}
+use Rattle.fact_rows.specs.declared.place.Spot.TheVariants.{Plane, Awaited}
 use Rattle.fact_rows.specs.declared.value.TheConstants.{ANY_NUMBER, AWAITED_NUMBERS}
 
 abbrev pub is_awaits : Slot → Bool
@@ -59,3 +61,8 @@ value_in s n = (if is_awaits s then Const n else numbered_value n)
 -- how many numbers the plane of a slot has
 abbrev pub numbers_of : Slot → ℕ
 numbers_of s = (if is_awaits s then AWAITED_NUMBERS else ANY_NUMBER + 1)
+
+-- how many numbers the plane at a spot may have
+abbrev pub room_at : Spot → ℕ
+room_at (Plane i) = ANY_NUMBER + 1
+room_at (Awaited p) = AWAITED_NUMBERS

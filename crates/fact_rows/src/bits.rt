@@ -2,7 +2,8 @@
 ghost use Rattle.std.specs.Prelude.{◌≡◌, ◌⊎◌, ◌↔◌, ◌+◌, ◌*◌, ◌<◌, ◌≤◌, ◌^◌, ◌++◌, ◌∷◌, ◌==◌, [], length, take, drop, OnOk, IsTrue};
 ghost use Rattle.std.specs.Bool.{MatchBool};
 ghost use Rattle.std.specs.List.{Contains, list_all};
-ghost use Rattle.fact_rows.specs.Numbers.{AreNumbers, bit_number, bits_of, numbers};
+ghost use Rattle.std.specs.Int.{bit_at};
+ghost use Rattle.fact_rows.specs.Numbers.{AreNumbers, numbers};
 
 use plex_num::Memory;
 
@@ -82,45 +83,12 @@ fn all_zero(words: &[u64]) -> bool
     words.iter().all(|word| *word == 0)
 }
 
-/// Puts the numbers of all bits that are set, rising, in the place of those of a list.
-pub(crate) fn list_numbers(words: &[u64], list: &mut Vec<u32>) -> Result<(), Memory>
-    requires { 64 * length words.now ≤ 2 ^ 32 }
-    ensures { OnOk result (list.new.items ≡ numbers words.now) }
+/// Whether a bit of a word is set.
+pub(crate) fn has_bit(word: u64, bit: u32) -> bool
+    requires { bit < 64 }
+    ensures { result ≡ (bit_at word bit == 1) }
 {
-    list.clear();
-    for place in 0..words.len() {
-        push_bits(words[place], 64 * place as u32, list)?;
-    }
-    Ok(())
-}
-
-/// Appends the numbers of the bits of a word, the lowest of which has this number. No bit is looked at below the first that is set, nor
-/// above the last.
-fn push_bits(word: u64, first: u32, list: &mut Vec<u32>) -> Result<(), Memory>
-    requires { first + 64 ≤ 2 ^ 32 }
-    ensures { OnOk result (list.new.items ≡ list.old.items ++ bits_of word first 64) }
-{
-    if word == 0 {
-        return Ok(());
-    }
-    let low = word.trailing_zeros();
-    let end = 64 - word.leading_zeros();
-    for bit in low..end {
-        push_bit(word, bit, first, list)?;
-    }
-    Ok(())
-}
-
-/// Appends the number of a bit, if it is set.
-fn push_bit(word: u64, bit: u32, first: u32, list: &mut Vec<u32>) -> Result<(), Memory>
-    requires within { bit < 64 }
-    requires fits { first + 64 ≤ 2 ^ 32 }
-    ensures { OnOk result (list.new.items ≡ list.old.items ++ bit_number word first bit) }
-{
-    if (word >> bit) & 1 == 1 {
-        append(list, first + bit)?;
-    }
-    Ok(())
+    (word >> bit) & 1 == 1
 }
 
 /// Appends an item.

@@ -1,11 +1,10 @@
 // A set of numbers for each slot before each point.
-ghost use Rattle.std.specs.Prelude.{◌≡◌, ◌↔◌, ◌+◌, ◌<◌, [], map, slice_get, IfOk, OnErr, OnOk, IsTrue};
-ghost use Rattle.std.specs.Option.{IsSome};
-ghost use Rattle.fact_rows.specs.Places.{counts_of as counts_of_row, numbers_at, spot_of as spot_of_slots};
-ghost use Rattle.fact_rows.specs.Values.{is_awaits, numbers_of};
+ghost use Rattle.std.specs.Prelude.{◌≡◌, ◌↔◌, ◌+◌, ◌<◌, [], map, slice_get, IfOk, MatchOption, OnErr, IsTrue, Some};
+ghost use Rattle.fact_rows.specs.Places.{HoldsSlot, at_spot, counts_of as counts_of_row, numbers_at, spot_of as spot_of_slots};
+ghost use Rattle.fact_rows.specs.Values.{room_at};
+ghost use Rattle.fact_rows.specs.Numbers.{AreWordsOf};
 ghost use Rattle.fact_rows.specs.Grids.{IsBlank, JoinsAt, SetsAt};
 
-use crate::keys::Key;
 use crate::place::{Counts, Spot, spot_in};
 use crate::planes::Planes;
 use crate::value::{AWAITED_WORDS, PLANE_WORDS};
@@ -65,7 +64,7 @@ impl Grid {
     }
 
     /// Where the numbers of a slot before a point are, if the slot is there.
-    fn spot_of(&self, point: u32, slot: Slot) -> Option<Spot>
+    pub(crate) fn spot_of(&self, point: u32, slot: Slot) -> Option<Spot>
         ensures { result ≡ spot_of_slots self.now.slots point slot }
     {
         let point = point as usize;
@@ -81,28 +80,32 @@ impl Grid {
         ensures { IsTrue result ↔ (numbers_at self.now point slot ≡ []) }
     {
         match self.spot_of(point, slot) {
-            Some(Spot::Plane(i)) => self.planes.is_blank(i),
-            Some(Spot::Awaited(i)) => self.awaits.is_blank(i),
+            Some(spot) => self.is_blank(spot),
             None => true,
         }
     }
 
-    /// Puts the numbers of a slot before a point, rising, in the place of those of a list; none where the slot is not there.
-    pub(crate) fn list_numbers(
-        &self,
-        point: u32,
-        slot: Slot,
-        list: &mut Vec<u32>,
-    ) -> Result<(), Memory>
-        ensures { OnOk result (list.new.items ≡ numbers_at self.now point slot) }
+    /// Whether there is no number at the spot of a slot.
+    pub(crate) fn is_blank(&self, spot: Spot) -> bool
+        requires { HoldsSlot self.now.slots spot }
+        ensures { IsTrue result ↔ (at_spot self.now (Some spot) ≡ []) }
+    {
+        match spot {
+            Spot::Plane(i) => self.planes.is_blank(i),
+            Spot::Awaited(i) => self.awaits.is_blank(i),
+        }
+    }
+
+    /// The words of the numbers of a slot before a point, unless it has none.
+    pub(crate) fn words(&self, point: u32, slot: Slot) -> Option<&[u64]>
+        ensures { MatchOption result
+            ([] ≡ numbers_at self.now point slot)
+            (λ words. AreWordsOf (numbers_at self.now point slot) words.now) }
     {
         match self.spot_of(point, slot) {
-            Some(Spot::Plane(i)) => self.planes.list_numbers(i, list),
-            Some(Spot::Awaited(i)) => self.awaits.list_numbers(i, list),
-            None => {
-                list.clear();
-                Ok(())
-            }
+            Some(Spot::Plane(i)) => self.planes.words(i),
+            Some(Spot::Awaited(i)) => self.awaits.words(i),
+            None => None,
         }
     }
 
@@ -116,45 +119,40 @@ impl Grid {
         }
     }
 
-    /// Adds a number to those of a slot before a point, which must be there; true exactly where it was not among them. Where
-    /// memory is refused, all stays as it was.
-    pub(crate) fn set(&mut self, point: u32, slot: Slot, number: u32) -> Result<bool, Memory>
-        requires there { IsSome (spot_of_slots self.old.slots point slot) }
-        requires number { number < numbers_of slot }
+    /// Adds a number to those at the spot of a slot; true exactly where it was not among them. Where memory is refused, all stays as
+    /// it was.
+    pub(crate) fn set(&mut self, spot: Spot, number: u32) -> Result<bool, Memory>
+        requires there { HoldsSlot self.old.slots spot }
+        requires number { number < room_at spot }
         ensures ok { IfOk result (λ added.
-            SetsAt self.old number added (spot_of_slots self.old.slots point slot) self.new) }
+            SetsAt self.old number added (Some spot) self.new) }
         ensures err { OnErr result (self.new ≡ self.old) }
     {
-        match self.spot_of(point, slot) {
-            Some(Spot::Plane(i)) => self.planes.set(i, number),
-            Some(Spot::Awaited(i)) => self.awaits.set(i, number),
-            None => Ok(false),
+        match spot {
+            Spot::Plane(i) => self.planes.set(i, number),
+            Spot::Awaited(i) => self.awaits.set(i, number),
         }
     }
 
-    /// Adds to the numbers of a slot before a point all those of another one, which must be there both, and AWAITS both or neither;
-    /// true exactly where one of them was not there. Where memory is refused, all stays as it was.
-    pub(crate) fn join(&mut self, from: Key, to: Key) -> Result<bool, Memory>
-        requires from { IsSome (spot_of_slots self.old.slots from.point from.slot) }
-        requires to { IsSome (spot_of_slots self.old.slots to.point to.slot) }
-        requires alike { is_awaits from.slot ≡ is_awaits to.slot }
-        ensures ok { IfOk result (λ grown. JoinsAt self.old grown
-            (spot_of_slots self.old.slots from.point from.slot)
-            (spot_of_slots self.old.slots to.point to.slot) self.new) }
+    /// Adds to the numbers at the spot of a slot all those at another one, which must have as much room; true exactly where one of
+    /// them was not there. Where memory is refused, all stays as it was.
+    pub(crate) fn join(&mut self, from: Spot, to: Spot) -> Result<bool, Memory>
+        requires from { HoldsSlot self.old.slots from }
+        requires to { HoldsSlot self.old.slots to }
+        requires alike { room_at from ≡ room_at to }
+        ensures ok { IfOk result (λ grown.
+            JoinsAt self.old grown (Some from) (Some to) self.new) }
         ensures err { OnErr result (self.new ≡ self.old) }
     {
-        match self.spot_of(from.point, from.slot) {
-            Some(Spot::Plane(i)) => match self.spot_of(to.point, to.slot) {
-                Some(Spot::Plane(j)) => self.planes.join(i, j),
-                Some(Spot::Awaited(_)) => Ok(false),
-                None => Ok(false),
+        match from {
+            Spot::Plane(i) => match to {
+                Spot::Plane(j) => self.planes.join(i, j),
+                Spot::Awaited(_) => Ok(false),
             },
-            Some(Spot::Awaited(i)) => match self.spot_of(to.point, to.slot) {
-                Some(Spot::Awaited(j)) => self.awaits.join(i, j),
-                Some(Spot::Plane(_)) => Ok(false),
-                None => Ok(false),
+            Spot::Awaited(i) => match to {
+                Spot::Awaited(j) => self.awaits.join(i, j),
+                Spot::Plane(_) => Ok(false),
             },
-            None => Ok(false),
         }
     }
 

@@ -2,9 +2,9 @@
 ghost use Rattle.std.specs.Prelude.{◌≡◌, ◌↔◌, ◌*◌, ◌<◌, ◌≤◌, ◌^◌, [], length, replicate, slice_index_or, IfOk, OnErr, OnOk, IsTrue, MatchOption};
 ghost use Rattle.std.specs.List.{All};
 ghost use Rattle.fact_rows.specs.Grids.{IsJoinedAt, IsSetAt};
-ghost use Rattle.fact_rows.specs.Spread.{AreWordsAt, IsAlike, IsSound, row_of};
+ghost use Rattle.fact_rows.specs.Spread.{AreWordsAt, IsAlike, IsSound, KeepsRow, row_of};
 
-use crate::bits::{are_zero, join, list_numbers, set_bit};
+use crate::bits::{are_zero, join, set_bit};
 use crate::narrow::NumberRow;
 use crate::sets::Sets;
 use plex_num::Memory;
@@ -48,7 +48,7 @@ impl Planes {
 
     /// The words of a set of the row, counted from 0, unless it has no numbers.
     #[tactic(auto, using(crate::proofs::Spreading::open_words, crate::proofs::Spreading::kept_words, crate::proofs::Spreading::no_words, crate::proofs::Spreading::number_inside))]
-    fn words(&self, i: usize) -> Option<&[u64]>
+    pub(crate) fn words(&self, i: usize) -> Option<&[u64]>
         requires sound { IsSound self.now }
         requires place { i < length self.now.set_numbers }
         ensures { MatchOption result
@@ -77,24 +77,7 @@ impl Planes {
         }
     }
 
-    /// Puts the numbers of a set of the row, rising, in the place of those of a list.
-    #[tactic(auto, using(crate::proofs::Spreading::words_fit))]
-    pub(crate) fn list_numbers(&self, i: usize, list: &mut Vec<u32>) -> Result<(), Memory>
-        requires sound { IsSound self.now }
-        requires place { i < length self.now.set_numbers }
-        ensures { OnOk result (list.new.items ≡ slice_index_or (row_of self.now) i []) }
-    {
-        match self.words(i) {
-            Some(words) => list_numbers(words, list),
-            None => {
-                list.clear();
-                Ok(())
-            }
-        }
-    }
-
     /// Adds a number to a set of the row; true exactly where it was not there. Where memory is refused, all sets stay as they were.
-    #[tactic(auto, using(crate::proofs::Spreading::more_set, crate::proofs::Spreading::more_sound, crate::proofs::Spreading::open_wide))]
     pub(crate) fn set(&mut self, i: usize, number: u32) -> Result<bool, Memory>
         requires sound { IsSound self.old }
         requires place { i < length self.old.set_numbers }
@@ -102,9 +85,7 @@ impl Planes {
         ensures ok { IfOk result (λ added.
             IsSetAt (row_of self.old) i number added (row_of self.new)) }
         ensures err { OnErr result (row_of self.new ≡ row_of self.old) }
-        ensures sound { IsSound self.new }
-        ensures long { length self.new.set_numbers ≡ length self.old.set_numbers }
-        ensures width { self.new.sets.width ≡ self.old.sets.width }
+        ensures keeps { KeepsRow self.old self.new }
     {
         self.lay_out(i)?;
         Ok(set_bit(&mut self.laid, number))
@@ -119,9 +100,7 @@ impl Planes {
         ensures ok { IfOk result (λ grown.
             IsJoinedAt (row_of self.old) from to grown (row_of self.new)) }
         ensures err { OnErr result (row_of self.new ≡ row_of self.old) }
-        ensures sound { IsSound self.new }
-        ensures long { length self.new.set_numbers ≡ length self.old.set_numbers }
-        ensures width { self.new.sets.width ≡ self.old.sets.width }
+        ensures keeps { KeepsRow self.old self.new }
     {
         self.put_away()?;
         let more = self.set_numbers.number(from);
@@ -138,6 +117,7 @@ impl Planes {
 
     /// Gives a set of the row that is none of those that are kept the number of another one, where none is laid out; true exactly where that one
     /// has numbers. Where memory is refused, all sets stay as they were.
+    #[tactic(auto, using(crate::proofs::Spreading::keeps_itself, crate::proofs::Spreading::keeps_same))]
     fn share(&mut self, from: usize, to: usize) -> Result<bool, Memory>
         requires sound { IsSound self.old }
         requires none { length self.old.set_numbers ≤ self.old.own }
@@ -147,9 +127,7 @@ impl Planes {
         ensures ok { IfOk result (λ grown.
             IsJoinedAt (row_of self.old) from to grown (row_of self.new)) }
         ensures err { OnErr result (row_of self.new ≡ row_of self.old) }
-        ensures sound { IsSound self.new }
-        ensures long { length self.new.set_numbers ≡ length self.old.set_numbers }
-        ensures width { self.new.sets.width ≡ self.old.sets.width }
+        ensures keeps { KeepsRow self.old self.new }
     {
         if self.is_blank(from) {
             return Ok(false);
@@ -160,16 +138,14 @@ impl Planes {
     }
 
     /// Adds to the set that is laid out all numbers of another one; true exactly where one of them was not there.
-    #[tactic(auto, using(crate::proofs::Spreading::number_inside))]
+    #[tactic(auto, using(crate::proofs::Spreading::number_inside, crate::proofs::Spreading::keeps_itself))]
     fn join_laid(&mut self, from: usize) -> bool
         requires sound { IsSound self.old }
         requires from { from < length self.old.set_numbers }
         requires own { self.old.own < length self.old.set_numbers }
         requires apart { from ≡ self.old.own → ⊥ }
         ensures joined { IsJoinedAt (row_of self.old) from self.old.own result (row_of self.new) }
-        ensures sound { IsSound self.new }
-        ensures long { length self.new.set_numbers ≡ length self.old.set_numbers }
-        ensures width { self.new.sets.width ≡ self.old.sets.width }
+        ensures keeps { KeepsRow self.old self.new }
     {
         match self.sets.set(self.set_numbers.number(from)) {
             Some(others) => join(&mut self.laid, others),
@@ -229,12 +205,10 @@ impl Planes {
     }
 
     /// Leaves all sets without numbers, in the time of the sets that were met, but for once in a very long while.
-    #[tactic(auto, using(crate::proofs::Spreading::anew_sound, crate::proofs::Spreading::anew_blank, crate::proofs::Spreading::passed_sound, crate::proofs::Spreading::passed_blank))]
+    #[tactic(auto, using(crate::proofs::Spreading::anew_keeps, crate::proofs::Spreading::anew_blank, crate::proofs::Spreading::passed_keeps, crate::proofs::Spreading::passed_blank))]
     pub(crate) fn clear(&mut self)
         requires { IsSound self.old }
-        ensures sound { IsSound self.new }
-        ensures long { length self.new.set_numbers ≡ length self.old.set_numbers }
-        ensures width { self.new.sets.width ≡ self.old.sets.width }
+        ensures keeps { KeepsRow self.old self.new }
         ensures none { All (λ ns. ns ≡ []) (row_of self.new) }
     {
         self.own = self.set_numbers.len();

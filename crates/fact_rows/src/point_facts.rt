@@ -1,22 +1,22 @@
 // The facts of slots, in their order.
-ghost use Rattle.std.specs.Prelude.{◌≡◌, ◌++◌, [], OnOk};
+ghost use Rattle.std.specs.Prelude.{◌≡◌, ◌*◌, ◌+◌, ◌<◌, ◌≤◌, ◌^◌, ◌++◌, [], length, OnOk};
+ghost use Rattle.fact_rows.specs.Numbers.{bit_number, bits_of, numbers};
 ghost use Rattle.fact_rows.specs.Places.{numbers_at};
 ghost use Rattle.fact_rows.specs.Touched.{facts_at, facts_of, key as key_of, keys_at, keys_before, numbered_keys};
 
-use crate::bits::append;
+use crate::bits::{append, has_bit};
 use crate::grid::Grid;
 use crate::keys::{Key, Numbered, slot_of};
 use crate::place::Counts;
 use crate::value::value_in;
 use flow_points::{Fact, Slot};
-use plex_num::{Memory, Seq};
+use plex_num::Memory;
 use std::alloc::Global;
 
-/// Facts in their order, and room for the numbers of one slot. Other facts that take their place are listed in the same room.
+/// Facts in their order. Others that take their place are listed in the same room.
 #[derive(Drop)]
 pub struct PointFacts {
     pub facts: Vec<Fact>,
-    pub numbers: Vec<u32>,
 }
 
 impl PointFacts {
@@ -26,16 +26,7 @@ impl PointFacts {
     {
         PointFacts {
             facts: Vec::new(alloc),
-            numbers: Vec::new(alloc),
         }
-    }
-
-    /// The facts alone.
-    pub(crate) fn into_facts(self) -> Seq<Fact>
-        ensures { result ≡ self.facts.items }
-    {
-        let PointFacts { facts, numbers: _ } = self;
-        Seq::from_vec(facts)
     }
 }
 
@@ -45,14 +36,14 @@ pub(crate) fn push_point(
     entry: u32,
     grid: &Grid,
     point: u32,
-    list: &mut PointFacts,
+    facts: &mut Vec<Fact>,
 ) -> Result<(), Memory>
-    ensures { OnOk result (list.new.facts.items
-        ≡ list.old.facts.items ++ facts_of entry grid.now (keys_before grid.now.slots point)) }
+    ensures { OnOk result (facts.new.items
+        ≡ facts.old.items ++ facts_of entry grid.now (keys_before grid.now.slots point)) }
 {
     match grid.counts(point) {
         Some(counts) => {
-            push_slots(entry, grid, point, counts, list)?;
+            push_slots(entry, grid, point, counts, facts)?;
             Ok(())
         }
         None => Ok(()),
@@ -66,23 +57,23 @@ fn push_slots(
     grid: &Grid,
     point: u32,
     counts: Counts,
-    list: &mut PointFacts,
+    facts: &mut Vec<Fact>,
 ) -> Result<(), Memory>
-    ensures { OnOk result (list.new.facts.items
-        ≡ list.old.facts.items ++ facts_of entry grid.now (keys_at point counts)) }
+    ensures { OnOk result (facts.new.items
+        ≡ facts.old.items ++ facts_of entry grid.now (keys_at point counts)) }
 {
-    push_numbered(entry, grid, point, Numbered::Temp, counts.temps, list)?;
-    push_numbered(entry, grid, point, Numbered::Given, counts.given, list)?;
+    push_numbered(entry, grid, point, Numbered::Temp, counts.temps, facts)?;
+    push_numbered(entry, grid, point, Numbered::Given, counts.given, facts)?;
     push_numbered(
         entry,
         grid,
         point,
         Numbered::Answered,
         counts.answered,
-        list,
+        facts,
     )?;
-    push_slot(entry, grid, key(point, Slot::Depth), list)?;
-    push_slot(entry, grid, key(point, Slot::Awaits), list)?;
+    push_slot(entry, grid, key(point, Slot::Depth), facts)?;
+    push_slot(entry, grid, key(point, Slot::Awaits), facts)?;
     Ok(())
 }
 
@@ -93,13 +84,13 @@ fn push_numbered(
     point: u32,
     numbered: Numbered,
     count: u8,
-    list: &mut PointFacts,
+    facts: &mut Vec<Fact>,
 ) -> Result<(), Memory>
-    ensures { OnOk result (list.new.facts.items
-        ≡ list.old.facts.items ++ facts_of entry grid.now (numbered_keys point numbered count)) }
+    ensures { OnOk result (facts.new.items
+        ≡ facts.old.items ++ facts_of entry grid.now (numbered_keys point numbered count)) }
 {
     for number in 0..count {
-        push_slot(entry, grid, key(point, slot_of(numbered, number)), list)?;
+        push_slot(entry, grid, key(point, slot_of(numbered, number)), facts)?;
     }
     Ok(())
 }
@@ -111,27 +102,86 @@ fn key(point: u32, slot: Slot) -> Key
 }
 
 /// Appends the facts of a slot.
-fn push_slot(entry: u32, grid: &Grid, key: Key, list: &mut PointFacts) -> Result<(), Memory>
-    ensures { OnOk result (list.new.facts.items
-        ≡ list.old.facts.items ++ facts_at entry key (numbers_at grid.now key.point key.slot)) }
+#[tactic(auto, using(crate::proofs::Pushing::none_shown, crate::proofs::Pushing::words_shown, crate::proofs::Pushing::words_few))]
+pub(crate) fn push_slot(
+    entry: u32,
+    grid: &Grid,
+    key: Key,
+    facts: &mut Vec<Fact>,
+) -> Result<(), Memory>
+    ensures { OnOk result (facts.new.items
+        ≡ facts.old.items ++ facts_at entry key (numbers_at grid.now key.point key.slot)) }
 {
-    grid.list_numbers(key.point, key.slot, &mut list.numbers)?;
-    push_facts(entry, key, &list.numbers, &mut list.facts)?;
+    match grid.words(key.point, key.slot) {
+        Some(words) => {
+            push_words(entry, key, words, facts)?;
+            Ok(())
+        }
+        None => Ok(()),
+    }
+}
+
+/// Appends the facts of the numbers of a slot whose bits are set.
+fn push_words(entry: u32, key: Key, words: &[u64], facts: &mut Vec<Fact>) -> Result<(), Memory>
+    requires { 64 * length words.now ≤ 2 ^ 32 }
+    ensures { OnOk result
+        (facts.new.items ≡ facts.old.items ++ facts_at entry key (numbers words.now)) }
+{
+    for place in 0..words.len() {
+        if words[place] == 0 {
+            continue;
+        }
+        push_bits(entry, key, words[place], 64 * place as u32, facts)?;
+    }
     Ok(())
 }
 
-/// Appends the facts of these numbers of a slot.
-fn push_facts(entry: u32, key: Key, numbers: &[u32], facts: &mut Vec<Fact>) -> Result<(), Memory>
-    ensures { OnOk result (facts.new.items ≡ facts.old.items ++ facts_at entry key numbers.now) }
+/// Appends those of the bits of a word that has one, the lowest of which has this number. No bit is looked at below the first that is set,
+/// nor above the last.
+fn push_bits(
+    entry: u32,
+    key: Key,
+    word: u64,
+    first: u32,
+    facts: &mut Vec<Fact>,
+) -> Result<(), Memory>
+    requires some { word ≡ 0 → ⊥ }
+    requires fits { first + 64 ≤ 2 ^ 32 }
+    ensures { OnOk result
+        (facts.new.items ≡ facts.old.items ++ facts_at entry key (bits_of word first 64)) }
 {
-    for number in numbers {
-        let fact = Fact {
-            entry,
-            point: key.point,
-            slot: key.slot,
-            value: value_in(key.slot, *number),
-        };
-        append(facts, fact)?;
+    let low = word.trailing_zeros();
+    let end = 64 - word.leading_zeros();
+    for bit in low..end {
+        push_bit(entry, key, word, bit, first, facts)?;
     }
+    Ok(())
+}
+
+/// Appends that of a bit, if it is set.
+#[tactic(auto, using(crate::proofs::Pushing::bit_pushed, crate::proofs::Pushing::no_bit))]
+fn push_bit(
+    entry: u32,
+    key: Key,
+    word: u64,
+    bit: u32,
+    first: u32,
+    facts: &mut Vec<Fact>,
+) -> Result<(), Memory>
+    requires within { bit < 64 }
+    requires fits { first + 64 ≤ 2 ^ 32 }
+    ensures { OnOk result
+        (facts.new.items ≡ facts.old.items ++ facts_at entry key (bit_number word first bit)) }
+{
+    if !has_bit(word, bit) {
+        return Ok(());
+    }
+    let fact = Fact {
+        entry,
+        point: key.point,
+        slot: key.slot,
+        value: value_in(key.slot, first + bit),
+    };
+    append(facts, fact)?;
     Ok(())
 }

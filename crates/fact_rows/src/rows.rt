@@ -3,19 +3,20 @@ ghost use Rattle.std.specs.Prelude.{◌≡◌, ◌↔◌, ◌+◌, ◌<◌, ◌+
 ghost use Rattle.std.specs.Bool.{MatchBool};
 ghost use Rattle.std.specs.List.{Contains};
 ghost use Rattle.std.specs.List.Sorted.{IsStrictlySortedBy};
-ghost use Rattle.flow_points.specs.declared.fact.Fact.{Fact};
+ghost use Rattle.flow_points.specs.declared.fact.Fact.{Fact as FactType};
 ghost use Rattle.flow_points.specs.Facts.{Reached, fact};
 ghost use Rattle.flow_table.specs.Giving.{AreValues};
-ghost use Rattle.fact_rows.specs.Places.{numbers_at};
-ghost use Rattle.fact_rows.specs.Known.{AddsFact, AreFacts, Fits, HasSpot, Joins, KnowNothing, Knows, KnowsAt, missing, slots_of};
+ghost use Rattle.fact_rows.specs.Places.{HoldsSlot};
+ghost use Rattle.fact_rows.specs.Known.{AddsFact, AreFacts, ArePointsOf, Fits, HasSpot, Joins, KnowNothing, Knows, KnowsAt, missing, slots_of};
 ghost use Rattle.fact_rows.specs.Values.{is_awaits};
 ghost use Rattle.fact_rows.specs.Numbers.{AreNumbers};
 ghost use Rattle.fact_rows.specs.Touched.{IsTouched, facts_of, keys_of};
 
 use crate::grid::Grid;
 use crate::keys::Key;
-use crate::point_facts::{PointFacts, push_point};
-use crate::value::{number_in, values_in};
+use crate::place::Spot;
+use crate::point_facts::{PointFacts, push_point, push_slot};
+use crate::value::number_in;
 use flow_points::{Fact, Slot, Value};
 use flow_table::{FlowTable, KnownFacts};
 use plex_num::{Memory, Seq};
@@ -87,9 +88,9 @@ impl FactRows {
         ensures err { OnErr result (self.new ≡ self.old) }
     {
         let Fact { point, slot, .. } = fact;
-        let fresh = self.grid.is_empty(point, slot);
-        touch(&mut self.touched, fresh, point)?;
-        let added = self.grid.set(point, slot, number_in(slot, fact.value))?;
+        let spot = self.grid.spot_of(point, slot).unwrap();
+        touch(&self.grid, spot, point, &mut self.touched)?;
+        let added = self.grid.set(spot, number_in(slot, fact.value))?;
         Ok(added)
     }
 
@@ -104,12 +105,15 @@ impl FactRows {
             (self.new ≡ self.old)) }
         ensures err { OnErr result (self.new ≡ self.old) }
     {
-        if self.grid.is_empty(from.point, from.slot) {
+        let Some(source) = self.grid.spot_of(from.point, from.slot) else {
+            return Ok(false);
+        };
+        let target = self.grid.spot_of(to.point, to.slot).unwrap();
+        if !is_last(&self.touched, to.point) && self.grid.is_blank(source) {
             return Ok(false);
         }
-        let fresh = self.grid.is_empty(to.point, to.slot);
-        touch(&mut self.touched, fresh, to.point)?;
-        let grown = self.grid.join(from, to)?;
+        touch(&self.grid, target, to.point, &mut self.touched)?;
+        let grown = self.grid.join(source, target)?;
         Ok(grown)
     }
 
@@ -117,8 +121,17 @@ impl FactRows {
     pub fn facts(&self, alloc: Global) -> Result<Seq<Fact>, Memory>
         ensures { IfOk result (AreFacts (Knows self.now)) }
     {
-        let points = in_order(alloc, &self.touched)?;
+        let points = self.points(alloc)?;
         listed(alloc, self.entry, &self.grid, &points)
+    }
+
+    /// The points before which something is known, in order. There may be others among them, if something was to be added there and
+    /// was not.
+    pub fn points(&self, alloc: Global) -> Result<Vec<u32>, Memory>
+        ensures { IfOk result (λ points. ArePointsOf (Knows self.now) points.items) }
+    {
+        let points = in_order(alloc, &self.touched)?;
+        Ok(points)
     }
 
     /// Puts the facts that are known before a point, in their order, in the place of those of a list.
@@ -126,7 +139,7 @@ impl FactRows {
         ensures { OnOk result (AreFacts (KnowsAt self.now point) list.new.facts.items) }
     {
         list.facts.clear();
-        push_point(self.entry, &self.grid, point, list)?;
+        push_point(self.entry, &self.grid, point, &mut list.facts)?;
         Ok(())
     }
 }
@@ -144,9 +157,9 @@ impl KnownFacts for FactRows {
         if entry != self.entry {
             return Ok(Seq::new(alloc));
         }
-        let mut numbers = Vec::new(alloc);
-        self.grid.list_numbers(point, slot, &mut numbers)?;
-        values_in(alloc, slot, &numbers)
+        let mut facts = Vec::new(alloc);
+        push_slot(entry, &self.grid, Key { point, slot }, &mut facts)?;
+        values_of(alloc, &facts)
     }
 
     fn is_reached(&self, entry: u32, point: u32) -> bool {
@@ -157,16 +170,18 @@ impl KnownFacts for FactRows {
     }
 }
 
-/// Notes the point of a slot that had no number.
-#[tactic(auto, using(crate::proofs::Holding::not_fresh, crate::proofs::Holding::noted_last, crate::proofs::Holding::noted_more))]
-fn touch(touched: &mut Vec<u32>, fresh: bool, point: u32) -> Result<(), Memory>
-    ensures ok { OnOk result (IsTouched touched.old.items fresh point touched.new.items) }
+/// Notes a point, unless it was noted last, or there are numbers at this spot of a slot before it, so that it was noted for these.
+#[tactic(auto, using(crate::proofs::Holding::not_blank, crate::proofs::Holding::noted_last, crate::proofs::Holding::noted_more))]
+#[inline(always)]
+fn touch(grid: &Grid, spot: Spot, point: u32, touched: &mut Vec<u32>) -> Result<(), Memory>
+    requires { HoldsSlot grid.now.slots spot }
+    ensures ok { OnOk result (IsTouched grid.now spot touched.old.items point touched.new.items) }
     ensures err { OnErr result (touched.new.items ≡ touched.old.items) }
 {
-    if !fresh {
+    if is_last(touched, point) {
         return Ok(());
     }
-    if is_last(touched, point) {
+    if !grid.is_blank(spot) {
         return Ok(());
     }
     match touched.push(point) {
@@ -204,9 +219,20 @@ fn listed(alloc: Global, entry: u32, grid: &Grid, points: &[u32]) -> Result<Seq<
     ensures { IfOk result (λ facts.
         facts ≡ facts_of entry grid.now (keys_of grid.now.slots points.now)) }
 {
-    let mut list = PointFacts::new(alloc);
+    let mut facts = Vec::new(alloc);
     for point in points {
-        push_point(entry, grid, *point, &mut list)?;
+        push_point(entry, grid, *point, &mut facts)?;
     }
-    Ok(list.into_facts())
+    Ok(Seq::from_vec(facts))
+}
+
+/// The values of facts.
+fn values_of(alloc: Global, facts: &[Fact]) -> Result<Seq<Value>, Memory>
+    ensures { IfOk result (λ values. values ≡ map (λ (f : FactType). f.value) facts.now) }
+{
+    let mut values = Seq::new(alloc);
+    for fact in facts {
+        values.push(fact.value)?;
+    }
+    Ok(values)
 }

@@ -1,11 +1,9 @@
 // The number of a value in its plane.
-ghost use Rattle.std.specs.Prelude.{◌≡◌, ◌<◌, IfOk, map};
+ghost use Rattle.std.specs.Prelude.{◌≡◌, ◌<◌};
 ghost use Rattle.fact_rows.specs.Values.{HasNumber, IsAwaited, IsNumbered, awaited_number as awaited_number_of, is_awaits as is_awaits_of, number_in as number_in_of, numbered_value as numbered_value_of, numbers_of, value_in as value_in_of, value_number as value_number_of};
 
 use flow_points::{SMALL_NUMBERS, Slot, Value};
 use plex_limits::MOST_VALUES;
-use plex_num::{Memory, Seq};
-use std::alloc::Global;
 
 // The values that a job started with come before the small numbers.
 const ARGS: u32 = MOST_VALUES as u32;
@@ -64,17 +62,6 @@ fn value_number(value: Value) -> u32
         Value::Const(number) => ARGS + number,
         Value::Any => ANY_NUMBER,
     }
-}
-
-/// The values of these numbers in the plane of a slot.
-pub(crate) fn values_in(alloc: Global, slot: Slot, numbers: &[u32]) -> Result<Seq<Value>, Memory>
-    ensures { IfOk result (λ values. values ≡ map (value_in_of slot) numbers.now) }
-{
-    let mut values = Seq::new(alloc);
-    for number in numbers {
-        values.push(value_in(slot, *number))?;
-    }
-    Ok(values)
 }
 
 /// The value of a number in the plane of a slot.

@@ -15,7 +15,7 @@ use Rattle.flow_points.specs.declared.fact.Value.TheVariants.{Const, Any}
 use Rattle.flow_points.specs.declared.flow.Passing.{Passing}
 use Rattle.flow_points.specs.declared.flow.Passing.TheVariants.{Kept, Sets, Takes, Retrieves, Begins, Passes, Calls, Answers}
 use Rattle.flow_points.specs.declared.flow.Source.{Source}
-use Rattle.flow_points.specs.declared.flow.Source.TheVariants.{Of}
+use Rattle.flow_points.specs.declared.flow.Source.TheVariants.{Is, Of}
 use Rattle.flow_points.specs.Facts.{Facts, Guarded, IsLeast, Reached, SourceGives, fact}
 use Rattle.flow_points.specs.Slots.{HasSlot}
 use Rattle.flow_points.specs.Sources.{source_of}
@@ -29,8 +29,8 @@ use Rattle.fact_rows.specs.Known.{AddsFact, Fits, HasSpot, Joins, Knows, BitRows
 use Rattle.fact_rows.specs.Touched.{key}
 use Rattle.fact_rows.specs.Values.{HasNumber, is_awaits}
 use Rattle.least_facts.specs.Fit.{Awaited, NumberedSource, SourceFits}
-use Rattle.least_facts.specs.Giving.{CanFlow, Fills, FillsSlots, Gives, IsFact, OfValues}
-use Rattle.least_facts.specs.Growing.{is_answer}
+use Rattle.least_facts.specs.Giving.{CanFlow, Fills, FillsSlots, Gives, OfValues}
+use Rattle.answer_table.specs.Answers.{IsFact, is_answer}
 use Rattle.least_facts.proofs.Fitting.{InRows, least_fits, spot_at, value_numbered}
 
 -- ---- one after the other
@@ -128,6 +128,25 @@ some_given k new e p q s source values seen grown are same g = record {
 pub seen_number : (k : BitRows) (e p : ℕ) (s : Slot) (source : Source) (values seen : List Value) → AreValues (SourceGives (Knows k) e p source) values → seen ≡ values → ((v : Value) → SourceGives (Knows k) e p source v → HasNumber s v)
     → (v : Value) → Contains seen v → HasNumber s v
 seen_number k e p s source values seen are same number v c = number v (are.each v (subst (λ l. Contains l v) same c))
+
+-- one value
+pub one_number : (k : BitRows) (e p : ℕ) (s : Slot) (source : Source) (v : Value) → source ≡ Is v → ((w : Value) → SourceGives (Knows k) e p source w → HasNumber s w) → HasNumber s v
+one_number k e p s source v is number = number v (subst (λ o. SourceGives (Knows k) e p o v) (sym is) refl)
+
+pub one_given : (k new : BitRows) (e p q : ℕ) (s : Slot) (source : Source) (v : Value) (grown : Bool) → source ≡ Is v → Gives k (IsFact (fact e q s v)) grown new → Gives k (SlotGives (Knows k) e p source q s) grown new
+one_given k new e p q s source v grown is g = subst (λ o. Gives k (SlotGives (Knows k) e p o q s) grown new) (sym is) (record {
+  entry = g.entry;
+  slots = g.slots;
+  knows = λ f. (
+    λ c. ⊎_elim
+        (λ (one : f ≡ fact e q s v). inl (record { entry = ap (λ (z : Fact). z.entry) one; point = ap (λ (z : Fact). z.point) one; slot = ap (λ (z : Fact). z.slot) one; gives = ap (λ (z : Fact). z.value) one }))
+        inr ((g.knows f).0 c),
+    λ w. ⊎_elim
+        (λ (o : SlotGives (Knows k) e p (Is v) q s f). (g.knows f).1 (inl (λ j. record { entry = o.entry j; point = o.point j; slot = o.slot j; value = o.gives j })))
+        (λ old. (g.knows f).1 (inr old)) w,
+  );
+  counted = g.counted;
+})
 
 -- all values of another slot
 pub all_given : (k new : BitRows) (e p q : ℕ) (own s : Slot) (source : Source) (grown : Bool) → k.entry ≡ e → source ≡ Of own → Joins (key p own) (key q s) k new → MatchBool grown (missing new < missing k) (new ≡ k)

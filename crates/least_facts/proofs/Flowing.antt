@@ -36,19 +36,19 @@ use Rattle.flow_table.specs.Ways.{IsWayEnd}
 use Rattle.flow_table.proofs.Rowing.{place_fits}
 use Rattle.flow_table.proofs.Slotted.{row_of}
 use Rattle.fact_flows.specs.Flows.{FlowsTo, OneGives, WayGives}
-use Rattle.fact_flows.specs.Slots.{AreSlots}
 use Rattle.fact_flows.proofs.Flowing.{ways_give, ways_small}
 use Rattle.fact_flows.proofs.Peopled.{point_stands}
 use Rattle.fact_rows.specs.Known.{AddsFact, Fits, Knows, BitRows, missing}
-use Rattle.least_facts.specs.declared.answers.AnswerTable.{AnswerTable}
-use Rattle.least_facts.specs.Answers.{AreAnswers, awaited_at, known_answer}
+use Rattle.answer_table.specs.declared.answers.AnswerTable.{AnswerTable}
+use Rattle.answer_table.specs.Answers.{AreAnswers, IsFact, answer_way, awaited_at, is_answer, known_answer}
 use Rattle.least_facts.specs.Fit.{NumberedSource}
-use Rattle.least_facts.specs.Giving.{CanFlow, FillsSlots, IsFact, IsGood, IsOwnLeast}
-use Rattle.least_facts.specs.Growing.{Goes, HandedFrom, IsHandedBy, Search, SentFrom, IsLeastSoFar, WaySends, Went, answer_way, handing_of, is_answer}
-use Rattle.least_facts.specs.Marks.{Settles}
+use Rattle.least_facts.specs.Giving.{CanFlow, FillsPoint, IsGood, IsOwnLeast}
+use Rattle.least_facts.specs.Growing.{Goes, HandedFrom, IsHandedBy, Search, SentFrom, IsLeastSoFar, WaySends, Went, handing_of}
+use Rattle.least_facts.specs.Marks.{IsNoted, Settles}
 use Rattle.least_facts.proofs.Fitting.{least_fits}
 use Rattle.least_facts.proofs.Filling.{fact_given, fills_given, flows_more}
-use Rattle.least_facts.proofs.Growing.{answer_least, answer_low, awaited_of, one_answer, settled_goes, went_as, went_none}
+use Rattle.least_facts.proofs.Growing.{answer_least, answer_low, settled_goes, went_as, went_none}
+use Rattle.answer_table.proofs.Answering.{awaited_of, one_answer}
 use Rattle.least_facts.proofs.Marking.{known_is}
 use Rattle.least_facts.proofs.Numbering.{answers_fit, leads_fit}
 
@@ -61,21 +61,18 @@ module _ (x : Exchange) (t : FlowTable) (a : AnswerTable) (e p : ℕ) (how : Pas
   pub not_guarded : (b : Bool) → (IsTrue b ↔ Guarded (Knows s.rows) e p q how) → b ≡ false → Went x t a e (FlowsTo x (Knows s.rows) e p how q) s s
   not_guarded b test off = went_none x t a e (FlowsTo x (Knows s.rows) e p how q) s stands (λ f h. true≢false (sym (test.1 h.guarded) ∙ off))
 
-  pub flowed : (kept : IsExchange x) (are : AreAnswers x a) (all slots : List Slot) (grown reached : Bool) (k : BitRows) (m : List ℕ) (firsts : List (Option ℕ)) → AreSlots x q all → slots ≡ all → (IsTrue reached ↔ Reached (Knows s.rows) e q)
-      → FillsSlots x e p how q slots s.rows grown k → Settles a k e grown reached q s.marks s.firsts m firsts → Went x t a e (FlowsTo x (Knows s.rows) e p how q) s (record { rows = k; marks = m; firsts = firsts })
-  flowed kept are all slots grown reached k m firsts exact same test fills settles = record {
-    goes = settled_goes x t a e kept are s k q stands m firsts grown reached fills.fills test settles;
-    all = λ f h. fills.all f (record { entry = h.entry; point = h.point; slot = subst (λ l. Contains l f.slot) (sym same) ((exact.exact f.slot).1 h.slot); gives = h.gives });
+  pub flowed : (kept : IsExchange x) (are : AreAnswers x a) (grown noted : Bool) (k : BitRows) (m : List ℕ) (firsts : List (Option ℕ)) → FillsPoint x e p how q s.rows grown k → (IsTrue noted → IsNoted a s.rows e q)
+      → Settles a k e grown noted q s.marks s.firsts m firsts → Went x t a e (FlowsTo x (Knows s.rows) e p how q) s (record { rows = k; marks = m; firsts = firsts })
+  flowed kept are grown noted k m firsts filled test settles = record {
+    goes = settled_goes x t a e kept are s k q stands m firsts grown noted filled.fills.fills test settles;
+    all = λ f h. filled.fills.all f (record { entry = h.entry; point = h.point; slot = (filled.all.exact f.slot).1 h.slot; gives = h.gives });
   }
 
-pub slots_there : (x : Exchange) (q : ℕ) (all slots : List Slot) → AreSlots x q all → slots ≡ all → (s : Slot) → Contains slots s → HasSlot x q s
-slots_there x q all slots exact same s c = (exact.exact s).0 (subst (λ l. Contains l s) same c)
-
 -- a fact is added
-pub added : (x : Exchange) (t : FlowTable) (a : AnswerTable) (e : ℕ) (kept : IsExchange x) (are : AreAnswers x a) (s : Search) (stands : IsLeastSoFar x t e s) (f : Fact) (least : IsOwnLeast x e f) (grown reached : Bool) (k : BitRows) (m : List ℕ) (firsts : List (Option ℕ)) → (IsTrue reached ↔ Reached (Knows s.rows) e f.point)
-    → AddsFact f s.rows k → MatchBool grown (missing k + 1 ≡ missing s.rows) (k ≡ s.rows) → Settles a k e grown reached f.point s.marks s.firsts m firsts → Went x t a e (IsFact f) s (record { rows = k; marks = m; firsts = firsts })
-added x t a e kept are s stands f least grown reached k m firsts test adds counted settles = record {
-  goes = settled_goes x t a e kept are s k f.point stands m firsts grown reached
+pub added : (x : Exchange) (t : FlowTable) (a : AnswerTable) (e : ℕ) (kept : IsExchange x) (are : AreAnswers x a) (s : Search) (stands : IsLeastSoFar x t e s) (f : Fact) (least : IsOwnLeast x e f) (grown noted : Bool) (k : BitRows) (m : List ℕ) (firsts : List (Option ℕ)) → (IsTrue noted → IsNoted a s.rows e f.point)
+    → AddsFact f s.rows k → MatchBool grown (missing k + 1 ≡ missing s.rows) (k ≡ s.rows) → Settles a k e grown noted f.point s.marks s.firsts m firsts → Went x t a e (IsFact f) s (record { rows = k; marks = m; firsts = firsts })
+added x t a e kept are s stands f least grown noted k m firsts test adds counted settles = record {
+  goes = settled_goes x t a e kept are s k f.point stands m firsts grown noted
       (fills_given x f.point s.rows k (IsFact f) grown (fact_given s.rows k f grown adds counted) (λ h is. (ap (λ (z : Fact). z.point) is, subst (IsLeast x) (sym is) least.least))) test settles;
   all = λ h is. (adds.knows h).1 (inl is);
 }

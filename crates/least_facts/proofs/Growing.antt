@@ -45,13 +45,14 @@ use Rattle.fact_flows.specs.Given.{GivenAtStart}
 use Rattle.fact_rows.specs.declared.place.Counts.{Counts}
 use Rattle.fact_rows.specs.Known.{AreFacts, KnowNothing, Knows, BitRows, missing, slots_of}
 use Rattle.least_facts.specs.declared.analyser.Analyser.{Analyser}
-use Rattle.least_facts.specs.declared.answers.AnswerTable.{AnswerTable}
+use Rattle.answer_table.specs.declared.answers.AnswerTable.{AnswerTable}
 use Rattle.least_facts.specs.declared.looks.Looked.{Looked}
 use Rattle.least_facts.specs.declared.looks.Looked.TheVariants.{Whole, Over}
-use Rattle.least_facts.specs.Answers.{AreAnswers, IsReturnAt, ReturnsOf, awaited_at, known_answer, returned}
-use Rattle.least_facts.specs.Giving.{Fills, IsFact, IsOwnLeast}
-use Rattle.least_facts.specs.Growing.{AreFound, Goes, GoesOn, HandedFrom, IsFirst, IsNew, IsVisited, Search, Searches, SentFrom, IsLeastSoFar, Went, is_answer, without}
-use Rattle.least_facts.specs.Marks.{HasFirst, Settles, most_marks}
+use Rattle.answer_table.specs.Answers.{AreAnswers, IsFact, IsReturnAt, ReturnsOf, awaited_at, is_answer, returned}
+use Rattle.answer_table.proofs.Answering.{awaited_of, one_answer, retrieve_of}
+use Rattle.least_facts.specs.Giving.{Fills, IsOwnLeast}
+use Rattle.least_facts.specs.Growing.{AreFound, Goes, GoesOn, HandedFrom, IsFirst, IsNew, IsVisited, Search, Searches, SentFrom, IsLeastSoFar, Went, without}
+use Rattle.least_facts.specs.Marks.{HasFirst, IsNoted, Settles, most_marks}
 use Rattle.least_facts.specs.Least.{HasLearned}
 use Rattle.least_facts.specs.Looks.{FindsWithin}
 use Rattle.least_facts.proofs.Filling.{before_or_here, guard_by, none_yet}
@@ -92,15 +93,6 @@ answered x b p next l q values g =
 -- ---- RETRIEVEs and RETURNs by the table
 
 module _ (x : Exchange) (a : AnswerTable) (are : AreAnswers x a) where
-  pub awaited_of : (q n : ℕ) → IsRetrieveAt x q n → awaited_at a q ≡ Some n
-  awaited_of q n w = ap known_answer (are.awaits q w.place w.stands) ∙ w.retrieves
-
-  pub one_answer : (q n m : ℕ) → IsRetrieveAt x q n → IsRetrieveAt x q m → n ≡ m
-  one_answer q n m w u = same_Some n m (sym (awaited_of q n w) ∙ awaited_of q m u)
-
-  pub retrieve_of : (q n : ℕ) (at : Place) → StandsAt x q at → awaited_at a q ≡ Some n → IsRetrieveAt x q n
-  retrieve_of q n at stands is = record { place = at; stands = stands; retrieves = sym (ap known_answer (are.awaits q at stands)) ∙ is }
-
   pub answer_low : (q n : ℕ) → IsExchange x → IsRetrieveAt x q n → n < length x.signals
   answer_low q n kept w =
       ⊎_elim (λ lt. lt) (λ past. absurd (answer_below x w.place.block w.place.layer n past (place_fits x w.place kept w.stands.place) w.retrieves)) (cases_lt n (length x.signals))
@@ -244,8 +236,8 @@ module _ (x : Exchange) (t : FlowTable) (a : AnswerTable) (e : ℕ) where
     abbrev made : Search
     made = record { rows = k; marks = m; firsts = firsts }
 
-    grown_goes : (reached : Bool) → Fills x q s.rows true k → (IsTrue reached ↔ Reached (Knows s.rows) e q) → Settles a k e true reached q s.marks s.firsts m firsts → Goes x t a e s made
-    grown_goes reached fills test settles = record {
+    grown_goes : (noted : Bool) → Fills x q s.rows true k → (IsTrue noted → IsNoted a s.rows e q) → Settles a k e true noted q s.marks s.firsts m firsts → Goes x t a e s made
+    grown_goes noted fills test settles = record {
       stands = record {
         of_entry = fills.entry ∙ stands.of_entry;
         of_slots = fills.slots ∙ stands.of_slots;
@@ -279,23 +271,27 @@ module _ (x : Exchange) (t : FlowTable) (a : AnswerTable) (e : ℕ) where
         still_reached : (p : ℕ) → Reached (Knows s.rows) e p → Reached (Knows k) e p
         still_reached p r = (r.0, fills.more (fact e p Depth r.0) r.1)
 
+        -- a RETRIEVE that needed no note was reached
+        was_reached : (n : ℕ) → IsRetrieveAt x q n → IsTrue noted → Reached (Knows s.rows) e q
+        was_reached n w on = ⊎_elim (λ none. absurd (none-some n (sym none ∙ awaited_of x a are q n w))) (λ was. was) (test on)
+
         -- a RETRIEVE that is reached only now
-        first_now : (n : ℕ) → IsRetrieveAt x q n → Reached (Knows k) e q → reached ≡ false → HasFirst q m firsts n
+        first_now : (n : ℕ) → IsRetrieveAt x q n → Reached (Knows k) e q → noted ≡ false → HasFirst q m firsts n
         first_now n w r before = settles.found refl before r n (awaited_of x a are q n w) (let low = answer_low x a are q n kept w in let long = stands.long in omega (arith, low, long))
 
-        at_q : (n : ℕ) → IsRetrieveAt x q n → Reached (Knows k) e q → (b : Bool) → reached ≡ b → (first : ℕ) × (slice_get firsts n ≡ Some (Some first))
-        at_q n w r true is = (let f = stands.found n q w (test.0 is) in (f.0, settles.kept n f.0 f.1))
+        at_q : (n : ℕ) → IsRetrieveAt x q n → Reached (Knows k) e q → (b : Bool) → noted ≡ b → (first : ℕ) × (slice_get firsts n ≡ Some (Some first))
+        at_q n w r true is = (let f = stands.found n q w (was_reached n w is) in (f.0, settles.kept n f.0 f.1))
         at_q n w r false is = (let f = first_now n w r is in (f.first, f.is))
 
         found : (n p : ℕ) → IsRetrieveAt x p n → Reached (Knows k) e p → (first : ℕ) × (slice_get firsts n ≡ Some (Some first))
         found n p w r =
             ⊎_elim
             (λ was. (let f = stands.found n p w (r.0, was) in (f.0, settles.kept n f.0 f.1)))
-            (λ o. at_q n (subst (λ z. IsRetrieveAt x z n) o.0 w) (subst (Reached (Knows k) e) o.0 r) reached refl)
+            (λ o. at_q n (subst (λ z. IsRetrieveAt x z n) o.0 w) (subst (Reached (Knows k) e) o.0 r) noted refl)
             (fills.each (fact e p Depth r.0) r.1)
 
-        newly_by : (n first : ℕ) → IsRetrieveAt x q n → Reached (Knows k) e q → slice_get firsts n ≡ Some (Some first) → (b : Bool) → reached ≡ b → Reached (Knows s.rows) e q ⊎ Contains m first
-        newly_by n first w r is true before = inl (test.0 before)
+        newly_by : (n first : ℕ) → IsRetrieveAt x q n → Reached (Knows k) e q → slice_get firsts n ≡ Some (Some first) → (b : Bool) → noted ≡ b → Reached (Knows s.rows) e q ⊎ Contains m first
+        newly_by n first w r is true before = inl (was_reached n w before)
         newly_by n first w r is false before =
             let f = first_now n w r before in
             let same : f.first ≡ first = same_Some f.first first (same_Some (Some f.first) (Some first) (sym f.is ∙ is)) in
@@ -304,12 +300,12 @@ module _ (x : Exchange) (t : FlowTable) (a : AnswerTable) (e : ℕ) where
         newly : (n p first : ℕ) → IsRetrieveAt x p n → Reached (Knows k) e p → slice_get firsts n ≡ Some (Some first) → p ≡ q → Reached (Knows s.rows) e p ⊎ Contains m first
         newly n p first w r is same =
             ⊎_elim (λ was. inl (subst (Reached (Knows s.rows) e) (sym same) was)) inr
-            (newly_by n first (subst (λ z. IsRetrieveAt x z n) same w) (subst (Reached (Knows k) e) same r) is reached refl)
+            (newly_by n first (subst (λ z. IsRetrieveAt x z n) same w) (subst (Reached (Knows k) e) same r) is noted refl)
 
     -- a point got some facts, and was settled
-    pub settled_goes : (grown reached : Bool) → Fills x q s.rows grown k → (IsTrue reached ↔ Reached (Knows s.rows) e q) → Settles a k e grown reached q s.marks s.firsts m firsts → Goes x t a e s made
-    settled_goes true reached fills test settles = grown_goes reached fills test settles
-    settled_goes false reached fills test settles =
+    pub settled_goes : (grown noted : Bool) → Fills x q s.rows grown k → (IsTrue noted → IsNoted a s.rows e q) → Settles a k e grown noted q s.marks s.firsts m firsts → Goes x t a e s made
+    settled_goes true noted fills test settles = grown_goes noted fills test settles
+    settled_goes false noted fills test settles =
         let same = settles.same refl in
         let rows : s.rows ≡ k = sym fills.counted in
         let marks : s.marks ≡ m = sym same.0 in

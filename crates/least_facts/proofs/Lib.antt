@@ -1,7 +1,7 @@
 pub mod Numbering
 pub mod Fitting
-pub mod Answering
 pub mod Marking
 pub mod Filling
 pub mod Growing
 pub mod Flowing
+pub mod Placing

@@ -16,9 +16,9 @@ use Rattle.plex_num.proofs.Members.{first_or_later, none_in, first_is, later_is}
 use Rattle.flow_points.specs.Facts.{Reached}
 use Rattle.fact_rows.specs.Known.{Knows, BitRows}
 use Rattle.fact_rows.proofs.Holding.{from_map, to_map}
-use Rattle.least_facts.specs.declared.answers.AnswerTable.{AnswerTable}
-use Rattle.least_facts.specs.Answers.{ReturnsOf, awaited_at, known_answer}
-use Rattle.least_facts.specs.Marks.{IsThis, Marks, Reaches, Settles, Takes, most_returns, point_in}
+use Rattle.answer_table.specs.declared.answers.AnswerTable.{AnswerTable}
+use Rattle.answer_table.specs.Answers.{ReturnsOf, awaited_at, known_answer}
+use Rattle.least_facts.specs.Marks.{IsNoted, IsThis, Marks, Reaches, Settles, Takes, most_returns, point_in}
 use Rattle.plex_num.proofs.Lists.{get_set_same, get_set_other}
 
 -- one point
@@ -110,12 +110,6 @@ no_returns t answer old past = record {
 
 -- what is known of answers
 
-pub known_some : (os : List (Option ℕ)) (i : ℕ) (o : Option ℕ) → slice_get os i ≡ Some o → o ≡ known_answer (slice_get os i)
-known_some os i o there = sym (ap known_answer there)
-
-pub known_none : (os : List (Option ℕ)) (i : ℕ) → length os ≤ i → None ≡ known_answer (slice_get os i)
-known_none os i past = sym (ap known_answer (slice_get_past os i past))
-
 pub known_is : (o : Option (Option ℕ)) (p : ℕ) → known_answer o ≡ Some p → o ≡ Some (Some p)
 known_is None p is = absurd (none-some p is)
 known_is (Some o) p is = ap Some is
@@ -184,8 +178,8 @@ opens_first a q n m new firsts new_firsts is none lt put h = record {
 
 -- a point at which something is new
 
-module _ (a : AnswerTable) (k : BitRows) (e : ℕ) (grown reached : Bool) (q : ℕ) (m : List ℕ) (firsts : List (Option ℕ)) where
-  pub settles_same : grown ≡ false → Settles a k e grown reached q m firsts m firsts
+module _ (a : AnswerTable) (k : BitRows) (e : ℕ) (grown noted : Bool) (q : ℕ) (m : List ℕ) (firsts : List (Option ℕ)) where
+  pub settles_same : grown ≡ false → Settles a k e grown noted q m firsts m firsts
   settles_same none = record {
     same = λ is. (refl, refl);
     still = λ p c. c;
@@ -197,7 +191,7 @@ module _ (a : AnswerTable) (k : BitRows) (e : ℕ) (grown reached : Bool) (q : �
     found = λ is. absurd (true≢false (sym is ∙ none));
   }
 
-  pub settles_again : (mid : List ℕ) → grown ≡ true → reached ≡ true → Marks m mid (IsThis q) 1 → Settles a k e grown reached q m firsts mid firsts
+  pub settles_again : (mid : List ℕ) → grown ≡ true → noted ≡ true → Marks m mid (IsThis q) 1 → Settles a k e grown noted q m firsts mid firsts
   settles_again mid some again h = record {
     same = λ is. absurd (true≢false (sym some ∙ is));
     still = h.still;
@@ -209,7 +203,7 @@ module _ (a : AnswerTable) (k : BitRows) (e : ℕ) (grown reached : Bool) (q : �
     found = λ is before. absurd (true≢false (sym again ∙ before));
   }
 
-  pub settles_unreached : (mid : List ℕ) (b : Bool) → grown ≡ true → (IsTrue b ↔ Reached (Knows k) e q) → b ≡ false → Marks m mid (IsThis q) 1 → Settles a k e grown reached q m firsts mid firsts
+  pub settles_unreached : (mid : List ℕ) (b : Bool) → grown ≡ true → (IsTrue b ↔ Reached (Knows k) e q) → b ≡ false → Marks m mid (IsThis q) 1 → Settles a k e grown noted q m firsts mid firsts
   settles_unreached mid b some test off h = record {
     same = λ is. absurd (true≢false (sym some ∙ is));
     still = h.still;
@@ -221,7 +215,7 @@ module _ (a : AnswerTable) (k : BitRows) (e : ℕ) (grown reached : Bool) (q : �
     found = λ is before now. absurd (true≢false (sym (test.1 now) ∙ off));
   }
 
-  pub settles_reached : (mid new : List ℕ) (new_firsts : List (Option ℕ)) (b : Bool) → grown ≡ true → (IsTrue b ↔ Reached (Knows k) e q) → b ≡ true → Marks m mid (IsThis q) 1 → Reaches a q mid firsts new new_firsts → Settles a k e grown reached q m firsts new new_firsts
+  pub settles_reached : (mid new : List ℕ) (new_firsts : List (Option ℕ)) (b : Bool) → grown ≡ true → (IsTrue b ↔ Reached (Knows k) e q) → b ≡ true → Marks m mid (IsThis q) 1 → Reaches a q mid firsts new new_firsts → Settles a k e grown noted q m firsts new new_firsts
   settles_reached mid new new_firsts b some test on h r = record {
     same = λ is. absurd (true≢false (sym some ∙ is));
     still = λ p c. r.still p (h.still p c);
@@ -232,6 +226,12 @@ module _ (a : AnswerTable) (k : BitRows) (e : ℕ) (grown reached : Bool) (q : �
     firsts = λ i p there. ⊎_elim inl (λ opened. inr (test.0 on, opened.0, opened.1)) (r.firsts i p there);
     found = λ is before now. r.found;
   }
+
+pub noted_plain : (a : AnswerTable) (k : BitRows) (e q : ℕ) (o : Option ℕ) → o ≡ awaited_at a q → o ≡ None → IsNoted a k e q
+noted_plain a k e q o is none = inl (sym is ∙ none)
+
+pub noted_reached : (a : AnswerTable) (k : BitRows) (e q : ℕ) (b : Bool) → (IsTrue b ↔ Reached (Knows k) e q) → IsTrue b → IsNoted a k e q
+noted_reached a k e q b test on = inr (test.0 on)
 
 -- the next point
 

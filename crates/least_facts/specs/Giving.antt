@@ -12,6 +12,7 @@ use Rattle.flow_table.specs.declared.row.FlowTable.{FlowTable}
 use Rattle.flow_table.specs.Giving.{SlotsGive}
 use Rattle.flow_table.specs.Small.{IsSmall}
 use Rattle.fact_flows.specs.Flows.{FlowsTo}
+use Rattle.fact_flows.specs.Slots.{AreSlots}
 use Rattle.fact_rows.specs.Known.{Knows, BitRows, missing, slots_of}
 use Rattle.least_facts.specs.Fit.{HowFits}
 
@@ -21,9 +22,6 @@ pub record Gives (old : BitRows) (G : Fact → Type 0) (grown : Bool) (new : Bit
   pub slots : new.marks.slots ≡ old.marks.slots
   pub knows : (f : Fact) → Knows new f ↔ (G f ⊎ Knows old f)
   pub counted : MatchBool grown (missing new < missing old) (new ≡ old)
-
-abbrev pub IsFact : Fact → Fact → Type 0
-IsFact g f = f ≡ g
 
 -- a least fact of the entry
 pub record IsOwnLeast (x : Exchange) (e : ℕ) (f : Fact) : Type 0 where
@@ -63,3 +61,9 @@ pub record CanFlow (x : Exchange) (t : FlowTable) (e p : ℕ) (how : Passing) (q
 pub record FillsSlots (x : Exchange) (e p : ℕ) (how : Passing) (q : ℕ) (slots : List Slot) (old : BitRows) (grown : Bool) (new : BitRows) : Type 0 where
   pub fills : Fills x q old grown new
   pub all : (f : Fact) → SlotsGive (Knows old) e p how q slots f → Knows new f
+
+-- so it gets all that goes along to the slots before it
+pub record FillsPoint (x : Exchange) (e p : ℕ) (how : Passing) (q : ℕ) (old : BitRows) (grown : Bool) (new : BitRows) : Type 0 where
+  pub slots : List Slot
+  pub all : AreSlots x q slots
+  pub fills : FillsSlots x e p how q slots old grown new

@@ -3,13 +3,11 @@
 -- A RETURN sends its values to one RETRIEVE of its answer: the first that was reached. That one hands out what it has to the others
 -- that are reached, and so it is looked at again where another one is reached. So R RETURNs and Q RETRIEVEs of an answer take R + Q
 -- steps.
-use Rattle.std.specs.Prelude.{◌≡◌, ◌⊎◌, ◌↔◌, ℕ, ◌+◌, ◌*◌, ◌≤◌, Bool, true, false, List, length, Option, Some, None, map, slice_get}
+use Rattle.std.specs.Prelude.{◌≡◌, ◌⊎◌, ◌↔◌, ℕ, ◌+◌, ◌*◌, ◌≤◌, true, List, length, Option, Some, None, map, slice_get}
 use Rattle.std.specs.List.{Contains, range_with_len}
 use Rattle.exchange_model.specs.declared.exchange.Exchange.{Exchange}
 use Rattle.flow_points.specs.declared.fact.Fact.{Fact}
 use Rattle.flow_points.specs.declared.fact.Slot.TheVariants.{Answered}
-use Rattle.flow_points.specs.declared.flow.Passing.{Passing}
-use Rattle.flow_points.specs.declared.flow.Passing.TheVariants.{Answers}
 use Rattle.flow_points.specs.declared.flow.Source.{Source}
 use Rattle.flow_points.specs.declared.flow.Source.TheVariants.{Of}
 use Rattle.flow_points.specs.Facts.{Facts, IsLeast, Reached, fact}
@@ -22,9 +20,9 @@ use Rattle.flow_table.specs.Ways.{IsWayEnd}
 use Rattle.fact_flows.specs.Flows.{FlowsTo}
 use Rattle.fact_flows.specs.Given.{GivenAt, GivenAtStart}
 use Rattle.fact_rows.specs.Known.{BitRows, Knows, missing, slots_of}
-use Rattle.least_facts.specs.declared.answers.AnswerTable.{AnswerTable}
+use Rattle.answer_table.specs.declared.answers.AnswerTable.{AnswerTable}
 use Rattle.least_facts.specs.declared.marks.Marked.{Marked}
-use Rattle.least_facts.specs.Answers.{IsReturnAt, awaited_at}
+use Rattle.answer_table.specs.Answers.{IsReturnAt, awaited_at, is_answer}
 use Rattle.least_facts.specs.Marks.{marks_of, most_marks}
 
 -- how far a search is: what is known, the points that are marked, and for each answer the RETRIEVE that was reached first
@@ -40,10 +38,6 @@ search_of k m = record { rows = k; marks = marks_of m; firsts = m.firsts.items }
 pub record IsFirst (firsts : List (Option ℕ)) (q : ℕ) : Type 0 where
   pub answer : ℕ
   pub is : slice_get firsts answer ≡ Some (Some q)
-
-abbrev pub is_answer : Passing → Bool
-is_answer (Answers values) = true
-is_answer _ = false
 
 -- a flow from the point gives the fact, in a job of the entry, and an answer goes to the first RETRIEVE alone
 pub record SentFrom (x : Exchange) (firsts : List (Option ℕ)) (P : Facts) (e p : ℕ) (f : Fact) : Type 0 where
@@ -71,9 +65,6 @@ pub record WaySends (x : Exchange) (firsts : List (Option ℕ)) (P : Facts) (e p
   pub ends : IsWayEnd x w.ends end
   pub first : is_answer w.how ≡ true → IsFirst firsts end
   pub flows : FlowsTo x P e p w.how end f
-
-abbrev pub answer_way : Passing → ℕ → Way
-answer_way how answer = record { how = how; ends = ends.Retrieves answer }
 
 -- the values of an answer as they stand before a RETRIEVE of it
 abbrev pub handing_of : ℕ → List Source

@@ -6,7 +6,7 @@ use Rattle.flow_points.specs.declared.fact.Fact.{Fact}
 use Rattle.flow_points.specs.Facts.{IsLeast}
 use Rattle.fact_rows.specs.Known.{BitRows, Knows, slots_of}
 use Rattle.least_facts.specs.declared.analyser.Analyser.{Analyser}
-use Rattle.least_facts.specs.Answers.{AreAnswers}
+use Rattle.answer_table.specs.Answers.{AreAnswers}
 
 -- it is made for the exchange and its table
 pub record IsFor (x : Exchange) (t : FlowTable) (a : Analyser) : Type 0 where

@@ -1,7 +1,7 @@
-pub mod Answers
 pub mod Fit
 pub mod Marks
 pub mod Giving
 pub mod Growing
 pub mod Least
 pub mod Looks
+pub mod Settings

@@ -3,9 +3,9 @@ use Rattle.std.specs.Prelude.{◌≡◌, ◌⊎◌, ℕ, ◌+◌, ◌<◌, ◌�
 use Rattle.std.specs.List.{Contains, sum_by}
 use Rattle.flow_points.specs.Facts.{Reached}
 use Rattle.fact_rows.specs.Known.{Knows, BitRows}
-use Rattle.least_facts.specs.declared.answers.AnswerTable.{AnswerTable}
+use Rattle.answer_table.specs.declared.answers.AnswerTable.{AnswerTable}
 use Rattle.least_facts.specs.declared.marks.Marked.{Marked}
-use Rattle.least_facts.specs.Answers.{ReturnsOf, awaited_at}
+use Rattle.answer_table.specs.Answers.{ReturnsOf, awaited_at}
 
 -- the point of a mark is its lower half
 abbrev pub point_in : ℕ → ℕ
@@ -57,8 +57,12 @@ pub record Reaches (a : AnswerTable) (point : ℕ) (old : List ℕ) (before : Li
   pub firsts : (i p : ℕ) → slice_get after i ≡ Some (Some p) → (slice_get before i ≡ Some (Some p)) ⊎ ((awaited_at a point ≡ Some i) × IsOpened a i point new i p)
   pub found : (n : ℕ) → awaited_at a point ≡ Some n → n < length before → HasFirst point new after n
 
--- something is new at a point, unless nothing has grown: it is marked, and where it is reached only now, that is noted
-pub record Settles (a : AnswerTable) (k : BitRows) (e : ℕ) (grown reached : Bool) (point : ℕ) (old : List ℕ) (before : List (Option ℕ)) (new : List ℕ) (after : List (Option ℕ)) : Type 0 where
+-- a point needs no note where it comes to be reached: it is no RETRIEVE, or is reached already
+abbrev pub IsNoted : AnswerTable → BitRows → ℕ → ℕ → Type 0
+IsNoted a k e point = (awaited_at a point ≡ None) ⊎ Reached (Knows k) e point
+
+-- something is new at a point, unless nothing has grown: it is marked, and where a RETRIEVE is reached only now, that is noted
+pub record Settles (a : AnswerTable) (k : BitRows) (e : ℕ) (grown noted : Bool) (point : ℕ) (old : List ℕ) (before : List (Option ℕ)) (new : List ℕ) (after : List (Option ℕ)) : Type 0 where
   pub same : grown ≡ false → (new ≡ old) × (after ≡ before)
   pub still : (p : ℕ) → Contains old p → Contains new p
   pub own : grown ≡ true → Contains new point
@@ -66,4 +70,4 @@ pub record Settles (a : AnswerTable) (k : BitRows) (e : ℕ) (grown reached : Bo
   pub long : length after ≡ length before
   pub kept : (i p : ℕ) → slice_get before i ≡ Some (Some p) → slice_get after i ≡ Some (Some p)
   pub firsts : (i p : ℕ) → slice_get after i ≡ Some (Some p) → (slice_get before i ≡ Some (Some p)) ⊎ (Reached (Knows k) e point × (awaited_at a point ≡ Some i) × IsOpened a i point new i p)
-  pub found : grown ≡ true → reached ≡ false → Reached (Knows k) e point → (n : ℕ) → awaited_at a point ≡ Some n → n < length before → HasFirst point new after n
+  pub found : grown ≡ true → noted ≡ false → Reached (Knows k) e point → (n : ℕ) → awaited_at a point ≡ Some n → n < length before → HasFirst point new after n

@@ -10,10 +10,11 @@ ghost use Rattle.exchange_model.specs.declared.exchange.Exchange.{Exchange as Ex
 ghost use Rattle.least_facts.specs.Least.{HasLearned, IsFor, KnowLeast};
 ghost use Rattle.least_facts.specs.Looks.{FindsWithin};
 
-use crate::answers::{AnswerTable, answers_of};
 use crate::finding::find;
 use crate::looks::Looked;
 use crate::order::order_of;
+use crate::setting::Setting;
+use answer_table::{AnswerTable, answers_of};
 use exchange_model::Exchange;
 use fact_rows::FactRows;
 use flow_points::Fact;
@@ -66,16 +67,15 @@ impl Analyser {
         ensures learned { IfOk result (FindsWithin most (HasLearned exchange.now entry self.new)) }
         ensures own { OnOk result (IsFor exchange.now table.now self.new) }
     {
-        let looked = find(
+        let setting = Setting {
             alloc,
             exchange,
             table,
-            &self.answers,
-            &self.order,
+            answers: &self.answers,
+            order: &self.order,
             entry,
-            most,
-            &mut self.rows,
-        )?;
+        };
+        let looked = find(&setting, most, &mut self.rows)?;
         Ok(looked)
     }
 
@@ -102,16 +102,15 @@ impl Analyser {
         ensures order { IfOk result (λ facts. IsStrictlySortedBy fact_order facts) }
         ensures own { OnOk result (IsFor exchange.now table.now self.new) }
     {
-        find(
+        let setting = Setting {
             alloc,
             exchange,
             table,
-            &self.answers,
-            &self.order,
+            answers: &self.answers,
+            order: &self.order,
             entry,
-            None,
-            &mut self.rows,
-        )?;
+        };
+        find(&setting, None, &mut self.rows)?;
         let facts = self.rows.facts(alloc)?;
         Ok(facts)
     }

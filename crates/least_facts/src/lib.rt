@@ -7,15 +7,12 @@
 #![tactic(auto)]
 
 mod analyser;
-mod answers;
 mod finding;
 mod giving;
 mod looks;
 mod marks;
 mod order;
+mod setting;
 
 pub use analyser::{Analyser, facts_of};
-pub use answers::{AnswerTable, answers_of};
-pub use finding::gives_answer;
 pub use looks::Looked;
-pub use marks::awaited_in;

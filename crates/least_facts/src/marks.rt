@@ -1,11 +1,11 @@
 // The points that are to be looked at, and the RETRIEVEs that answers come to first.
-ghost use Rattle.std.specs.Prelude.{◌≡◌, ◌<◌, [], length, map, replicate, slice_get, slice_set, IfOk, None, OnOk, Some};
+ghost use Rattle.std.specs.Prelude.{◌≡◌, ◌<◌, [], length, map, replicate, slice_get, slice_set, IfOk, IsTrue, None, OnOk, Some};
 ghost use Rattle.std.specs.List.{Contains};
-ghost use Rattle.fact_rows.specs.Known.{Knows};
-ghost use Rattle.least_facts.specs.Answers.{ReturnsOf, awaited_at, known_answer};
-ghost use Rattle.least_facts.specs.Marks.{IsThis, Marks, Reaches, Settles, Takes, marks_of, most_returns, point_in};
+ghost use Rattle.answer_table.specs.Answers.{ReturnsOf, awaited_at, known_answer};
+ghost use Rattle.least_facts.specs.Marks.{IsNoted, IsThis, Marks, Reaches, Settles, Takes, marks_of, most_returns, point_in};
 
-use crate::answers::AnswerTable;
+use crate::setting::Setting;
+use answer_table::{AnswerTable, awaited_in};
 use fact_rows::FactRows;
 use flow_table::KnownFacts;
 use plex_num::{Memory, Seq};
@@ -141,19 +141,8 @@ fn mark_returns(
     }
 }
 
-/// The answer that the statement at a point awaits, if it is a RETRIEVE.
-#[tactic(auto, using(crate::proofs::Marking::known_some, crate::proofs::Marking::known_none))]
-pub fn awaited_in(answers: &AnswerTable, point: u32) -> Option<u32>
-    ensures { result ≡ awaited_at answers.now point }
-{
-    match answers.awaited.get(point as usize) {
-        Some(awaited) => *awaited,
-        None => None,
-    }
-}
-
 /// The RETRIEVE of an answer that was reached first, if one is reached.
-#[tactic(auto, using(crate::proofs::Marking::known_some, crate::proofs::Marking::known_none))]
+#[tactic(auto, using(answer_table::proofs::Answering::known_some, answer_table::proofs::Answering::known_none))]
 pub(crate) fn first_of(firsts: &[Option<u32>], answer: u32) -> Option<u32>
     ensures { result ≡ known_answer (slice_get firsts.now answer) }
 {
@@ -223,35 +212,57 @@ fn open(
     Ok(())
 }
 
-/// Settles a point at which something is new, unless nothing has grown: it is marked, at the end of all where it is late, and where it was not
-/// reached before, but is now, that is noted.
+/// Whether a point needs no note where it comes to be reached: it is no RETRIEVE, or is reached already.
+#[tactic(auto, using(crate::proofs::Marking::noted_plain, crate::proofs::Marking::noted_reached))]
+pub(crate) fn is_noted(setting: &Setting<'_>, rows: &FactRows, point: u32) -> bool
+    ensures { IsTrue result
+        → IsNoted setting.now.answers.now rows.now setting.now.entry point }
+{
+    match awaited_in(setting.answers, point) {
+        Some(_) => rows.is_reached(setting.entry, point),
+        None => true,
+    }
+}
+
+/// What came to a point: whether something is new there, whether it needed no note before, and whether it is to be looked at after all
+/// other points.
+#[derive(Clone, Copy)]
+pub struct Change {
+    pub point: u32,
+    pub grown: bool,
+    pub noted: bool,
+    pub late: bool,
+}
+
+/// Settles a point at which something is new, unless nothing has grown: it is marked, at the end of all where it is late, and where it is a
+/// RETRIEVE that was not reached before, but is now, that is noted.
 #[tactic(auto, using(crate::proofs::Marking::settles_same, crate::proofs::Marking::settles_again, crate::proofs::Marking::settles_unreached, crate::proofs::Marking::settles_reached))]
 pub(crate) fn settle(
-    answers: &AnswerTable,
-    order: &Seq<u32>,
+    setting: &Setting<'_>,
     rows: &FactRows,
-    entry: u32,
-    grown: bool,
-    reached: bool,
-    late: bool,
-    point: u32,
+    change: Change,
     marked: &mut Marked,
 ) -> Result<(), Memory>
-    ensures { OnOk result (Settles answers.now rows.now entry grown reached point
+    ensures { OnOk result (Settles setting.now.answers.now rows.now setting.now.entry
+        change.grown change.noted change.point
         (marks_of marked.old) marked.old.firsts.items
         (marks_of marked.new) marked.new.firsts.items) }
 {
-    if !grown {
+    if !change.grown {
         return Ok(());
     }
-    let place = if late { LAST } else { place_of(order, point) };
-    mark(&mut marked.marks, place, point)?;
-    if reached {
+    let place = if change.late {
+        LAST
+    } else {
+        place_of(setting.order, change.point)
+    };
+    mark(&mut marked.marks, place, change.point)?;
+    if change.noted {
         return Ok(());
     }
-    if !rows.is_reached(entry, point) {
+    if !rows.is_reached(setting.entry, change.point) {
         return Ok(());
     }
-    reach(answers, order, point, marked)?;
+    reach(setting.answers, setting.order, change.point, marked)?;
     Ok(())
 }

@@ -12,18 +12,18 @@ use Rattle.job_table.specs.Table.{table_periods}
 use Rattle.job_table.specs.Writing.{written_out}
 use Rattle.command_words.specs.Words.{Word}
 use Rattle.command_words.specs.declared.command.TimedWords.{TimedWords}
-use Rattle.command_answers.specs.declared.fault.Which.TheVariants.{First}
-use Rattle.command_answers.specs.Outcome.{Out, goes_on, or_refused}
-use Rattle.command_answers.specs.Reading.{exchange_of_text}
-use Rattle.command_answers.specs.Text.{signals_refusal, source_refusal, table_refusal}
-use Rattle.command_answers.specs.Given.{exchange_at, exchange_of_file, lines_at, lines_of_file, text_at, text_of_file}
-use Rattle.command_answers.specs.RunAnswer.{run_of}
-use Rattle.command_answers.specs.TimedAnswer.{merged_at, merged_of_file, timed_of}
-use Rattle.command_answers.specs.Answer.{answer_of}
-use Rattle.command_answers.specs.declared.answer.Answer.{Answer}
+use Rattle.answer_meaning.specs.declared.fault.Which.TheVariants.{First}
+use Rattle.answer_meaning.specs.Outcome.{Out, goes_on, or_refused}
+use Rattle.answer_meaning.specs.Reading.{exchange_of_text}
+use Rattle.answer_meaning.specs.Text.{signals_refusal, source_refusal, table_refusal}
+use Rattle.answer_meaning.specs.Given.{exchange_at, exchange_of_file, lines_at, lines_of_file, text_at, text_of_file}
+use Rattle.answer_meaning.specs.RunAnswer.{run_of}
+use Rattle.answer_meaning.specs.TimedAnswer.{merged_at, merged_of_file, timed_of}
+use Rattle.answer_meaning.specs.Answer.{answer_of}
+use Rattle.answer_meaning.specs.declared.answer.Answer.{Answer}
 use Rattle.command_words.specs.declared.status.Status.{Status}
 use Rattle.command_words.specs.declared.status.Status.TheVariants as status
-use Rattle.command_answers.proofs.Accepted.{gone_on}
+use Rattle.answer_meaning.proofs.Accepted.{gone_on}
 use Rattle.command_answers.proofs.Tables.{timed_is_run}
 use Rattle.merge_program.specs.Merge.{IsMergeAnswer, lines_answer, merge_of}
 

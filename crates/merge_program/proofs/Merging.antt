@@ -2,14 +2,14 @@
 use Rattle.std.proofs.Common.{◌≡◌, ℕ, ◌≤◌, ◌<◌, List, [], ◌∷◌, length, get_or, arith, Option, Result, Ok, IfOk, refl, subst, ap}
 use Rattle.plex_io.specs.Files.{Files}
 use Rattle.command_words.specs.Words.{Word}
-use Rattle.command_answers.specs.Outcome.{Out}
-use Rattle.command_answers.specs.Stages.{Comes, ReadAs}
-use Rattle.command_answers.specs.Answer.{answer_of}
-use Rattle.command_answers.specs.Program.{Answers, IsEnding, Makes}
-use Rattle.command_answers.proofs.Stages.{performs_as, performs_told}
-use Rattle.command_answers.proofs.Endings.{makes_told, makes_usage}
-use Rattle.command_answers.specs.declared.answer.Answer.{Answer}
-use Rattle.command_answers.specs.declared.answer.Stop.{Stop}
+use Rattle.answer_meaning.specs.Outcome.{Out}
+use Rattle.answer_meaning.specs.Stages.{Comes, ReadAs}
+use Rattle.answer_meaning.specs.Answer.{answer_of}
+use Rattle.answer_meaning.specs.Program.{Answers, IsEnding, Makes}
+use Rattle.answer_meaning.proofs.Stages.{performs_as, performs_told}
+use Rattle.answer_meaning.proofs.Endings.{makes_told, makes_usage}
+use Rattle.answer_meaning.specs.declared.answer.Answer.{Answer}
+use Rattle.answer_meaning.specs.declared.answer.Stop.{Stop}
 use Rattle.merge_program.specs.Merge.{AreOthers, IsMergeAnswer, merge_of, usage_answer}
 
 -- three words are their items

@@ -2,8 +2,8 @@
 use Rattle.std.proofs.Common.{◌≡◌, List, [], ◌∷◌, refl, sym, ◌∙◌}
 use Rattle.plex_io.specs.Files.{Files}
 use Rattle.command_words.specs.Words.{Word}
-use Rattle.command_answers.specs.Answer.{answer_of}
-use Rattle.command_answers.specs.declared.answer.Answer.{Answer}
+use Rattle.answer_meaning.specs.Answer.{answer_of}
+use Rattle.answer_meaning.specs.declared.answer.Answer.{Answer}
 use Rattle.merge_program.specs.Merge.{IsMergeAnswer, merge_of, usage_answer}
 
 pub answer : (words : List Word) (files : Files) → (a : Answer) × IsMergeAnswer words files a

@@ -5,12 +5,12 @@ use Rattle.exchange_model.specs.declared.exchange.Exchange.{Exchange}
 use Rattle.signal_file.specs.declared.line.Line.{Line}
 use Rattle.job_table.specs.Writing.{written_out}
 use Rattle.command_words.specs.Words.{Word}
-use Rattle.command_answers.specs.Outcome.{Out, goes_on}
-use Rattle.command_answers.specs.Given.{exchange_at, lines_at}
-use Rattle.command_answers.specs.TimedAnswer.{merged_at}
-use Rattle.command_answers.specs.Answer.{answer_of}
-use Rattle.command_answers.specs.Text.{LF}
-use Rattle.command_answers.specs.declared.answer.Answer.{Answer}
+use Rattle.answer_meaning.specs.Outcome.{Out, goes_on}
+use Rattle.answer_meaning.specs.Given.{exchange_at, lines_at}
+use Rattle.answer_meaning.specs.TimedAnswer.{merged_at}
+use Rattle.answer_meaning.specs.Answer.{answer_of}
+use Rattle.answer_meaning.specs.Text.{LF}
+use Rattle.answer_meaning.specs.declared.answer.Answer.{Answer}
 use Rattle.command_words.specs.declared.status.Status.TheVariants as status
 
 -- the usage line

@@ -2,10 +2,10 @@
 ghost use Rattle.std.specs.Prelude.{◌≡◌, ◌≤◌, List, [], ◌∷◌, Some, length};
 ghost use Rattle.plex_limits.specs.declared.limits.TheConstants.{MOST_BYTES};
 ghost use Rattle.plex_io.specs.Files.{Files};
-ghost use Rattle.command_answers.specs.Given.{exchange_at};
-ghost use Rattle.command_answers.specs.RunAnswer.{run_of};
-ghost use Rattle.command_answers.specs.TimedAnswer.{timed_of};
-ghost use Rattle.command_answers.specs.declared.answer.Answer.{Answer};
+ghost use Rattle.answer_meaning.specs.Given.{exchange_at};
+ghost use Rattle.answer_meaning.specs.RunAnswer.{run_of};
+ghost use Rattle.answer_meaning.specs.TimedAnswer.{timed_of};
+ghost use Rattle.answer_meaning.specs.declared.answer.Answer.{Answer};
 ghost use Rattle.command_words.specs.declared.status.Status.TheVariants.{Done};
 ghost use Rattle.command_words.specs.Words.{Word};
 ghost use Rattle.command_words.specs.declared.command.TimedWords.{TimedWords};

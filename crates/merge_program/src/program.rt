@@ -1,13 +1,14 @@
 // The program as one call.
 ghost use Rattle.std.specs.Prelude.{◌≡◌, Ok, IfOk, IfSome};
-ghost use Rattle.command_answers.specs.Stages.{Comes, ReadAs};
-ghost use Rattle.command_answers.specs.Program.{Answers, ProcessEnds, ProcessEndsAs, IsComplete};
-ghost use Rattle.command_answers.specs.Program.{IsEnding};
-ghost use Rattle.command_answers.specs.Program.{Makes, ReadCause, WriteCause};
+ghost use Rattle.answer_meaning.specs.Stages.{Comes, ReadAs};
+ghost use Rattle.answer_meaning.specs.Program.{Answers, ProcessEnds, ProcessEndsAs, IsComplete};
+ghost use Rattle.answer_meaning.specs.Program.{IsEnding};
+ghost use Rattle.answer_meaning.specs.Program.{Makes, ReadCause, WriteCause};
 ghost use Rattle.merge_program.specs.Merge.{AreOthers, IsMergeAnswer, lines_answer, merge_of};
 ghost use Rattle.merge_program.specs.Merge.{usage_answer, usage_text};
 
-use command_answers::{Answer, Stop, known_in, lines_in, merged_in, write_answer};
+use answer_meaning::{Answer, Stop};
+use command_answers::{known_in, lines_in, merged_in, write_answer};
 use command_words::Status;
 use exchange_model::Exchange;
 use job_table::write_out;
@@ -23,7 +24,7 @@ use text_parts::Text;
 /// status and the text are those of the answer (`IsMergeAnswer`), but for `Read` where a read
 /// failed, `Write` where the sink failed or is full, and then a proper front of the text was
 /// written, and `Memory`.
-#[tactic(auto, using(command_answers::proofs::Endings::ending))]
+#[tactic(auto, using(answer_meaning::proofs::Endings::ending))]
 pub fn plex_merge<S: Shelf, K: Sink>(
     alloc: Global,
     words: &[Word],
@@ -68,7 +69,7 @@ fn answered<S: Shelf>(alloc: Global, words: &[Word], shelf: &mut S) -> Result<An
 }
 
 /// What the files of these names come to.
-#[tactic(auto, using(command_answers::proofs::Stages::comes_rules))]
+#[tactic(auto, using(answer_meaning::proofs::Stages::comes_rules))]
 fn merge_files<S: Shelf>(
     alloc: Global,
     shelf: &mut S,

@@ -11,10 +11,10 @@ ghost use Rattle.parallel_dispatch.specs.Moves.{IsLeft, MayFly, MayMove, MayOpen
 use crate::course::Course;
 use crate::driving::Over;
 use crate::moves::{Left, Move, issue, next_move, retire, run_alone};
-use crate::pace::{Pace, Way};
 use crate::setting::{Hall, Setting};
 use crate::window::Window;
 use interference_check::PairTable;
+use job_pace::{Pace, Way};
 use job_types::JobStart;
 use plex_io::Gate;
 use retire_order::{Books, Ending, let_arrive};

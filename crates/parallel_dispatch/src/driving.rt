@@ -6,10 +6,10 @@ ghost use Rattle.parallel_dispatch.specs.Moves.{HasNames, IsLeft, MayOpen, Suits
 use crate::course::Course;
 use crate::desk::Desk;
 use crate::moves::{Left, Move};
-use crate::pace::{Pace, Way};
 use crate::setting::Hall;
 use crate::window::Window;
 use interference_check::PairTable;
+use job_pace::{Pace, Way};
 use plex_io::Gate;
 use retire_order::{Books, Ending};
 use shared_store::RootSeat;

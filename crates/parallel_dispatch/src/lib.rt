@@ -11,7 +11,6 @@ mod desk;
 mod dispatcher;
 mod driving;
 mod moves;
-mod pace;
 mod setting;
 mod threads;
 mod window;

@@ -14,12 +14,12 @@ ghost use Rattle.parallel_dispatch.specs.Turning.{turn_of};
 ghost use Rattle.parallel_dispatch.specs.Made.{HasRunAlone};
 ghost use Rattle.parallel_dispatch.specs.Moves.{CountsOne, HasIssued, HasNames, HasSummary, HasTurned, IsBare, IsLeft, MayFly, MayMove, MayRunAlone, StandBeside, Suits};
 
-use crate::pace::{Pace, Way};
 use crate::setting::{Hall, Setting};
 use crate::window::{Oldest, Window};
 use exchange_model::Exchange;
 use exchange_run::length_of;
 use interference_check::PairTable;
+use job_pace::{Pace, Way};
 use job_runner::RootWords;
 use job_types::JobStart;
 use machine_code::Code;

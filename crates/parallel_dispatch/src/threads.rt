@@ -6,10 +6,10 @@ ghost use Rattle.parallel_dispatch.specs.Moves.{AreOf, IsBare, MayBegin, SuitsBy
 use crate::course::Course;
 use crate::driving::{Over, run_jobs};
 use crate::moves::drain;
-use crate::pace::Pace;
 use crate::setting::{Hall, Setting, Work};
 use crate::window::Window;
 use interference_check::PairTable;
+use job_pace::Pace;
 use plex_io::Gate;
 use retire_order::Books;
 use shared_store::RootSeat;

@@ -1,53 +1,25 @@
--- What the loops over declarations, surveys, blocks and signals rest on, over plain variables.
+-- What the loops over items and blocks rest on, over plain variables.
 use Rattle.std.proofs.Common.{◌≡◌, ℕ, suc, ◌<◌, true, false, List, [], ◌∷◌, ◌++◌, length, Ok, Err, Result, arith}
 use Rattle.plex_lexer.specs.declared.token.Token.{Token}
 use Rattle.token_grammar.specs.Reading.{Stuck, at, many, with_front}
 use Rattle.token_grammar.proofs.Exact.{Exact-shorter, loop_more, loop_stop, loop_fail}
-use Rattle.plex_ast.specs.declared.block.Survey.{Survey}
-use Rattle.plex_ast.specs.declared.block.Decl.{Decl}
-use Rattle.plex_ast.specs.declared.block.Field.{Field}
 use Rattle.plex_ast.specs.declared.block.Block.{Block}
-use Rattle.plex_ast.specs.declared.tree.Signal.{Signal}
-use Rattle.plex_ast.specs.Words.{SIGNAL, BLOCK, FIELD, RECEIVE, SEND}
-use Rattle.plex_parser.specs.Blocks.{DECL, field_read, decl_read, survey_read, block_read, signal_read}
-use Rattle.plex_parser.proofs.Blocks.{Exact-field, Exact-decl, Exact-survey, Exact-block}
-use Rattle.plex_parser.proofs.Exchange.{Exact-signal}
+use Rattle.plex_ast.specs.declared.block.Item.{Item}
+use Rattle.plex_ast.specs.Words.{BLOCK}
+use Rattle.plex_parser.specs.Blocks.{ITEM, item_read, block_read}
+use Rattle.plex_parser.proofs.Blocks.{Exact-item, Exact-block}
 
-pub field_less : (w rest : List Token) (x : Field) → field_read w ≡ Ok (x, rest) → length rest < length w
-field_less = Exact-shorter Exact-field
+pub item_less : (b : ℕ) (n : ℕ) → (w rest : List Token) (x : Item) → item_read b n w ≡ Ok (x, rest) → length rest < length w
+item_less b n = Exact-shorter (Exact-item b (suc b) (omega arith) n (suc n) (omega arith))
 
-pub field_on : (front : List Field) (x : Field) (w rest : List Token) (all : Result (List Field × List Token) Stuck) → at FIELD w ≡ true → field_read w ≡ Ok (x, rest) → with_front front (many FIELD field_read w) ≡ all → with_front (front ++ (x ∷ [])) (many FIELD field_read rest) ≡ all
-field_on = loop_more FIELD field_read field_less
+pub item_on : (b : ℕ) (n : ℕ) → (front : List Item) (x : Item) (w rest : List Token) (all : Result (List Item × List Token) Stuck) → at ITEM w ≡ true → item_read b n w ≡ Ok (x, rest) → with_front front (many ITEM (item_read b n) w) ≡ all → with_front (front ++ (x ∷ [])) (many ITEM (item_read b n) rest) ≡ all
+item_on b n = loop_more ITEM (item_read b n) (item_less b n)
 
-pub field_end : (front : List Field) (w : List Token) (all : Result (List Field × List Token) Stuck) → at FIELD w ≡ false → with_front front (many FIELD field_read w) ≡ all → all ≡ Ok (front, w)
-field_end = loop_stop FIELD field_read field_less
+pub item_end : (b : ℕ) (n : ℕ) → (front : List Item) (w : List Token) (all : Result (List Item × List Token) Stuck) → at ITEM w ≡ false → with_front front (many ITEM (item_read b n) w) ≡ all → all ≡ Ok (front, w)
+item_end b n = loop_stop ITEM (item_read b n) (item_less b n)
 
-pub field_bad : (front : List Field) (w : List Token) (e : Stuck) (all : Result (List Field × List Token) Stuck) → at FIELD w ≡ true → field_read w ≡ Err e → with_front front (many FIELD field_read w) ≡ all → all ≡ Err e
-field_bad = loop_fail FIELD field_read field_less
-
-pub decl_less : (w rest : List Token) (x : Decl) → decl_read w ≡ Ok (x, rest) → length rest < length w
-decl_less = Exact-shorter Exact-decl
-
-pub decl_on : (front : List Decl) (x : Decl) (w rest : List Token) (all : Result (List Decl × List Token) Stuck) → at DECL w ≡ true → decl_read w ≡ Ok (x, rest) → with_front front (many DECL decl_read w) ≡ all → with_front (front ++ (x ∷ [])) (many DECL decl_read rest) ≡ all
-decl_on = loop_more DECL decl_read decl_less
-
-pub decl_end : (front : List Decl) (w : List Token) (all : Result (List Decl × List Token) Stuck) → at DECL w ≡ false → with_front front (many DECL decl_read w) ≡ all → all ≡ Ok (front, w)
-decl_end = loop_stop DECL decl_read decl_less
-
-pub decl_bad : (front : List Decl) (w : List Token) (e : Stuck) (all : Result (List Decl × List Token) Stuck) → at DECL w ≡ true → decl_read w ≡ Err e → with_front front (many DECL decl_read w) ≡ all → all ≡ Err e
-decl_bad = loop_fail DECL decl_read decl_less
-
-pub survey_less : (w rest : List Token) (x : Survey) → survey_read w ≡ Ok (x, rest) → length rest < length w
-survey_less = Exact-shorter Exact-survey
-
-pub survey_on : (front : List Survey) (x : Survey) (w rest : List Token) (all : Result (List Survey × List Token) Stuck) → at (RECEIVE ++ SEND) w ≡ true → survey_read w ≡ Ok (x, rest) → with_front front (many (RECEIVE ++ SEND) survey_read w) ≡ all → with_front (front ++ (x ∷ [])) (many (RECEIVE ++ SEND) survey_read rest) ≡ all
-survey_on = loop_more (RECEIVE ++ SEND) survey_read survey_less
-
-pub survey_end : (front : List Survey) (w : List Token) (all : Result (List Survey × List Token) Stuck) → at (RECEIVE ++ SEND) w ≡ false → with_front front (many (RECEIVE ++ SEND) survey_read w) ≡ all → all ≡ Ok (front, w)
-survey_end = loop_stop (RECEIVE ++ SEND) survey_read survey_less
-
-pub survey_bad : (front : List Survey) (w : List Token) (e : Stuck) (all : Result (List Survey × List Token) Stuck) → at (RECEIVE ++ SEND) w ≡ true → survey_read w ≡ Err e → with_front front (many (RECEIVE ++ SEND) survey_read w) ≡ all → all ≡ Err e
-survey_bad = loop_fail (RECEIVE ++ SEND) survey_read survey_less
+pub item_bad : (b : ℕ) (n : ℕ) → (front : List Item) (w : List Token) (e : Stuck) (all : Result (List Item × List Token) Stuck) → at ITEM w ≡ true → item_read b n w ≡ Err e → with_front front (many ITEM (item_read b n) w) ≡ all → all ≡ Err e
+item_bad b n = loop_fail ITEM (item_read b n) (item_less b n)
 
 pub block_less : (b : ℕ) (n : ℕ) → (w rest : List Token) (x : Block) → block_read b n w ≡ Ok (x, rest) → length rest < length w
 block_less b n = Exact-shorter (Exact-block b (suc b) (omega arith) n (suc n) (omega arith))
@@ -60,15 +32,3 @@ block_end b n = loop_stop BLOCK (block_read b n) (block_less b n)
 
 pub block_bad : (b : ℕ) (n : ℕ) → (front : List Block) (w : List Token) (e : Stuck) (all : Result (List Block × List Token) Stuck) → at BLOCK w ≡ true → block_read b n w ≡ Err e → with_front front (many BLOCK (block_read b n) w) ≡ all → all ≡ Err e
 block_bad b n = loop_fail BLOCK (block_read b n) (block_less b n)
-
-pub signal_less : (w rest : List Token) (x : Signal) → signal_read w ≡ Ok (x, rest) → length rest < length w
-signal_less = Exact-shorter Exact-signal
-
-pub signal_on : (front : List Signal) (x : Signal) (w rest : List Token) (all : Result (List Signal × List Token) Stuck) → at SIGNAL w ≡ true → signal_read w ≡ Ok (x, rest) → with_front front (many SIGNAL signal_read w) ≡ all → with_front (front ++ (x ∷ [])) (many SIGNAL signal_read rest) ≡ all
-signal_on = loop_more SIGNAL signal_read signal_less
-
-pub signal_end : (front : List Signal) (w : List Token) (all : Result (List Signal × List Token) Stuck) → at SIGNAL w ≡ false → with_front front (many SIGNAL signal_read w) ≡ all → all ≡ Ok (front, w)
-signal_end = loop_stop SIGNAL signal_read signal_less
-
-pub signal_bad : (front : List Signal) (w : List Token) (e : Stuck) (all : Result (List Signal × List Token) Stuck) → at SIGNAL w ≡ true → signal_read w ≡ Err e → with_front front (many SIGNAL signal_read w) ≡ all → all ≡ Err e
-signal_bad = loop_fail SIGNAL signal_read signal_less

@@ -1,7 +1,6 @@
 pub mod BlockLoops
 pub mod Blocks
 pub mod Exchange
-pub mod ItemLoops
 pub mod Loops
 pub mod Parsed
 pub mod PlainStatements

@@ -15,7 +15,7 @@ use std::alloc::Global;
 use token_grammar::{Fault, line_of, name, starts, starts_name, word};
 
 /// As many items as stand there, and the tokens after them.
-#[tactic(auto, using(crate::proofs::ItemLoops::item_less, crate::proofs::ItemLoops::item_on, crate::proofs::ItemLoops::item_end, crate::proofs::ItemLoops::item_bad))]
+#[tactic(auto, using(crate::proofs::BlockLoops::item_less, crate::proofs::BlockLoops::item_on, crate::proofs::BlockLoops::item_end, crate::proofs::BlockLoops::item_bad))]
 pub fn items(
     alloc: Global,
     tokens: Cursor<'_>,

@@ -8,13 +8,11 @@
 
 mod assignment;
 mod block;
-mod declaration;
 mod item;
 pub mod laws;
 mod nested;
 mod parser;
 mod plain;
-mod signal;
 mod signalling;
 
 pub use parser::{ParseFault, parse};

@@ -7,7 +7,7 @@ ghost use Rattle.plex_parser.specs.Blocks.{tree_read};
 ghost use Rattle.plex_parser.specs.Parses.{fault_of, parsed, tree_of, Answers, Parses, Yields};
 
 use crate::block::blocks;
-use crate::signal::signals;
+use declaration_parser::signals;
 use plex_ast::Tree;
 use plex_lexer::{Cursor, Tokens};
 use plex_limits::{MOST_BRACKETS, MOST_NESTED, MOST_TOKENS};

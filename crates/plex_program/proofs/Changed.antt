@@ -27,13 +27,13 @@ use Rattle.report_text.specs.Report.{event_lines, text_of}
 use Rattle.block_change.specs.declared.misfit.Misfit.{Misfit}
 use Rattle.block_change.specs.Carried.{AreStanding, state_with}
 use Rattle.block_change.specs.Misfits.{misfit}
-use Rattle.command_answers.specs.Outcome.{headed_by}
-use Rattle.command_answers.specs.RunAnswer.{end_of, ended_answer, ending_answer, ending_of, run_answer}
-use Rattle.command_answers.specs.ChangeAnswer.{AnswersChange, ChangesOrNot, IsChanged, changed_answer, ends_before, further_answer, is_changed, misfit_answer}
-use Rattle.command_answers.specs.Lines.{AreRead}
+use Rattle.answer_meaning.specs.Outcome.{headed_by}
+use Rattle.answer_meaning.specs.RunAnswer.{end_of, ended_answer, ending_answer, ending_of, run_answer}
+use Rattle.answer_meaning.specs.ChangeAnswer.{AnswersChange, ChangesOrNot, IsChanged, changed_answer, ends_before, further_answer, is_changed, misfit_answer}
+use Rattle.answer_meaning.specs.Lines.{AreRead}
 use Rattle.run_answers.specs.Runs.{CarriesOn, IsRunOf}
-use Rattle.command_answers.specs.Text.{change_text}
-use Rattle.command_answers.specs.declared.answer.Answer.{Answer}
+use Rattle.answer_meaning.specs.Text.{change_text}
+use Rattle.answer_meaning.specs.declared.answer.Answer.{Answer}
 use Rattle.run_answers.proofs.Telling.{answer_is}
 
 -- ## A run that ends after fewer jobs at the latest, beside the same run with a higher limit

@@ -3,17 +3,18 @@ ghost use Rattle.std.specs.Prelude.{◌≡◌, ◌≤◌, IfOk, None};
 ghost use Rattle.store_layout.specs.Laid.{IsLayout};
 ghost use Rattle.block_change.specs.Carried.{AreStanding, state_with};
 ghost use Rattle.block_change.specs.Misfits.{misfit};
-ghost use Rattle.command_answers.specs.Stages.{Performs};
-ghost use Rattle.command_answers.specs.ChangeAnswer.{ChangeAnswers, ChangeComes, ChangesOrNot};
-ghost use Rattle.command_answers.specs.ChangeAnswer.{IsChanged, is_changed};
-ghost use Rattle.command_answers.specs.Program.{IsEnding};
-ghost use Rattle.command_answers.specs.Lines.{AreRead};
+ghost use Rattle.answer_meaning.specs.Stages.{Performs};
+ghost use Rattle.answer_meaning.specs.ChangeAnswer.{ChangeAnswers, ChangeComes, ChangesOrNot};
+ghost use Rattle.answer_meaning.specs.ChangeAnswer.{IsChanged, is_changed};
+ghost use Rattle.answer_meaning.specs.Program.{IsEnding};
+ghost use Rattle.answer_meaning.specs.Lines.{AreRead};
 ghost use Rattle.command_words.specs.Bounded.{AreWithin, HasBounds};
 
 use crate::going::{Crew, Host, go_on, run_first};
 use crate::running::run_answer;
+use answer_meaning::{Answer, Stop, Which};
 use block_change::{Named, misfit_of};
-use command_answers::{Answer, Stop, Which, exchange_as, known_in, lines_in};
+use command_answers::{exchange_as, known_in, lines_in};
 use command_words::{Bounds, ChangeWords};
 use exchange_model::Exchange;
 use plex_io::{Gate, Shelf};
@@ -28,7 +29,7 @@ use std::thread::Threads;
 use store_layout::{Layout, layout_of};
 
 /// `change`.
-#[tactic(auto, using(command_answers::proofs::Stages::performs_rules))]
+#[tactic(auto, using(answer_meaning::proofs::Stages::performs_rules))]
 pub fn perform_change<R: Threads + Wait + Sync, S: Shelf, G: Gate + Sync>(
     host: &Host<'_, R, G>,
     shelf: &mut S,

@@ -6,7 +6,7 @@ ghost use Rattle.store_layout.specs.Laid.{IsLayout};
 ghost use Rattle.machine_meaning.specs.Faithful.{Faithful};
 ghost use Rattle.checked.specs.Kept.{IsChecked};
 ghost use Rattle.exchange_run.specs.Runs.{IsEndOf, MayGoOn, state_of};
-ghost use Rattle.command_answers.specs.Lines.{AreRead};
+ghost use Rattle.answer_meaning.specs.Lines.{AreRead};
 ghost use Rattle.run_answers.specs.Runs.{IsRunOf};
 ghost use Rattle.plex_program.specs.Crews.{IsCrew};
 ghost use Rattle.command_words.specs.Bounded.{AreWithin, AreWorkers};

@@ -1,22 +1,23 @@
 // The work of each command, up to its answer.
 ghost use Rattle.std.specs.Prelude.{◌≡◌, ◌≤◌, IfOk, IfSome, length};
 ghost use Rattle.plex_limits.specs.declared.limits.TheConstants.{MOST_BYTES};
-ghost use Rattle.command_answers.specs.Program.{IsEnding};
-ghost use Rattle.command_answers.specs.Stages.{Comes, Performs, ReadAs, TellsOutcome};
-ghost use Rattle.command_answers.specs.RunAnswer.{IsCertifiedRun, RunsWith, run_answer};
-ghost use Rattle.command_answers.specs.RunAnswer.{run_of};
-ghost use Rattle.command_answers.specs.LoadAnswer.{load_of};
-ghost use Rattle.command_answers.specs.Answer.{performed};
-ghost use Rattle.command_answers.specs.Lines.{AreRead};
+ghost use Rattle.answer_meaning.specs.Program.{IsEnding};
+ghost use Rattle.answer_meaning.specs.Stages.{Comes, Performs, ReadAs, TellsOutcome};
+ghost use Rattle.answer_meaning.specs.RunAnswer.{IsCertifiedRun, RunsWith, run_answer};
+ghost use Rattle.answer_meaning.specs.RunAnswer.{run_of};
+ghost use Rattle.answer_meaning.specs.LoadAnswer.{load_of};
+ghost use Rattle.answer_meaning.specs.Answer.{performed};
+ghost use Rattle.answer_meaning.specs.Lines.{AreRead};
 ghost use Rattle.command_words.specs.Bounded.{AreWithin, HasBounds, IsBounded};
 
 use crate::changing::perform_change;
 use crate::going::Host;
 use crate::running::{load_answer, run_answer};
 use crate::timing::perform_timed;
+use answer_meaning::{Answer, Stop};
 use command_answers::{
-    Answer, Stop, certificate_stop, fitting, kept_of_text, known_in, known_of_file, lines_in,
-    lines_of_file, perform_analysis, perform_certificate, text_in,
+    certificate_stop, fitting, kept_of_text, known_in, known_of_file, lines_in, lines_of_file,
+    perform_analysis, perform_certificate, text_in,
 };
 use command_words::{Bounds, Command, RunWords};
 use exchange_model::Exchange;
@@ -24,10 +25,11 @@ use load_maker::{load_exchange, load_signals};
 use plex_io::{Gate, Shelf, Word};
 use plex_limits::MOST_BYTES;
 use plex_num::{Memory, Seq};
-use run_answers::{perform_list, perform_trace, source_answer};
+use run_answers::source_answer;
 use signal_file::Line;
 use std::sync::Wait;
 use std::thread::Threads;
+use view_answers::{perform_list, perform_trace};
 
 /// By what the jobs of a run without a certificate are.
 #[derive(Clone, Copy)]
@@ -39,7 +41,7 @@ enum Way {
 }
 
 /// `single`, and `run` without a certificate.
-#[tactic(auto, using(command_answers::proofs::Stages::comes_rules))]
+#[tactic(auto, using(answer_meaning::proofs::Stages::comes_rules))]
 fn perform_run<R: Threads + Wait + Sync, S: Shelf, G: Gate + Sync>(
     host: &Host<'_, R, G>,
     shelf: &mut S,
@@ -77,7 +79,7 @@ fn answer_by<R: Threads + Wait + Sync, G: Gate + Sync>(
 }
 
 /// `run` with a certificate.
-#[tactic(auto, using(command_answers::proofs::Stages::performs_rules))]
+#[tactic(auto, using(answer_meaning::proofs::Stages::performs_rules))]
 fn perform_certified<R: Threads + Wait + Sync, S: Shelf, G: Gate + Sync>(
     host: &Host<'_, R, G>,
     shelf: &mut S,
@@ -96,7 +98,7 @@ fn perform_certified<R: Threads + Wait + Sync, S: Shelf, G: Gate + Sync>(
 }
 
 /// The answer of a run whose certificate has this text, which may be too large.
-#[tactic(auto, using(command_answers::proofs::Stages::certified_rules))]
+#[tactic(auto, using(answer_meaning::proofs::Stages::certified_rules))]
 fn certified_answer<R: Threads + Wait + Sync, G: Gate + Sync>(
     host: &Host<'_, R, G>,
     exchange: &Exchange,
@@ -121,7 +123,7 @@ fn certified_answer<R: Threads + Wait + Sync, G: Gate + Sync>(
 }
 
 /// `load`.
-#[tactic(auto, using(command_answers::proofs::Stages::reads_rules))]
+#[tactic(auto, using(answer_meaning::proofs::Stages::reads_rules))]
 fn perform_load<R: Threads + Wait + Sync, G: Gate + Sync>(
     host: &Host<'_, R, G>,
     calls: u32,
@@ -139,7 +141,7 @@ fn perform_load<R: Threads + Wait + Sync, G: Gate + Sync>(
 
 /// What a command comes to. Jobs may run at once on the threads of the host, and the thread of each
 /// calls the gate.
-#[tactic(auto, using(command_answers::proofs::Stages::performs_told))]
+#[tactic(auto, using(answer_meaning::proofs::Stages::performs_told))]
 pub fn perform<R: Threads + Wait + Sync, S: Shelf, G: Gate + Sync>(
     host: &Host<'_, R, G>,
     shelf: &mut S,

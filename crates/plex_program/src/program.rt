@@ -1,15 +1,16 @@
 // The program as one call.
 ghost use Rattle.std.specs.Prelude.{◌≡◌, IfSome, None, Ok};
-ghost use Rattle.command_answers.specs.Answer.{IsAnswer, usage_answer};
-ghost use Rattle.command_answers.specs.Program.{Answers, ProcessEnds, ProcessEndsAs, IsComplete};
-ghost use Rattle.command_answers.specs.Program.{Makes};
-ghost use Rattle.command_answers.specs.Program.{ReadCause, WriteCause};
-ghost use Rattle.command_answers.specs.Stages.{ReadAs};
+ghost use Rattle.answer_meaning.specs.Answer.{IsAnswer, usage_answer};
+ghost use Rattle.answer_meaning.specs.Program.{Answers, ProcessEnds, ProcessEndsAs, IsComplete};
+ghost use Rattle.answer_meaning.specs.Program.{Makes};
+ghost use Rattle.answer_meaning.specs.Program.{ReadCause, WriteCause};
+ghost use Rattle.answer_meaning.specs.Stages.{ReadAs};
 ghost use Rattle.command_words.specs.Words.{shape};
 
 use crate::going::Host;
 use crate::perform::perform;
-use command_answers::{Answer, Stop, usage_line, write_answer};
+use answer_meaning::{Answer, Stop};
+use command_answers::{usage_line, write_answer};
 use command_words::{Status, read_command};
 use plex_io::{Gate, Shelf, Sink, Word};
 use plex_num::Seq;
@@ -26,7 +27,7 @@ use text_parts::Text;
 /// `Memory`. Where the words allow more than one worker, jobs may run at once on threads of `rt`,
 /// each of which calls `gate` before and after its job; the answer is that of the single run all
 /// the same.
-#[tactic(auto, using(command_answers::proofs::Endings::ending))]
+#[tactic(auto, using(answer_meaning::proofs::Endings::ending))]
 pub fn plex<R: Threads + Wait + Sync, S: Shelf, K: Sink, G: Gate + Sync>(
     rt: &R,
     alloc: Global,
@@ -60,7 +61,7 @@ pub fn plex<R: Threads + Wait + Sync, S: Shelf, K: Sink, G: Gate + Sync>(
 }
 
 /// The answer to the words.
-#[tactic(auto, using(command_answers::proofs::Endings::answering))]
+#[tactic(auto, using(answer_meaning::proofs::Endings::answering))]
 fn answered<R: Threads + Wait + Sync, S: Shelf, G: Gate + Sync>(
     host: &Host<'_, R, G>,
     words: &[Word],

@@ -1,15 +1,15 @@
 // The answers of runs in which several jobs may run at once.
 ghost use Rattle.std.specs.Prelude.{◌≡◌, IfOk, IfSome};
 ghost use Rattle.checked.specs.Kept.{IsChecked};
-ghost use Rattle.command_answers.specs.RunAnswer.{run_answer};
-ghost use Rattle.command_answers.specs.LoadAnswer.{load_answer};
-ghost use Rattle.command_answers.specs.Program.{IsEnding};
-ghost use Rattle.command_answers.specs.Lines.{AreRead};
+ghost use Rattle.answer_meaning.specs.RunAnswer.{run_answer};
+ghost use Rattle.answer_meaning.specs.LoadAnswer.{load_answer};
+ghost use Rattle.answer_meaning.specs.Program.{IsEnding};
+ghost use Rattle.answer_meaning.specs.Lines.{AreRead};
 ghost use Rattle.command_words.specs.Bounded.{AreWithin};
 
 use crate::going::{Host, run_first};
+use answer_meaning::Answer;
 use checked::Checked;
-use command_answers::Answer;
 use command_words::{Bounds, USUAL_JOBS, USUAL_WORKERS};
 use exchange_model::Exchange;
 use plex_io::Gate;

@@ -1,8 +1,8 @@
 // The program over devices in memory that never fail of themselves.
 ghost use Rattle.std.specs.Prelude.{◌≡◌, ◌⊎◌};
 ghost use Rattle.plex_io.specs.Steady.{always_held};
-ghost use Rattle.command_answers.specs.Answer.{IsAnswer};
-ghost use Rattle.command_answers.specs.Whole.{HasRoom, IsWhole};
+ghost use Rattle.answer_meaning.specs.Answer.{IsAnswer};
+ghost use Rattle.answer_meaning.specs.Whole.{HasRoom, IsWhole};
 
 use crate::program::plex;
 use command_words::Status;
@@ -15,7 +15,7 @@ use std::thread::Threads;
 /// sink has room for the answer's text, no write fails either: the whole text is written and the
 /// status is the answer's, or memory was refused. After `Memory` nothing was written. This follows
 /// from the contract of `plex` alone, and so holds for each call of it with two such devices.
-#[tactic(auto, using(command_answers::proofs::Endings::whole_end, command_answers::proofs::Endings::silent_end))]
+#[tactic(auto, using(answer_meaning::proofs::Endings::whole_end, answer_meaning::proofs::Endings::silent_end))]
 pub fn plex_steady<R: Threads + Wait + Sync, G: Gate + Sync>(
     rt: &R,
     alloc: Global,

@@ -1,20 +1,21 @@
 // A run with a table of periodic signals.
 ghost use Rattle.std.specs.Prelude.{IfOk};
-ghost use Rattle.command_answers.specs.Stages.{Comes};
-ghost use Rattle.command_answers.specs.TimedAnswer.{timed_of};
-ghost use Rattle.command_answers.specs.Program.{IsEnding};
+ghost use Rattle.answer_meaning.specs.Stages.{Comes};
+ghost use Rattle.answer_meaning.specs.TimedAnswer.{timed_of};
+ghost use Rattle.answer_meaning.specs.Program.{IsEnding};
 ghost use Rattle.command_words.specs.Bounded.{HasBounds};
 
 use crate::going::Host;
 use crate::running::run_answer;
-use command_answers::{Answer, Stop, known_in, lines_in, merged_in};
+use answer_meaning::{Answer, Stop};
+use command_answers::{known_in, lines_in, merged_in};
 use command_words::TimedWords;
 use plex_io::{Gate, Shelf};
 use std::sync::Wait;
 use std::thread::Threads;
 
 /// `timed`.
-#[tactic(auto, using(command_answers::proofs::Stages::comes_rules))]
+#[tactic(auto, using(answer_meaning::proofs::Stages::comes_rules))]
 pub fn perform_timed<R: Threads + Wait + Sync, S: Shelf, G: Gate + Sync>(
     host: &Host<'_, R, G>,
     shelf: &mut S,

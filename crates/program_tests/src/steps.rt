@@ -5,7 +5,7 @@ ghost use Rattle.store_layout.specs.Laid.{IsLayout};
 ghost use Rattle.machine_meaning.specs.Faithful.{Faithful};
 ghost use Rattle.checked.specs.Kept.{IsChecked};
 ghost use Rattle.exchange_run.specs.Runs.{MayGoOn};
-ghost use Rattle.command_answers.specs.Lines.{AreRead};
+ghost use Rattle.answer_meaning.specs.Lines.{AreRead};
 
 use crate::devices::files_of;
 use crate::whole::NotMade;

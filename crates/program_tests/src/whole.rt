@@ -1,6 +1,6 @@
 // What the program writes, where memory is ample.
 use crate::devices::{files_of, words_of};
-use command_answers::Stop;
+use answer_meaning::Stop;
 use command_words::Status;
 use plex_io::{Gate, SteadyShelf, SteadySink};
 use plex_num::Memory;

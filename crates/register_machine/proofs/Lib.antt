@@ -1,7 +1,7 @@
 pub mod Ahead
 pub mod Acting
 pub mod Choosing
-pub mod Copying
+pub mod Keeping
 pub mod Counting
 pub mod Going
 pub mod Looking

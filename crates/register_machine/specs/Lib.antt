@@ -3,3 +3,4 @@ pub mod Search
 pub mod Turns
 pub mod Making
 pub mod Looking
+pub mod Kept

@@ -5,14 +5,14 @@ ghost use Rattle.store_layout.specs.Laid.{IsLayout};
 ghost use Rattle.code_gen.specs.Unrolled.{unrolled_length};
 ghost use Rattle.machine_meaning.specs.Faithful.{Faithful};
 ghost use Rattle.exchange_run.specs.Runs.{IsEndOf, MayGoOn, state_of};
-ghost use Rattle.command_answers.specs.Lines.{AreRead};
-ghost use Rattle.command_answers.specs.Program.{IsEnding};
-ghost use Rattle.command_answers.specs.RunAnswer.{run_answer};
+ghost use Rattle.answer_meaning.specs.Lines.{AreRead};
+ghost use Rattle.answer_meaning.specs.Program.{IsEnding};
+ghost use Rattle.answer_meaning.specs.RunAnswer.{run_answer};
 ghost use Rattle.run_answers.specs.declared.alone.TheConstants.{MOST_UNROLLED};
 
 use crate::ends::end_answer;
+use answer_meaning::Answer;
 use code_gen::unrolled_length;
-use command_answers::Answer;
 use exchange_model::Exchange;
 use exchange_run::{ByCode, BySource, Ended, Standing, Unwatched, before_lines, run_books};
 use machine_code::Code;

@@ -7,13 +7,13 @@ ghost use Rattle.block_change.specs.Misfits.{misfit};
 ghost use Rattle.retire_order.specs.Events.{ending_of};
 ghost use Rattle.retire_order.specs.Parts.{AreParts, account_of};
 ghost use Rattle.report_text.specs.Report.{event_lines, text_of};
-ghost use Rattle.command_answers.specs.ChangeAnswer.{ends_before, misfit_answer};
-ghost use Rattle.command_answers.specs.Program.{IsEnding};
-ghost use Rattle.command_answers.specs.Text.{change_text, file_words, misfit_text};
+ghost use Rattle.answer_meaning.specs.ChangeAnswer.{ends_before, misfit_answer};
+ghost use Rattle.answer_meaning.specs.Program.{IsEnding};
+ghost use Rattle.answer_meaning.specs.Text.{change_text, file_words, misfit_text};
 ghost use Rattle.run_answers.specs.Runs.{CarriesOn};
 
+use answer_meaning::Answer;
 use block_change::{Misfit, Named, carry};
-use command_answers::Answer;
 use command_words::Status;
 use exchange_model::Exchange;
 use exchange_run::{Ended, Standing};

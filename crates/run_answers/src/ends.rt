@@ -2,12 +2,12 @@
 ghost use Rattle.std.specs.Prelude.{◌≡◌, IfOk};
 ghost use Rattle.retire_order.specs.Accounts.{with_words};
 ghost use Rattle.retire_order.specs.Events.{ending_of};
-ghost use Rattle.command_answers.specs.LoadAnswer.{summed_answer};
-ghost use Rattle.command_answers.specs.Outcome.{headed_by};
-ghost use Rattle.command_answers.specs.Program.{IsEnding};
-ghost use Rattle.command_answers.specs.RunAnswer.{ended_status, ending_answer};
+ghost use Rattle.answer_meaning.specs.LoadAnswer.{summed_answer};
+ghost use Rattle.answer_meaning.specs.Outcome.{headed_by};
+ghost use Rattle.answer_meaning.specs.Program.{IsEnding};
+ghost use Rattle.answer_meaning.specs.RunAnswer.{ended_status, ending_answer};
 
-use command_answers::Answer;
+use answer_meaning::Answer;
 use command_words::Status;
 use exchange_model::Exchange;
 use exchange_run::Ended;

@@ -11,7 +11,6 @@ ghost use Rattle.machine_meaning.specs.Private.{counted_of};
 
 use super::stand::{Spot, Way};
 use super::{JobRun, eight_of};
-use crate::locals::copy_locals;
 use job_types::{Chain, Fault, Held, Outcome, SendTo, Sent};
 use plex_limits::{MOST_CALLERS, MOST_HELD, MOST_SENT, MOST_VALUES};
 
@@ -233,8 +232,20 @@ impl JobRun {
           own = record self.old.own { given = values };
         } }
     {
-        self.registers = [0; 16];
         self.locals = [0; 50];
+        self.begin_at(a, values)
+    }
+
+    /// A new activation at an address, with these entry values; the locals are as they were.
+    fn begin_at(&mut self, a: u32, values: [u32; 8]) -> Way
+        ensures next { result ≡ To }
+        ensures run { self.new ≡ record self.old {
+          pc = a;
+          regs = replicate 16 0;
+          own = record self.old.own { given = values };
+        } }
+    {
+        self.registers = [0; 16];
         self.given = values;
         self.jump(a)
     }
@@ -265,6 +276,7 @@ impl JobRun {
     }
 
     /// The same, and the activation that is left waits for an answer.
+    #[inline(always)]
     pub(super) fn call(&mut self, a: u32, answer: u32, from: Spot) -> Way
         requires runs { self.old.over ≡ None }
         requires spot { (from.left ≤ from.all) × (from.all < 2 ^ 63) }
@@ -273,8 +285,9 @@ impl JobRun {
     {
         if self.frames.len() < MOST_CALLERS {
             self.frames
-                .push(from.at() + 1, &self.locals, &self.given, answer);
-            self.enter(a)
+                .push(from.at() + 1, &mut self.locals, &self.given, answer);
+            let values = self.take_outgoing();
+            self.begin_at(a, values)
         } else {
             self.fail(Fault::Depth)
         }
@@ -282,6 +295,7 @@ impl JobRun {
 
     /// Answers the caller that waits.
     #[tactic(auto, using(crate::proofs::Returning::some_waits, crate::proofs::Returning::returns_first, crate::proofs::Returning::returns_none))]
+    #[inline(always)]
     pub(super) fn give_back(&mut self, answer: u32, from: Spot) -> Way
         requires runs { self.old.over ≡ None }
         ensures run { stood (beyond from) (leads (beyond from).at self.new.pc result) self.new ≡ returns self.old.frames answer (standing (beyond from) self.old) }
@@ -292,7 +306,7 @@ impl JobRun {
             self.outgoing.clear();
             self.registers = [0; 16];
             let frame = self.frames.latest();
-            copy_locals(&mut self.locals, &frame.locals);
+            frame.locals.give_back(&mut self.locals);
             self.given = frame.given;
             self.address = frame.back;
             self.frames.leave();

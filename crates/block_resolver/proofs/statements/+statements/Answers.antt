@@ -39,36 +39,36 @@ pub make_kind-returns-in_ok-cond-in-IfGoto-clause-next : goal.make_kind-returns-
 make_kind-returns-in_ok-cond-in-IfGoto-clause-next t c =
     rw (kind_is (env_in c.args.names.now) c.args.kind.now (layer.IfGoto c.in-IfGoto.cond c.in-IfGoto.label) c.args.point.now (ap out-StmtKind c.in-IfGoto.is ∙ kind.outs-IfGoto c.in-IfGoto.cond c.in-IfGoto.label)) (first_of (search (rules, common_steps), grind (arith, common_steps)))
 
-pub make_kind-returns-in-None-clause-made : goal.make_kind-returns-in-None-clause-made
-make_kind-returns-in-None-clause-made t c =
+pub make_kind-returns-in_ok-made-in-None-clause-made : goal.make_kind-returns-in_ok-made-in-None-clause-made
+make_kind-returns-in_ok-made-in-None-clause-made t c =
     rw (kind_is (env_in c.args.names.now) c.args.kind.now (layer.If c.in-If.cond c.in-If.first None) c.args.point.now (ap out-StmtKind c.in-If.is ∙ kind.outs-If c.in-If.cond c.in-If.first c.in-If.other ∙ ap (λ o. layer.If c.in-If.cond c.in-If.first o) c.in-None.is)) (first_of (search (rules, common_steps), grind (arith, common_steps)))
 
-pub make_kind-returns-in-None-clause-next : goal.make_kind-returns-in-None-clause-next
-make_kind-returns-in-None-clause-next t c =
+pub make_kind-returns-in_ok-made-in-None-clause-next : goal.make_kind-returns-in_ok-made-in-None-clause-next
+make_kind-returns-in_ok-made-in-None-clause-next t c =
     rw (kind_is (env_in c.args.names.now) c.args.kind.now (layer.If c.in-If.cond c.in-If.first None) c.args.point.now (ap out-StmtKind c.in-If.is ∙ kind.outs-If c.in-If.cond c.in-If.first c.in-If.other ∙ ap (λ o. layer.If c.in-If.cond c.in-If.first o) c.in-None.is)) (first_of (search (rules, common_steps), grind (arith, common_steps)))
 
-pub make_kind-returns-in_ok-no-in-Some-clause-made : goal.make_kind-returns-in_ok-no-in-Some-clause-made
-make_kind-returns-in_ok-no-in-Some-clause-made t c =
+pub make_kind-returns-in_ok-made-in-Some-clause-made : goal.make_kind-returns-in_ok-made-in-Some-clause-made
+make_kind-returns-in_ok-made-in-Some-clause-made t c =
     rw (kind_is (env_in c.args.names.now) c.args.kind.now (layer.If c.in-If.cond c.in-If.first (Some c.in-Some.stmts)) c.args.point.now (ap out-StmtKind c.in-If.is ∙ kind.outs-If c.in-If.cond c.in-If.first c.in-If.other ∙ ap (λ o. layer.If c.in-If.cond c.in-If.first o) c.in-Some.is)) (first_of (search (rules, common_steps), grind (arith, common_steps)))
 
-pub make_kind-returns-in_ok-no-in-Some-clause-next : goal.make_kind-returns-in_ok-no-in-Some-clause-next
-make_kind-returns-in_ok-no-in-Some-clause-next t c =
+pub make_kind-returns-in_ok-made-in-Some-clause-next : goal.make_kind-returns-in_ok-made-in-Some-clause-next
+make_kind-returns-in_ok-made-in-Some-clause-next t c =
     rw (kind_is (env_in c.args.names.now) c.args.kind.now (layer.If c.in-If.cond c.in-If.first (Some c.in-Some.stmts)) c.args.point.now (ap out-StmtKind c.in-If.is ∙ kind.outs-If c.in-If.cond c.in-If.first c.in-If.other ∙ ap (λ o. layer.If c.in-If.cond c.in-If.first o) c.in-Some.is)) (first_of (search (rules, common_steps), grind (arith, common_steps)))
 
-pub make_kind-returns-in_ok-otherwise-in-Case-clause-made : goal.make_kind-returns-in_ok-otherwise-in-Case-clause-made
-make_kind-returns-in_ok-otherwise-in-Case-clause-made t c =
+pub make_kind-returns-in_ok-made-in-Case-clause-made : goal.make_kind-returns-in_ok-made-in-Case-clause-made
+make_kind-returns-in_ok-made-in-Case-clause-made t c =
     rw (kind_is (env_in c.args.names.now) c.args.kind.now (layer.Case c.in-Case.value c.in-Case.whens c.in-Case.otherwise) c.args.point.now (ap out-StmtKind c.in-Case.is ∙ kind.outs-Case c.in-Case.value c.in-Case.whens c.in-Case.otherwise)) (first_of (search (rules, common_steps), grind (arith, common_steps)))
 
-pub make_kind-returns-in_ok-otherwise-in-Case-clause-next : goal.make_kind-returns-in_ok-otherwise-in-Case-clause-next
-make_kind-returns-in_ok-otherwise-in-Case-clause-next t c =
+pub make_kind-returns-in_ok-made-in-Case-clause-next : goal.make_kind-returns-in_ok-made-in-Case-clause-next
+make_kind-returns-in_ok-made-in-Case-clause-next t c =
     rw (kind_is (env_in c.args.names.now) c.args.kind.now (layer.Case c.in-Case.value c.in-Case.whens c.in-Case.otherwise) c.args.point.now (ap out-StmtKind c.in-Case.is ∙ kind.outs-Case c.in-Case.value c.in-Case.whens c.in-Case.otherwise)) (first_of (search (rules, common_steps), grind (arith, common_steps)))
 
-pub make_kind-returns-in_ok-body-in-On-clause-made : goal.make_kind-returns-in_ok-body-in-On-clause-made
-make_kind-returns-in_ok-body-in-On-clause-made t c =
+pub make_kind-returns-in_ok-made-in-On-clause-made : goal.make_kind-returns-in_ok-made-in-On-clause-made
+make_kind-returns-in_ok-made-in-On-clause-made t c =
     rw (kind_is (env_in c.args.names.now) c.args.kind.now (layer.On c.in-On.name c.in-On.from c.in-On.upto c.in-On.body) c.args.point.now (ap out-StmtKind c.in-On.is ∙ kind.outs-On c.in-On.name c.in-On.from c.in-On.upto c.in-On.body)) (first_of (search (rules, common_steps), grind (arith, common_steps)))
 
-pub make_kind-returns-in_ok-body-in-On-clause-next : goal.make_kind-returns-in_ok-body-in-On-clause-next
-make_kind-returns-in_ok-body-in-On-clause-next t c =
+pub make_kind-returns-in_ok-made-in-On-clause-next : goal.make_kind-returns-in_ok-made-in-On-clause-next
+make_kind-returns-in_ok-made-in-On-clause-next t c =
     rw (kind_is (env_in c.args.names.now) c.args.kind.now (layer.On c.in-On.name c.in-On.from c.in-On.upto c.in-On.body) c.args.point.now (ap out-StmtKind c.in-On.is ∙ kind.outs-On c.in-On.name c.in-On.from c.in-On.upto c.in-On.body)) (first_of (search (rules, common_steps), grind (arith, common_steps)))
 
 pub make_kind-returns-in_ok-value-in-ForFirst-clause-made : goal.make_kind-returns-in_ok-value-in-ForFirst-clause-made

@@ -1,6 +1,9 @@
-use Rattle.std.proofs.Common.{◌≡◌, ◌++◌, take}
+use Rattle.std.proofs.Common.{◌≡◌, ◌++◌, length}
 use Rattle.certificate_text.specs.Text.{facts_text}
 use Rattle.certificate.proofs.certified_text.add_facts.Given as goal
 
-abbrev pub invariant-loop-fact : goal.invariant-loop-fact
-invariant-loop-fact l = l.text ≡ l.fn.text ++ facts_text (take l.fact-index l.facts)
+abbrev pub invariant-loop-rest : goal.invariant-loop-rest
+invariant-loop-rest l = l.text ++ facts_text l.rest ≡ l.fn.text ++ facts_text l.facts
+
+abbrev pub decreases-loop-rest : goal.decreases-loop-rest
+decreases-loop-rest l = length l.rest

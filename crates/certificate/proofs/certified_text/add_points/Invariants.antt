@@ -1,5 +1,6 @@
-use Rattle.certificate.specs.Entries.{AddsLines, LeastBefore}
+use Rattle.std.proofs.Common.{take}
+use Rattle.certificate.specs.Entries.{AddsLines, KnowsAmong}
 use Rattle.certificate.proofs.certified_text.add_points.Given as goal
 
 abbrev pub invariant-loop-point : goal.invariant-loop-point
-invariant-loop-point l = AddsLines (LeastBefore l.exchange l.entry l.point) l.fn.text l.text
+invariant-loop-point l = AddsLines (KnowsAmong l.known (take l.point-index l.points)) l.fn.text l.text

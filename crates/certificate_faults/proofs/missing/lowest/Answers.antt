@@ -1,5 +1,5 @@
 use Rattle.std.proofs.Common.{get_or}
-use Rattle.least_facts.specs.Giving.{IsFact}
+use Rattle.answer_table.specs.Answers.{IsFact}
 use Rattle.certificate_faults.proofs.Firsts.{no_fact}
 use Rattle.certificate_faults.proofs.Lowered.{lowers_begin, lowers_misses, lowers_more, lowest_end, one_lower}
 use Rattle.certificate_faults.proofs.missing.lowest.Goals as goal

@@ -1,4 +1,4 @@
-use Rattle.least_facts.specs.Giving.{IsFact}
+use Rattle.answer_table.specs.Answers.{IsFact}
 use Rattle.certificate_faults.proofs.Lowered.{Lowers}
 use Rattle.certificate_faults.proofs.missing.lowest.Given as goal
 

@@ -1,4 +1,4 @@
-use Rattle.command_answers.proofs.Stages.{text_kept}
+use Rattle.answer_meaning.proofs.Stages.{text_kept}
 use Rattle.command_answers.proofs.certifying.kept_of_small.Goals as goal
 
 pub returns-in-Ok : goal.returns-in-Ok

@@ -1,4 +1,4 @@
-use Rattle.command_answers.proofs.Stages.{text_comes}
+use Rattle.answer_meaning.proofs.Stages.{text_comes}
 use Rattle.command_answers.proofs.files.text_in.Goals as goal
 
 pub returns-in-Ok-clause-comes : goal.returns-in-Ok-clause-comes

@@ -1,4 +1,4 @@
-use Rattle.command_answers.proofs.Accepted.{all_spelled}
+use Rattle.answer_meaning.proofs.Accepted.{all_spelled}
 use Rattle.command_answers.proofs.reading.tree_of.Goals as goal
 
 pub returns-in-Ok-clause-spelled : goal.returns-in-Ok-clause-spelled

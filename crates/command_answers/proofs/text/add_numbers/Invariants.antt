@@ -1,6 +1,6 @@
 use Rattle.std.proofs.Common.{◌≡◌, ◌++◌, take}
 use Rattle.std.specs.List.{flat_map}
-use Rattle.command_answers.specs.Text.{spaced}
+use Rattle.answer_meaning.specs.Text.{spaced}
 use Rattle.command_answers.proofs.text.add_numbers.Given as goal
 
 abbrev pub invariant-loop-number : goal.invariant-loop-number

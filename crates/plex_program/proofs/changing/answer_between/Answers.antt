@@ -1,5 +1,5 @@
 use Rattle.std.proofs.Common.{IfOk, subst}
-use Rattle.command_answers.specs.ChangeAnswer.{ChangeAnswers}
+use Rattle.answer_meaning.specs.ChangeAnswer.{ChangeAnswers}
 use Rattle.plex_program.proofs.changing.answer_between.Goals as goal
 
 pub returns-clause-answer : goal.returns-clause-answer

@@ -4,13 +4,13 @@ use Rattle.exchange_model.specs.declared.exchange.Exchange.{Exchange}
 use Rattle.signal_file.specs.declared.line.Line.{Line}
 use Rattle.command_words.specs.Words.{Word}
 use Rattle.command_words.specs.declared.command.RunWords.{RunWords}
-use Rattle.command_answers.specs.Given.{exchange_at, lines_at, text_at}
-use Rattle.command_answers.specs.Outcome.{ComesOf}
-use Rattle.command_answers.specs.RunAnswer.{IsCertifiedRun, RunsWith, run_answer}
-use Rattle.command_answers.specs.Stages.{Comes, Performs, TellsOutcome}
-use Rattle.command_answers.specs.declared.answer.Answer.{Answer}
-use Rattle.command_answers.specs.declared.answer.Stop.{Stop}
-use Rattle.command_answers.proofs.Stages.{performs_go, performs_told}
+use Rattle.answer_meaning.specs.Given.{exchange_at, lines_at, text_at}
+use Rattle.answer_meaning.specs.Outcome.{ComesOf}
+use Rattle.answer_meaning.specs.RunAnswer.{IsCertifiedRun, RunsWith, run_answer}
+use Rattle.answer_meaning.specs.Stages.{Comes, Performs, TellsOutcome}
+use Rattle.answer_meaning.specs.declared.answer.Answer.{Answer}
+use Rattle.answer_meaning.specs.declared.answer.Stop.{Stop}
+use Rattle.answer_meaning.proofs.Stages.{performs_go, performs_told}
 use Rattle.plex_program.proofs.perform.perform_certified.Goals as goal
 
 -- three stages that leave what is held, and then the run

@@ -1,4 +1,4 @@
-use Rattle.command_answers.proofs.Endings.{answers_command, answers_usage}
+use Rattle.answer_meaning.proofs.Endings.{answers_command, answers_usage}
 use Rattle.plex_program.proofs.program.answered.Goals as goal
 
 pub returns-in-Ok-Some-clause-answers : goal.returns-in-Ok-Some-clause-answers

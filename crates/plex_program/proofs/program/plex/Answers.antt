@@ -1,5 +1,5 @@
-use Rattle.command_answers.specs.Answer.{IsAnswer}
-use Rattle.command_answers.proofs.Endings.{complete_written, ends_held}
+use Rattle.answer_meaning.specs.Answer.{IsAnswer}
+use Rattle.answer_meaning.proofs.Endings.{complete_written, ends_held}
 use Rattle.plex_program.proofs.program.plex.Goals as goal
 
 pub returns-in-Ok-clause-answers : goal.returns-in-Ok-clause-answers

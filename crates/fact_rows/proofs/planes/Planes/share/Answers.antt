@@ -1,5 +1,5 @@
 use Rattle.std.proofs.Common.{refl}
-use Rattle.fact_rows.proofs.Joining.{none_shared, shared_sound, some_shared}
+use Rattle.fact_rows.proofs.Joining.{none_shared, shared_keeps, some_shared}
 use Rattle.fact_rows.proofs.planes.Planes.share.Goals as goal
 
 pub returns-then-is_blank-clause-ok : goal.returns-then-is_blank-clause-ok
@@ -11,8 +11,8 @@ returns-clause-ok c =
     (record { set_numbers = c.put.new.self; sets = c.args.self.now.sets; own = c.args.self.now.own; laid = c.args.self.now.laid })
     c.number-number.result c.requires.from c.number-number.ensures refl refl c.in_ok-put.ensures.ok c.is_blank.result c.is_blank.ensures c.if-is_blank.false c.requires.blank
 
-pub returns-clause-sound : goal.returns-clause-sound
-returns-clause-sound c =
-    shared_sound c.args.self.now c.args.from c.args.to c.requires.none c.requires.to
+pub returns-clause-keeps : goal.returns-clause-keeps
+returns-clause-keeps c =
+    shared_keeps c.args.self.now c.args.from c.args.to c.requires.none c.requires.to
     (record { set_numbers = c.put.new.self; sets = c.args.self.now.sets; own = c.args.self.now.own; laid = c.args.self.now.laid })
     c.number-number.result c.requires.from c.number-number.ensures refl refl c.in_ok-put.ensures.ok c.requires.sound refl

@@ -1,0 +1,90 @@
+-- What the top call promises.
+use Rattle.std.specs.Prelude.{◌≡◌, ℕ, List, Option, Result, Ok, Err, IsSomeAnd, ◌⊎◌}
+use Rattle.plex_io.specs.Causes.{Rose}
+use Rattle.plex_io.specs.Files.{Files}
+use Rattle.plex_io.specs.Written.{appended, WroteLess, IsFull}
+use Rattle.answer_meaning.specs.Answer.{answer_of}
+use Rattle.answer_meaning.specs.declared.answer.Answer.{Answer}
+use Rattle.answer_meaning.specs.declared.answer.Stop.{Stop}
+use Rattle.answer_meaning.specs.declared.answer.Stop.TheVariants as stop
+use Rattle.answer_meaning.specs.Outcome.{not_held}
+use Rattle.answer_meaning.specs.Stages.{Performs}
+use Rattle.command_words.specs.declared.status.Status.{Status}
+use Rattle.command_words.specs.declared.status.Status.TheVariants as status
+
+-- the whole text was written, and the status is the answer's
+pub record IsWritten (a : Answer) (before after : Option (List ℕ)) (s : Status) : Type 0 where
+  pub status : s ≡ a.status
+  pub text : after ≡ appended before a.text
+
+-- an end with this status, where this is the answer
+abbrev pub ProcessEnds : Answer → Option (List ℕ) → Option (List ℕ) → Status → Type 0
+ProcessEnds a before after status.Read = Unit {0}
+ProcessEnds a before after status.Memory = Unit {0}
+ProcessEnds a before after status.Write = WroteLess before after a.text
+ProcessEnds a before after s = IsWritten a before after s
+
+-- the answer is such a one, and the call ends with this status
+pub record EndsBy (Is : Answer → Type 0) (before after : Option (List ℕ)) (s : Status) : Type 0 where
+  pub answer : Answer
+  pub is : Is answer
+  pub ends : ProcessEnds answer before after s
+
+-- an end with this status, where the answer is such a one
+abbrev pub ProcessEndsAs : (Answer → Type 0) → Option (List ℕ) → Option (List ℕ) → Status → Type 0
+ProcessEndsAs Is before after status.Read = Unit {0}
+ProcessEndsAs Is before after status.Memory = Unit {0}
+ProcessEndsAs Is before after s = EndsBy Is before after s
+
+-- a read failed in this call, or the shelf tells its files and such an answer is that one is not held; nothing was written
+pub record ReadCause (Is : Files → Answer → Type 0) (held : Option Files) (faults faults' : ℕ) (before after : Option (List ℕ)) : Type 0 where
+  pub cause : Rose faults faults' ⊎ IsSomeAnd held (λ files. Is files not_held)
+  pub silent : after ≡ before
+
+-- a write failed in this call, and a sink that tells its size is full
+pub record WriteCause (size : Option ℕ) (written : Option (List ℕ)) (faults faults' : ℕ) : Type 0 where
+  pub cause : Rose faults faults'
+  pub full : IsFull size written
+
+-- the answer is such a one, of this status
+pub record HasStatus (Is : Answer → Type 0) (s : Status) : Type 0 where
+  pub answer : Answer
+  pub is : Is answer
+  pub status : s ≡ answer.status
+
+-- where neither count rose, the status is the answer's, or memory was refused
+abbrev pub IsComplete : (Answer → Type 0) → ℕ → ℕ → ℕ → ℕ → Status → Type 0
+IsComplete Is shelf shelf' sink sink' s = ¬ (Rose shelf shelf') → ¬ (Rose sink sink') → HasStatus Is s ⊎ (s ≡ status.Memory)
+
+-- a status with which a text is written
+abbrev pub WritesText : Status → Type 0
+WritesText status.Read = ⊥
+WritesText status.Write = ⊥
+WritesText status.Memory = ⊥
+WritesText s = Unit {0}
+
+-- such an answer comes, or why there is none
+abbrev pub Answers : (Files → Answer → Type 0) → Option Files → (faults faults' : ℕ) → Result Answer Stop → Type 0
+Answers Is held faults faults' result = Performs held (λ files o. Is files (answer_of o)) faults faults' result
+
+-- an answer that may be written: that of no shape is the usage line, and no other is
+pub record IsMade (Unshaped : Type 0) (usage_line a : Answer) : Type 0 where
+  pub plain : WritesText a.status
+  pub usage : a.status ≡ status.Usage → Unshaped
+  pub unshaped : Unshaped → a ≡ usage_line
+
+-- what is to be written, if anything is, is such a one
+abbrev pub Makes : Type 0 → Answer → Result Answer Stop → Type 0
+Makes Unshaped usage_line (Ok a) = IsMade Unshaped usage_line a
+Makes Unshaped usage_line (Err (stop.Told a)) = IsMade Unshaped usage_line a
+Makes Unshaped usage_line (Err stop.NotHeld) = Unit {0}
+Makes Unshaped usage_line (Err stop.Failed) = Unit {0}
+Makes Unshaped usage_line (Err stop.Memory) = Unit {0}
+
+-- the status of a run, or of a change that does not fit
+abbrev pub IsEnding : Status → Type 0
+IsEnding status.Change = Unit {0}
+IsEnding status.Done = Unit {0}
+IsEnding status.Restart = Unit {0}
+IsEnding status.Limit = Unit {0}
+IsEnding s = ⊥

@@ -1,0 +1,40 @@
+// What a program writes and ends with, and why the work for it stops.
+
+use command_words::Status;
+use plex_num::Memory;
+use text_parts::Text;
+
+/// What the program writes and ends with.
+pub struct Answer {
+    pub status: Status,
+    pub text: Text,
+}
+
+impl Drop for Answer {
+    fn drop(self) {
+        let Answer { status: _, text: _ } = self;
+    }
+}
+
+/// Why the work stops.
+#[derive(Drop)]
+pub enum Stop {
+    /// With this status and text, which tell the first fault of a file.
+    Told(Answer),
+    /// The shelf holds no file of this name.
+    NotHeld,
+    /// A file could not be read.
+    Failed,
+    Memory,
+}
+
+impl From<Memory> for Stop {
+    ghost use Rattle.std.specs.Prelude.{◌≡◌};
+    ghost use Rattle.answer_meaning.specs.declared.answer.Stop.TheVariants.{Memory};
+
+    ghost from_gives = { λ _ e. e ≡ Memory };
+
+    fn from(_: Memory) -> Stop {
+        Stop::Memory
+    }
+}
