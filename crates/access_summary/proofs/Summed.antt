@@ -24,9 +24,9 @@ use Rattle.entry_summary.specs.Summaries.{IsSummary}
 use Rattle.access_summary.specs.declared.looks.Excess.{Excess}
 use Rattle.access_summary.specs.declared.looks.FewOrMany.{FewOrMany}
 use Rattle.access_summary.specs.declared.looks.FewOrMany.TheVariants.{Few, Many}
-use Rattle.access_summary.specs.Least.{AreSummaries}
+use Rattle.certificate_meaning.specs.Summaries.{AreSummaries}
 use Rattle.access_summary.specs.Looks.{ComeWithin, most_of}
-use Rattle.access_summary.proofs.Alike.{summary_alike}
+use Rattle.certificate_meaning.proofs.Alike.{summary_alike}
 
 -- the statements that are reached, as a slice of the list
 pub reached_in : (x : Exchange) (P : Facts) (e : ℕ) (places there given : List PlaceAt) → ArePlaces x (map seen places) → ((y : Exchange) → ArePlaces y (map seen places) → AreReachedAmong y P e (map seen there)) → given ≡ there → AreReachedAmong x P e (map seen given)

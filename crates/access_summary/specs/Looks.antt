@@ -6,7 +6,7 @@ use Rattle.access_summary.specs.declared.looks.Excess.{Excess}
 use Rattle.access_summary.specs.declared.looks.Excess.TheVariants.{InAll, ForOne}
 use Rattle.access_summary.specs.declared.looks.FewOrMany.{FewOrMany}
 use Rattle.access_summary.specs.declared.looks.FewOrMany.TheVariants.{Few, Many}
-use Rattle.access_summary.specs.Least.{AreSummaries}
+use Rattle.certificate_meaning.specs.Summaries.{AreSummaries}
 
 -- there is a bound, and the looks are more: in all, or a sixteenth of them for one entry
 abbrev pub IsPast : Option ℕ → Excess → Type 0

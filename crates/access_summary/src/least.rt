@@ -11,7 +11,7 @@ ghost use Rattle.least_facts.specs.Least.{HasLearned};
 ghost use Rattle.least_facts.specs.Looks.{IsOver};
 ghost use Rattle.entry_accesses.specs.Numbered.{AreNumbers};
 ghost use Rattle.entry_summary.specs.Summaries.{IsSummary};
-ghost use Rattle.access_summary.specs.Least.{AreSummaries};
+ghost use Rattle.certificate_meaning.specs.Summaries.{AreSummaries};
 ghost use Rattle.access_summary.specs.Looks.{ComeWithin, IsPast, most_of};
 
 use crate::looks::{Excess, FewOrMany, PART_OF_ENTRY};

@@ -19,8 +19,8 @@ use Rattle.entry_summary.specs.Accesses.{IsAccess}
 use Rattle.entry_summary.specs.Faults.{MayFault}
 use Rattle.entry_summary.specs.Orders.{access_order, level_number, level_order}
 use Rattle.entry_summary.specs.Summaries.{IsSummary, MaySendTo}
-use Rattle.access_summary.specs.Least.{AreSummaries}
-use Rattle.access_summary.proofs.Alike.{summary_alike}
+use Rattle.certificate_meaning.specs.Summaries.{AreSummaries}
+use Rattle.certificate_meaning.proofs.Alike.{summary_alike}
 use Rattle.analysis_comes.proofs.Accessing.{accesses, levels}
 use Rattle.analysis_comes.proofs.Circling.{may_fault}
 use Rattle.finite_facts.proofs.Facts.{least_facts}

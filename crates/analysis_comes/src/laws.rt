@@ -5,7 +5,7 @@ ghost use Rattle.exchange_model.specs.declared.exchange.Exchange.{Exchange};
 ghost use Rattle.flow_points.specs.declared.fact.Fact.{Fact};
 ghost use Rattle.entry_summary.specs.declared.summary.Summary.{Summary};
 ghost use Rattle.entry_summary.specs.Summaries.{IsSummary};
-ghost use Rattle.access_summary.specs.Least.{AreSummaries};
+ghost use Rattle.certificate_meaning.specs.Summaries.{AreSummaries};
 ghost use Rattle.analysis_text.specs.Analysis.{IsAnalysis};
 
 /// Facts that are a list say of the jobs of each entry what a summary says, and an exchange has its summaries.

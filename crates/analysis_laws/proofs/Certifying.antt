@@ -5,8 +5,8 @@ use Rattle.flow_points.specs.contracts.fact.FactOrd.TheImpl.Laws as fact_laws
 use Rattle.flow_points.specs.Orders.{fact_order}
 use Rattle.certificate_text.specs.declared.certificate.Certificate.{Certificate}
 use Rattle.certificate_text.specs.Text.{certificate_text}
-use Rattle.certificate.specs.Certified.{IsCertificate, IsTextOfCertificate}
-use Rattle.certificate_check.proofs.Checking.{same_shape}
+use Rattle.certificate_meaning.specs.Certified.{IsCertificate, IsTextOfCertificate}
+use Rattle.certificate_meaning.proofs.Shaping.{same_shape}
 use Rattle.analysis_laws.proofs.Rising.{rising_once, same_sides}
 
 pub certificate_once : (x : Exchange) (c d : Certificate) → IsCertificate x c → IsCertificate x d → c ≡ d

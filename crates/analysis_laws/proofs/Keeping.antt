@@ -5,7 +5,7 @@ use Rattle.flow_points.specs.declared.fact.Fact.{Fact}
 use Rattle.entry_summary.specs.declared.summary.Summary.{Summary}
 use Rattle.certificate_text.specs.declared.certificate.Certificate.{Certificate}
 use Rattle.checked.specs.Kept.{AreSummariesBy, KeptSummaries}
-use Rattle.certificate_check.specs.Verdicts.{Accepts}
+use Rattle.certificate_meaning.specs.Verdicts.{Accepts}
 use Rattle.analysis_laws.proofs.Rising.{same_at_each}
 use Rattle.analysis_laws.proofs.Summing.{summary_once}
 

@@ -12,13 +12,12 @@ use Rattle.flow_points.specs.contracts.fact.FactOrd.TheImpl.Laws as fact_laws
 use Rattle.flow_points.specs.Orders.{fact_order}
 use Rattle.flow_points.proofs.Orders.{order_same}
 use Rattle.certificate_text.specs.declared.certificate.Certificate.{Certificate}
-use Rattle.certificate_faults.specs.Missing.{IsLeastIn}
 use Rattle.checked.specs.Belonging.{IsOfExchange}
-use Rattle.certificate_faults.specs.Strange.{IsFirstStrange}
-use Rattle.certificate_check.proofs.Checking.{same_shape}
-use Rattle.certificate_check.specs.declared.fault.CertFault.{CertFault}
-use Rattle.certificate_check.specs.declared.fault.CertFault.TheVariants.{WrongExchange, StrangeFact, MissingFact, Memory}
-use Rattle.certificate_check.specs.Verdicts.{Refuses}
+use Rattle.certificate_meaning.specs.Faults.{IsFirstStrange, IsLeastIn}
+use Rattle.certificate_meaning.proofs.Shaping.{same_shape}
+use Rattle.certificate_meaning.specs.declared.fault.CertFault.{CertFault}
+use Rattle.certificate_meaning.specs.declared.fault.CertFault.TheVariants.{WrongExchange, StrangeFact, MissingFact, Memory}
+use Rattle.certificate_meaning.specs.Verdicts.{Refuses}
 
 -- the first strange fact
 

@@ -9,7 +9,7 @@ use Rattle.entry_summary.specs.contracts.summary.AccessOrd.TheImpl.Laws as acces
 use Rattle.entry_summary.specs.Orders.{access_order, level_number, level_order}
 use Rattle.entry_summary.specs.Summaries.{IsSummary}
 use Rattle.entry_summary.proofs.Equal.{same_summary}
-use Rattle.access_summary.specs.Least.{AreSummaries}
+use Rattle.certificate_meaning.specs.Summaries.{AreSummaries}
 use Rattle.analysis_laws.proofs.Rising.{rising_once, same_at_each, same_sides, same_truth}
 
 levels_total : IsTotalOrder level_order

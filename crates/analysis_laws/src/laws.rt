@@ -7,14 +7,14 @@ ghost use Rattle.flow_points.specs.Facts.{IsLeast};
 ghost use Rattle.flow_points.specs.Orders.{fact_order};
 ghost use Rattle.entry_summary.specs.declared.summary.Summary.{Summary};
 ghost use Rattle.entry_summary.specs.Summaries.{IsSummary};
-ghost use Rattle.access_summary.specs.Least.{AreSummaries};
+ghost use Rattle.certificate_meaning.specs.Summaries.{AreSummaries};
 ghost use Rattle.analysis_text.specs.Analysis.{IsAnalysis};
 ghost use Rattle.certificate_text.specs.declared.certificate.Certificate.{Certificate};
-ghost use Rattle.certificate.specs.Certified.{IsCertificate, IsTextOfCertificate};
-ghost use Rattle.certificate_check.specs.declared.fault.CertFault.{CertFault};
-ghost use Rattle.certificate_check.specs.declared.fault.CertFault.TheVariants.{Memory};
+ghost use Rattle.certificate_meaning.specs.Certified.{IsCertificate, IsTextOfCertificate};
+ghost use Rattle.certificate_meaning.specs.declared.fault.CertFault.{CertFault};
+ghost use Rattle.certificate_meaning.specs.declared.fault.CertFault.TheVariants.{Memory};
 ghost use Rattle.checked.specs.Kept.{KeptSummaries};
-ghost use Rattle.certificate_check.specs.Verdicts.{Accepts, Refuses};
+ghost use Rattle.certificate_meaning.specs.Verdicts.{Accepts, Refuses};
 
 /// What facts say of the jobs of an entry is one summary, and an exchange has one list of summaries by its least facts.
 pub fn summaries_are_one()

@@ -3,7 +3,7 @@ use Rattle.std.proofs.Common.{inl, inr, ℕ, List, Option, None, Some, refl}
 use Rattle.exchange_model.specs.declared.exchange.Exchange.{Exchange}
 use Rattle.exchange_model.specs.Kept.{IsExchange}
 use Rattle.certificate_text.specs.declared.certificate.Certificate.{Certificate}
-use Rattle.certificate_check.specs.declared.fault.CertFault.TheVariants as refused
+use Rattle.certificate_meaning.specs.declared.fault.CertFault.TheVariants as refused
 use Rattle.answer_meaning.specs.Certificates.{IsJudged, Judges, bad, large, read}
 use Rattle.answer_meaning.specs.declared.fault.CertificateFault.{CertificateFault}
 use Rattle.answer_meaning.specs.declared.fault.CertificateFault.TheVariants.{BadText, Missing, Strange, TooLarge, WrongExchange}

@@ -4,8 +4,8 @@ use Rattle.exchange_model.specs.declared.exchange.Exchange.{Exchange}
 use Rattle.certificate_text.specs.declared.certificate.Certificate.{Certificate}
 use Rattle.certificate_text.specs.Lines.{HasBadLine, IsTextOf}
 use Rattle.certificate_text.proofs.Once.{bad_line_told, one_certificate, one_line}
-use Rattle.certificate_check.specs.declared.fault.CertFault.TheVariants as fault
-use Rattle.certificate_check.proofs.Checking.{never_closed}
+use Rattle.certificate_meaning.specs.declared.fault.CertFault.TheVariants as fault
+use Rattle.certificate_meaning.proofs.Judging.{never_closed}
 use Rattle.analysis_laws.proofs.Refusing.{refused_once}
 use Rattle.answer_meaning.specs.Certificates.{IsJudged, Judges, large, bad, read}
 use Rattle.answer_meaning.specs.declared.fault.CertificateFault.{CertificateFault}

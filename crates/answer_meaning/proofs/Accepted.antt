@@ -8,9 +8,9 @@ use Rattle.answer_meaning.specs.Reading.{line_or_none, token_line, Finds, at_lin
 use Rattle.exchange_model.specs.declared.exchange.Exchange.{Exchange}
 use Rattle.plex_ast.specs.declared.tree.Tree.{Tree}
 use Rattle.text_rules.specs.declared.rule.Rule.{Rule as TextRule}
-use Rattle.front_end.specs.declared.fault.TextFault.{TextFault}
-use Rattle.front_end.specs.declared.fault.TextFault.TheVariants as fault
-use Rattle.front_end.specs.Resolved.{resolved, told_or}
+use Rattle.text_soundness.specs.declared.fault.TextFault.{TextFault}
+use Rattle.text_soundness.specs.declared.fault.TextFault.TheVariants as fault
+use Rattle.text_soundness.specs.Resolved.{resolved, told_or}
 use Rattle.answer_meaning.specs.declared.fault.Rule.{Rule}
 use Rattle.answer_meaning.specs.declared.fault.SourceFault.{SourceFault}
 use Rattle.plex_num.specs.declared.seq.Memory.{Memory}

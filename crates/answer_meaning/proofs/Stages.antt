@@ -17,7 +17,7 @@ use Rattle.exchange_model.specs.declared.exchange.Exchange.{Exchange}
 use Rattle.certificate_text.specs.declared.certificate.Certificate.{Certificate}
 use Rattle.certificate_text.specs.Lines.{HasBadLine, IsTextOf}
 use Rattle.checked.specs.Kept.{KeptSummaries}
-use Rattle.certificate_check.proofs.Checking.{accepted_is_checked}
+use Rattle.certificate_meaning.proofs.Judging.{accepted_is_checked}
 use Rattle.answer_meaning.specs.Text.{certificate_refusal}
 use Rattle.answer_meaning.specs.RunAnswer.{IsCertifiedRun}
 use Rattle.answer_meaning.specs.Certificates.{IsAcceptedOrNot, IsJudged, IsKeptOrNot, large, bad, read}

@@ -4,7 +4,7 @@ use Rattle.exchange_model.specs.declared.exchange.Exchange.{Exchange}
 use Rattle.certificate_text.specs.declared.certificate.Certificate.{Certificate}
 use Rattle.certificate_text.specs.Lines.{HasBadLine, IsTextOf}
 use Rattle.checked.specs.Kept.{IsChecked, KeptSummaries}
-use Rattle.certificate_check.specs.Verdicts.{Accepts, AreShapes, IsClosedCertificate, IsMissing, IsStrange}
+use Rattle.certificate_meaning.specs.Verdicts.{Accepts, AreShapes, IsClosedCertificate, IsMissing, IsStrange}
 use Rattle.answer_meaning.specs.declared.fault.CertificateFault.{CertificateFault}
 use Rattle.answer_meaning.specs.declared.fault.CertificateFault.TheVariants.{TooLarge, BadText, WrongExchange, Strange, Missing}
 

@@ -3,11 +3,11 @@ use Rattle.std.specs.Prelude.{◌≡◌, List}
 use Rattle.plex_io.specs.Files.{Files}
 use Rattle.exchange_model.specs.declared.exchange.Exchange.{Exchange}
 use Rattle.entry_summary.specs.declared.summary.Summary.{Summary}
-use Rattle.access_summary.specs.Least.{AreSummaries}
+use Rattle.certificate_meaning.specs.Summaries.{AreSummaries}
 use Rattle.analysis_text.specs.Analysis.{IsAnalysis}
 use Rattle.certificate_text.specs.declared.certificate.Certificate.{Certificate}
 use Rattle.certificate_text.specs.Text.{certificate_text}
-use Rattle.certificate.specs.Certified.{IsCertificate}
+use Rattle.certificate_meaning.specs.Certified.{IsCertificate}
 use Rattle.command_words.specs.Words.{Word}
 use Rattle.answer_meaning.specs.declared.answer.Answer.{Answer}
 use Rattle.command_words.specs.declared.status.Status.TheVariants as status

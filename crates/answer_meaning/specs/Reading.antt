@@ -18,9 +18,9 @@ use Rattle.text_rules.specs.declared.rule.Rule.TheVariants.{Signals, Blocks, Lin
 use Rattle.text_rules.specs.Signals as signals
 use Rattle.text_rules.specs.Blocks as blocks
 use Rattle.resolved_block.specs.Texts.{choices_in, exchange_of_tree}
-use Rattle.front_end.specs.declared.fault.TextFault.{TextFault}
-use Rattle.front_end.specs.declared.fault.TextFault.TheVariants as resolving
-use Rattle.front_end.specs.Resolved.{resolved}
+use Rattle.text_soundness.specs.declared.fault.TextFault.{TextFault}
+use Rattle.text_soundness.specs.declared.fault.TextFault.TheVariants as resolving
+use Rattle.text_soundness.specs.Resolved.{resolved}
 use Rattle.exchange_model.specs.declared.exchange.Exchange.{Exchange}
 use Rattle.answer_meaning.specs.declared.fault.SourceFault.{SourceFault}
 use Rattle.answer_meaning.specs.declared.fault.Rule.{Rule}

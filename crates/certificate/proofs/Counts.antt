@@ -19,7 +19,8 @@ use Rattle.flow_points.specs.Places.{Place}
 use Rattle.flow_table.specs.Texts.{ArePlaces, Chosen, Inside, Texts, Walked, block, choice, no_block, no_choice, nothing_left, of_case, of_if, of_none, of_on, statement}
 use Rattle.flow_table.proofs.Numbered.{are_places}
 use Rattle.flow_table.proofs.Walking.{holds_none}
-use Rattle.certificate.specs.Shapes.{Counts, HasReferences, WithThose, referring, refers}
+use Rattle.certificate.specs.Referring.{Counts, WithThose}
+use Rattle.certificate_meaning.specs.Shapes.{HasReferences, referring, refers}
 
 -- the greatest number that is counted to
 abbrev top : ℕ

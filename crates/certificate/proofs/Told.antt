@@ -9,9 +9,9 @@ use Rattle.certificate_text.specs.declared.certificate.Certificate.{Certificate}
 use Rattle.certificate_text.specs.declared.certificate.Shape.{Shape}
 use Rattle.certificate_text.specs.Text.{facts_text, head_text, last_text}
 use Rattle.certificate_text.proofs.Printed.{certificate_in_parts, facts_append}
-use Rattle.certificate.specs.Certified.{IsTextOfCertificate}
+use Rattle.certificate_meaning.specs.Certified.{IsTextOfCertificate}
 use Rattle.certificate.specs.Entries.{AddsLines, LeastOf}
-use Rattle.certificate.specs.Shapes.{IsShapeOf}
+use Rattle.certificate_meaning.specs.Shapes.{IsShapeOf}
 use Rattle.certificate.proofs.Fitting.{facts_fit}
 
 -- the text so far tells the exchange's shape and the least facts of so many entries, in order

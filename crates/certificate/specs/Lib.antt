@@ -1,3 +1,2 @@
-pub mod Certified
 pub mod Entries
-pub mod Shapes
+pub mod Referring

@@ -1,6 +1,6 @@
 // The certificate of an exchange.
 ghost use Rattle.std.specs.Prelude.{IfOk};
-ghost use Rattle.certificate.specs.Certified.{IsCertificate};
+ghost use Rattle.certificate_meaning.specs.Certified.{IsCertificate};
 
 use crate::shape::shape_of;
 use access_summary::least_facts;

@@ -4,7 +4,7 @@ ghost use Rattle.flow_table.specs.Rows.{IsFlowTable};
 ghost use Rattle.fact_rows.specs.Known.{ArePointsOf, Knows, KnowsAt};
 ghost use Rattle.least_facts.specs.Least.{IsFor};
 ghost use Rattle.certificate_text.specs.Text.{facts_text, last_text};
-ghost use Rattle.certificate.specs.Certified.{IsTextOfCertificate};
+ghost use Rattle.certificate_meaning.specs.Certified.{IsTextOfCertificate};
 ghost use Rattle.certificate.specs.Entries.{AddsLines, LeastOf};
 
 use crate::shape::shape_of;

@@ -2,7 +2,8 @@
 ghost use Rattle.std.specs.Prelude.{◌≡◌, ℕ, Option, cond};
 ghost use Rattle.exchange_model.specs.declared.stmt.StmtKind.{out-StmtKind};
 ghost use Rattle.flow_table.specs.Texts.{Chosen, Inside, Texts, Walked};
-ghost use Rattle.certificate.specs.Shapes.{Counts, WithThose, is_held, refers};
+ghost use Rattle.certificate.specs.Referring.{Counts, WithThose};
+ghost use Rattle.certificate_meaning.specs.Shapes.{is_held, refers};
 
 use exchange_model::{Block, Receiver, Stmt, StmtKind, When};
 

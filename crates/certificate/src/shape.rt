@@ -1,5 +1,5 @@
 // How large an exchange is.
-ghost use Rattle.certificate.specs.Shapes.{IsShapeOf};
+ghost use Rattle.certificate_meaning.specs.Shapes.{IsShapeOf};
 
 use crate::references::references_in;
 use certificate_text::Shape;

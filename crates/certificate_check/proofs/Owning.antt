@@ -37,7 +37,7 @@ use Rattle.flow_table.specs.Shapes.{Shape, Stays, Assigns, Finds, TakesGiven, Ta
 use Rattle.flow_table.proofs.Shaping.{led_by}
 use Rattle.flow_table.proofs.Sourcing.{expr_source-out, term_source-out, joined_source-out, factor_as}
 use Rattle.entry_summary.specs.declared.summary.Summary.{Summary}
-use Rattle.access_summary.specs.Least.{AreSummaries}
+use Rattle.certificate_meaning.specs.Summaries.{AreSummaries}
 use Rattle.checked.specs.Belonging.{IsOfExchange, IsValueOfEntry}
 use Rattle.certificate_faults.proofs.Firsts.{count_some}
 use Rattle.finite_facts.proofs.Facts.{least_facts}

@@ -9,7 +9,7 @@ use Rattle.flow_points.specs.declared.fact.Fact.{Fact}
 use Rattle.flow_points.specs.Facts.{Facts}
 use Rattle.entry_summary.specs.declared.summary.Summary.{Summary}
 use Rattle.entry_summary.specs.Summaries.{IsSummary}
-use Rattle.access_summary.proofs.Alike.{summary_alike}
+use Rattle.certificate_meaning.proofs.Alike.{summary_alike}
 use Rattle.checked.specs.Kept.{AreSummariesBy}
 
 -- those of the first n entries

@@ -1,7 +1,7 @@
 -- What is kept of the certificate of an exchange itself.
 use Rattle.std.specs.Prelude.{ℕ, Some}
 use Rattle.exchange_model.specs.declared.exchange.Exchange.{Exchange}
-use Rattle.access_summary.specs.Least.{AreSummaries}
+use Rattle.certificate_meaning.specs.Summaries.{AreSummaries}
 use Rattle.access_summary.specs.Looks.{IsPast}
 use Rattle.certificate_check.specs.declared.own.Own.{Own}
 use Rattle.certificate_check.specs.declared.own.Own.TheVariants.{Kept, Many}

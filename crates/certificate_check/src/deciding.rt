@@ -7,12 +7,12 @@ ghost use Rattle.certificate_faults.specs.Missing.{LeastIn};
 ghost use Rattle.checked.specs.Belonging.{IsOfExchange};
 ghost use Rattle.certificate_faults.specs.Strange.{AreListed};
 ghost use Rattle.checked.specs.Kept.{AreSummariesBy};
-ghost use Rattle.certificate_check.specs.Verdicts.{Accepts, Refuses};
+ghost use Rattle.certificate_meaning.specs.Verdicts.{Accepts, Refuses};
 
-use crate::fault::CertFault;
 use access_summary::summary_of;
 use certificate::shape_of;
 use certificate_faults::{first_strange, least_missing};
+use certificate_meaning::CertFault;
 use certificate_text::{Certificate, Shape};
 use checked::Checked;
 use entry_accesses::numbers_of;

@@ -7,11 +7,7 @@
 #![tactic(auto)]
 
 mod deciding;
-mod fault;
-mod laws;
 mod own;
 
 pub use deciding::check;
-pub use fault::CertFault;
-pub use laws::refused_is_not_closed;
 pub use own::{Own, keep_own_if_few};

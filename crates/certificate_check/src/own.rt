@@ -1,6 +1,6 @@
 // What is kept of the certificate of an exchange itself.
 ghost use Rattle.std.specs.Prelude.{IfOk};
-ghost use Rattle.access_summary.specs.Least.{AreSummaries};
+ghost use Rattle.certificate_meaning.specs.Summaries.{AreSummaries};
 ghost use Rattle.checked.specs.Kept.{IsChecked};
 ghost use Rattle.certificate_check.specs.Own.{IsOwn};
 

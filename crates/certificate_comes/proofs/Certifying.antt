@@ -22,16 +22,15 @@ use Rattle.flow_points.proofs.Orders.{order_same}
 use Rattle.flow_table.proofs.Numbered.{are_places}
 use Rattle.certificate_text.specs.declared.certificate.Certificate.{Certificate}
 use Rattle.certificate_text.specs.declared.certificate.Shape.{Shape}
-use Rattle.certificate.specs.Certified.{IsCertificate}
-use Rattle.certificate_faults.specs.Missing.{IsLeastIn}
-use Rattle.certificate.specs.Shapes.{IsShapeOf, refers}
+use Rattle.certificate_meaning.specs.Certified.{IsCertificate}
+use Rattle.certificate_meaning.specs.Shapes.{IsShapeOf, refers}
 use Rattle.checked.specs.Belonging.{IsOfExchange, IsValueOfEntry}
-use Rattle.certificate_faults.specs.Strange.{IsFirstStrange}
+use Rattle.certificate_meaning.specs.Faults.{IsFirstStrange, IsLeastIn}
 use Rattle.certificate.proofs.Fitting.{facts_fit}
-use Rattle.certificate_check.proofs.Checking.{same_shape as one_shape}
-use Rattle.certificate_check.specs.declared.fault.CertFault.{CertFault}
-use Rattle.certificate_check.specs.declared.fault.CertFault.TheVariants.{Memory, MissingFact, StrangeFact, WrongExchange}
-use Rattle.certificate_check.specs.Verdicts.{IsClosedCertificate, Refuses}
+use Rattle.certificate_meaning.proofs.Shaping.{same_shape as one_shape}
+use Rattle.certificate_meaning.specs.declared.fault.CertFault.{CertFault}
+use Rattle.certificate_meaning.specs.declared.fault.CertFault.TheVariants.{Memory, MissingFact, StrangeFact, WrongExchange}
+use Rattle.certificate_meaning.specs.Verdicts.{IsClosedCertificate, Refuses}
 use Rattle.finite_facts.proofs.Facts.{least_facts}
 use Rattle.finite_facts.proofs.Finite.{Decided, both, certain, decided_as, is_in, less, listed_if, no, refuted, same_number, yes}
 use Rattle.finite_facts.proofs.Giving.{given, same_fact, same_slot}

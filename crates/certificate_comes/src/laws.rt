@@ -4,10 +4,10 @@ ghost use Rattle.exchange_model.specs.declared.exchange.Exchange.{Exchange};
 ghost use Rattle.exchange_model.specs.Kept.{IsExchange};
 ghost use Rattle.certificate_text.specs.declared.certificate.Certificate.{Certificate};
 ghost use Rattle.certificate_text.specs.Lines.{HasBadLine, IsTextOf};
-ghost use Rattle.certificate.specs.Certified.{IsCertificate};
-ghost use Rattle.certificate_check.specs.declared.fault.CertFault.{CertFault};
-ghost use Rattle.certificate_check.specs.declared.fault.CertFault.TheVariants.{Memory};
-ghost use Rattle.certificate_check.specs.Verdicts.{IsClosedCertificate, Refuses};
+ghost use Rattle.certificate_meaning.specs.Certified.{IsCertificate};
+ghost use Rattle.certificate_meaning.specs.declared.fault.CertFault.{CertFault};
+ghost use Rattle.certificate_meaning.specs.declared.fault.CertFault.TheVariants.{Memory};
+ghost use Rattle.certificate_meaning.specs.Verdicts.{IsClosedCertificate, Refuses};
 
 /// An exchange has a certificate.
 pub fn certificates_come()

@@ -14,7 +14,7 @@ use Rattle.flow_points.specs.declared.fact.Slot.TheVariants.{Temp}
 use Rattle.flow_points.specs.declared.fact.Value.TheVariants.{Arg}
 use Rattle.flow_points.specs.Slots.{HasSlot}
 use Rattle.checked.specs.Belonging.{IsOfExchange, IsValueOfEntry}
-use Rattle.certificate_faults.specs.Strange.{IsFirstStrange}
+use Rattle.certificate_meaning.specs.Faults.{IsFirstStrange}
 
 -- what stands past the end of a list of facts
 abbrev pub no_fact : Fact

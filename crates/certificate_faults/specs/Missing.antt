@@ -1,19 +1,13 @@
 -- The least fact that is given and not known.
 use Rattle.std.specs.Prelude.{◌≡◌, ◌⊎◌, ℕ, ◌<◌, Option, Some, None, cond}
 use Rattle.std.specs.Ordering.{is_lt}
-use Rattle.std.specs.declared.cmp.Ordering.TheVariants.{Less}
 use Rattle.exchange_model.specs.declared.exchange.Exchange.{Exchange}
 use Rattle.flow_points.specs.declared.fact.Fact.{Fact}
 use Rattle.flow_points.specs.Facts.{Facts, StartGives}
 use Rattle.flow_points.specs.Orders.{fact_order}
+use Rattle.certificate_meaning.specs.Faults.{IsLeastIn}
 
--- of the facts of G that are not known the least
-pub record IsLeastIn (P G : Facts) (m : Fact) : Type 0 where
-  pub given : G m
-  pub missing : P m → ⊥
-  pub least : (f : Fact) → G f → (P f → ⊥) → fact_order f m ≡ Less → ⊥
-
--- that one, or none where all are known
+-- of the facts of G that are not known the least, or none where all are known
 abbrev pub LeastIn : Facts → Facts → Option Fact → Type 0
 LeastIn P G None = (f : Fact) → G f → P f
 LeastIn P G (Some m) = IsLeastIn P G m

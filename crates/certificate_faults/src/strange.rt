@@ -4,7 +4,8 @@ ghost use Rattle.source_meaning.specs.Valid.{entry_count};
 ghost use Rattle.flow_points.specs.Slots.{HasSlot};
 ghost use Rattle.flow_table.specs.Rows.{IsFlowTable, RowHas};
 ghost use Rattle.checked.specs.Belonging.{IsOfExchange, IsValueOfEntry};
-ghost use Rattle.certificate_faults.specs.Strange.{AreListed, IsFirstStrange};
+ghost use Rattle.certificate_faults.specs.Strange.{AreListed};
+ghost use Rattle.certificate_meaning.specs.Faults.{IsFirstStrange};
 
 use exchange_model::Exchange;
 use flow_points::{Fact, Slot, Value};

@@ -5,13 +5,13 @@ ghost use Rattle.answer_meaning.specs.ExchangeAnswer.{FromExchange};
 ghost use Rattle.answer_meaning.specs.Program.{IsEnding};
 ghost use Rattle.answer_meaning.specs.Stages.{Performs};
 
-use crate::files::exchange_in;
 use access_summary::summaries_of;
 use analysis_text::analysis;
 use answer_meaning::{Answer, Stop};
 use certificate::text_of_certificate;
 use command_words::Status;
 use exchange_model::Exchange;
+use known_exchange::exchange_in;
 use plex_io::{Shelf, Word};
 use plex_num::Memory;
 use std::alloc::Global;

@@ -123,7 +123,7 @@ pub fn told_by(alloc: Global, exchange: &Exchange, text: &str) -> Result<Checked
 }
 
 /// A certificate that is one of the exchange, checked.
-#[tactic(auto, using(certificate_check::proofs::Checking::accepted_is_checked))]
+#[tactic(auto, using(certificate_meaning::proofs::Judging::accepted_is_checked))]
 pub fn accepted(
     alloc: Global,
     exchange: &Exchange,

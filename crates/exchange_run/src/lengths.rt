@@ -1,21 +1,13 @@
 // How long the jobs of a run have been of late. Nothing here has a contract: what comes out of a run
 // is the same whatever is told.
-use register_machine::JobRun;
-
-/// What a statement counts for at most by itself, in instructions.
-const STATEMENT: u64 = 32;
-
-/// Of the instructions that a job made this part counts beside that: those of the looks of a SEIZE or a
-/// FOR FIRST, and of the choices of a CASE, are made in one go, in a small part of the time that others take.
-const IN_ONE_GO: u64 = 16;
 
 /// What a job makes at the least, in instructions, that is worth it to be run at once with others,
 /// however many are.
-const LEAST: u64 = 12_000;
+const LEAST: u64 = 10_000;
 
 /// What it makes beside that where one alone may be handed over at a time, in instructions. Where
 /// several may, they share the cost of waking a thread, and of one that looks for work.
-const ALONE: u64 = 96_000;
+const ALONE: u64 = 32_000;
 
 /// What a job counts for at most in a mean, in instructions, so that a very long one among many short
 /// ones does not make them long.
@@ -28,15 +20,6 @@ const LATE: u64 = 64;
 /// then to run them at once.
 pub fn long_job(workers: u32) -> u64 {
     LEAST.saturating_add(ALONE / u64::from(workers).max(1))
-}
-
-/// How long the job of a run is that has ended: how many instructions it made, but no more than so many
-/// for each statement that it counted and a part of all. So a job that looks through many records is no
-/// long one by that alone.
-pub fn length_of(run: &JobRun) -> u64 {
-    let steps = run.steps();
-    let by_statements = u64::from(run.counted()).saturating_mul(STATEMENT);
-    steps.min(by_statements.saturating_add(steps / IN_ONE_GO))
 }
 
 /// Where a run may rest: behind a job, where the jobs of late were longer than `mean` instructions in the
@@ -60,7 +43,7 @@ impl Rest {
 /// How many jobs count, how long they were, each at most so long as counts, and how long all jobs were,
 /// in instructions.
 #[derive(Drop)]
-pub(crate) struct Lengths {
+pub struct Lengths {
     jobs: u64,
     counted: u64,
     all: u64,

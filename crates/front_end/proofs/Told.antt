@@ -20,9 +20,9 @@ use Rattle.text_rules.specs.declared.rule.Rule.TheVariants as rule
 use Rattle.text_rules.specs.Texts.{as_rule, signals_told, blocks_told, links_told, text_told, BreaksNoRule}
 use Rattle.resolved_block.specs.Texts.{choices_in, exchange_of, exchange_of_tree, typed_blocks}
 use Rattle.text_soundness.proofs.Whole.{is_exchange}
-use Rattle.front_end.specs.declared.fault.TextFault.{TextFault}
-use Rattle.front_end.specs.declared.fault.TextFault.TheVariants as fault
-use Rattle.front_end.specs.Resolved.{told_or, resolved, IsToldOf, Resolves}
+use Rattle.text_soundness.specs.declared.fault.TextFault.{TextFault}
+use Rattle.text_soundness.specs.declared.fault.TextFault.TheVariants as fault
+use Rattle.text_soundness.specs.Resolved.{told_or, resolved, IsToldOf, Resolves}
 
 -- what the phases tell, in their order
 abbrev pub in_order : Option (SignalRule × ℕ) → Option (BlockRule × ℕ) → Option (LinkRule × ℕ) → Option (Rule × ℕ)

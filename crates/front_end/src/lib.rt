@@ -8,11 +8,9 @@
 
 mod collected;
 mod entries;
-mod fault;
 pub mod laws;
 mod phases;
 mod points;
 mod seed;
 
-pub use fault::TextFault;
 pub use phases::resolve;

@@ -7,10 +7,9 @@ ghost use Rattle.signal_types.specs.Signals.{signals_of};
 ghost use Rattle.text_events.specs.Texts.{text_events};
 ghost use Rattle.text_rules.specs.Texts.{signals_told, text_told, BreaksNoRule};
 ghost use Rattle.resolved_block.specs.Texts.{choices_in, exchange_of_tree, typed_blocks};
-ghost use Rattle.front_end.specs.Resolved.{resolved, IsToldOf, Resolves};
+ghost use Rattle.text_soundness.specs.Resolved.{resolved, IsToldOf, Resolves};
 
 use crate::collected::exchange_with;
-use crate::fault::TextFault;
 use crate::seed::seed_of;
 use block_resolver::resolve_blocks;
 use exchange_model::{Block, Exchange, SignalKind};
@@ -21,6 +20,7 @@ use signal_types::{SignalTable, kinds_of_signals};
 use std::alloc::Global;
 use text_events::Event;
 use text_rules::{BlockTable, Fault, Rule};
+use text_soundness::TextFault;
 use text_walk::walk_text;
 
 /// Whether a text keeps the rules of signals and of names of blocks.

@@ -107,7 +107,6 @@ pub enum Way {
 /// dispatcher, how many of them are of use now, how many jobs may wait before one of them is woken,
 /// how many jobs may fly, and how many of those that do must retire before the next job is looked
 /// at again.
-#[derive(Drop)]
 pub struct Pace {
     entries: Vec<Known>,
     long: u64,
@@ -121,6 +120,23 @@ pub struct Pace {
     long_job: u64,
     /// They run alone again where they make fewer than so many.
     short_job: u64,
+}
+
+impl Drop for Pace {
+    fn drop(self) {
+        let Pace {
+            entries: _,
+            long: _,
+            ended: _,
+            helpers: _,
+            most_helpers: _,
+            most_wait: _,
+            room: _,
+            behind: _,
+            long_job: _,
+            short_job: _,
+        } = self;
+    }
 }
 
 impl Pace {

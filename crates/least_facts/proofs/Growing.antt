@@ -53,7 +53,7 @@ use Rattle.answer_table.proofs.Answering.{awaited_of, one_answer, retrieve_of}
 use Rattle.least_facts.specs.Giving.{Fills, IsOwnLeast}
 use Rattle.least_facts.specs.Growing.{AreFound, Goes, GoesOn, HandedFrom, IsFirst, IsNew, IsVisited, Search, Searches, SentFrom, IsLeastSoFar, Went, without}
 use Rattle.least_facts.specs.Marks.{HasFirst, IsNoted, Settles, most_marks}
-use Rattle.least_facts.specs.Least.{HasLearned}
+use Rattle.least_facts.specs.Least.{HasLearned, KnowLeast}
 use Rattle.least_facts.specs.Looks.{FindsWithin}
 use Rattle.least_facts.proofs.Filling.{before_or_here, guard_by, none_yet}
 
@@ -642,8 +642,8 @@ learned_or_over x t e a most (Over looks) over = over
 
 -- what is found is listed
 
-pub found_exact : (x : Exchange) (t : FlowTable) (e : ℕ) (k : BitRows) (facts : List Fact) → AreFound x t e k → AreFacts (Knows k) facts → (f : Fact) → Contains facts f ↔ ((f.entry ≡ e) × IsLeast x f)
-found_exact x t e k facts found are f = (λ c. (found.exact f).0 (are.each f c), λ h. are.listed f ((found.exact f).1 h))
+pub found_exact : (x : Exchange) (e : ℕ) (k : BitRows) (facts : List Fact) → KnowLeast x e k → AreFacts (Knows k) facts → (f : Fact) → Contains facts f ↔ ((f.entry ≡ e) × IsLeast x f)
+found_exact x e k facts found are f = (λ c. (found.exact f).0 (are.each f c), λ h. are.listed f ((found.exact f).1 h))
 
 pub found_rising : (k : BitRows) (facts : List Fact) → AreFacts (Knows k) facts → IsStrictlySortedBy fact_order facts
 found_rising k facts are = are.rising

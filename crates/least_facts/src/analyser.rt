@@ -102,15 +102,7 @@ impl Analyser {
         ensures order { IfOk result (λ facts. IsStrictlySortedBy fact_order facts) }
         ensures own { OnOk result (IsFor exchange.now table.now self.new) }
     {
-        let setting = Setting {
-            alloc,
-            exchange,
-            table,
-            answers: &self.answers,
-            order: &self.order,
-            entry,
-        };
-        find(&setting, None, &mut self.rows)?;
+        self.learn(alloc, exchange, table, entry, None)?;
         let facts = self.rows.facts(alloc)?;
         Ok(facts)
     }

@@ -24,7 +24,7 @@ use Rattle.answer_meaning.specs.declared.answer.Answer.{Answer}
 use Rattle.command_words.specs.declared.status.Status.{Status}
 use Rattle.command_words.specs.declared.status.Status.TheVariants as status
 use Rattle.answer_meaning.proofs.Accepted.{gone_on}
-use Rattle.command_answers.proofs.Tables.{timed_is_run}
+use Rattle.command_answers.proofs.Written.{timed_is_run}
 use Rattle.merge_program.specs.Merge.{IsMergeAnswer, lines_answer, merge_of}
 
 IsDone : Status → Type 0

@@ -8,10 +8,11 @@ ghost use Rattle.merge_program.specs.Merge.{AreOthers, IsMergeAnswer, lines_answ
 ghost use Rattle.merge_program.specs.Merge.{usage_answer, usage_text};
 
 use answer_meaning::{Answer, Stop};
-use command_answers::{known_in, lines_in, merged_in, write_answer};
+use command_answers::write_answer;
 use command_words::Status;
 use exchange_model::Exchange;
 use job_table::write_out;
+use known_exchange::{known_in, lines_in, merged_in};
 use plex_io::{Shelf, Sink, Word};
 use plex_num::Seq;
 use signal_file::Line;

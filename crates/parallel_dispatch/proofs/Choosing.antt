@@ -1,5 +1,5 @@
 -- Which move may be made next.
-use Rattle.std.proofs.Common.{◌≡◌, ◌≢◌, ℕ, ◌+◌, ◌<◌, ◌≤◌, Bool, List, [], ◌∷◌, length, Option, Some, None, refl, sym, ap, subst, arith}
+use Rattle.std.proofs.Common.{◌≡◌, ◌≢◌, ℕ, ◌+◌, ◌<◌, ◌≤◌, Bool, List, [], ◌∷◌, length, Option, Some, None, refl, sym, ap, ◌∙◌, subst, arith}
 use Rattle.std.specs.Prelude.{IsTrue}
 use Rattle.std.specs.List.{AllByRecursion}
 use Rattle.std.proofs.lemmas.Option.{none-some, same_Some}
@@ -10,7 +10,7 @@ use Rattle.order_laws.specs.Keeps.{NoLineBefore}
 use Rattle.retire_order.specs.Accounts.{Account, next_count, upcoming}
 use Rattle.shared_store.specs.declared.view.Lent.{Lent}
 use Rattle.parallel_dispatch.specs.Flying.{starts_of}
-use Rattle.parallel_dispatch.specs.Moves.{MayFly, MayRunAlone}
+use Rattle.parallel_dispatch.specs.Moves.{MayFly, MayIssue, MayRunAlone}
 use Rattle.interleave_core.specs.Allowed.{MayFollow}
 use Rattle.parallel_dispatch.specs.Windows.{View}
 
@@ -36,7 +36,7 @@ none_there (l ∷ rest) e = absurd (omega (arith, e))
 pub may_run_alone : (books : Account) (w : View) → length w.loans ≡ 0 → 0 < w.room → (w.loans ≡ [] → NoLineBefore (books.state.ended + 1) books.state.lines) → MayRunAlone books w
 may_run_alone books w none some line = (let empty = none_there w.loans none in record { nobody = empty; room = some; line = line empty })
 
-pub may_fly_alone : (k : KeptSummaries) (books : Account) (w : View) (start : JobStart) → Some start ≡ upcoming books → length w.loans ≡ 0 → 0 < w.room → (w.loans ≡ [] → NoLineBefore (books.state.ended + 1) books.state.lines) → MayFly k books w start
+may_fly_alone : (k : KeptSummaries) (books : Account) (w : View) (start : JobStart) → Some start ≡ upcoming books → length w.loans ≡ 0 → 0 < w.room → (w.loans ≡ [] → NoLineBefore (books.state.ended + 1) books.state.lines) → MayFly k books w start
 may_fly_alone k books w start is none some line =
     let empty = none_there w.loans none in
     let count : books.state.ended + 1 ≡ books.state.ended + length w.loans + 1 = omega (arith, none) in
@@ -47,12 +47,29 @@ may_fly_alone k books w start is none some line =
       pass = subst (λ (ls : List Lent). AllByRecursion (λ (older : JobStart). MayFollow k older start) (starts_of ls)) (sym empty) tt;
     }
 
-pub may_fly_beside : (k own : KeptSummaries) (books : Account) (w : View) (start : JobStart) (behind : ℕ) → Some start ≡ upcoming books → length w.loans < w.room → NoLineBefore (books.state.ended + length w.loans + 1) books.state.lines → own ≡ k → (behind ≡ 0 → AllByRecursion (λ (older : JobStart). MayFollow own older start) (starts_of w.loans)) → behind ≡ 0 → MayFly k books w start
+may_fly_beside : (k own : KeptSummaries) (books : Account) (w : View) (start : JobStart) (behind : ℕ) → Some start ≡ upcoming books → length w.loans < w.room → NoLineBefore (books.state.ended + length w.loans + 1) books.state.lines → own ≡ k → (behind ≡ 0 → AllByRecursion (λ (older : JobStart). MayFollow own older start) (starts_of w.loans)) → behind ≡ 0 → MayFly k books w start
 may_fly_beside k own books w start behind is lt line same pass none =
     record { next = is; room = lt; line = line; pass = subst (λ o. AllByRecursion (λ (older : JobStart). MayFollow o older start) (starts_of w.loans)) same (pass none) }
+
+pub may_issue_alone : (k : KeptSummaries) (books : Account) (w : View) (start : JobStart) → Some start ≡ upcoming books → length w.loans ≡ 0 → 0 < w.room → (w.loans ≡ [] → NoLineBefore (books.state.ended + 1) books.state.lines) → MayIssue k books w
+may_issue_alone k books w start is none some line = record { start = start; may = may_fly_alone k books w start is none some line }
+
+pub may_issue_beside : (k own : KeptSummaries) (books : Account) (w : View) (start : JobStart) (behind : ℕ) → Some start ≡ upcoming books → length w.loans < w.room → NoLineBefore (books.state.ended + length w.loans + 1) books.state.lines → own ≡ k → (behind ≡ 0 → AllByRecursion (λ (older : JobStart). MayFollow own older start) (starts_of w.loans)) → behind ≡ 0 → MayIssue k books w
+may_issue_beside k own books w start behind is lt line same pass none = record { start = start; may = may_fly_beside k own books w start behind is lt line same pass none }
+
+-- it is the one that comes next, wherever it is kept
+pub next_flies : (k : KeptSummaries) (books : Account) (w : View) (start place next : JobStart) → MayIssue k books w → start ≡ place → place ≡ next → Some next ≡ upcoming books → MayFly k books w start
+next_flies k books w start place next may here there is =
+    subst (MayFly k books w) (same_Some may.start next (may.may.next ∙ sym is) ∙ sym there ∙ sym here) may.may
+
+pub some_next : (k : KeptSummaries) (books : Account) (w : View) → MayIssue k books w → None ≡ upcoming books → ⊥
+some_next k books w may none = none-some may.start (none ∙ sym may.may.next)
 
 pub some_fly : (w : View) (o : Option JobStart) → length w.loans ≢ 0 → w.loans ≡ [] → None ≡ o
 some_fly w o some is = absurd (some (ap length is))
 
 pub some_wait : (w : View) (o : Option JobStart) (r : Bool) → (IsTrue r → 0 < length w.loans) → IsTrue r → w.loans ≡ [] → None ≡ o
 some_wait w o r some t is = (let more = some t in let none : length w.loans ≡ 0 = ap length is in absurd (omega (arith, more, none)))
+
+pub none_comes : (books : Account) (w : View) (o : Option JobStart) → o ≡ upcoming books → o ≡ None → w.loans ≡ [] → None ≡ upcoming books
+none_comes books w o next is empty = sym is ∙ next

@@ -12,23 +12,29 @@ use Rattle.source_meaning.specs.State.{State}
 use Rattle.source_meaning.specs.Valid.{IsValid}
 use Rattle.checked.specs.Kept.{KeptSummaries}
 use Rattle.order_laws.specs.Keeps.{NoLineBefore}
-use Rattle.retire_order.specs.Accounts.{Account, upcoming, with_words}
+use Rattle.retire_order.specs.Accounts.{Account, upcoming}
 use Rattle.interleave_core.specs.declared.event.CoreEvent.{CoreEvent}
 use Rattle.interleave_core.specs.Runs.{setting}
 use Rattle.shared_store.specs.declared.view.Lent.{Lent}
-use Rattle.shared_store.specs.Loans.{unlent}
 use Rattle.shared_store.specs.Seats.{RootView, StoreId}
+use Rattle.ticket_book.specs.Pages.{BookId, PenView}
 use Rattle.parallel_dispatch.specs.declared.moves.Retired.{Retired}
+use Rattle.parallel_dispatch.specs.declared.setting.Setting.{Setting}
+use Rattle.parallel_dispatch.specs.declared.threads.Beginning.{Beginning}
 use Rattle.parallel_dispatch.specs.Desks.{IsDesk}
 use Rattle.parallel_dispatch.specs.Ends.{IsOver}
 use Rattle.parallel_dispatch.specs.Events.{IsIssued, IsLed, IsReached}
 use Rattle.parallel_dispatch.specs.Flying.{Fly, starts_of}
-use Rattle.parallel_dispatch.specs.Moves.{AreCounted, AreOf, Flying, HasSummary, HasTurned}
+use Rattle.parallel_dispatch.specs.Moves.{AreCounted, AreOf, Flying, HasSummary, HasTurned, IsSetBy, MayBegin, StandBeside, SuitsBy}
 use Rattle.parallel_dispatch.specs.Made.{JobMakes}
 use Rattle.parallel_dispatch.specs.Windows.{View}
 use Rattle.parallel_dispatch.proofs.Reaching.{reached_ended, reached_issue, reached_led, reached_turn}
 use Rattle.parallel_dispatch.proofs.Standing.{all_summaries, next_summary, none_lent, stand_begin, stand_line, stand_some}
 use Rattle.source_meaning.specs.SingleRun.{turn}
+
+-- a setting that suits names a layout
+pub set_by : (x : Exchange) (code : Code) (store : StoreId) (book : BookId) (k : KeptSummaries) (s : Setting) → SuitsBy x code store book k s → IsSetBy x code k
+set_by x code store book k s suits = record { layout = s.ground.layout.now; set = subst (AreOf x s.ground.layout.now code) suits.kept suits.suits.set }
 
 module _ (x : Exchange) (k : KeptSummaries) (code : Code) (store : StoreId) (workers : ℕ) (first : State) (limit : ℕ) where
   abbrev Here : Account → RootView → View → ℕ → Type 0
@@ -40,19 +46,19 @@ module _ (x : Exchange) (k : KeptSummaries) (code : Code) (store : StoreId) (wor
 
     -- ## The beginning
 
-    pub desk_opened : (y : Exchange) → y ≡ x → (old books : Account) (root : RootView) (w : View) → books ≡ record old { state = arrivals y old.state } → with_words old.state root.1.values ≡ first → old.limit ≡ limit → old.limit ≤ MOST_JOBS → old.running ≡ 0 → root ≡ (store, unlent root.1.values) → IsValid x first
-        → w.loans ≡ [] → w.flown ≡ 0 → w.room ≡ workers → 0 < w.room → Here books root w 0
-    desk_opened y exchange_is old books root w is first_is limit_is few nobody root_is valid none flown room some =
+    pub desk_opened : (y : Exchange) → y ≡ x → (book : BookId) (b : Beginning) → MayBegin x store book workers first limit b → (books : Account) → books ≡ record b.books { state = arrivals y b.books.state } → (w : View) → w ≡ record { loans = []; room = b.workers; flown = b.pen.1 } → Here books b.root w 0
+    desk_opened y exchange_is book b may books is w window_is =
         let o = of_kept in
-        let here : books ≡ record old { state = arrivals x old.state } = is ∙ ap (λ e. record old { state = arrivals e old.state }) exchange_is in
-        let stand = stand_begin x k code o.exchange o.checked o.true_of workers limit old books root.1 (ap (λ (r : RootView). r.1) root_is) nobody limit_is (subst (IsValid x) (sym first_is) valid) here in
-        record {
-          reached = subst (λ (z : State × List Lent). IsReached x k code workers z.0 limit books root.1 z.1 0) (λ i. (first_is i, sym none i)) stand;
-          home = ap (λ (r : RootView). r.0) root_is;
-          room = room;
-          some = subst (λ n. 0 < n) room some;
-          counted = record { flown = omega (arith, flown); limited = subst (λ (b : Account). b.limit ≤ MOST_JOBS) (sym here) few };
-        }
+        let here : books ≡ record b.books { state = arrivals x b.books.state } = is ∙ ap (λ e. record b.books { state = arrivals e b.books.state }) exchange_is in
+        let stand = stand_begin x k code o.exchange o.checked o.true_of workers limit b.books books b.root.1 (ap (λ (r : RootView). r.1) may.root_is) may.nobody may.limit_is (subst (IsValid x) (sym may.first_is) may.valid) here in
+        let none : b.pen.1 ≡ 0 = ap (λ (p : PenView). p.1) may.pen_is in
+        subst (λ (v : View). Here books b.root v 0) (sym window_is) (record {
+          reached = subst (λ (t : State). IsReached x k code workers t limit books b.root.1 [] 0) may.first_is stand;
+          home = ap (λ (r : RootView). r.0) may.root_is;
+          room = may.workers_are;
+          some = subst (λ n. 0 < n) may.workers_are may.some;
+          counted = record { flown = omega (arith, none); limited = subst (λ (a : Account). a.limit ≤ MOST_JOBS) (sym here) may.limited };
+        })
 
     -- ## A move
 
@@ -60,25 +66,32 @@ module _ (x : Exchange) (k : KeptSummaries) (code : Code) (store : StoreId) (wor
       pub desk_flies : Flying x j books root w
       desk_flies = (after x first h.reached.retired, subst (λ m. Fly x m (after x first h.reached.retired) books root.1 w.loans) (sym same) h.reached.fly)
 
-      pub desk_issued : (next : Account) (now : RootView) (v : View) → IsIssued (setting x code j w.room) books root.1 w.loans next now.1 v.loans → next.limit ≡ books.limit → ((s : State) → Fly x j s books root.1 w.loans → Fly x j s next now.1 v.loans) → now.0 ≡ store → v.room ≡ w.room → AreCounted next v → Here next now v steps
-      desk_issued next now v issue limit_is fly home room counted = record {
-        reached = reached_issue x k code workers first limit books next root.1 now.1 w.loans v.loans steps h.reached
-            (subst (λ (z : KeptSummaries × ℕ). IsIssued (setting x code z.0 z.1) books root.1 w.loans next now.1 v.loans) (λ i. (same i, h.room i)) issue)
+      -- books that were handed on are the desk's
+      desk_same : (old : Account) → old ≡ books → Here old root w steps
+      desk_same old is = subst (λ (b : Account). Here b root w steps) (sym is) h
+
+      pub desk_stands : (old : Account) → old ≡ books → StandBeside x j store old root w
+      desk_stands old is = subst (λ (b : Account). StandBeside x j store b root w) (sym is) (record { home = h.home; counted = h.counted; flying = desk_flies })
+
+      pub desk_issued : (old next : Account) (now : RootView) (v : View) → old ≡ books → IsIssued (setting x code j w.room) old root.1 w.loans next now.1 v.loans → next.limit ≡ old.limit → ((s : State) → Fly x j s old root.1 w.loans → Fly x j s next now.1 v.loans) → now.0 ≡ store → v.room ≡ w.room → AreCounted next v → Here next now v steps
+      desk_issued old next now v is issue limit_is fly home room counted = record {
+        reached = reached_issue x k code workers first limit old next root.1 now.1 w.loans v.loans steps (desk_same old is).reached
+            (subst (λ (z : KeptSummaries × ℕ). IsIssued (setting x code z.0 z.1) old root.1 w.loans next now.1 v.loans) (λ i. (same i, h.room i)) issue)
             limit_is
-            (subst (λ m. (s : State) → Fly x m s books root.1 w.loans → Fly x m s next now.1 v.loans) same fly);
+            (subst (λ m. (s : State) → Fly x m s old root.1 w.loans → Fly x m s next now.1 v.loans) same fly);
         home = home;
         room = room ∙ h.room;
         some = h.some;
         counted = counted;
       }
 
-      pub desk_turned : (events : ℕ → ℕ → List CoreEvent) (next : Account) (left : Retired) (v : View) (total : ℕ) → HasTurned x j code store events books root.1 w next left v → total ≡ (steps + left.steps) % 2 ^ 64 → Here next left.root v total
-      desk_turned events next left v total t sum = record {
-        reached = reached_turn x k code workers first limit events books next root.1 left.root.1 w.loans v.loans steps left.steps total h.reached
-            (subst (λ (z : KeptSummaries × ℕ). IsLed (setting x code z.0 z.1) events books root.1 w.loans next left.root.1 v.loans left.steps) (λ i. (same i, h.room i)) t.led)
+      pub desk_turned : (events : ℕ → ℕ → List CoreEvent) (old next : Account) (left : Retired) (v : View) (total : ℕ) → old ≡ books → HasTurned x j code store events old root.1 w next left v → total ≡ (steps + left.steps) % 2 ^ 64 → Here next left.root v total
+      desk_turned events old next left v total is t sum = record {
+        reached = reached_turn x k code workers first limit events old next root.1 left.root.1 w.loans v.loans steps left.steps total (desk_same old is).reached
+            (subst (λ (z : KeptSummaries × ℕ). IsLed (setting x code z.0 z.1) events old root.1 w.loans next left.root.1 v.loans left.steps) (λ i. (same i, h.room i)) t.led)
             t.limit
-            (subst (λ m. (s : State) → Fly x m s books root.1 w.loans → Fly x m (turn x s) next left.root.1 v.loans) same t.fly)
-            (subst (λ m. (s : State) → Fly x m s books root.1 w.loans → JobMakes code s left.steps) same t.steps)
+            (subst (λ m. (s : State) → Fly x m s old root.1 w.loans → Fly x m (turn x s) next left.root.1 v.loans) same t.fly)
+            (subst (λ m. (s : State) → Fly x m s old root.1 w.loans → JobMakes code s left.steps) same t.steps)
             sum;
         home = t.home;
         room = t.room ∙ h.room;

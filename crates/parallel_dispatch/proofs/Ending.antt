@@ -23,7 +23,7 @@ use Rattle.interleave_core.specs.declared.event.CoreEvent.TheVariants.{Issue, St
 use Rattle.interleave_core.specs.declared.window.WindowJob.{WindowJob}
 use Rattle.interleave_core.specs.Allowed.{CanIssue, IsAllowed, MayFollow, after_event}
 use Rattle.interleave_core.specs.Cores.{Core, issues, lets_go, settles, steps}
-use Rattle.interleave_core.specs.Runs.{Runs, Setting}
+use Rattle.interleave_core.specs.Runs.{Runs}
 use Rattle.interleave_core.specs.Runs as runs
 use Rattle.interleave_core.proofs.Following.{Beside, follows_event, follows_single_run, stands_at}
 use Rattle.interleave_core.proofs.Joining.{PairsGive, Progress, starts_of}

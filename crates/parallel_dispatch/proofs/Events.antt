@@ -25,7 +25,8 @@ use Rattle.interleave_core.proofs.Picking.{next_with}
 use Rattle.shared_store.specs.declared.view.Lent.{Lent}
 use Rattle.shared_store.specs.declared.view.Top.{Top}
 use Rattle.shared_store.specs.Loans.{lender, lent}
-use Rattle.parallel_dispatch.specs.Flying.{arrived, starts_of}
+use Rattle.lone_job.specs.Turns.{arrived}
+use Rattle.parallel_dispatch.specs.Flying.{starts_of}
 use Rattle.parallel_dispatch.proofs.Issuing.{upcoming_parts}
 use Rattle.parallel_dispatch.specs.Events.{IsIssued, IsLed, shown, standing, whole_turn}
 use Rattle.parallel_dispatch.specs.Turning.{at_machine, turn_of}

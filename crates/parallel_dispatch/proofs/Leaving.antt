@@ -10,6 +10,7 @@ use Rattle.shared_store.specs.Loans.{Has, taken_back}
 use Rattle.shared_store.specs.Seats.{JobView, RootView, StoreId}
 use Rattle.shared_store.proofs.Loaned.{kept_out}
 use Rattle.job_runner.specs.Runs.{HasRun}
+use Rattle.lone_job.specs.Turns.{LendsNothing}
 use Rattle.parallel_dispatch.specs.Moves.{Flying, IsBare, IsLeft}
 use Rattle.parallel_dispatch.specs.Windows.{View}
 
@@ -53,6 +54,6 @@ left_bare store root loans none left = record { home = left.home; bare = by root
     by [] never = refl
     by (l ∷ rest) never = absurd (never l (inl refl))
 
--- what may begin has lent nothing
-pub bare_first : (store : StoreId) (root : RootView) → root.0 ≡ store → root.1.loans ≡ [] → IsBare store root
-bare_first store root home none = record { home = home; bare = none }
+-- a job that ran alone left nothing lent
+pub left_nothing : (store home : StoreId) (root : RootView) (loans : List Lent) → LendsNothing home root → home ≡ store → IsLeft store root loans
+left_nothing store home root loans none same = record { home = none.home ∙ same; listed = λ o has. absurd (subst (λ ls. Has ls o) none.bare has) }

@@ -29,7 +29,8 @@ use Rattle.job_runner.specs.Runs.{HasRun, IsReady}
 use Rattle.job_runner.specs.Seen.{free_to_write}
 use Rattle.parallel_dispatch.specs.declared.moves.Retired.{Retired}
 use Rattle.parallel_dispatch.specs.Bare.{bare}
-use Rattle.parallel_dispatch.specs.Flying.{Fly, arrived, starts_of}
+use Rattle.lone_job.specs.Turns.{arrived}
+use Rattle.parallel_dispatch.specs.Flying.{Fly, starts_of}
 use Rattle.parallel_dispatch.specs.Made.{JobMakes}
 use Rattle.parallel_dispatch.specs.Moves.{AreCounted, Flying, HasSummary, HasTurned, MayFly, to_do}
 use Rattle.parallel_dispatch.specs.Told.{AreTrue, IsSummaryOf}

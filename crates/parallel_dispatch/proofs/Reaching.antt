@@ -35,8 +35,9 @@ use Rattle.shared_store.specs.Loans.{taken_back}
 use Rattle.shared_store.specs.Seats.{JobView, StoreId}
 use Rattle.job_runner.specs.Runs.{HasRun}
 use Rattle.parallel_dispatch.specs.Ends.{AreLedTo, EndsAs}
-use Rattle.parallel_dispatch.specs.Flying.{Fly, IsLent, arrived}
-use Rattle.parallel_dispatch.specs.Made.{AllMake, JobMakes, OneMore, RunEnds}
+use Rattle.parallel_dispatch.specs.Flying.{Fly, IsLent}
+use Rattle.lone_job.specs.Turns.{RunEnds, arrived}
+use Rattle.parallel_dispatch.specs.Made.{AllMake, JobMakes, OneMore}
 use Rattle.parallel_dispatch.proofs.Retiring.{Leaves}
 use Rattle.parallel_dispatch.specs.Events.{IsIssued, IsLed, IsReached, first_core, shown}
 use Rattle.parallel_dispatch.specs.Turning.{steps_in, turn_of}

@@ -43,10 +43,12 @@ use Rattle.shared_store.specs.Seats.{JobView, StoreId}
 use Rattle.shared_store.proofs.Loaned.{kept_out}
 use Rattle.job_runner.specs.Runs.{HasRun}
 use Rattle.job_runner.specs.Seen.{free_to_write}
-use Rattle.parallel_dispatch.specs.Flying.{AreWithin, Fly, IsLent, arrived, starts_of}
+use Rattle.lone_job.specs.Turns.{arrived}
+use Rattle.parallel_dispatch.specs.Flying.{AreWithin, Fly, IsLent, starts_of}
 use Rattle.parallel_dispatch.specs.Made.{JobMakes}
 use Rattle.parallel_dispatch.specs.Told.{AreTrue, PassBy}
-use Rattle.parallel_dispatch.proofs.Lending.{free_stores, of_loan, of_start}
+use Rattle.lone_job.proofs.Words.{free_stores}
+use Rattle.parallel_dispatch.proofs.Lending.{of_loan, of_start}
 use Rattle.parallel_dispatch.proofs.Told.{aside, lent_stays, same_over, same_own, same_trace}
 
 -- what is left of a run that is over

@@ -49,10 +49,10 @@ pub record IsOver (x : Exchange) (code : Code) (k : KeptSummaries) (workers : �
   pub led : AreLedTo (setting x code k workers) first limit books.state root.1.values steps
   pub ends : EndsAs x code first limit books.state root.1.values ending steps
 
--- the run is over, with these books
-abbrev pub IsOverFrom : Exchange → Code → KeptSummaries → ℕ → StoreId → State → ℕ → Account → Over → Type 0
-IsOverFrom x code k workers store first limit books over =
-    IsOver x code k workers store first limit books over.root (ending_of over.ending) over.steps
+-- the run is over, and this is its end
+abbrev pub IsOverFrom : Exchange → Code → KeptSummaries → ℕ → StoreId → State → ℕ → Over → Type 0
+IsOverFrom x code k workers store first limit over =
+    IsOver x code k workers store first limit over.books.value over.root (ending_of over.ending) over.steps
 
 -- the layout, the code and what is kept of a certificate are of the exchange
 pub record FitsTogether (w : Work) : Type 0 where

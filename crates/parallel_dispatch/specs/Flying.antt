@@ -1,11 +1,10 @@
 -- Jobs that fly: they were lent their words and have not retired. They stand beside a state of the single run, the one in which the
 -- oldest of them is next, and are a window of it.
-use Rattle.std.specs.Prelude.{◌≡◌, ℕ, zero, suc, ◌+◌, ◌≤◌, true, List, [], ◌∷◌, length, map}
+use Rattle.std.specs.Prelude.{◌≡◌, ℕ, ◌+◌, ◌≤◌, true, List, [], ◌∷◌, length, map}
 use Rattle.std.specs.List.{AllByRecursion}
 use Rattle.job_types.specs.declared.job.JobStart.{JobStart}
 use Rattle.machine_code.specs.Permits.{may_read, may_write}
 use Rattle.exchange_model.specs.declared.exchange.Exchange.{Exchange}
-use Rattle.source_meaning.specs.Arrivals.{arrivals}
 use Rattle.source_meaning.specs.State.{State}
 use Rattle.source_meaning.specs.Traces.{AgreeOn, trace_of}
 use Rattle.source_meaning.specs.Valid.{IsValid}
@@ -53,8 +52,3 @@ pub record Fly (x : Exchange) (k : KeptSummaries) (s : State) (books : Account) 
   pub lent : AllByRecursion (IsLent x k s) loans
   pub pass : AllPass k (starts_of loans)
   pub listed : (l : Lent) → Has top.loans l → Has loans l
-
--- the state once lines may arrive, where so many jobs fly: they arrive where none does
-abbrev pub arrived : Exchange → ℕ → State → State
-arrived x zero s = arrivals x s
-arrived x (suc n) s = s

@@ -1,17 +1,12 @@
--- How many instructions jobs make, and a job that runs alone.
+-- How many instructions jobs make.
 use Rattle.std.specs.Prelude.{◌≡◌, ℕ, suc, ◌+◌, ◌%◌, ◌^◌, List, Some}
 use Rattle.job_types.specs.declared.job.JobStart.{JobStart}
 use Rattle.machine_code.specs.Coded.{Code}
 use Rattle.exchange_model.specs.declared.exchange.Exchange.{Exchange}
 use Rattle.source_meaning.specs.SingleRun.{after, next_start}
 use Rattle.source_meaning.specs.State.{State}
-use Rattle.exchange_run.specs.Machines.{Leaves}
-use Rattle.exchange_run.specs.Runs.{left_by, words_after}
 use Rattle.machine_meaning.specs.Faithful.{Ends, begun, started}
 use Rattle.machine_meaning.specs.Machine.{Machine}
-use Rattle.machine_meaning.specs.Private.{Private}
-use Rattle.shared_store.specs.declared.view.Top.{Top}
-use Rattle.shared_store.specs.Loans.{unlent}
 
 -- the run of this start by the code, alone on these words, makes so many instructions to its end, modulo 2^64
 pub record RunMakes (code : Code) (start : JobStart) (words : List ℕ) (made : ℕ) : Type 0 where
@@ -29,17 +24,3 @@ pub record JobMakes (code : Code) (s : State) (made : ℕ) : Type 0 where
 pub data AllMake (x : Exchange) (code : Code) (first : State) : ℕ → ℕ → Type 0 where
   NoJob : AllMake x code first 0 0
   OneMore : (n total made : ℕ) → AllMake x code first n total → JobMakes code (after x first n) made → AllMake x code first (suc n) ((total + made) % 2 ^ 64)
-
--- the run of this start by the code, alone on these words, comes to its end: this run, and the values that this root has
-pub record RunEnds (code : Code) (start : JobStart) (words : List ℕ) (run : Private) (root : Top) : Type 0 where
-  pub end : Machine
-  pub ends : Ends code.ops (begun (started code start) words) end
-  pub run_is : run ≡ end.run
-  pub words_are : root.values ≡ end.world.store
-
--- a job of this start has run to its end on these words, which the root had lent to nobody: its run leaves what the job means, and
--- the root has the words after the job
-pub record HasRunAlone (x : Exchange) (code : Code) (start : JobStart) (words : List ℕ) (run : Private) (root : Top) : Type 0 where
-  pub leaves : Leaves run (left_by x start words)
-  pub root_is : root ≡ unlent (words_after x start words)
-  pub comes : RunEnds code start words run root

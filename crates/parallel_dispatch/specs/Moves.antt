@@ -20,6 +20,8 @@ use Rattle.shared_store.specs.declared.view.Lent.{Lent}
 use Rattle.shared_store.specs.Loans.{Has, unlent}
 use Rattle.shared_store.specs.Seats.{RootView, StoreId}
 use Rattle.ticket_book.specs.Pages.{BookId}
+use Rattle.lone_job.specs.declared.ground.Ground.{Ground}
+use Rattle.worker_pool.specs.Ways.{AreMeans}
 use Rattle.parallel_dispatch.specs.declared.moves.Move.{Move}
 use Rattle.parallel_dispatch.specs.declared.moves.Move.TheVariants.{Issue, Retire, RunAlone}
 use Rattle.parallel_dispatch.specs.declared.moves.Retired.{Retired}
@@ -42,23 +44,36 @@ pub record AreOf (x : Exchange) (layout : Layout) (code : Code) (k : KeptSummari
   pub checked : IsChecked x k
   pub true_of : AreTrue x k
 
--- the exchange, the code, the store and the book of the setting are these
-abbrev pub HasNames : Exchange → Code → StoreId → BookId → Setting → Type 0
-HasNames x code store book s = (s.work.exchange.now ≡ x) × (s.work.code.now ≡ code) × (s.store.now ≡ store) × (s.book.now ≡ book)
+-- the jobs of the setting are run with this exchange, this code and this store, and their tickets are of this book
+pub record HasNames (x : Exchange) (code : Code) (store : StoreId) (book : BookId) (s : Setting) : Type 0 where
+  pub means : AreMeans x code store s.means
+  pub book_is : s.book.now ≡ book
+
+-- what is done on the ground is done on this exchange, by this code, in this store
+pub record IsGround (x : Exchange) (c : Code) (s : StoreId) (g : Ground) : Type 0 where
+  pub exchange : g.exchange.now ≡ x
+  pub code : g.code.now ≡ c
+  pub store : g.store.now ≡ s
 
 -- the layout and the summaries of the setting are of this exchange, and so is this code
 abbrev pub IsSet : Exchange → Code → Setting → Type 0
-IsSet x code s = AreOf x s.work.layout.now code s.work.checked.now
+IsSet x code s = AreOf x s.ground.layout.now code s.checked.now
 
--- the setting has these names, and what it sets is of them
+-- the setting has these names, its ground too, and what it sets is of them
 pub record Suits (x : Exchange) (code : Code) (store : StoreId) (book : BookId) (s : Setting) : Type 0 where
   pub named : HasNames x code store book s
+  pub ground : IsGround x code store s.ground
   pub set : IsSet x code s
 
 -- and this is kept of its certificate
 pub record SuitsBy (x : Exchange) (code : Code) (store : StoreId) (book : BookId) (k : KeptSummaries) (s : Setting) : Type 0 where
   pub suits : Suits x code store book s
-  pub kept : s.work.checked.now ≡ k
+  pub kept : s.checked.now ≡ k
+
+-- with some layout of the exchange this code and what is kept of its certificate are of it
+pub record IsSetBy (x : Exchange) (code : Code) (k : KeptSummaries) : Type 0 where
+  pub layout : Layout
+  pub set : AreOf x layout code k
 
 -- a summary is kept of the entry of the start
 abbrev pub HasSummary : KeptSummaries → JobStart → Type 0
@@ -75,6 +90,11 @@ pub record MayFly (k : KeptSummaries) (books : Account) (w : View) (start : JobS
   pub line : NoLineBefore (books.state.ended + length w.loans + 1) books.state.lines
   pub pass : FollowsAll k (starts_of w.loans) start
 
+-- some job is next that may
+pub record MayIssue (k : KeptSummaries) (books : Account) (w : View) : Type 0 where
+  pub start : JobStart
+  pub may : MayFly k books w start
+
 -- the next job of the books may run on the root's own words: none flies, and it retires before the next line comes
 pub record MayRunAlone (books : Account) (w : View) : Type 0 where
   pub nobody : w.loans ≡ []
@@ -84,7 +104,7 @@ pub record MayRunAlone (books : Account) (w : View) : Type 0 where
 -- the move may be made: a job that is next runs alone or flies, and the oldest retires where one flies or none is next
 abbrev pub MayMove : KeptSummaries → Account → View → Move → Type 0
 MayMove k books w RunAlone = MayRunAlone books w
-MayMove k books w (Issue start) = MayFly k books w start
+MayMove k books w (Issue entry) = MayIssue k books w
 MayMove k books w Retire = w.loans ≡ [] → None ≡ upcoming books
 
 -- books, root and window stand beside some state of the single run
@@ -149,16 +169,3 @@ pub record MayBegin (x : Exchange) (store : StoreId) (book : BookId) (workers : 
   pub root_is : b.root ≡ (store, unlent b.root.1.values)
   pub first_is : with_words b.books.state b.root.1.values ≡ first
   pub valid : IsValid x first
-
--- the same with a window in which none flies, and for which no job has flown yet
-pub record MayOpen (x : Exchange) (store : StoreId) (workers : ℕ) (first : State) (limit : ℕ) (books : Account) (root : RootView) (w : View) : Type 0 where
-  pub first_is : with_words books.state root.1.values ≡ first
-  pub limit_is : books.limit ≡ limit
-  pub limited : books.limit ≤ MOST_JOBS
-  pub nobody : books.running ≡ 0
-  pub root_is : root ≡ (store, unlent root.1.values)
-  pub valid : IsValid x first
-  pub empty : w.loans ≡ []
-  pub flown : w.flown ≡ 0
-  pub room : w.room ≡ workers
-  pub some : 0 < w.room

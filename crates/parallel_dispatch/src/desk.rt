@@ -1,32 +1,31 @@
 // The dispatcher's desk: its books, the root of the store and the jobs that fly, which are a state of the core of events.
-ghost use Rattle.std.specs.Prelude.{◌≡◌, ◌<◌, [], Some, None, IfOk, IfErr};
-ghost use Rattle.retire_order.specs.Accounts.{upcoming};
+ghost use Rattle.std.specs.Prelude.{◌≡◌, ◌<◌, [], Some, IfOk, IfErr};
 ghost use Rattle.retire_order.specs.Events.{ending_of};
 ghost use Rattle.source_meaning.specs.SingleRun.{ending_at};
 ghost use Rattle.source_meaning.specs.Valid.{IsValid};
 ghost use Rattle.parallel_dispatch.specs.Desks.{GoesOn, TellsEnd};
 ghost use Rattle.parallel_dispatch.specs.Ends.{IsOverFrom};
-ghost use Rattle.parallel_dispatch.specs.Moves.{IsLeft, MayFly, MayMove, MayOpen, MayRunAlone, SuitsBy, to_do};
+ghost use Rattle.parallel_dispatch.specs.Moves.{IsBare, IsLeft, IsSetBy, MayBegin, SuitsBy, to_do};
 
 use crate::course::Course;
-use crate::driving::Over;
+use crate::driving::{Over, hire_meanwhile, relieve, way_for};
 use crate::moves::{Left, Move, issue, next_move, retire, run_alone};
 use crate::setting::{Hall, Setting};
+use crate::threads::Beginning;
 use crate::window::Window;
 use interference_check::PairTable;
-use job_pace::{Pace, Way};
-use job_types::JobStart;
+use job_pace::Pace;
 use plex_io::Gate;
 use retire_order::{Books, Ending, let_arrive};
 use shared_store::RootSeat;
 use std::marker::Model;
 use std::sync::Wait;
-use worker_pool::Shop;
+use std::thread::{Scope, Threads};
 
 /// The books, the root of the store, and the jobs that fly. They are a state of the core of events, in which each job that flies stands at
 /// its start, and events lead to it from the state in which the run began. It cannot be dropped, since no job that flies may be.
 pub(crate) struct Desk<B: Course> {
-    books: Books,
+    books: Box<Books>,
     root: RootSeat,
     window: Window<B>,
     steps: u64,
@@ -41,33 +40,39 @@ impl<B: Course> Model for Desk<B> {
 
     ghost coded = { Prim.hlevel (codes, chains_code, dead_code) };
 
-    ghost view = { λ d. record { books = d.books; root = d.root; window = d.window; steps = d.steps } };
+    ghost view = { λ d. record { books = d.books.value; root = d.root; window = d.window; steps = d.steps } };
 
-    ghost invariant = { λ d. IsDesk B.exchange B.kept B.code B.store B.workers B.first B.limit d.books d.root d.window d.steps };
+    ghost invariant = { λ d. IsDesk B.exchange B.kept B.code B.store B.workers B.first B.limit d.books.value d.root d.window d.steps };
 }
 
-impl<B: Course> Desk<B> {
-    /// Before the first job: what is due arrives. The root and the window are given back where memory is refused.
-    pub fn open(
-        setting: &Setting<'_>,
-        books: Books,
-        root: RootSeat,
-        window: Window<B>,
-    ) -> Result<Desk<B>, Left<B>>
+impl<B: Course + Send + Sync> Desk<B> {
+    /// Before the first job: what is due arrives. The root is given back where memory is refused.
+    pub fn open(setting: &Setting<'_>, beginning: Beginning) -> Result<Desk<B>, RootSeat>
         requires setting { SuitsBy B.exchange B.code B.store B.book B.kept setting.now }
-        requires open { MayOpen B.exchange B.store B.workers B.first B.limit books root window }
-        ensures left { IfErr result (λ left. IsLeft B.store left.root left.window.loans) }
+        requires begin { MayBegin B.exchange B.store B.book B.workers B.first B.limit beginning }
+        ensures bare { IfErr result (λ root. IsBare B.store root) }
     {
-        let mut books = books;
-        match let_arrive(setting.work.exchange, &mut books) {
-            Ok(()) => Ok(Desk {
-                books,
-                root,
-                window,
-                steps: 0,
-            }),
-            Err(_) => Err(Left { root, window }),
-        }
+        let Beginning {
+            mut books,
+            root,
+            pen,
+            workers,
+        } = beginning;
+        let Ok(()) = let_arrive(setting.ground.exchange, &mut books) else {
+            return Err(root);
+        };
+        let Ok(books) = Box::new(setting.alloc, books) else {
+            return Err(root);
+        };
+        let Ok(window) = Window::<B>::new(setting.alloc, pen, workers) else {
+            return Err(root);
+        };
+        Ok(Desk {
+            books,
+            root,
+            window,
+            steps: 0,
+        })
     }
 
     /// How the run ends, if none flies and it does.
@@ -80,15 +85,21 @@ impl<B: Course> Desk<B> {
         None
     }
 
-    /// The next job flies, which may, in this way. The root and the window are given back where memory is refused.
-    pub fn issue<R: Wait, G: Gate>(
+    /// The next move of a run that is not over, once the workers are started that are wanted for it:
+    /// the next job runs alone to its end and retires, or it flies, or the oldest that flies retires.
+    /// The root and the window are given back where memory is refused.
+    #[tactic(auto, using(crate::proofs::Desking::set_by))]
+    pub fn make_move<'s, 'e: 's, R: Threads + Wait + Sync, G: Gate + Sync>(
         self,
-        hall: &Hall<'_, B, R, G>,
-        way: Way,
-        start: JobStart,
+        scope: &'s Scope<'s, &'e ()>,
+        hall: &Hall<'e, B, R, G>,
+        pairs: &mut PairTable<'_>,
+        pace: &mut Pace,
     ) -> Result<Desk<B>, Left<B>>
         requires setting { SuitsBy B.exchange B.code B.store B.book B.kept hall.now.setting }
-        requires next { MayFly B.kept self.books self.window start }
+        requires pairs { pairs.old ≡ B.kept }
+        requires goes_on { GoesOn self.books self.window }
+        ensures kept { pairs.new ≡ B.kept }
         ensures fewer { IfOk result (λ desk. to_do desk.books < to_do self.books) }
         ensures left { IfErr result (λ left. IsLeft B.store left.root left.window.loans) }
     {
@@ -98,111 +109,55 @@ impl<B: Course> Desk<B> {
             mut window,
             steps,
         } = self;
-        match issue(hall, way, &mut books, &mut root, &mut window, start) {
-            Ok(()) => Ok(Desk {
-                books,
-                root,
-                window,
-                steps,
-            }),
-            Err(_) => Err(Left { root, window }),
+        relieve(hall, pace, &window);
+        let held: &mut Books = &mut books;
+        match next_move(held, &window, pairs, hall.shop, pace) {
+            Move::RunAlone => {
+                match run_alone(&hall.setting, hall.gate, pace, held, root, &mut window) {
+                    Ok(alone) => Ok(Desk {
+                        books,
+                        root: alone.root,
+                        window,
+                        steps: steps.wrapping_add(alone.steps),
+                    }),
+                    Err(root) => Err(Left { root, window }),
+                }
+            }
+            Move::Issue { entry } => {
+                let way = way_for(scope, hall, entry, pairs, pace, &window);
+                match issue(hall, way, held, &mut root, &mut window) {
+                    Ok(()) => Ok(Desk {
+                        books,
+                        root,
+                        window,
+                        steps,
+                    }),
+                    Err(_) => Err(Left { root, window }),
+                }
+            }
+            Move::Retire => {
+                hire_meanwhile(scope, hall, pace, &window);
+                match retire(hall, pace, held, root, &mut window) {
+                    Ok(oldest) => Ok(Desk {
+                        books,
+                        root: oldest.root,
+                        window,
+                        steps: steps.wrapping_add(oldest.steps),
+                    }),
+                    Err(root) => Err(Left { root, window }),
+                }
+            }
         }
-    }
-
-    /// The next job runs alone to its end, and retires. The root and the window are given back where memory is refused.
-    pub fn run_alone<G: Gate>(
-        self,
-        setting: &Setting<'_>,
-        gate: &G,
-        pace: &mut Pace,
-    ) -> Result<Desk<B>, Left<B>>
-        requires setting { SuitsBy B.exchange B.code B.store B.book B.kept setting.now }
-        requires next { MayRunAlone self.books self.window }
-        requires goes_on { ending_at self.books.limit self.books.state ≡ None }
-        ensures fewer { IfOk result (λ desk. to_do desk.books < to_do self.books) }
-        ensures left { IfErr result (λ left. IsLeft B.store left.root left.window.loans) }
-    {
-        let Desk {
-            steps,
-            root,
-            mut books,
-            mut window,
-        } = self;
-        match run_alone(setting, gate, pace, &mut books, root, &mut window) {
-            Ok(alone) => Ok(Desk {
-                books,
-                root: alone.root,
-                window,
-                steps: steps.wrapping_add(alone.steps),
-            }),
-            Err(root) => Err(Left { root, window }),
-        }
-    }
-
-    /// The oldest job that flies retires. The root and the window are given back where memory is refused.
-    pub fn retire<R: Wait, G: Gate>(
-        self,
-        hall: &Hall<'_, B, R, G>,
-        pace: &mut Pace,
-    ) -> Result<Desk<B>, Left<B>>
-        requires setting { SuitsBy B.exchange B.code B.store B.book B.kept hall.now.setting }
-        requires next { self.window.loans ≡ [] → None ≡ upcoming self.books }
-        requires goes_on { GoesOn self.books self.window }
-        ensures fewer { IfOk result (λ desk. to_do desk.books < to_do self.books) }
-        ensures left { IfErr result (λ left. IsLeft B.store left.root left.window.loans) }
-    {
-        let Desk {
-            mut books,
-            root,
-            mut window,
-            steps,
-        } = self;
-        match retire(hall, pace, &mut books, root, &mut window) {
-            Ok(oldest) => Ok(Desk {
-                books,
-                root: oldest.root,
-                window,
-                steps: steps.wrapping_add(oldest.steps),
-            }),
-            Err(root) => Err(Left { root, window }),
-        }
-    }
-
-    /// The next move.
-    pub fn next_move(
-        &self,
-        setting: &Setting<'_>,
-        pairs: &mut PairTable<'_>,
-        shop: &Shop<B>,
-        pace: &mut Pace,
-    ) -> Move
-        requires setting { SuitsBy B.exchange B.code B.store B.book B.kept setting.now }
-        requires pairs { pairs.old ≡ B.kept }
-        requires goes_on { GoesOn self.now.books self.now.window }
-        ensures may { MayMove B.kept self.now.books self.now.window result }
-        ensures kept { pairs.new ≡ B.kept }
-    {
-        let _ = setting;
-        next_move(&self.books, &self.window, pairs, shop, pace)
-    }
-
-    /// The jobs that fly.
-    pub fn window(&self) -> &Window<B>
-        ensures { result.now ≡ self.now.window }
-    {
-        &self.window
     }
 
     /// The run is over, and none flies.
-    pub fn finish(self, setting: &Setting<'_>, ending: Ending) -> (Books, Over)
-        requires setting { SuitsBy B.exchange B.code B.store B.book B.kept setting.now }
+    pub fn finish(self, ending: Ending) -> Over
+        requires set { IsSetBy B.exchange B.code B.kept }
         requires valid { IsValid B.exchange B.first }
         requires none { self.window.loans ≡ [] }
         requires over { Some (ending_of ending) ≡ ending_at self.books.limit self.books.state }
-        ensures { IsOverFrom B.exchange B.code B.kept B.workers B.store B.first B.limit
-            result.0 result.1 }
+        ensures { IsOverFrom B.exchange B.code B.kept B.workers B.store B.first B.limit result }
     {
-        let _ = setting;
         let Desk {
             books,
             root,
@@ -210,13 +165,11 @@ impl<B: Course> Desk<B> {
             steps,
         } = self;
         window.close();
-        (
+        Over {
             books,
-            Over {
-                root,
-                ending,
-                steps,
-            },
-        )
+            root,
+            ending,
+            steps,
+        }
     }
 }

@@ -7,6 +7,7 @@ ghost use Rattle.parallel_dispatch.specs.Moves.{IsBare};
 use crate::driving::Over;
 use crate::setting::{Setting, Work};
 use crate::threads::{Beginning, run_named};
+use lone_job::Ground;
 use plex_io::Gate;
 use plex_num::{Memory, Seq};
 use retire_order::{Books, Ending};
@@ -16,6 +17,7 @@ use std::marker::Brand;
 use std::sync::Wait;
 use std::thread::Threads;
 use ticket_book::TicketBook;
+use worker_pool::Means;
 
 /// The books of a run, and the store of its words with the root.
 #[derive(Drop)]
@@ -23,6 +25,20 @@ pub struct StoredRun {
     pub books: Books,
     pub store: SharedStore,
     pub root: RootSeat,
+}
+
+impl StoredRun {
+    /// The root alone: the books and the store are let go.
+    fn into_root(self) -> RootSeat
+        ensures { result ≡ self.root }
+    {
+        let StoredRun {
+            books: _,
+            store: _,
+            root,
+        } = self;
+        root
+    }
 }
 
 /// The end of a run: the books, the stored words, one for each cell, how it ended, and the number of instructions that the runs of its
@@ -62,6 +78,7 @@ pub fn dispatch<R: Threads + Wait + Sync, G: Gate + Sync>(
 
 /// The same, and where memory is refused the root of the store comes back, which has lent nothing
 /// then: each job to which words were lent has come to its end, and its seat was taken back.
+#[tactic(auto, using(crate::proofs::Standing::dispatched))]
 pub fn dispatch_or_root<R: Threads + Wait + Sync, G: Gate + Sync>(
     rt: &R,
     alloc: Global,
@@ -76,46 +93,69 @@ pub fn dispatch_or_root<R: Threads + Wait + Sync, G: Gate + Sync>(
     ensures end { IfOk result (λ end. IsDispatched work.now workers run end) }
     ensures joined { IfErr result (λ back. IsBare run.store back) }
 {
-    work.exchange.kept();
-    let StoredRun { books, store, root } = run;
-    let Ok((book, pen)) = TicketBook::new(alloc) else {
-        return Err(root);
-    };
-    let setting = Setting {
-        alloc,
-        work: Work {
-            exchange: work.exchange,
-            layout: work.layout,
-            code: work.code,
-            checked: work.checked,
-        },
-        store: &store,
-        book: &book,
-    };
-    let beginning = Beginning {
-        books,
-        root,
-        pen,
-        workers,
-    };
-    match run_named::<Brand, R, G>(rt, &setting, gate, beginning) {
-        Ok((books, over)) => {
-            let Over {
-                mut root,
-                ending,
-                steps,
-            } = over;
-            let Ok(words) = words_of(alloc, &store, &mut root, work.layout.words()) else {
-                return Err(root);
+    match TicketBook::new(alloc) {
+        Ok((book, pen)) => {
+            work.exchange.kept();
+            let StoredRun { books, store, root } = run;
+            let setting = Setting {
+                alloc,
+                ground: Ground {
+                    exchange: work.exchange,
+                    layout: work.layout,
+                    code: work.code,
+                    store: &store,
+                },
+                means: Means {
+                    exchange: work.exchange,
+                    code: work.code,
+                    store: &store,
+                },
+                checked: work.checked,
+                book: &book,
             };
-            Ok(Ended {
+            let beginning = Beginning {
                 books,
-                words,
-                ending,
-                steps,
-            })
+                root,
+                pen,
+                workers,
+            };
+            match run_named::<Brand, R, G>(rt, &setting, gate, beginning) {
+                Ok(over) => read_end(alloc, &store, work.layout.words(), over),
+                Err(root) => Err(root),
+            }
         }
-        Err(root) => Err(root),
+        Err(_) => Err(run.into_root()),
+    }
+}
+
+/// The end of a run that is over, with so many words from its root, which is that of the store and has
+/// lent nothing. Where memory is refused the root comes back.
+fn read_end(alloc: Global, store: &SharedStore, cells: u32, over: Over) -> Result<Ended, RootSeat>
+    requires store { over.root.0 ≡ store.now }
+    requires bare { over.root.1 ≡ unlent over.root.1.values }
+    requires cells { length over.root.1.values ≡ cells }
+    ensures end { IfOk result (λ end. end ≡ record {
+      books = over.books.value;
+      words = over.root.1.values;
+      ending = over.ending;
+      steps = over.steps;
+    }) }
+    ensures bare { IfErr result (λ back. IsBare store.now back) }
+{
+    let Over {
+        books,
+        mut root,
+        ending,
+        steps,
+    } = over;
+    match words_of(alloc, store, &mut root, cells) {
+        Ok(words) => Ok(Ended {
+            books: Box::into_inner(books),
+            words,
+            ending,
+            steps,
+        }),
+        Err(_) => Err(root),
     }
 }
 

@@ -1,44 +1,40 @@
 // The moves of the dispatcher: the next job runs alone, or it flies, or the oldest that flies retires.
-ghost use Rattle.std.specs.Prelude.{◌≡◌, ◌+◌, ◌<◌, ◌^◌, [], length, Some, None, IsTrue, OnOk, OnErr, IfOk, IfErr};
+ghost use Rattle.std.specs.Prelude.{◌≡◌, ◌+◌, ◌<◌, [], length, Some, None, IsTrue, OnOk, OnErr, IfOk, IfErr};
 ghost use Rattle.std.specs.List.{AllByRecursion};
 ghost use Rattle.job_types.specs.declared.job.JobStart.{JobStart as StartType};
-ghost use Rattle.exchange_run.specs.Runs.{MayRun};
 ghost use Rattle.order_laws.specs.Keeps.{NoLineBefore};
-ghost use Rattle.machine_meaning.specs.Faithful.{Faithful, started};
 ghost use Rattle.retire_order.specs.Accounts.{upcoming};
 ghost use Rattle.source_meaning.specs.SingleRun.{ending_at};
-ghost use Rattle.job_runner.specs.Runs.{HasRun};
-ghost use Rattle.parallel_dispatch.specs.Flying.{arrived, starts_of};
+ghost use Rattle.worker_pool.specs.Ways.{AreMeans};
+ghost use Rattle.parallel_dispatch.specs.Flying.{starts_of};
 ghost use Rattle.parallel_dispatch.specs.Events.{whole_turn};
 ghost use Rattle.parallel_dispatch.specs.Turning.{turn_of};
-ghost use Rattle.parallel_dispatch.specs.Made.{HasRunAlone};
-ghost use Rattle.parallel_dispatch.specs.Moves.{CountsOne, HasIssued, HasNames, HasSummary, HasTurned, IsBare, IsLeft, MayFly, MayMove, MayRunAlone, StandBeside, Suits};
+ghost use Rattle.parallel_dispatch.specs.Moves.{CountsOne, HasIssued, HasNames, HasSummary, HasTurned, IsBare, IsLeft, MayIssue, MayMove, MayRunAlone, StandBeside, Suits};
 
 use crate::setting::{Hall, Setting};
 use crate::window::{Oldest, Window};
-use exchange_model::Exchange;
-use exchange_run::length_of;
 use interference_check::PairTable;
 use job_pace::{Pace, Way};
-use job_runner::RootWords;
 use job_types::JobStart;
-use machine_code::Code;
-use plex_io::{Gate, Moment};
+use lone_job::{number_of_next, retire_on_root, turn_alone};
+use plex_io::Gate;
 use plex_num::Memory;
-use register_machine::{JobRun, run_to_end};
-use retire_order::{Books, let_arrive};
-use shared_store::{JobSeat, RootSeat, SharedStore};
+use register_machine::JobRun;
+use retire_order::Books;
+use run_engines::length_of;
+use shared_store::RootSeat;
+use std::alloc::Global;
 use std::marker::Brand;
 use std::sync::Wait;
 use worker_pool::{Flight, Naming, Shop};
 
 /// What the dispatcher does next.
-#[derive(Drop)]
+#[derive(Clone, Copy)]
 pub(crate) enum Move {
     /// The next job runs to its end on the root's own words, and retires.
     RunAlone,
-    /// The next job is lent its words, and flies.
-    Issue(JobStart),
+    /// The next job, which is of this entry, is lent its words, and flies.
+    Issue { entry: u32 },
     /// The oldest job that flies retires.
     Retire,
 }
@@ -52,7 +48,7 @@ pub(crate) struct Retired {
 
 /// The next move. Where none flies the next job runs alone, or flies where it is worth a loan. Beside others it flies where it may, once
 /// those in front that have ended have retired; else the oldest retires.
-#[tactic(auto, using(crate::proofs::Choosing::may_run_alone, crate::proofs::Choosing::may_fly_alone, crate::proofs::Choosing::may_fly_beside, crate::proofs::Choosing::some_fly, crate::proofs::Choosing::some_wait))]
+#[tactic(auto, using(crate::proofs::Choosing::may_run_alone, crate::proofs::Choosing::some_fly, crate::proofs::Choosing::some_wait, crate::proofs::Choosing::none_comes))]
 pub(crate) fn next_move<B: Naming>(
     books: &Books,
     window: &Window<B>,
@@ -72,31 +68,34 @@ pub(crate) fn next_move<B: Naming>(
     if waits_for_oldest(window, shop, pace) {
         return Move::Retire;
     }
-    if window.len() == 0 && !pace.may_any_fly() {
+    let flying = window.len();
+    if flying == 0 && !pace.may_any_fly() {
         return Move::RunAlone;
     }
-    let Some(start) = books.peek() else {
-        return Move::Retire;
+    let next = books.peek();
+    let start = match &next {
+        Some(start) => start,
+        None => return Move::Retire,
     };
     let entry = start.job.entry;
-    if window.len() == 0 {
+    if flying == 0 {
         if pace.may_fly_first(pairs, entry) {
-            return Move::Issue(start);
+            return Move::Issue { entry };
         }
         return Move::RunAlone;
     }
-    if window.len() >= window.room() || !retire_before_line(books, window.len()) {
+    if flying >= window.room() || !retire_before_line(books, flying) {
         return Move::Retire;
     }
     let tests = window.asking(pairs, entry);
-    if !pace.may_ask(entry, tests, window.len()) {
+    if !pace.may_ask(entry, tests, flying) {
         pace.waits_for(1);
         return Move::Retire;
     }
-    let behind = window.blockers(pairs, &start);
+    let behind = window.blockers(pairs, start);
     pace.waits_for(behind);
     if behind == 0 {
-        return Move::Issue(start);
+        return Move::Issue { entry };
     }
     Move::Retire
 }
@@ -133,28 +132,20 @@ fn is_sum_below(a: u64, b: u64, most: u64) -> bool
     a <= most && b < most - a
 }
 
-/// The number of the next job in the single run, from 1.
-fn number_of_next(books: &Books) -> u64
-    requires { books.now.state.ended + books.now.running + 1 < 2 ^ 64 }
-    ensures { result ≡ books.now.state.ended + books.now.running + 1 }
-{
-    books.ended() + books.running() + 1
-}
-
 /// One more job flies, which may, in this way.
+#[tactic(auto, using(crate::proofs::Choosing::some_next))]
 pub(crate) fn issue<B: Naming, R: Wait, G: Gate>(
     hall: &Hall<'_, B, R, G>,
     way: Way,
     books: &mut Books,
     root: &mut RootSeat,
     window: &mut Window<B>,
-    start: JobStart,
 ) -> Result<(), Memory>
     requires setting { Suits B.exchange B.code B.store B.book hall.now.setting }
-    requires next { MayFly hall.now.setting.work.checked.now books.old window.old start }
-    requires beside { StandBeside B.exchange hall.now.setting.work.checked.now B.store
+    requires next { MayIssue hall.now.setting.checked.now books.old window.old }
+    requires beside { StandBeside B.exchange hall.now.setting.checked.now B.store
         books.old root.old window.old }
-    ensures issued { OnOk result (HasIssued B.exchange hall.now.setting.work.checked.now B.code
+    ensures issued { OnOk result (HasIssued B.exchange hall.now.setting.checked.now B.code
         books.old root.old.1 window.old books.new root.new.1 window.new) }
     ensures counted { OnOk result (CountsOne books.old books.new window.new) }
     ensures left { OnErr result (IsLeft B.store root.new window.new.loans) }
@@ -162,17 +153,37 @@ pub(crate) fn issue<B: Naming, R: Wait, G: Gate>(
     ensures room { window.new.room ≡ window.old.room }
 {
     let setting = &hall.setting;
-    let entry = start.job.entry;
-    let _told = setting.work.checked.summary(entry);
-    let mut run = window.idle_run(setting.alloc)?;
-    run.begin(setting.work.code, &start);
     let job = number_of_next(books);
-    let _begun = books.next_job();
-    let seat = setting.store.lend_as::<Brand>(root, &start);
+    let Some(next) = books.next_job() else {
+        unreachable!()
+    };
+    let made = with_run(setting.alloc, window, next)?;
+    let (place, mut run) = made;
+    let start: &JobStart = &place;
+    let _told = setting.checked.summary(start.job.entry);
+    run.begin(setting.means.code, start);
+    let seat = setting.means.store.lend_as::<Brand>(root, start);
     let flight = window.launch(setting.book, seat, run, job);
     let flight = set_out(hall, way, flight);
-    window.push(flight, start);
+    window.push(flight, place);
     Ok(())
+}
+
+/// A start in a place of its own, where it is not moved as the job goes from hand to hand, and a run
+/// in which its job may begin. Memory is the only reason for an error.
+fn with_run<B: Naming>(
+    alloc: Global,
+    window: &mut Window<B>,
+    start: JobStart,
+) -> Result<(Box<JobStart>, Box<JobRun>), Memory>
+    ensures place { IfOk result (λ made. made.0.value ≡ start) }
+    ensures window { window.new ≡ window.old }
+{
+    let Ok(place) = Box::new(alloc, start) else {
+        return Err(Memory);
+    };
+    let run = window.idle_run(alloc)?;
+    Ok((place, run))
 }
 
 /// A flight that is in hand goes this way.
@@ -181,21 +192,18 @@ fn set_out<B: Naming, R: Wait, G: Gate>(
     way: Way,
     flight: Flight<B>,
 ) -> Flight<B>
-    requires { HasNames B.exchange B.code B.store B.book hall.now.setting }
+    requires means { AreMeans B.exchange B.code B.store hall.now.setting.means }
     ensures { result ≡ flight }
 {
     match way {
         Way::InHand => flight,
         Way::Brought => flight.bring(hall.rt, hall.shop),
-        Way::Here => {
-            let means = hall.means();
-            flight.run_here(&means, hall.gate)
-        }
+        Way::Here => flight.run_here(&hall.setting.means, hall.gate),
     }
 }
 
 /// The next job runs to its end on the root's own words, where none flies. It retires at once, and what is due arrives.
-#[tactic(auto, using(crate::proofs::Alone::some_next))]
+#[tactic(auto, using(crate::proofs::Leaving::left_nothing))]
 pub(crate) fn run_alone<B: Naming, G: Gate>(
     setting: &Setting<'_>,
     gate: &G,
@@ -207,71 +215,29 @@ pub(crate) fn run_alone<B: Naming, G: Gate>(
     requires setting { Suits B.exchange B.code B.store B.book setting.now }
     requires next { MayRunAlone books.old window.old }
     requires goes_on { ending_at books.old.limit books.old.state ≡ None }
-    requires beside { StandBeside B.exchange setting.now.work.checked.now B.store
+    requires beside { StandBeside B.exchange setting.now.checked.now B.store
         books.old root window.old }
     ensures turned { IfOk result (λ left.
-        HasTurned B.exchange setting.now.work.checked.now B.code B.store whole_turn
+        HasTurned B.exchange setting.now.checked.now B.code B.store whole_turn
         books.old root.1 window.old books.new left window.new) }
     ensures left { IfErr result (λ back. IsLeft B.store back window.new.loans) }
 {
-    let job = number_of_next(books);
     let Ok(run) = window.idle_run(setting.alloc) else {
         return Err(root);
     };
-    let Some(start) = books.next_job() else {
-        unreachable!()
-    };
     let mut run = run;
-    run.begin(setting.work.code, &start);
-    gate.at(job, Moment::Before);
-    let root = run_on_root(
-        setting.work.exchange,
-        setting.work.code,
-        setting.store,
-        root,
-        &mut run,
-        &start,
-    );
-    let steps = run.steps();
-    gate.at(job, Moment::After { steps });
-    let done = run.done();
-    pace.has_ended(start.job.entry, length_of(&run));
-    let mut words = RootWords::new(setting.store, root);
-    let work = &setting.work;
-    let retired = books.retire(work.exchange, work.layout, &start, done, &mut words);
-    let root = words.into_root();
+    let turn = turn_alone(&setting.ground, gate, books, root, &mut run);
     window.keep_run(run);
-    let Ok(()) = retired else {
-        return Err(root);
-    };
-    let Ok(()) = arrive(books, work.exchange) else {
-        return Err(root);
-    };
-    Ok(Retired { root, steps })
-}
-
-/// Runs a job to its end on the words of a root that has lent nothing.
-fn run_on_root(
-    exchange: &Exchange,
-    code: &Code,
-    store: &SharedStore,
-    root: RootSeat,
-    run: &mut JobRun,
-    start: &JobStart,
-) -> RootSeat
-    requires faithful { Faithful exchange.now code.now }
-    requires root { root.0 ≡ store.now }
-    requires bare { root.1.loans ≡ [] }
-    requires start { MayRun exchange.now start.now root.1.values }
-    requires run { run.old ≡ started code.now start.now }
-    ensures root { result.0 ≡ root.0 }
-    ensures ran { HasRunAlone exchange.now code.now start.now root.1.values run.new result.1 }
-{
-    exchange.kept();
-    let _ = start;
-    let mut words = RootWords::new(store, root);
-    run_to_end(exchange, run, code, &mut words);
-    words.into_root()
+    match turn {
+        Ok(alone) => {
+            pace.has_ended(alone.entry, alone.length);
+            Ok(Retired {
+                root: alone.root,
+                steps: alone.steps,
+            })
+        }
+        Err(root) => Err(root),
+    }
 }
 
 /// The oldest job retires, once it has come to its end, and what is due arrives where no job is left. There must be one.
@@ -284,71 +250,38 @@ pub(crate) fn retire<B: Naming, R: Wait, G: Gate>(
 ) -> Result<Retired, RootSeat>
     requires setting { Suits B.exchange B.code B.store B.book hall.now.setting }
     requires some { 0 < length window.old.loans }
-    requires beside { StandBeside B.exchange hall.now.setting.work.checked.now B.store
+    requires beside { StandBeside B.exchange hall.now.setting.checked.now B.store
         books.old root window.old }
     ensures turned { IfOk result (λ left.
-        HasTurned B.exchange hall.now.setting.work.checked.now B.code B.store turn_of
+        HasTurned B.exchange hall.now.setting.checked.now B.code B.store turn_of
         books.old root.1 window.old books.new left window.new) }
     ensures left { IfErr result (λ back. IsLeft B.store back window.new.loans) }
 {
     let Some(oldest) = window.pop() else {
         unreachable!()
     };
-    let Oldest { flight, start } = oldest;
-    pace.sets_down(start.job.entry, is_alone(window, &flight));
-    let (seat, run) = finish(hall, flight);
-    let steps = run.steps();
-    let done = run.done();
-    pace.has_ended(start.job.entry, length_of(&run));
+    let Oldest {
+        flight,
+        start: place,
+    } = oldest;
+    let start: &JobStart = &place;
+    let entry = start.job.entry;
+    pace.sets_down(entry, (window.len() == 0) & flight.is_in_hand());
+    let setting = &hall.setting;
+    let (seat, run) = flight.finish(hall.rt, hall.shop, &setting.means, setting.book, hall.gate);
+    let ended: &JobRun = &run;
+    let steps = ended.steps();
+    pace.has_ended(entry, length_of(ended));
     pace.has_retired();
     let mut root = root;
-    let setting = &hall.setting;
-    setting.store.take_back(&mut root, seat);
-    let mut words = RootWords::new(setting.store, root);
-    let retired = books.retire(
-        setting.work.exchange,
-        setting.work.layout,
-        &start,
-        done,
-        &mut words,
-    );
-    let root = words.into_root();
+    setting.means.store.take_back(&mut root, seat);
+    let done = ended.done();
+    let retired = retire_on_root(&setting.ground, books, root, start, done);
     window.keep_run(run);
-    let Ok(()) = retired else {
-        return Err(root);
-    };
-    let Ok(()) = arrive(books, setting.work.exchange) else {
-        return Err(root);
-    };
-    Ok(Retired { root, steps })
-}
-
-/// A flight comes to its end, and gives back its words and its run.
-fn finish<B: Naming, R: Wait, G: Gate>(
-    hall: &Hall<'_, B, R, G>,
-    flight: Flight<B>,
-) -> (JobSeat, Box<JobRun>)
-    requires { HasNames B.exchange B.code B.store B.book hall.now.setting }
-    ensures { HasRun B.exchange B.code B.store flight result.0 result.1.value }
-{
-    let means = hall.means();
-    flight.finish(hall.rt, hall.shop, &means, hall.setting.book, hall.gate)
-}
-
-/// Whether a flight that has left the window is in hand, and no other flies.
-fn is_alone<B: Naming>(window: &Window<B>, flight: &Flight<B>) -> bool {
-    window.len() == 0 && flight.is_in_hand()
-}
-
-/// What is due arrives, where no job runs.
-fn arrive(books: &mut Books, exchange: &Exchange) -> Result<(), Memory>
-    ensures { OnOk result (books.new
-        ≡ record books.old { state = arrived exchange.now books.old.running books.old.state }) }
-{
-    if books.running() == 0 {
-        let_arrive(exchange, books)?;
+    match retired {
+        Ok(root) => Ok(Retired { root, steps }),
+        Err(root) => Err(root),
     }
-    Ok(())
 }
 
 /// What is left where memory was refused: the root of the store, and the jobs that fly.
@@ -375,7 +308,13 @@ pub(crate) fn drain<B: Naming, R: Wait, G: Gate>(
             return root;
         };
         let Oldest { flight, start: _ } = oldest;
-        let (seat, _run) = finish(hall, flight);
-        hall.setting.store.take_back(&mut root, seat);
+        let (seat, _run) = flight.finish(
+            hall.rt,
+            hall.shop,
+            &hall.setting.means,
+            hall.setting.book,
+            hall.gate,
+        );
+        hall.setting.means.store.take_back(&mut root, seat);
     }
 }

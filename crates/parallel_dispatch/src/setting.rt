@@ -1,11 +1,9 @@
 // What the jobs of a run are jobs of, and what stays as it is while they run.
-ghost use Rattle.worker_pool.specs.Ways.{AreMeans};
-ghost use Rattle.parallel_dispatch.specs.Moves.{HasNames};
 
 use checked::Checked;
 use exchange_model::Exchange;
+use lone_job::Ground;
 use machine_code::Code;
-use shared_store::SharedStore;
 use std::alloc::Global;
 use store_layout::Layout;
 use ticket_book::TicketBook;
@@ -21,12 +19,14 @@ pub struct Work<'a> {
     pub checked: &'a Checked,
 }
 
-/// What stays as it is while the jobs of an exchange run.
+/// What stays as it is while the jobs of an exchange run: the ground of what is done on the root's own
+/// words, what jobs that fly are run with, what is kept of the certificate, and the book of tickets.
 #[derive(Clone, Copy)]
 pub(crate) struct Setting<'e> {
     pub alloc: Global,
-    pub work: Work<'e>,
-    pub store: &'e SharedStore,
+    pub ground: Ground<'e>,
+    pub means: Means<'e>,
+    pub checked: &'e Checked,
     pub book: &'e TicketBook,
 }
 
@@ -38,19 +38,4 @@ pub(crate) struct Hall<'e, B: Naming, R, G> {
     pub setting: Setting<'e>,
     pub shop: &'e Shop<B>,
     pub gate: &'e G,
-}
-
-impl<'e, B: Naming, R, G> Hall<'e, B, R, G> {
-    /// What its jobs are run with.
-    pub fn means(&self) -> Means<'e>
-        requires { HasNames B.exchange B.code B.store B.book self.now.setting }
-        ensures { AreMeans B.exchange B.code B.store result }
-    {
-        let setting = &self.setting;
-        Means {
-            exchange: setting.work.exchange,
-            code: setting.work.code,
-            store: setting.store,
-        }
-    }
 }

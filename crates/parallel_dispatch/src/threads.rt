@@ -4,12 +4,13 @@ ghost use Rattle.parallel_dispatch.specs.Ends.{IsOverFrom};
 ghost use Rattle.parallel_dispatch.specs.Moves.{AreOf, IsBare, MayBegin, SuitsBy};
 
 use crate::course::Course;
+use crate::desk::Desk;
 use crate::driving::{Over, run_jobs};
 use crate::moves::drain;
-use crate::setting::{Hall, Setting, Work};
-use crate::window::Window;
+use crate::setting::{Hall, Setting};
 use interference_check::PairTable;
 use job_pace::Pace;
+use lone_job::Ground;
 use plex_io::Gate;
 use retire_order::Books;
 use shared_store::RootSeat;
@@ -17,7 +18,7 @@ use std::sync::Wait;
 use std::thread;
 use std::thread::{Scope, Threads, available_parallelism};
 use ticket_book::Pen;
-use worker_pool::Shop;
+use worker_pool::{Means, Shop};
 
 /// What a run begins with: its books, the root of the store, the pen of the tickets, and how many jobs may run at once.
 #[derive(Drop)]
@@ -28,27 +29,37 @@ pub(crate) struct Beginning {
     pub workers: u32,
 }
 
-/// Runs the jobs to the end of the run, with so many at once at most: the books then, and the end.
-pub(crate) fn run_named<B: Course + Send + Sync, R: Threads + Wait + Sync, G: Gate + Sync>(
-    rt: &R,
-    setting: &Setting<'_>,
-    gate: &G,
-    beginning: Beginning,
-) -> Result<(Books, Over), RootSeat>
-    requires setting { SuitsBy B.exchange B.code B.store B.book B.kept setting.now }
-    requires begin { MayBegin B.exchange B.store B.book B.workers B.first B.limit beginning }
-    ensures over { IfOk result (λ end.
-        IsOverFrom B.exchange B.code B.kept B.workers B.store B.first B.limit end.0 end.1) }
-    ensures bare { IfErr result (λ root. IsBare B.store root) }
-{
-    let Ok(shop) = Shop::<B>::new(setting.alloc, beginning.workers) else {
+impl Beginning {
+    /// The root alone: the books and the pen are let go.
+    fn into_root(self) -> RootSeat
+        ensures { result ≡ self.root }
+    {
         let Beginning {
             books: _,
             root,
             pen: _,
             workers: _,
-        } = beginning;
-        return Err(root);
+        } = self;
+        root
+    }
+}
+
+/// Runs the jobs to the end of the run, with so many at once at most: the end. Memory is the only
+/// reason for an error, and the root has lent nothing then.
+pub(crate) fn run_named<B: Course + Send + Sync, R: Threads + Wait + Sync, G: Gate + Sync>(
+    rt: &R,
+    setting: &Setting<'_>,
+    gate: &G,
+    beginning: Beginning,
+) -> Result<Over, RootSeat>
+    requires setting { SuitsBy B.exchange B.code B.store B.book B.kept setting.now }
+    requires begin { MayBegin B.exchange B.store B.book B.workers B.first B.limit beginning }
+    ensures over { IfOk result (λ over.
+        IsOverFrom B.exchange B.code B.kept B.workers B.store B.first B.limit over) }
+    ensures bare { IfErr result (λ root. IsBare B.store root) }
+{
+    let Ok(shop) = Shop::<B>::new(setting.alloc, beginning.workers) else {
+        return Err(beginning.into_root());
     };
     run_shop(rt, setting, &shop, gate, beginning)
 }
@@ -61,45 +72,50 @@ fn run_shop<'x, B: Course + Send + Sync, R: Threads + Wait + Sync, G: Gate + Syn
     shop: &'x Shop<B>,
     gate: &'x G,
     beginning: Beginning,
-) -> Result<(Books, Over), RootSeat>
+) -> Result<Over, RootSeat>
     requires setting { SuitsBy B.exchange B.code B.store B.book B.kept setting.now }
     requires begin { MayBegin B.exchange B.store B.book B.workers B.first B.limit beginning }
-    ensures over { IfOk result (λ end.
-        IsOverFrom B.exchange B.code B.kept B.workers B.store B.first B.limit end.0 end.1) }
+    ensures over { IfOk result (λ over.
+        IsOverFrom B.exchange B.code B.kept B.workers B.store B.first B.limit over) }
     ensures bare { IfErr result (λ root. IsBare B.store root) }
 {
     let alloc = setting.alloc;
-    let exchange = setting.work.exchange;
-    let layout = setting.work.layout;
-    let code = setting.work.code;
-    let checked = setting.work.checked;
-    let store = setting.store;
+    let exchange = setting.ground.exchange;
+    let layout = setting.ground.layout;
+    let code = setting.ground.code;
+    let store = setting.ground.store;
+    let checked = setting.checked;
     let book = setting.book;
     thread::scope(
         thread::scope_env(),
         rt,
-        |scope| -> Result<(Books, Over), RootSeat>
+        |scope| -> Result<Over, RootSeat>
             requires { ((exchange.now ≡ B.exchange) × (code.now ≡ B.code)
                 × (store.now ≡ B.store) × (book.now ≡ B.book))
                 × AreOf B.exchange layout.now B.code checked.now
                 × (checked.now ≡ B.kept)
                 × MayBegin B.exchange B.store B.book B.workers B.first B.limit beginning }
             ensures { IfOk result
-                (λ end. IsOverFrom B.exchange B.code B.kept B.workers B.store
-                B.first B.limit end.0 end.1)
+                (λ over. IsOverFrom B.exchange B.code B.kept B.workers B.store
+                B.first B.limit over)
                 × IfErr result (λ root. IsBare B.store root) }
         {
             let hall = Hall {
                 rt,
                 setting: Setting {
                     alloc,
-                    work: Work {
+                    ground: Ground {
                         exchange,
                         layout,
                         code,
-                        checked,
+                        store,
                     },
-                    store,
+                    means: Means {
+                        exchange,
+                        code,
+                        store,
+                    },
+                    checked,
                     book,
                 },
                 shop,
@@ -116,33 +132,28 @@ fn drive<'s, 'e: 's, B: Course + Send + Sync, R: Threads + Wait + Sync, G: Gate 
     scope: &'s Scope<'s, &'e ()>,
     hall: &Hall<'e, B, R, G>,
     beginning: Beginning,
-) -> Result<(Books, Over), RootSeat>
+) -> Result<Over, RootSeat>
     requires setting { SuitsBy B.exchange B.code B.store B.book B.kept hall.now.setting }
     requires begin { MayBegin B.exchange B.store B.book B.workers B.first B.limit beginning }
-    ensures over { IfOk result (λ end.
-        IsOverFrom B.exchange B.code B.kept B.workers B.store B.first B.limit end.0 end.1) }
+    ensures over { IfOk result (λ over.
+        IsOverFrom B.exchange B.code B.kept B.workers B.store B.first B.limit over) }
     ensures bare { IfErr result (λ root. IsBare B.store root) }
 {
-    let Beginning {
-        books,
-        root,
-        pen,
-        workers,
-    } = beginning;
-    let alloc = hall.setting.alloc;
-    let checked = hall.setting.work.checked;
-    let Ok(mut pairs) = PairTable::new(alloc, checked) else {
-        return Err(root);
+    let setting = &hall.setting;
+    let workers = beginning.workers;
+    let Ok(mut pairs) = PairTable::new(setting.alloc, setting.checked) else {
+        return Err(beginning.into_root());
     };
     let helpers = helpers(hall.rt, workers);
-    let Ok(pace) = Pace::new(alloc, checked.entries(), helpers, workers) else {
-        return Err(root);
+    let Ok(mut pace) = Pace::new(setting.alloc, setting.checked.entries(), helpers, workers) else {
+        return Err(beginning.into_root());
     };
-    let Ok(window) = Window::<B>::new(alloc, pen, workers) else {
-        return Err(root);
+    let desk = match Desk::<B>::open(setting, beginning) {
+        Ok(desk) => desk,
+        Err(root) => return Err(root),
     };
     let _closing = hall.shop.closing();
-    match run_jobs(scope, hall, &mut pairs, pace, books, root, window) {
+    match run_jobs(scope, hall, &mut pairs, &mut pace, desk) {
         Ok(over) => Ok(over),
         Err(left) => Err(drain(hall, left)),
     }

@@ -18,12 +18,46 @@ use std::marker::Model;
 use ticket_book::{Pen, TicketBook};
 use worker_pool::{Flight, Naming, Shop, launch};
 
+/// A job that flies, and how it started. Contracts see the loan that it is of. It cannot be dropped: its flight must be finished.
+struct InFlight<B: Naming> {
+    flight: Flight<B>,
+    start: Box<JobStart>,
+}
+
+impl<B: Naming> Model for InFlight<B> {
+    ghost use Rattle.std.specs.Prelude.{◌≡◌};
+    ghost use Rattle.shared_store.specs.declared.view.Lent.{Lent};
+
+    ghost Value = { Lent };
+
+    ghost view = { λ f. f.flight };
+
+    ghost invariant = { λ f. f.start.value ≡ f.flight.start };
+}
+
+impl<B: Naming> InFlight<B> {
+    /// How it started.
+    fn start(&self) -> &JobStart
+        ensures { result.now ≡ self.now.start }
+    {
+        &self.start
+    }
+
+    /// The flight and the start by themselves.
+    fn into_oldest(self) -> Oldest<B>
+        ensures flight { result.flight ≡ self }
+        ensures start { result.start.value ≡ self.start }
+    {
+        let InFlight { flight, start } = self;
+        Oldest { flight, start }
+    }
+}
+
 /// The window: the jobs that have begun and not retired, the oldest first, and what writes their tickets. Runs that are over wait
 /// here for the next job. Contracts see the loans, for how many there is room, and how many jobs have flown so far. It cannot be dropped: it
 /// must be closed, when none flies.
 pub(crate) struct Window<B: Naming> {
-    flights: VecDeque<Flight<B>>,
-    starts: VecDeque<JobStart>,
+    flying: VecDeque<InFlight<B>>,
     idle: Vec<Box<JobRun>>,
     pen: Pen,
 }
@@ -31,19 +65,19 @@ pub(crate) struct Window<B: Naming> {
 impl<B: Naming> Model for Window<B> {
     ghost use Rattle.std.specs.Prelude.{◌≡◌};
     ghost use Rattle.std.specs.VecDeque.{deque_capacity};
-    ghost use Rattle.parallel_dispatch.specs.Windows.{IsWindow, View};
+    ghost use Rattle.parallel_dispatch.specs.Windows.{View};
 
     ghost Value = { View };
 
-    ghost view = { λ w. record { loans = w.flights.items; room = deque_capacity w.flights; flown = w.pen.1 } };
+    ghost view = { λ w. record { loans = w.flying.items; room = deque_capacity w.flying; flown = w.pen.1 } };
 
-    ghost invariant = { λ w. IsWindow B.book w.flights.items w.starts.items (deque_capacity w.flights) (deque_capacity w.starts) w.pen };
+    ghost invariant = { λ w. w.pen.0 ≡ B.book };
 }
 
 /// The oldest job of a window.
 pub(crate) struct Oldest<B: Naming> {
     pub flight: Flight<B>,
-    pub start: JobStart,
+    pub start: Box<JobStart>,
 }
 
 impl<B: Naming> Window<B> {
@@ -52,15 +86,11 @@ impl<B: Naming> Window<B> {
         requires pen { pen.0 ≡ B.book }
         ensures { IfOk result (λ w. w ≡ record { loans = []; room = room; flown = pen.1 }) }
     {
-        let Ok(starts) = VecDeque::with_capacity(alloc, room as usize) else {
-            return Err(Memory);
-        };
-        let Ok(flights) = VecDeque::with_capacity(alloc, room as usize) else {
+        let Ok(flying) = VecDeque::with_capacity(alloc, room as usize) else {
             return Err(Memory);
         };
         Ok(Window {
-            flights,
-            starts,
+            flying,
             idle: Vec::new(alloc),
             pen,
         })
@@ -70,14 +100,14 @@ impl<B: Naming> Window<B> {
     pub fn len(&self) -> usize
         ensures { result ≡ length self.now.loans }
     {
-        self.flights.len()
+        self.flying.len()
     }
 
     /// For how many jobs there is room.
     pub fn room(&self) -> usize
         ensures { result ≡ self.now.room }
     {
-        self.flights.capacity()
+        self.flying.capacity()
     }
 
     /// How many of the oldest must retire before a job passes with each that flies, as the later one: it does so now where none must.
@@ -88,7 +118,7 @@ impl<B: Naming> Window<B> {
             → FollowsAll pairs.old (starts_of self.now.loans) later.now }
         ensures kept { pairs.new ≡ pairs.old }
     {
-        blockers_among(pairs, &self.starts, later)
+        blockers_among(pairs, &self.flying, later)
     }
 
     /// How many tests it takes, about, to ask whether a job of this entry passes with each that flies.
@@ -96,32 +126,32 @@ impl<B: Naming> Window<B> {
         ensures { pairs.new ≡ pairs.old }
     {
         let mut tests: u64 = 0;
-        for start in self.starts.iter() {
-            tests = tests.saturating_add(pairs.asking(start.job.entry, entry));
+        for job in self.flying.iter() {
+            tests = tests.saturating_add(pairs.asking(job.start().job.entry, entry));
         }
         tests
     }
 
     /// Whether the oldest that flies has come to its end, if one flies.
     pub fn oldest_has_ended(&self, shop: &Shop<B>) -> bool {
-        match self.flights.front() {
-            Some(flight) => flight.has_ended(shop),
+        match self.flying.front() {
+            Some(oldest) => oldest.flight.has_ended(shop),
             None => false,
         }
     }
 
     /// Whether the oldest that flies is in the dispatcher's hand.
     pub fn oldest_is_in_hand(&self) -> bool {
-        match self.flights.front() {
-            Some(flight) => flight.is_in_hand(),
+        match self.flying.front() {
+            Some(oldest) => oldest.flight.is_in_hand(),
             None => false,
         }
     }
 
     /// The entry of the oldest that flies.
     pub fn oldest_entry(&self) -> Option<u32> {
-        let start = self.starts.front()?;
-        Some(start.job.entry)
+        let oldest = self.flying.front()?;
+        Some(oldest.start().job.entry)
     }
 
     /// A run in which a job may begin: one that is over, or a new one.
@@ -163,13 +193,12 @@ impl<B: Naming> Window<B> {
     }
 
     /// One more job flies, which starts so.
-    pub fn push(&mut self, flight: Flight<B>, start: JobStart)
+    pub fn push(&mut self, flight: Flight<B>, start: Box<JobStart>)
         requires room { length self.old.loans < self.old.room }
-        requires start { start ≡ flight.start }
+        requires start { start.value ≡ flight.start }
         ensures { self.new ≡ record self.old { loans = self.old.loans ++ flight ∷ [] } }
     {
-        self.flights.push_back_reserved(flight);
-        self.starts.push_back_reserved(start);
+        self.flying.push_back_reserved(InFlight { flight, start });
     }
 
     /// The oldest job leaves the window, if one flies.
@@ -177,13 +206,10 @@ impl<B: Naming> Window<B> {
         ensures { MatchOption result
             ((self.old.loans ≡ []) × (self.new ≡ self.old))
             (λ oldest. (self.old ≡ record self.new { loans = oldest.flight ∷ self.new.loans })
-            × (oldest.start ≡ oldest.flight.start)) }
+            × (oldest.start.value ≡ oldest.flight.start)) }
     {
-        let start = self.starts.pop_front()?;
-        let Some(flight) = self.flights.pop_front() else {
-            unreachable!()
-        };
-        Some(Oldest { flight, start })
+        let oldest = self.flying.pop_front()?;
+        Some(oldest.into_oldest())
     }
 
     /// The window is given up, when none flies.
@@ -191,22 +217,25 @@ impl<B: Naming> Window<B> {
         requires { self.loans ≡ [] }
     {
         let Window {
-            flights,
-            starts: _,
+            flying,
             idle: _,
             pen: _,
         } = self;
-        flights.destroy_empty();
+        flying.destroy_empty();
     }
 }
 
 /// How many of these, the first ones, end with one with which a job does not pass, as the later one: it passes with all where there is
 /// none.
-#[tactic(auto, using(crate::proofs::Passing::passes_begin, crate::proofs::Passing::passes_more, crate::proofs::Passing::passes_end))]
-fn blockers_among(pairs: &mut PairTable<'_>, older: &VecDeque<JobStart>, later: &JobStart) -> usize
-    requires older { AllByRecursion (HasSummary pairs.old) older.now.items }
+#[tactic(auto, using(crate::proofs::Passing::passes_begin, crate::proofs::Passing::passes_more, crate::proofs::Passing::passes_end, crate::proofs::Passing::summary_there))]
+fn blockers_among<B: Naming>(
+    pairs: &mut PairTable<'_>,
+    older: &VecDeque<InFlight<B>>,
+    later: &JobStart,
+) -> usize
+    requires older { AllByRecursion (HasSummary pairs.old) (starts_of older.now.items) }
     requires later { HasSummary pairs.old later.now }
-    ensures passes { result ≡ 0 → FollowsAll pairs.old older.now.items later.now }
+    ensures passes { result ≡ 0 → FollowsAll pairs.old (starts_of older.now.items) later.now }
     ensures kept { pairs.new ≡ pairs.old }
 {
     for behind in 0..older.len() {
@@ -219,11 +248,11 @@ fn blockers_among(pairs: &mut PairTable<'_>, older: &VecDeque<JobStart>, later: 
 }
 
 /// Whether a job passes with an older one.
-fn passes_with(pairs: &mut PairTable<'_>, older: &JobStart, later: &JobStart) -> bool
-    requires older { HasSummary pairs.old older.now }
+fn passes_with<B: Naming>(pairs: &mut PairTable<'_>, older: &InFlight<B>, later: &JobStart) -> bool
+    requires older { HasSummary pairs.old older.now.start }
     requires later { HasSummary pairs.old later.now }
-    ensures passes { IsTrue result → MayFollow pairs.old older.now later.now }
+    ensures passes { IsTrue result → MayFollow pairs.old older.now.start later.now }
     ensures kept { pairs.new ≡ pairs.old }
 {
-    pairs.may_follow(older, later)
+    pairs.may_follow(older.start(), later)
 }

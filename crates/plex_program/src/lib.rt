@@ -6,13 +6,9 @@
 // the real devices.
 #![tactic(auto)]
 
-mod changing;
-mod going;
 mod perform;
 mod program;
-mod running;
 mod steady;
-mod timing;
 
 pub use program::plex;
 pub use steady::plex_steady;

@@ -7,7 +7,6 @@ ghost use Rattle.answer_meaning.specs.Program.{ReadCause, WriteCause};
 ghost use Rattle.answer_meaning.specs.Stages.{ReadAs};
 ghost use Rattle.command_words.specs.Words.{shape};
 
-use crate::going::Host;
 use crate::perform::perform;
 use answer_meaning::{Answer, Stop};
 use command_answers::{usage_line, write_answer};
@@ -18,6 +17,7 @@ use std::alloc::Global;
 use std::sync::Wait;
 use std::thread::Threads;
 use text_parts::Text;
+use worker_answers::Host;
 
 /// The program: reads the files that the words name, and writes the answer.
 ///

@@ -12,9 +12,9 @@ use crate::whole::NotMade;
 use certificate_check::{Own, keep_own_if_few};
 use checked::Checked;
 use code_gen::compile;
-use command_answers::{known_in, lines_in};
 use exchange_model::Exchange;
 use exchange_run::{Standing, before_lines};
+use known_exchange::{known_in, lines_in};
 use machine_code::Code;
 use parallel_dispatch::{StoredRun, Work, dispatch};
 use plex_io::{NoGate, SteadyShelf};
@@ -67,7 +67,7 @@ fn counted<R: Threads + Wait + Sync>(
 }
 
 /// The same of a run on its way.
-#[tactic(auto, using(plex_program::proofs::Rooted::root_rules))]
+#[tactic(auto, using(worker_answers::proofs::Rooted::root_rules))]
 fn dispatched<R: Threads + Wait + Sync>(
     rt: &R,
     alloc: Global,

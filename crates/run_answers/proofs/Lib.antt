@@ -1,4 +1,3 @@
 pub mod Carrying
-pub mod Growth
 pub mod Opened
 pub mod Telling

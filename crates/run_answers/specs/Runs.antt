@@ -1,27 +1,18 @@
--- The end of the run of lines, what becomes of a run while its jobs are short, and a run that is carried over.
+-- The end of the run of lines, and a run that is carried over.
 use Rattle.std.specs.Prelude.{◌≡◌, ℕ, List, map}
 use Rattle.exchange_model.specs.declared.exchange.Exchange.{Exchange}
 use Rattle.signal_file.specs.declared.line.Line.{Line}
 use Rattle.source_meaning.specs.SingleRun.{opening}
 use Rattle.source_meaning.specs.State.{State}
-use Rattle.checked.specs.Kept.{IsChecked}
 use Rattle.retire_order.specs.Lines.{coming_of}
 use Rattle.exchange_run.specs.declared.turns.Ended.{Ended}
 use Rattle.exchange_run.specs.declared.turns.Standing.{Standing}
-use Rattle.exchange_run.specs.Comes.{IsOnTheWay}
 use Rattle.exchange_run.specs.Runs.{IsEndOf, MayGoOn, state_of}
 use Rattle.block_change.specs.Carried.{IsCarried}
-use Rattle.run_answers.specs.declared.short.Grown.{Grown}
-use Rattle.run_answers.specs.declared.short.Grown.TheVariants.{Over, Long}
 
 -- the end of the single run of these lines
 abbrev pub IsRunOf : Exchange → List Line → ℕ → Ended → Type 0
 IsRunOf x lines jobs end = IsEndOf x (opening x (map coming_of lines)) jobs end
-
--- a run from this state is over, or stands on its way and a certificate of the exchange is kept
-abbrev pub HasGrown : Exchange → State → ℕ → Grown → Type 0
-HasGrown x first limit (Over end) = IsEndOf x first limit end
-HasGrown x first limit (Long run checked) = IsOnTheWay x first limit run × IsChecked x checked
 
 -- this state of the old exchange is carried over to the new one, where a run may go on with it to so many jobs
 pub record CarriesOn (old new : Exchange) (before : State) (jobs : ℕ) (run : Standing) : Type 0 where

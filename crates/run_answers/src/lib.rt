@@ -2,16 +2,14 @@
 //
 // What goes in: an exchange, its signal lines, and the end of a run, whoever ran it. What comes out:
 // the answer of the single run by the source; the report behind an end, whatever stands before it;
-// how a run goes on by code for as long as its jobs are short; what a change tells and carries over.
-// One job runs after the other here. The layers above let jobs run at once.
+// what a change tells and carries over. One job runs after the other here, and no certificate is
+// looked at. The layers above let jobs run at once.
 #![tactic(auto)]
 
 mod alone;
 mod change;
 mod ends;
-mod short;
 
 pub use alone::{by_code, by_source, has_short_code, source_answer};
 pub use change::{Change, carried_run, ends_before, misfit_answer, text_before};
 pub use ends::{end_answer, headed_answer, summed_answer};
-pub use short::{Grown, until_long};

@@ -6,9 +6,9 @@ ghost use Rattle.answer_meaning.specs.Stages.{Comes};
 
 use answer_meaning::{Answer, Stop};
 use code_gen::compile;
-use command_answers::exchange_in;
 use command_words::Status;
 use exchange_model::Exchange;
+use known_exchange::exchange_in;
 use listing::print_code;
 use plex_io::{Shelf, Word};
 use plex_num::Memory;

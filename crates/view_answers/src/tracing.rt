@@ -15,13 +15,15 @@ ghost use Rattle.run_answers.specs.Runs.{IsRunOf};
 
 use answer_meaning::{Answer, KnownExchange, Stop};
 use code_gen::compile;
-use command_answers::{filter_stop, known_in, lines_in, text_in};
 use command_words::TraceWords;
 use exchange_model::Exchange;
-use exchange_run::{ByCode, BySource, Standing, before_lines};
+use exchange_run::{Standing, before_lines};
+use known_exchange::{known_in, lines_in, text_in};
 use plex_io::{NoGate, Shelf, Word};
 use plex_num::{Memory, Seq};
+use refusal_lines::filter_stop;
 use run_answers::{has_short_code, headed_answer};
+use run_engines::{ByCode, BySource};
 use signal_file::{Known, Line};
 use signal_trace::{FilterFault, FilterRule, Show, Traced, read_filter, trace_run};
 use std::alloc::Global;

@@ -1,6 +1,6 @@
 use Rattle.std.proofs.Common.{subst, sym}
 use Rattle.flow_points.specs.Facts.{IsLeast}
-use Rattle.access_summary.specs.Least.{AreSummaries}
+use Rattle.certificate_meaning.specs.Summaries.{AreSummaries}
 use Rattle.certificate_check.proofs.Owning.{by_least, own_checked}
 use Rattle.certificate_check.proofs.Summing.{few_summaries}
 use Rattle.certificate_check.proofs.own.kept_by_least.Goals as goal

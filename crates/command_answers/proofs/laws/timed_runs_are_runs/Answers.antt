@@ -1,4 +1,4 @@
-use Rattle.command_answers.proofs.Tables.{timed_is_run}
+use Rattle.command_answers.proofs.Written.{timed_is_run}
 use Rattle.command_answers.proofs.laws.timed_runs_are_runs.Goals as goal
 
 pub returns : goal.returns

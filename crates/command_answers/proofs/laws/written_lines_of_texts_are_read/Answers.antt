@@ -1,4 +1,4 @@
-use Rattle.command_answers.proofs.Tables.{lines_of_text, merged_again}
+use Rattle.command_answers.proofs.Written.{lines_of_text, merged_again}
 use Rattle.command_answers.proofs.laws.written_lines_of_texts_are_read.Goals as goal
 
 pub returns-clause-lines : goal.returns-clause-lines

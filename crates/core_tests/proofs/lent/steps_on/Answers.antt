@@ -1,4 +1,4 @@
-use Rattle.exchange_run.proofs.Starting.{entry_within}
+use Rattle.run_engines.proofs.Starting.{entry_within}
 use Rattle.core_tests.proofs.Lending.{ready_on_all}
 use Rattle.core_tests.proofs.lent.steps_on.Goals as goal
 

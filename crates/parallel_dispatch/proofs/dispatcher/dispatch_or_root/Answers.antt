@@ -6,7 +6,8 @@ use Rattle.parallel_dispatch.proofs.dispatcher.dispatch_or_root.Goals as goal
 pub run_named-requires-clause-setting : goal.run_named-requires-clause-setting
 run_named-requires-clause-setting g c κs within = record {
   suits = record {
-    named = (refl, refl, refl, refl);
+    named = record { means = (refl, refl, refl); book_is = refl };
+    ground = record { exchange = refl; code = refl; store = refl };
     set = record {
       exchange = c.kept.ensures;
       laid = c.requires.work.laid;
@@ -18,8 +19,8 @@ run_named-requires-clause-setting g c κs within = record {
   kept = refl;
 }
 
-pub words_of-requires-clause-cells : goal.words_of-requires-clause-cells
-words_of-requires-clause-cells g c =
+pub read_end-requires-clause-cells : goal.read_end-requires-clause-cells
+read_end-requires-clause-cells g c =
     words_at_end c.args.work.now.exchange.now c.args.work.now.code.now _ _ _ _ _ _ c.kept.ensures c.requires.run.valid c.in-Ok-run_named.ensures.over.ends
     ∙ sym c.requires.work.laid.cells
     ∙ sym c.words.ensures

@@ -1,0 +1,15 @@
+// The exchange, the signal lines and the texts that a command names, read and known.
+//
+// What goes in: a shelf of files, their names, and texts. What comes out: the exchange, with what
+// it has by its names; the signal lines, alone or merged with the signals of a table; or the stop
+// with the line of the first fault. It runs nothing, analyses nothing, and knows no thread.
+#![tactic(auto)]
+
+mod files;
+mod merging;
+mod reading;
+
+pub use files::{
+    exchange_as, exchange_in, fitting, known_in, known_of_file, lines_in, lines_of_file, text_in,
+};
+pub use merging::merged_in;

@@ -1,0 +1,87 @@
+// A run goes on by code for as long as its jobs are short.
+ghost use Rattle.std.specs.Prelude.{IfOk, IfSome};
+ghost use Rattle.store_layout.specs.Laid.{IsLayout};
+ghost use Rattle.machine_meaning.specs.Faithful.{Faithful};
+ghost use Rattle.checked.specs.Kept.{IsChecked};
+ghost use Rattle.exchange_run.specs.Runs.{MayGoOn, state_of};
+ghost use Rattle.run_certificates.specs.Growth.{HasGrown};
+
+use certificate_check::{Own, keep_own_if_few};
+use checked::Checked;
+use exchange_model::Exchange;
+use exchange_run::{Come, Ended, Rest, Standing, Unwatched, run_books, run_until};
+use plex_io::Gate;
+use plex_num::Memory;
+use run_engines::ByCode;
+use std::alloc::Global;
+use store_layout::Layout;
+
+/// How many looks at facts the first analysis of a run may take. That is a sixtieth of a second or
+/// so with all that belongs to it.
+const FIRST_LOOKS: usize = 16_384;
+
+/// So many analyses are tried at most, each with twice the looks of the one before: the last one
+/// with eight million, which take some two seconds and 200 megabytes.
+const ROUNDS: u32 = 10;
+
+/// How many instructions the jobs of a run must have made for each look of a further analysis: four
+/// times as many as are made in the time of a look.
+const STEPS_FOR_LOOK: u64 = 1000;
+
+/// What becomes of a run while its jobs are short.
+#[derive(Drop)]
+pub enum Grown {
+    /// It is over.
+    Over(Ended),
+    /// Its jobs have become long, and this is kept of the exchange's own certificate.
+    Long(Standing, Checked),
+}
+
+/// Goes on for as long as jobs are short, one after the other, since the analysis and the threads
+/// cost more than those take; then the analysis is made, with a bound. Where it takes more, the run
+/// goes on as before until it has made so much that an analysis with twice the bound is a small
+/// part of that, and so on. Memory is the only reason for an error.
+#[tactic(auto, using(exchange_run::proofs::Resting::way_rules))]
+pub fn until_long<G: Gate>(
+    alloc: Global,
+    exchange: &Exchange,
+    layout: &Layout,
+    run: Standing,
+    runner: &mut ByCode<'_, G>,
+    workers: u32,
+) -> Result<Grown, Memory>
+    requires layout { IsLayout exchange.now.blocks layout.now }
+    requires run { MayGoOn exchange.now run }
+    requires runner { Faithful exchange.now runner.old.code.now }
+    ensures { IfOk result (λ grown. HasGrown exchange.now (state_of run) run.books.limit grown) }
+{
+    let mut there = run;
+    let mut looks = FIRST_LOOKS;
+    let mut least = 0;
+    for _round in 0..ROUNDS {
+        let rest = Some(Rest::when(workers, least));
+        there = match run_until(exchange, layout, there, runner, &mut Unwatched, rest)? {
+            Come::Over(end) => return Ok(Grown::Over(end)),
+            Come::Among(rests) => rests,
+        };
+        if let Some(checked) = kept_within(alloc, exchange, looks) {
+            return Ok(Grown::Long(there, checked));
+        }
+        looks = looks.saturating_mul(2);
+        least = (looks as u64).saturating_mul(STEPS_FOR_LOOK);
+    }
+    let end = run_books(exchange, layout, there, runner, &mut Unwatched)?;
+    Ok(Grown::Over(end))
+}
+
+/// What is kept of the exchange's own certificate; nothing where it takes more looks, or more
+/// memory than there is.
+fn kept_within(alloc: Global, exchange: &Exchange, looks: usize) -> Option<Checked>
+    ensures { IfSome result (IsChecked exchange.now) }
+{
+    match keep_own_if_few(alloc, exchange, looks) {
+        Ok(Own::Kept(checked)) => Some(checked),
+        Ok(Own::Many(_)) => None,
+        Err(_) => None,
+    }
+}

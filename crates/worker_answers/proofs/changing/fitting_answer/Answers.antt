@@ -1,0 +1,19 @@
+use Rattle.std.proofs.Common.{sym, ◌∙◌}
+use Rattle.worker_answers.proofs.Changed.{is_changed_so, not_changed, parts_few, parts_stand}
+use Rattle.worker_answers.proofs.changing.fitting_answer.Goals as goal
+
+pub returns-then-ends_before-clause-answer : goal.returns-then-ends_before-clause-answer
+returns-then-ends_before-clause-answer g c =
+    not_changed c.args.change.now.old.now c.args.change.now.new.now.exchange.now c.args.lines c.args.bounds.jobs c.args.change.now.at c.requires.reached c.in_ok-end.end c.in_ok-end.ensures c.end_answer.result (sym c.ends_before.ensures ∙ c.if-ends_before.true) c.end_answer.ensures.answer
+
+pub changed_answer-requires-clause-few : goal.changed_answer-requires-clause-few
+changed_answer-requires-clause-few g c κs within =
+    parts_few c.args.change.now.old.now c.args.change.now.new.now.exchange.now c.args.lines c.args.bounds.jobs c.args.change.now.at c.requires.reached c.in_ok-end.end c.in_ok-end.ensures c.into_parts-parts.result c.into_parts-parts.ensures.books
+
+pub changed_answer-requires-clause-standing : goal.changed_answer-requires-clause-standing
+changed_answer-requires-clause-standing g c κs within =
+    parts_stand c.args.change.now.old.now c.args.change.now.new.now.exchange.now c.args.lines c.args.bounds.jobs c.args.change.now.at c.requires.reached c.in_ok-end.end c.in_ok-end.ensures c.into_parts-parts.result c.into_parts-parts.ensures.books c.kept.ensures c.requires.lines c.into_parts-parts.ensures.parts
+
+pub returns-clause-answer : goal.returns-clause-answer
+returns-clause-answer g c =
+    is_changed_so c.args.change.now.old.now c.args.change.now.new.now.exchange.now c.args.lines c.args.bounds.jobs c.args.change.now.at c.requires.reached c.in_ok-end.end c.in_ok-end.ensures c.into_parts-parts.result c.into_parts-parts.ensures.books c.changed_answer.result (sym c.ends_before.ensures ∙ c.if-ends_before.false) c.changed_answer.ensures.answer

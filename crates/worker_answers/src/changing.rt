@@ -1,0 +1,165 @@
+// A run that goes on with another exchange after some jobs.
+ghost use Rattle.std.specs.Prelude.{◌≡◌, ◌≤◌, IfOk, None};
+ghost use Rattle.store_layout.specs.Laid.{IsLayout};
+ghost use Rattle.block_change.specs.Carried.{AreStanding, state_with};
+ghost use Rattle.block_change.specs.Misfits.{misfit};
+ghost use Rattle.answer_meaning.specs.Stages.{Performs};
+ghost use Rattle.answer_meaning.specs.ChangeAnswer.{ChangeAnswers, ChangeComes, ChangesOrNot};
+ghost use Rattle.answer_meaning.specs.ChangeAnswer.{IsChanged, is_changed};
+ghost use Rattle.answer_meaning.specs.Program.{IsEnding};
+ghost use Rattle.answer_meaning.specs.Lines.{AreRead};
+ghost use Rattle.command_words.specs.Bounded.{AreWithin, HasBounds};
+
+use crate::going::{Crew, Host, go_on, run_first};
+use crate::running::run_answer;
+use answer_meaning::{Answer, Stop, Which};
+use block_change::{Named, misfit_of};
+use command_words::{Bounds, ChangeWords};
+use exchange_model::Exchange;
+use known_exchange::{exchange_as, known_in, lines_in};
+use plex_io::{Gate, Shelf};
+use plex_num::{Memory, Seq};
+use retire_order::BookParts;
+use run_answers::{
+    Change, carried_run, end_answer, ends_before, headed_answer, misfit_answer, text_before,
+};
+use signal_file::Line;
+use std::sync::Wait;
+use std::thread::Threads;
+use store_layout::{Layout, layout_of};
+
+/// `change`.
+#[tactic(auto, using(answer_meaning::proofs::Stages::performs_rules))]
+pub fn perform_change<R: Threads + Wait + Sync, S: Shelf, G: Gate + Sync>(
+    host: &Host<'_, R, G>,
+    shelf: &mut S,
+    words: &ChangeWords,
+) -> Result<Answer, Stop>
+    requires { HasBounds words.now.run }
+    ensures comes { Performs (S.held shelf.old) (ChangeComes words.now)
+        (S.faults shelf.old) (S.faults shelf.new) result }
+    ensures ending { IfOk result (λ a. IsEnding a.status) }
+{
+    let old = known_in(host.alloc, shelf, &words.run.exchange)?;
+    let lines = lines_in(host.alloc, shelf, &old, &words.run.signals)?;
+    let new = exchange_as(host.alloc, shelf, &words.new, Which::New)?;
+    let answer = answer_between(host, &old.exchange, &new, words.at, lines, words.run.bounds)?;
+    Ok(answer)
+}
+
+/// The answer of a change from one exchange to another after so many jobs. What the new one has by
+/// its names is found here, once.
+fn answer_between<R: Threads + Wait + Sync, G: Gate + Sync>(
+    host: &Host<'_, R, G>,
+    old: &Exchange,
+    new: &Exchange,
+    at: u32,
+    lines: Seq<Line>,
+    bounds: Bounds,
+) -> Result<Answer, Memory>
+    requires lines { AreRead old.now lines }
+    requires bounds { AreWithin bounds }
+    ensures answer { IfOk result (ChangeAnswers old.now new.now lines bounds.jobs at) }
+    ensures ending { IfOk result (λ a. IsEnding a.status) }
+{
+    let named = Named::of(host.alloc, new)?;
+    let change = Change {
+        old,
+        new: &named,
+        at,
+    };
+    change_answer(host, &change, lines, bounds)
+}
+
+/// The answer of a change: what the new exchange has not, or else that of the run, which goes on
+/// there where it may have so many jobs.
+#[tactic(auto, using(crate::proofs::Changed::change_rules))]
+fn change_answer<R: Threads + Wait + Sync, G: Gate + Sync>(
+    host: &Host<'_, R, G>,
+    change: &Change<'_>,
+    lines: Seq<Line>,
+    bounds: Bounds,
+) -> Result<Answer, Memory>
+    requires lines { AreRead change.now.old.now lines }
+    requires bounds { AreWithin bounds }
+    ensures answer { IfOk result (ChangeAnswers change.now.old.now
+        change.now.new.now.exchange.now lines bounds.jobs change.now.at) }
+    ensures ending { IfOk result (λ a. IsEnding a.status) }
+{
+    match misfit_of(change.old, change.new) {
+        Some(misfit) => misfit_answer(host.alloc, change.old, misfit),
+        None => {
+            if change.at > bounds.jobs {
+                return run_answer(host, change.old, None, lines, bounds);
+            }
+            fitting_answer(host, change, lines, bounds)
+        }
+    }
+}
+
+/// The answer of the run with an exchange that fits: it goes on there after so many jobs where it
+/// has them, and has not stopped with the last of them.
+#[tactic(auto, using(crate::proofs::Changed::fitting_rules))]
+fn fitting_answer<R: Threads + Wait + Sync, G: Gate + Sync>(
+    host: &Host<'_, R, G>,
+    change: &Change<'_>,
+    lines: Seq<Line>,
+    bounds: Bounds,
+) -> Result<Answer, Memory>
+    requires fits { misfit change.now.old.now change.now.new.now.exchange.now ≡ None }
+    requires reached { change.now.at ≤ bounds.jobs }
+    requires lines { AreRead change.now.old.now lines }
+    requires bounds { AreWithin bounds }
+    ensures answer { IfOk result
+        (ChangesOrNot change.now.old.now change.now.new.now.exchange.now lines bounds.jobs
+        change.now.at (is_changed change.now.old.now lines bounds.jobs change.now.at)) }
+    ensures ending { IfOk result (λ a. IsEnding a.status) }
+{
+    let old = change.old;
+    old.kept();
+    let Bounds { workers, jobs: _ } = bounds;
+    let until = Bounds {
+        workers,
+        jobs: change.at,
+    };
+    let layout = layout_of(host.alloc, old)?;
+    let end = run_first(host, old, &layout, None, lines, until)?;
+    if ends_before(&end, change.at) {
+        return end_answer(host.alloc, old, end);
+    }
+    let parts = end.books.into_parts();
+    changed_answer(host, change, &layout, parts, &end.words, bounds)
+}
+
+/// The events up to the change, the change, and the report of what follows on the new exchange.
+#[tactic(auto, using(run_answers::proofs::Carrying::carries_few))]
+fn changed_answer<R: Threads + Wait + Sync, G: Gate + Sync>(
+    host: &Host<'_, R, G>,
+    change: &Change<'_>,
+    layout: &Layout,
+    parts: BookParts,
+    words: &Seq<u32>,
+    bounds: Bounds,
+) -> Result<Answer, Memory>
+    requires fits { misfit change.now.old.now change.now.new.now.exchange.now ≡ None }
+    requires layout { IsLayout change.now.old.now.blocks layout.now }
+    requires standing { AreStanding change.now.old.now parts words.now }
+    requires few { parts.ended ≤ bounds.jobs }
+    requires bounds { AreWithin bounds }
+    ensures answer { IfOk result (IsChanged change.now.old.now change.now.new.now.exchange.now
+        (state_with parts words.now) bounds.jobs change.now.at) }
+    ensures ending { IfOk result (λ a. IsEnding a.status) }
+{
+    let old = change.old;
+    let new = change.new;
+    let text = text_before(host.alloc, old, &parts, change.at)?;
+    let to = layout_of(host.alloc, new.exchange)?;
+    let run = carried_run(host.alloc, change, layout, &to, parts, words, bounds.jobs)?;
+    let crew = Crew {
+        given: None,
+        workers: bounds.workers,
+    };
+    let end = go_on(host, new.exchange, &to, crew, run)?;
+    let answer = headed_answer(text, new.exchange, end)?;
+    Ok(answer)
+}
