@@ -58,8 +58,8 @@ one_marked old new mark point is own = record {
   few = (let long = long_insert old mark in omega (arith, long, ap length is, length-map old point_in, length-map new point_in));
 }
 
-pub lower_half : (place point : ℕ) → point < 2 ^ 32 → point_in (place * 4294967296 + point) ≡ point
-lower_half place point lt = omega (arith, lt)
+pub lower_part : (rank point : ℕ) → point < 2 ^ 32 → point_in (rank * 4294967296 + point) ≡ point
+lower_part rank point lt = omega (arith, lt)
 
 -- several points
 

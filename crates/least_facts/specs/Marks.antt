@@ -7,7 +7,7 @@ use Rattle.answer_table.specs.declared.answers.AnswerTable.{AnswerTable}
 use Rattle.least_facts.specs.declared.marks.Marked.{Marked}
 use Rattle.answer_table.specs.Answers.{ReturnsOf, awaited_at}
 
--- the point of a mark is its lower half
+-- the point of a mark is its lowest part
 abbrev pub point_in : ℕ → ℕ
 point_in mark = mark % 2 ^ 32
 

@@ -12,7 +12,7 @@ ghost use Rattle.least_facts.specs.Looks.{FindsWithin};
 
 use crate::finding::find;
 use crate::looks::Looked;
-use crate::order::order_of;
+use crate::order::{Place, order_of};
 use crate::setting::Setting;
 use answer_table::{AnswerTable, answers_of};
 use exchange_model::Exchange;
@@ -26,7 +26,7 @@ use std::alloc::Global;
 /// facts and of the flows between them.
 pub struct Analyser {
     answers: AnswerTable,
-    order: Seq<u32>,
+    order: Seq<Place>,
     rows: FactRows,
 }
 

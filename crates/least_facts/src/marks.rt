@@ -1,9 +1,10 @@
 // The points that are to be looked at, and the RETRIEVEs that answers come to first.
-ghost use Rattle.std.specs.Prelude.{◌≡◌, ◌<◌, [], length, map, replicate, slice_get, slice_set, IfOk, IsTrue, None, OnOk, Some};
+ghost use Rattle.std.specs.Prelude.{◌≡◌, ◌<◌, ◌^◌, [], length, map, replicate, slice_get, slice_set, IfOk, IsTrue, None, OnOk, Some};
 ghost use Rattle.std.specs.List.{Contains};
 ghost use Rattle.answer_table.specs.Answers.{ReturnsOf, awaited_at, known_answer};
 ghost use Rattle.least_facts.specs.Marks.{IsNoted, IsThis, Marks, Reaches, Settles, Takes, marks_of, most_returns, point_in};
 
+use crate::order::Place;
 use crate::setting::Setting;
 use answer_table::{AnswerTable, awaited_in};
 use fact_rows::FactRows;
@@ -12,13 +13,31 @@ use plex_num::{Memory, Seq};
 use std::alloc::Global;
 use std::collections::BTreeSet;
 
-/// The place of a point that is looked at after all others.
-pub(crate) const LAST: u32 = u32::MAX;
+/// How many values each part of a mark has.
+const PART: u128 = 4_294_967_296;
+
+/// When a point is looked at: with its component, in one of the sweeps through that, counted from 0, and there at its seat. Even sweeps go
+/// up, from lower seats to higher ones, and odd ones down.
+#[derive(Clone, Copy)]
+pub struct Turn {
+    pub component: u32,
+    pub sweep: u32,
+    pub seat: u32,
+}
+
+/// The turn of a point that is looked at after all others.
+const LAST: Turn = Turn {
+    component: u32::MAX,
+    sweep: 0,
+    seat: 0,
+};
 
 /// The points that are to be looked at, and for each answer the RETRIEVE of it that was reached first.
 pub struct Marked {
-    /// Of each point that is to be looked at its place in the order, and in the lower half the point.
-    pub marks: BTreeSet<u64>,
+    /// Of each point that is to be looked at its turn, as a number that is lower where it comes before, and in the lowest part the point.
+    pub marks: BTreeSet<u128>,
+    /// The turn of the point that was taken last.
+    pub at: Turn,
     pub firsts: Vec<Option<u32>>,
 }
 
@@ -26,6 +45,7 @@ impl Drop for Marked {
     fn drop(self) {
         let Marked {
             marks: _,
+            at: _,
             firsts: _,
         } = self;
     }
@@ -40,6 +60,7 @@ impl Marked {
         let firsts = no_firsts(alloc, count)?;
         Ok(Marked {
             marks: BTreeSet::new(alloc),
+            at: LAST,
             firsts: firsts.into_vec(),
         })
     }
@@ -64,59 +85,120 @@ pub(crate) fn take(marked: &mut Marked) -> Option<u32>
     ensures firsts { marked.new.firsts.items ≡ marked.old.firsts.items }
 {
     match take_first(&mut marked.marks) {
-        Some(mark) => Some(point_of(mark)),
+        Some(mark) => {
+            marked.at = turn_of(mark);
+            Some(point_of(mark))
+        }
         None => None,
     }
 }
 
 /// The point of a mark.
-fn point_of(mark: u64) -> u32
+fn point_of(mark: u128) -> u32
     ensures { result ≡ point_in mark }
 {
     (mark % 4_294_967_296) as u32
 }
 
+/// The turn of a mark.
+fn turn_of(mark: u128) -> Turn {
+    let sweep = part_of(mark / PART / PART);
+    Turn {
+        component: part_of(mark / PART / PART / PART),
+        sweep,
+        seat: on_way(sweep, part_of(mark / PART)),
+    }
+}
+
+/// The lowest part of a number.
+fn part_of(number: u128) -> u32 {
+    (number % PART) as u32
+}
+
+/// The seats that a sweep passes before this one; of so many the seat.
+fn on_way(sweep: u32, seat: u32) -> u32 {
+    if is_up(sweep) { seat } else { u32::MAX - seat }
+}
+
+fn is_up(sweep: u32) -> bool {
+    sweep.is_multiple_of(2)
+}
+
 /// Takes the lowest of these marks; `None` exactly where there is none.
-fn take_first(marks: &mut BTreeSet<u64>) -> Option<u64>
+fn take_first(marks: &mut BTreeSet<u128>) -> Option<u128>
     ensures { Takes result marks.old.keys marks.new.keys }
 {
     marks.pop_first()
 }
 
 /// The place of a point in the order.
-fn place_of(order: &Seq<u32>, point: u32) -> u32 {
+fn place_of(order: &Seq<Place>, point: u32) -> Place {
     match order.get(point as usize) {
         Some(place) => *place,
-        None => LAST,
+        None => Place {
+            component: u32::MAX,
+            seat: u32::MAX,
+        },
     }
 }
 
-/// The mark of a point at a place.
-#[tactic(auto, using(crate::proofs::Marking::lower_half))]
-fn mark_at(place: u32, point: u32) -> u64
-    ensures { point_in result ≡ point }
-{
-    place as u64 * 4_294_967_296 + point as u64
+/// When a point is looked at that is marked while the search is at this turn: in the same sweep where the point still lies ahead in it, else
+/// in the next one; in another component in the first one.
+fn turn_after(at: Turn, place: Place) -> Turn {
+    let Place { component, seat } = place;
+    let sweep = if component != at.component {
+        0
+    } else if on_way(at.sweep, seat) > on_way(at.sweep, at.seat) {
+        at.sweep
+    } else {
+        at.sweep.saturating_add(1)
+    };
+    Turn {
+        component,
+        sweep,
+        seat,
+    }
 }
 
-/// Marks a point at a place.
-fn mark(marks: &mut BTreeSet<u64>, place: u32, point: u32) -> Result<(), Memory>
+/// A turn as a number, which is lower where it comes before.
+fn rank_of(turn: Turn) -> u128
+    ensures { result < 2 ^ 96 }
+{
+    let sweep = turn.component as u128 * PART + turn.sweep as u128;
+    sweep * PART + on_way(turn.sweep, turn.seat) as u128
+}
+
+/// The mark of a point at a turn.
+#[tactic(auto, using(crate::proofs::Marking::lower_part))]
+fn mark_at(turn: Turn, point: u32) -> u128
+    ensures { point_in result ≡ point }
+{
+    rank_of(turn) * 4_294_967_296 + point as u128
+}
+
+/// Marks a point at a turn.
+fn mark(marks: &mut BTreeSet<u128>, turn: Turn, point: u32) -> Result<(), Memory>
     ensures { OnOk result
         (Marks (map point_in marks.old.keys) (map point_in marks.new.keys) (IsThis point) 1) }
 {
-    match marks.insert(mark_at(place, point)) {
+    match marks.insert(mark_at(turn, point)) {
         Ok(_) => Ok(()),
         Err(_) => Err(Memory),
     }
 }
 
 /// Marks these points.
-fn mark_all(order: &Seq<u32>, points: &[u32], marks: &mut BTreeSet<u64>) -> Result<(), Memory>
+fn mark_all(
+    order: &Seq<Place>,
+    at: Turn,
+    points: &[u32],
+    marks: &mut BTreeSet<u128>,
+) -> Result<(), Memory>
     ensures { OnOk result (Marks (map point_in marks.old.keys) (map point_in marks.new.keys)
         (Contains points.now) (length points.now)) }
 {
     for point in points {
-        mark(marks, place_of(order, *point), *point)?;
+        mark(marks, turn_after(at, place_of(order, *point)), *point)?;
     }
     Ok(())
 }
@@ -125,16 +207,17 @@ fn mark_all(order: &Seq<u32>, points: &[u32], marks: &mut BTreeSet<u64>) -> Resu
 #[tactic(auto, using(crate::proofs::Marking::returns_marked, crate::proofs::Marking::no_returns))]
 fn mark_returns(
     answers: &AnswerTable,
-    order: &Seq<u32>,
+    order: &Seq<Place>,
+    at: Turn,
     answer: u32,
-    marks: &mut BTreeSet<u64>,
+    marks: &mut BTreeSet<u128>,
 ) -> Result<(), Memory>
     ensures { OnOk result (Marks (map point_in marks.old.keys) (map point_in marks.new.keys)
         (ReturnsOf answers.now answer) (most_returns answers.now)) }
 {
     match answers.returns.get(answer as usize) {
         Some(points) => {
-            mark_all(order, points.as_slice(), marks)?;
+            mark_all(order, at, points.as_slice(), marks)?;
             Ok(())
         }
         None => Ok(()),
@@ -165,7 +248,7 @@ fn put_first(firsts: &mut Vec<Option<u32>>, i: usize, point: u32)
 #[tactic(auto, using(crate::proofs::Marking::reaches_none, crate::proofs::Marking::reaches_again))]
 fn reach(
     answers: &AnswerTable,
-    order: &Seq<u32>,
+    order: &Seq<Place>,
     point: u32,
     marked: &mut Marked,
 ) -> Result<(), Memory>
@@ -192,7 +275,7 @@ fn reach(
 #[tactic(auto, using(crate::proofs::Marking::opens_none, crate::proofs::Marking::opens_first))]
 fn open(
     answers: &AnswerTable,
-    order: &Seq<u32>,
+    order: &Seq<Place>,
     answer: u32,
     point: u32,
     marked: &mut Marked,
@@ -208,7 +291,7 @@ fn open(
         return Ok(());
     }
     put_first(&mut marked.firsts, i, point);
-    mark_returns(answers, order, answer, &mut marked.marks)?;
+    mark_returns(answers, order, marked.at, answer, &mut marked.marks)?;
     Ok(())
 }
 
@@ -254,7 +337,7 @@ pub(crate) fn settle(
     let place = if change.late {
         LAST
     } else {
-        place_of(setting.order, change.point)
+        turn_after(marked.at, place_of(setting.order, change.point))
     };
     mark(&mut marked.marks, place, change.point)?;
     if change.noted {

@@ -3,7 +3,8 @@
 // What flows lead to from each other, round and round, is one component of the graph of ways. Components come one after the other, each
 // before those to which it leads, so a caller before what it calls; inside a component a point comes before those to which it leads,
 // but for ways that lead back. What answers flow to is left out. So a point is looked at when nothing before it can bring something
-// new, and one in a loop again and again until the loop rests. The order costs or saves time alone: nothing is told of it.
+// new, and the points of a loop again and again, in sweeps, until the loop rests. The order costs or saves time alone: nothing is told
+// of it.
 use flow_table::{Ends, FlowTable};
 use plex_num::{Memory, Seq};
 use std::alloc::Global;
@@ -34,6 +35,13 @@ struct Rank {
     point: u32,
 }
 
+/// Where a point stands in the order: its component, lowest first, and its seat, which lies above those of the points before it.
+#[derive(Clone, Copy)]
+pub struct Place {
+    pub component: u32,
+    pub seat: u32,
+}
+
 /// A search through the graph of ways.
 #[derive(Drop)]
 struct Search {
@@ -49,7 +57,7 @@ struct Search {
 }
 
 /// For each point of a table its place in the order.
-pub(crate) fn order_of(alloc: Global, table: &FlowTable) -> Result<Seq<u32>, Memory> {
+pub(crate) fn order_of(alloc: Global, table: &FlowTable) -> Result<Seq<Place>, Memory> {
     let count = table.rows.len();
     let mut search = Search {
         visits: blank(alloc, count)?,
@@ -81,11 +89,19 @@ fn blank(alloc: Global, count: usize) -> Result<Vec<Visit>, Memory> {
 }
 
 /// The places of all points in the order: the component that was left last comes first, and in it the point that was left last.
-fn placed(alloc: Global, count: usize, search: Search) -> Result<Seq<u32>, Memory> {
-    let Search { ranks, .. } = search;
+fn placed(alloc: Global, count: usize, search: Search) -> Result<Seq<Place>, Memory> {
+    let Search {
+        ranks,
+        components,
+        ..
+    } = search;
     let mut ranks = ranks;
     ranks.sort_unstable();
-    let mut places = match Vec::from_elem(alloc, 0, count) {
+    let none = Place {
+        component: 0,
+        seat: 0,
+    };
+    let mut places = match Vec::from_elem(alloc, none, count) {
         Ok(places) => places,
         Err(_) => return Err(Memory),
     };
@@ -93,7 +109,10 @@ fn placed(alloc: Global, count: usize, search: Search) -> Result<Seq<u32>, Memor
     for (i, rank) in ranks.iter().enumerate() {
         let point = rank.point as usize;
         if point < places.len() {
-            places[point] = narrow(last.saturating_sub(i));
+            places[point] = Place {
+                component: components.saturating_sub(rank.component),
+                seat: narrow(last.saturating_sub(i)),
+            };
         }
     }
     Ok(Seq::from_vec(places))

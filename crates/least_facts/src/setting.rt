@@ -1,4 +1,5 @@
 // What a search for least facts looks things up in.
+use crate::order::Place;
 use answer_table::AnswerTable;
 use exchange_model::Exchange;
 use flow_table::FlowTable;
@@ -13,6 +14,6 @@ pub struct Setting<'a> {
     pub exchange: &'a Exchange,
     pub table: &'a FlowTable,
     pub answers: &'a AnswerTable,
-    pub order: &'a Seq<u32>,
+    pub order: &'a Seq<Place>,
     pub entry: u32,
 }
