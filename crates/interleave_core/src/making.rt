@@ -16,9 +16,10 @@ use crate::event::CoreEvent;
 use crate::window::{RunningCore, WindowJob};
 use checked::Checked;
 use exchange_model::Exchange;
+use job_run::JobRun;
 use machine_code::Code;
+use machine_step::step;
 use plex_num::{Memory, Seq};
-use register_machine::{JobRun, step};
 use retire_order::{Books, let_arrive};
 use store_layout::Layout;
 

@@ -2,9 +2,9 @@
 ghost use Rattle.std.specs.Prelude.{◌≡◌, ℕ, ◌+◌, ◌<◌, [], length, MatchOption};
 ghost use Rattle.interleave_core.specs.Cores.{core_of, opened_core, running_core};
 
+use job_run::JobRun;
 use job_types::JobStart;
 use plex_num::Seq;
-use register_machine::JobRun;
 use retire_order::Books;
 use std::alloc::Global;
 

@@ -4,8 +4,9 @@ ghost use Rattle.job_runner.specs.Runs.{IsReady, HasRun};
 
 use crate::loan_words::LoanWords;
 use exchange_model::Exchange;
+use job_run::JobRun;
 use machine_code::Code;
-use register_machine::{JobRun, run_to_end};
+use register_machine::run_to_end;
 use shared_store::{JobSeat, SharedStore};
 
 /// Runs a job to its end on the words that it was lent. The code must be faithful for the exchange, the seat that of a loan of this

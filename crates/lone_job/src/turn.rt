@@ -11,12 +11,13 @@ ghost use Rattle.lone_job.specs.Turns.{FitsTogether, HasRetiredOn, HasRunAlone, 
 
 use crate::ground::Ground;
 use exchange_model::Exchange;
+use job_run::JobRun;
 use job_runner::RootWords;
 use job_types::{JobDone, JobStart};
 use machine_code::Code;
 use plex_io::{Gate, Moment};
 use plex_num::Memory;
-use register_machine::{JobRun, run_to_end};
+use register_machine::run_to_end;
 use retire_order::{Books, let_arrive};
 use run_engines::length_of;
 use shared_store::{RootSeat, SharedStore};

@@ -6,7 +6,7 @@ use Rattle.machine_code.specs.declared.op.Op.{Op}
 use Rattle.machine_code.specs.declared.op.Op.TheVariants.{End}
 use Rattle.machine_meaning.specs.Faithful.{Ends, begun, started}
 use Rattle.machine_meaning.specs.Machine.{Goes, Machine, by_op, here, machine_step, reach, untouched}
-use Rattle.register_machine.proofs.Stopping.{step_store}
+use Rattle.job_run.proofs.Stopping.{step_store}
 use Rattle.interleave_core.specs.declared.event.CoreEvent.{CoreEvent}
 use Rattle.interleave_core.specs.declared.event.CoreEvent.TheVariants.{Retire}
 use Rattle.interleave_core.specs.declared.window.WindowJob.{WindowJob}

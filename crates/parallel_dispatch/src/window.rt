@@ -8,9 +8,9 @@ ghost use Rattle.parallel_dispatch.specs.Moves.{FollowsAll, HasSummary};
 ghost use Rattle.interleave_core.specs.Allowed.{MayFollow};
 
 use interference_check::PairTable;
+use job_run::JobRun;
 use job_types::JobStart;
 use plex_num::Memory;
-use register_machine::JobRun;
 use shared_store::JobSeat;
 use std::alloc::Global;
 use std::collections::VecDeque;

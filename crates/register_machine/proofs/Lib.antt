@@ -1,15 +1,3 @@
-pub mod Ahead
-pub mod Acting
 pub mod Choosing
-pub mod Keeping
-pub mod Counting
-pub mod Going
-pub mod Looking
-pub mod Making
 pub mod Meaning
-pub mod Returning
-pub mod Searching
-pub mod Stopping
-pub mod Framing
-pub mod Giving
 pub mod Turning

@@ -4,11 +4,12 @@ ghost use Rattle.std.specs.Prelude.{◌≡◌};
 use crate::length::length_of;
 use exchange_model::Exchange;
 use exchange_run::{Lengths, Rest, Runner};
+use job_run::JobRun;
 use job_types::{JobDone, JobStart};
 use machine_code::Code;
 use plex_io::{Gate, Moment};
 use plex_num::{Memory, Seq};
-use register_machine::{JobRun, run_to_end};
+use register_machine::run_to_end;
 
 /// Runs each job by the register machine on faithful code, and calls the gate before and after it.
 /// One run serves all jobs, each begun in the place of the one before.

@@ -1,6 +1,6 @@
 // How long a job of the register machine was. Nothing here has a contract: what comes out of a run
 // is the same whatever is told.
-use register_machine::JobRun;
+use job_run::JobRun;
 
 /// What a statement counts for at most by itself, in instructions.
 const STATEMENT: u64 = 32;

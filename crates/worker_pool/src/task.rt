@@ -5,9 +5,9 @@ ghost use Rattle.worker_pool.specs.Ways.{AreMeans};
 
 use crate::means::Means;
 use crate::naming::Naming;
+use job_run::JobRun;
 use job_runner::run_in_place;
 use plex_io::{Gate, Moment};
-use register_machine::JobRun;
 use shared_store::JobSeat;
 use std::marker::{Model, PhantomData};
 use ticket_book::{Ticket, TicketBook};

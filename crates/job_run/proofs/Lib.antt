@@ -1,0 +1,11 @@
+pub mod Acting
+pub mod Ahead
+pub mod Counting
+pub mod Framing
+pub mod Giving
+pub mod Going
+pub mod Keeping
+pub mod Making
+pub mod Returning
+pub mod Searching
+pub mod Stopping

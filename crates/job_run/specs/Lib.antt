@@ -1,0 +1,5 @@
+pub mod Standing
+pub mod Search
+pub mod Turns
+pub mod Making
+pub mod Kept

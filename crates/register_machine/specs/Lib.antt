@@ -1,6 +1,0 @@
-pub mod Standing
-pub mod Search
-pub mod Turns
-pub mod Making
-pub mod Looking
-pub mod Kept
