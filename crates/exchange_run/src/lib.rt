@@ -8,12 +8,10 @@
 // exchange.
 #![tactic(auto)]
 
-mod lengths;
 mod runner;
 mod turns;
 mod watcher;
 
-pub use lengths::{Lengths, MOST_COUNTED, Rest, long_job};
 pub use runner::Runner;
 pub use turns::{Come, Ended, Standing, before_lines, run_books, run_until};
 pub use watcher::{Unwatched, Watcher};

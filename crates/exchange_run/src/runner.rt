@@ -4,9 +4,9 @@ ghost use Rattle.exchange_model.specs.declared.exchange.Exchange.{Exchange};
 ghost use Rattle.job_types.specs.declared.outcome.JobDone.{JobDone};
 ghost use Rattle.exchange_run.specs.Runs.{MayRun, left_by, words_after};
 
-use crate::lengths::Rest;
 use exchange_model::Exchange;
 use job_types::{JobDone, JobStart};
+use offload_policy::Rest;
 use plex_num::{Memory, Seq};
 
 /// Something that runs jobs of an exchange, one at a time, and lends what the last one left.

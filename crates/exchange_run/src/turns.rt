@@ -9,10 +9,10 @@ ghost use Rattle.retire_order.specs.Lines.{coming_of};
 ghost use Rattle.exchange_run.specs.Comes.{HasCome, IsOver, IsTold};
 ghost use Rattle.exchange_run.specs.Runs.{HasTurn, IsEndOf, IsTurn, MayGoOn, state_of, told_next, told_of};
 
-use crate::lengths::Rest;
 use crate::runner::Runner;
 use crate::watcher::Watcher;
 use exchange_model::Exchange;
+use offload_policy::Rest;
 use plex_num::{Memory, Seq};
 use retire_order::{Books, Ending, let_arrive};
 use signal_file::Line;

@@ -3,46 +3,13 @@
 // of pairs, which learns as it is asked, stays that of its certificate.
 ghost use Rattle.std.specs.Prelude.{◌≡◌};
 
-use exchange_run::{MOST_COUNTED, long_job};
 use interference_check::PairTable;
+use offload_policy::{
+    ENOUGH, FED, FIRST_REST, LEAST_MEAN, LONELY, LONGEST_REST, MOST_COUNTED, MOST_WAIT, PART,
+    SHORT, TEST, VERY_SHORT, WAKE, long_job,
+};
 use plex_num::Memory;
 use std::alloc::Global;
-
-/// Jobs of so many instructions in all are worth a wake-up.
-const WAKE: u64 = 60_000;
-
-/// Jobs that make fewer instructions in the mean are short: as many workers as half of those that may
-/// fly are enough.
-const SHORT: u64 = 60_000;
-
-/// Jobs that make fewer are very short: a quarter of those that may fly is enough.
-const VERY_SHORT: u64 = 15_000;
-
-/// In the time of so many instructions the dispatcher lets one job set out and another one retire.
-const FED: u64 = 3_000;
-
-/// A worker is woken where so many jobs wait, whatever they are worth; where few may fly, half of those are enough.
-const MOST_WAIT: u64 = 8;
-
-/// So many jobs that wait are enough for a thread.
-const ENOUGH: u64 = 2;
-
-/// After so many jobs of an entry that flew with nobody beside them the next ones rest: they run alone.
-const LONELY: u32 = 4;
-
-/// How many jobs of an entry rest at first, and at most: twice as many each time.
-const FIRST_REST: u64 = 16;
-
-const LONGEST_REST: u64 = 1024;
-
-/// What a test of two jobs costs, in instructions, about.
-const TEST: u64 = 12;
-
-/// The part of a mean that a new job makes.
-const PART: u64 = 64;
-
-/// A mean of fewer instructions is taken for so many where it tells what a job counts for at most.
-const LEAST_MEAN: u64 = 1_000;
 
 /// Whether some job may run at once with those of an entry.
 #[derive(Clone, Copy)]

@@ -3,10 +3,11 @@ ghost use Rattle.std.specs.Prelude.{◌≡◌};
 
 use crate::length::length_of;
 use exchange_model::Exchange;
-use exchange_run::{Lengths, Rest, Runner};
+use exchange_run::Runner;
 use job_run::JobRun;
 use job_types::{JobDone, JobStart};
 use machine_code::Code;
+use offload_policy::{Lengths, Rest};
 use plex_io::{Gate, Moment};
 use plex_num::{Memory, Seq};
 use register_machine::run_to_end;

@@ -3,8 +3,9 @@ ghost use Rattle.std.specs.Prelude.{IfOk};
 ghost use Rattle.source_interpreter.specs.Cases.{AreTablesOf};
 
 use exchange_model::Exchange;
-use exchange_run::{Rest, Runner};
+use exchange_run::Runner;
 use job_types::{Chain, JobDone, JobStart, Outbox, Outcome};
+use offload_policy::Rest;
 use plex_io::{Gate, Moment};
 use plex_num::{Memory, Seq};
 use source_interpreter::{Cases, plain_job};

@@ -1,5 +1,4 @@
-// How long the jobs of a run have been of late. Nothing here has a contract: what comes out of a run
-// is the same whatever is told.
+// How long the jobs of a run have been of late.
 
 /// What a job makes at the least, in instructions, that is worth it to be run at once with others,
 /// however many are.
@@ -9,21 +8,21 @@ const LEAST: u64 = 10_000;
 /// several may, they share the cost of waking a thread, and of one that looks for work.
 const ALONE: u64 = 32_000;
 
-/// What a job counts for at most in a mean, in instructions, so that a very long one among many short
-/// ones does not make them long.
+/// What a job counts for at most in a mean, in instructions, so that a very long one among many
+/// short ones does not make them long.
 pub const MOST_COUNTED: u64 = 480_000;
 
 /// How many jobs count in full.
 const LATE: u64 = 64;
 
-/// How many instructions jobs make in the mean where they are long for so many workers: it is worth it
-/// then to run them at once.
+/// How many instructions jobs make in the mean where they are long for so many workers: it is worth
+/// it then to run them at once.
 pub fn long_job(workers: u32) -> u64 {
     LEAST.saturating_add(ALONE / u64::from(workers).max(1))
 }
 
-/// Where a run may rest: behind a job, where the jobs of late were longer than `mean` instructions in the
-/// mean, and all jobs of its runner together at least so long.
+/// Where a run may rest: behind a job, where the jobs of late were longer than `mean` instructions
+/// in the mean, and all jobs of its runner together at least so long.
 #[derive(Clone, Copy)]
 pub struct Rest {
     mean: u64,
@@ -40,8 +39,8 @@ impl Rest {
     }
 }
 
-/// How many jobs count, how long they were, each at most so long as counts, and how long all jobs were,
-/// in instructions.
+/// How many jobs count, how long they were, each at most so long as counts, and how long all jobs
+/// were, in instructions.
 #[derive(Drop)]
 pub struct Lengths {
     jobs: u64,
