@@ -79,6 +79,15 @@ def case_loop(count, temporaries):
     return CALL + block(each("TEMPORARY T{};", temporaries), "RECEIVE CALL;", program)
 
 
+def steps_back(count, entries):
+    """Each statement may go back to the one before it; behind them half as many numbers, each of which goes to the last."""
+    signals, survey, enters = many_entries(entries)
+    declared = "VARIABLE V WIDTH 8;\n" + each("TEMPORARY T{};", 24)
+    steps = "".join(f"L{step}) IF V = 1 GOTO L{max(0, step - 1)};\n" for step in range(count))
+    numbers = "".join(f"T{k % 24} = {k // 24 + 1}; IF V = 1 GOTO L{count - 1};\n" for k in range(count // 2))
+    return signals + block(declared, survey, enters + steps + numbers + "EXIT;")
+
+
 def accesses(fields, entries):
     """Each entry reads each field in one of a hundred records."""
     signals, survey, enters = many_entries(entries, "U")
@@ -242,6 +251,7 @@ PRODUCTS = [
     Product("choices of many entries", lambda size: choices(size, ENTRIES, 1), (25000, 100000)),
     Product("turns round many choices", lambda size: case_turns(size, 4000), (25000, 100000), once),
     Product("choices in a GOTO loop", lambda size: case_loop(size, 24), (1500, 10000)),
+    Product("statements that may go back", lambda size: steps_back(size, 4), (800, 1000)),
     Product("fields that many entries read", lambda size: accesses(size, 30), (500, 2000), lambda size: calls(100)),
     Product("fields that many jobs read", lambda size: accesses(size, 1), (2000, 9900), lambda size: calls(size // 10)),
     Product("fields that few jobs read", lambda size: accesses(size, 1), (2000, 9900), lambda size: calls(100)),

@@ -19,13 +19,19 @@ use Rattle.least_facts.specs.declared.looks.Looked.{Looked}
 use Rattle.least_facts.specs.declared.looks.Looked.TheVariants.{Whole, Over}
 use Rattle.least_facts.specs.Least.{KnowLeast}
 use Rattle.least_facts.specs.Looks.{FindsWithin, IsOver}
+use Rattle.entry_summary.specs.declared.summary.Access.{Access}
 use Rattle.entry_summary.specs.declared.summary.Summary.{Summary}
+use Rattle.entry_accesses.specs.Listed.{ListsWithin}
+use Rattle.entry_accesses.specs.declared.listed.Listed.{Listed}
+use Rattle.entry_accesses.specs.declared.listed.Listed.TheVariants as listed
 use Rattle.entry_summary.specs.Summaries.{IsSummary}
 use Rattle.access_summary.specs.declared.looks.Excess.{Excess}
 use Rattle.access_summary.specs.declared.looks.FewOrMany.{FewOrMany}
 use Rattle.access_summary.specs.declared.looks.FewOrMany.TheVariants.{Few, Many}
 use Rattle.certificate_meaning.specs.Summaries.{AreSummaries}
-use Rattle.access_summary.specs.Looks.{ComeWithin, most_of}
+use Rattle.access_summary.specs.declared.looks.Summed.{Summed}
+use Rattle.access_summary.specs.declared.looks.Summed.TheVariants as summed
+use Rattle.access_summary.specs.Looks.{ComeWithin, SumsWithin, left_of, most_of}
 use Rattle.certificate_meaning.proofs.Alike.{summary_alike}
 
 -- the statements that are reached, as a slice of the list
@@ -35,6 +41,10 @@ reached_in x P e places there given are told same = subst (λ l. AreReachedAmong
 -- a summary by what rows know of the entry is one by the least facts
 pub summary_of_least : (x : Exchange) (e : ℕ) (k : BitRows) (s : Summary) → KnowLeast x e k → IsSummary x (Knows k) e s → IsSummary x (IsLeast x) e s
 summary_of_least x e k s know is = summary_alike x (Knows k) (IsLeast x) e s (record { each = λ f own there. ((know.exact f).0 there).1 }) (record { each = λ f own least. (know.exact f).1 (own, least) }) is
+
+pub summed_least : (x : Exchange) (e : ℕ) (k : BitRows) (most : Option ℕ) (o : Summed) → KnowLeast x e k → SumsWithin most (IsSummary x (Knows k) e) o → SumsWithin most (IsSummary x (IsLeast x) e) o
+summed_least x e k most (summed.Whole s looks) know is = summary_of_least x e k s know is
+summed_least x e k most (summed.Over looks) know is = is
 
 -- summaries
 
@@ -66,8 +76,17 @@ summaries_end x n count all is low high g = (let h = g.long in record { each_ent
 pub all_found : {F : Type 0} (bound : Option ℕ) (o : Looked) (looks : ℕ) → o ≡ Whole looks → FindsWithin bound F o → F
 all_found {F = F} bound o looks is h = subst (FindsWithin bound F) is h
 
-pub passed_one : (F : Type 0) (most bound : Option ℕ) (before : ℕ) (o : Looked) (looks : ℕ) → bound ≡ most_of most before → o ≡ Over looks → FindsWithin bound F o → IsOver (most_of most before) looks
-passed_one F most bound before o looks same is h = subst (λ b. IsOver b looks) same (subst (FindsWithin bound F) is h)
+pub passed_one : (P : Summary → Type 0) (most bound : Option ℕ) (before : ℕ) (o : Summed) (looks : ℕ) → bound ≡ most_of most before → o ≡ summed.Over looks → SumsWithin bound P o → IsOver (most_of most before) looks
+passed_one P most bound before o looks same is h = subst (λ b. IsOver b looks) same (subst (SumsWithin bound P) is h)
+
+pub accesses_found : (P : List Access → Type 0) (most : Option ℕ) (o : Listed) (accesses : List Access) (met : ℕ) → o ≡ listed.Whole accesses met → ListsWithin most P o → P accesses
+accesses_found P most o accesses met is h = subst (ListsWithin most P) is h
+
+pub summary_found : (P : Summary → Type 0) (most : Option ℕ) (o : Summed) (s : Summary) (looks : ℕ) → o ≡ summed.Whole s looks → SumsWithin most P o → P s
+summary_found P most o s looks is h = subst (SumsWithin most P) is h
+
+pub passed_two : (P : Summary → Type 0) (most left : Option ℕ) (o : Summed) (looks met : ℕ) → left ≡ left_of most looks → o ≡ summed.Over met → SumsWithin left P o → IsOver (left_of most looks) met
+passed_two P most left o looks met same is h = subst (λ b. IsOver b met) same (subst (SumsWithin left P) is h)
 
 -- where there is no bound, summaries come
 

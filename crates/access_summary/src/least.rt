@@ -1,5 +1,5 @@
 // The least facts of an exchange, and the summaries by them.
-ghost use Rattle.std.specs.Prelude.{◌≡◌, ◌↔◌, Some, map, IfOk};
+ghost use Rattle.std.specs.Prelude.{◌≡◌, ◌↔◌, Some, map, IfOk, OnOk};
 ghost use Rattle.std.specs.List.{Contains};
 ghost use Rattle.std.specs.List.Sorted.{IsStrictlySortedBy};
 ghost use Rattle.flow_points.specs.declared.fact.Fact.{Fact as FactType};
@@ -7,17 +7,16 @@ ghost use Rattle.flow_points.specs.Facts.{IsLeast};
 ghost use Rattle.flow_points.specs.Orders.{fact_order};
 ghost use Rattle.flow_table.specs.Rows.{IsFlowTable};
 ghost use Rattle.flow_table.specs.Texts.{ArePlaces, seen};
-ghost use Rattle.least_facts.specs.Least.{HasLearned};
+ghost use Rattle.least_facts.specs.Least.{HasLearned, IsFor};
 ghost use Rattle.least_facts.specs.Looks.{IsOver};
 ghost use Rattle.entry_accesses.specs.Numbered.{AreNumbers};
 ghost use Rattle.entry_summary.specs.Summaries.{IsSummary};
 ghost use Rattle.certificate_meaning.specs.Summaries.{AreSummaries};
-ghost use Rattle.access_summary.specs.Looks.{ComeWithin, IsPast, most_of};
+ghost use Rattle.access_summary.specs.Looks.{ComeWithin, IsPast, MayBePassed, SumsWithin, left_of, most_of};
 
-use crate::looks::{Excess, FewOrMany, PART_OF_ENTRY};
-use crate::summary::summary_of;
+use crate::looks::{Excess, FewOrMany, PART_OF_ENTRY, Summed};
+use crate::summary::summary_within;
 use entry_accesses::{CellNumbers, numbers_of};
-use entry_summary::Summary;
 use exchange_model::Exchange;
 use flow_points::Fact;
 use flow_table::{FlowTable, PlaceAt, places_of, table_of};
@@ -40,8 +39,8 @@ pub fn summaries_of(alloc: Global, exchange: &Exchange) -> Result<Summaries, Mem
     }
 }
 
-/// The same with so many looks at facts, about, each of which takes a quarter of a microsecond. Where more are wanted, in all or for
-/// one entry, for which there may be a sixteenth of them, it tells how many were made.
+/// The same with so many looks, about, each of which takes a quarter of a microsecond: at facts, and at accesses that are met. Where more are
+/// wanted, in all or for one entry, for which there may be a sixteenth of them, it tells how many were made.
 pub fn summaries_if_few(
     alloc: Global,
     exchange: &Exchange,
@@ -70,34 +69,59 @@ fn summaries_within(
     let mut before: usize = 0;
     for entry in 0..exchange.entries.len() {
         let bound = most_of_entry(most, before);
-        let looked = analyser.learn(alloc, exchange, &table, entry as u32, bound)?;
-        let looks = match looked {
-            Looked::Whole { looks } => looks,
-            Looked::Over { looks } => {
-                return Ok(FewOrMany::Many(excess_of(most, before, looks)));
-            }
-        };
-        before = before.saturating_add(looks).saturating_add(points);
-        summaries.push(summarise(
+        let summed = summarise(
             alloc,
             exchange,
             &table,
             places.as_slice(),
             &numbers,
-            &analyser,
+            &mut analyser,
             entry as u32,
-        )?)?;
+            bound,
+        )?;
+        match summed {
+            Summed::Whole { summary, looks } => {
+                before = before.saturating_add(looks).saturating_add(points);
+                summaries.push(summary)?;
+            }
+            Summed::Over { looks } => {
+                return Ok(FewOrMany::Many(excess_of(most, before, looks)));
+            }
+        }
     }
     Ok(FewOrMany::Few(summaries))
 }
 
 /// How many looks there may be for one entry, where so many were made for those before.
 fn most_of_entry(most: Option<usize>, before: usize) -> Option<usize>
-    ensures { result ≡ most_of most before }
+    ensures value { result ≡ most_of most before }
+    ensures small { MayBePassed result }
 {
     match most {
         Some(most) => Some(most.saturating_sub(before).min(most / PART_OF_ENTRY)),
         None => None,
+    }
+}
+
+/// How many looks are left of a bound after so many.
+fn left(most: Option<usize>, looks: usize) -> Option<usize>
+    ensures { result ≡ left_of most looks }
+{
+    match most {
+        Some(most) => Some(most.saturating_sub(looks)),
+        None => None,
+    }
+}
+
+/// The looks that pass a bound, of which so many were made before more came than were left.
+fn looks_in_all(most: Option<usize>, looks: usize, more: usize) -> usize
+    requires small { MayBePassed most }
+    requires past { IsOver (left_of most looks) more }
+    ensures { IsOver most result }
+{
+    match most {
+        Some(_) => looks.saturating_add(more),
+        None => unreachable!(),
     }
 }
 
@@ -118,8 +142,52 @@ fn excess_of(most: Option<usize>, before: usize, looks: usize) -> Excess
     }
 }
 
-/// The summary of an entry of which the analyser has learned the least facts.
+/// The summary of an entry by the least facts, which the analyser learns, with so many looks, if there is a bound.
 fn summarise(
+    alloc: Global,
+    exchange: &Exchange,
+    table: &FlowTable,
+    places: &[PlaceAt<'_>],
+    numbers: &CellNumbers,
+    analyser: &mut Analyser,
+    entry: u32,
+    most: Option<usize>,
+) -> Result<Summed, Memory>
+    requires table { IsFlowTable exchange.now table.now }
+    requires places { ArePlaces exchange.now (map seen places.now) }
+    requires numbers { AreNumbers exchange.now numbers.now }
+    requires own { IsFor exchange.now table.now analyser.old }
+    requires small { MayBePassed most }
+    ensures summed { IfOk result
+        (SumsWithin most (IsSummary exchange.now (IsLeast exchange.now) entry)) }
+    ensures own { OnOk result (IsFor exchange.now table.now analyser.new) }
+{
+    let looked = analyser.learn(alloc, exchange, table, entry, most)?;
+    let looks = match looked {
+        Looked::Whole { looks } => looks,
+        Looked::Over { looks } => return Ok(Summed::Over { looks }),
+    };
+    let rest = left(most, looks);
+    let summed = by_learned(
+        alloc, exchange, table, places, numbers, &*analyser, entry, rest,
+    )?;
+    match summed {
+        Summed::Whole {
+            summary,
+            looks: more,
+        } => {
+            let looks = looks.saturating_add(more);
+            Ok(Summed::Whole { summary, looks })
+        }
+        Summed::Over { looks: more } => {
+            let looks = looks_in_all(most, looks, more);
+            Ok(Summed::Over { looks })
+        }
+    }
+}
+
+/// The summary of an entry of which the analyser has learned the least facts, with so many looks, if there is a bound.
+fn by_learned(
     alloc: Global,
     exchange: &Exchange,
     table: &FlowTable,
@@ -127,16 +195,18 @@ fn summarise(
     numbers: &CellNumbers,
     analyser: &Analyser,
     entry: u32,
-) -> Result<Summary, Memory>
+    most: Option<usize>,
+) -> Result<Summed, Memory>
     requires table { IsFlowTable exchange.now table.now }
     requires places { ArePlaces exchange.now (map seen places.now) }
     requires numbers { AreNumbers exchange.now numbers.now }
     requires learned { HasLearned exchange.now entry analyser.now }
-    ensures { IfOk result (IsSummary exchange.now (IsLeast exchange.now) entry) }
+    ensures { IfOk result
+        (SumsWithin most (IsSummary exchange.now (IsLeast exchange.now) entry)) }
 {
     let known = analyser.known();
-    let summary = summary_of(alloc, exchange, table, places, numbers, known, entry)?;
-    Ok(summary)
+    let summed = summary_within(alloc, exchange, table, places, numbers, known, entry, most)?;
+    Ok(summed)
 }
 
 /// The least facts of all entries, in order.

@@ -1,10 +1,21 @@
-// How many looks at facts the summaries of an exchange may take, and whether they take more.
+// How many looks the summaries of an exchange may take, and whether they take more. A look is one at a fact, or an access that is met:
+// each takes time, and memory for what it finds.
+use entry_summary::Summary;
 use kept_summaries::Summaries;
 
 /// The part of all looks that may be spent on one entry: what they find takes memory, some 100 bytes for each.
 pub const PART_OF_ENTRY: usize = 16;
 
-/// The summaries of an exchange, for which there may be so many looks at facts.
+/// The summary of an entry, for which there may be so many looks.
+#[derive(Drop)]
+pub enum Summed {
+    /// The summary, and the looks that were made.
+    Whole { summary: Summary, looks: usize },
+    /// So many looks are more than there may be, and no summary is told.
+    Over { looks: usize },
+}
+
+/// The summaries of an exchange, for which there may be so many looks.
 #[derive(Drop)]
 pub enum FewOrMany {
     /// The summary of each entry, by the least facts.

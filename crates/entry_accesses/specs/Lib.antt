@@ -4,3 +4,4 @@ pub mod Uses
 pub mod Opening
 pub mod Adding
 pub mod Levels
+pub mod Listed

@@ -1,18 +1,17 @@
 // The accesses of the statements that a job of an entry may reach.
-ghost use Rattle.std.specs.Prelude.{◌≡◌, ◌↔◌, ◌++◌, map, IfOk, OnOk};
+ghost use Rattle.std.specs.Prelude.{◌≡◌, ◌↔◌, ◌++◌, map, IfOk, IsTrue, OnOk};
 ghost use Rattle.std.specs.List.{Contains};
-ghost use Rattle.std.specs.List.Sorted.{IsStrictlySortedBy};
 ghost use Rattle.flow_points.specs.Places.{IsPlace};
 ghost use Rattle.flow_table.specs.Texts.{AreReachedAmong, seen};
-ghost use Rattle.entry_summary.specs.Accesses.{IsAccess};
-ghost use Rattle.entry_summary.specs.Orders.{access_order};
 ghost use Rattle.entry_summary.specs.declared.summary.Access.{Access as AccessType};
 ghost use Rattle.entry_summary.specs.declared.summary.Access.TheVariants as access;
 ghost use Rattle.entry_accesses.specs.Adding.{Adds, HasAccess, OneGives};
+ghost use Rattle.entry_accesses.specs.Listed.{AreAccesses, IsPast, ListsWithin};
 ghost use Rattle.entry_accesses.specs.Numbered.{AreNumbers};
 ghost use Rattle.entry_accesses.specs.declared.uses.Use.{Use as UseType};
 ghost use Rattle.entry_accesses.specs.Uses.{UseGives};
 
+use crate::listed::Listed;
 use crate::numbers::CellNumbers;
 use crate::opening::with_opened;
 use crate::order::{copied, in_order};
@@ -25,43 +24,63 @@ use plex_num::{Memory, Seq};
 use std::alloc::Global;
 
 /// The accesses of the statements that a job of the entry may reach, in order, each once. The numbers are those of the exchange; the
-/// places are of it too, and all that are reached are among them.
-pub fn accesses_of<K: KnownFacts>(
+/// places are of it too, and all that are reached are among them. Where there is a bound, `most`, and more accesses than that were met, it
+/// is `Over`: each of them takes time, and memory while it is kept.
+pub fn accesses_within<K: KnownFacts>(
     alloc: Global,
     exchange: &Exchange,
     numbers: &CellNumbers,
     places: &[PlaceAt<'_>],
     known: &K,
     entry: u32,
-) -> Result<Seq<Access>, Memory>
+    most: Option<usize>,
+) -> Result<Listed, Memory>
     requires places { AreReachedAmong exchange.now (K.knows known.now) entry (map seen places.now) }
     requires numbers { AreNumbers exchange.now numbers.now }
-    ensures exact { IfOk result (λ accesses. (a : AccessType) → Contains accesses a
-        ↔ IsAccess exchange.now (K.knows known.now) entry a) }
-    ensures rising { IfOk result (λ accesses. IsStrictlySortedBy access_order accesses) }
+    ensures { IfOk result
+        (ListsWithin most (AreAccesses exchange.now (K.knows known.now) entry)) }
 {
     let accesses = Seq::new(alloc);
     let mut found = Gathered {
         accesses,
         most: FEW,
+        met: 0,
     };
     for at in places {
         found = gather(alloc, exchange, numbers, known, entry, at, found)?;
+        if is_past(most, found.met) {
+            return Ok(Listed::Over { met: found.met });
+        }
     }
-    let Gathered { accesses, .. } = found;
+    let Gathered { accesses, met, .. } = found;
     let all = with_opened(alloc, exchange, numbers, accesses)?;
+    let met = met.saturating_add(all.len());
     let copy = copied(alloc, all.as_slice())?;
-    Ok(copy)
+    Ok(Listed::Whole {
+        accesses: copy,
+        met,
+    })
+}
+
+/// Whether there is a bound, and more were met.
+fn is_past(most: Option<usize>, met: usize) -> bool
+    ensures { IsTrue result → IsPast most met }
+{
+    match most {
+        Some(most) => met > most,
+        None => false,
+    }
 }
 
 /// Among so few accesses repeats do no harm.
 const FEW: usize = 1_024;
 
-/// Accesses that were found, some more than once; and how many may stand there before repeats go.
+/// Accesses that were found, some more than once; how many may stand there before repeats go; and how many were met.
 #[derive(Drop)]
 struct Gathered {
     accesses: Seq<Access>,
     most: usize,
+    met: usize,
 }
 
 /// The accesses that were found, and those of a statement, if it is reached.
@@ -79,23 +98,45 @@ fn gather<K: KnownFacts>(
     ensures { IfOk result (λ now. Adds found.accesses now.accesses
         (HasAccess exchange.now (K.knows known.now) entry (seen at.now))) }
 {
-    let Gathered { accesses, most } = found;
+    let Gathered {
+        accesses,
+        most,
+        met,
+    } = found;
     let mut accesses = accesses;
+    let before = accesses.len();
     push_reached(alloc, exchange, numbers, known, entry, at, &mut accesses)?;
-    Ok(thinned(Gathered { accesses, most }))
+    let met = met.saturating_add(accesses.len().saturating_sub(before));
+    Ok(thinned(Gathered {
+        accesses,
+        most,
+        met,
+    }))
 }
 
 /// The same without repeats, where there are too many: then as many again may come before they go once more.
 fn thinned(gathered: Gathered) -> Gathered
     ensures { (a : AccessType) → Contains result.accesses a ↔ Contains gathered.accesses a }
 {
-    let Gathered { accesses, most } = gathered;
+    let Gathered {
+        accesses,
+        most,
+        met,
+    } = gathered;
     if accesses.len() <= most {
-        return Gathered { accesses, most };
+        return Gathered {
+            accesses,
+            most,
+            met,
+        };
     }
     let accesses = in_order(accesses);
     let most = accesses.len().saturating_mul(2).max(FEW);
-    Gathered { accesses, most }
+    Gathered {
+        accesses,
+        most,
+        met,
+    }
 }
 
 /// Appends the accesses of a statement, if it is reached.

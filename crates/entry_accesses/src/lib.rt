@@ -8,12 +8,14 @@
 
 mod accesses;
 mod levels;
+mod listed;
 mod numbers;
 mod opening;
 mod operands;
 mod order;
 mod uses;
 
-pub use accesses::accesses_of;
+pub use accesses::accesses_within;
 pub use levels::levels_of;
+pub use listed::Listed;
 pub use numbers::{CellNumbers, numbers_of};

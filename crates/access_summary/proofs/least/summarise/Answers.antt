@@ -1,5 +1,5 @@
-use Rattle.access_summary.proofs.Summed.{summary_of_least}
+use Rattle.access_summary.proofs.Summed.{all_found}
 use Rattle.access_summary.proofs.least.summarise.Goals as goal
 
-pub returns : goal.returns
-returns c = summary_of_least c.args.exchange.now c.args.entry c.known-known.result.now c.in_ok-summary.summary (c.known-known.ensures c.args.exchange.now c.args.entry c.requires.learned) c.in_ok-summary.ensures
+pub by_learned-requires-clause-learned : goal.by_learned-requires-clause-learned
+by_learned-requires-clause-learned c = all_found c.args.most c.in_ok-looked.looked c.in-Whole.looks c.in-Whole.is c.in_ok-looked.ensures.learned
