@@ -25,19 +25,28 @@ class Wrong(Exception):
         self.told, self.status, self.refused = told, status, refused
 
 
-def program():
+def program() -> str:
     """The program that PLEX names, or the one beside the tool that runs, or the built one, or the one that the shell
     finds.
     """
     tool = pathlib.Path(sys.argv[0]).resolve().parent
-    named = os.environ.get("PLEX")
-    places = (
-        [named] if named else [tool / "plex", HERE.parent / "crates" / "plex" / "out" / "plex", shutil.which("plex")]
-    )
+    named, found = os.environ.get("PLEX"), shutil.which("plex")
+    places = [named] if named else [tool / "plex", built(), found if found != str(HERE.parent / "plex") else None]
     for place in places:
-        if place and pathlib.Path(place).is_file() and os.access(place, os.X_OK) and place != HERE.parent / "plex":
+        if place and pathlib.Path(place).is_file() and os.access(place, os.X_OK):
             return str(pathlib.Path(place).resolve())
     raise Wrong(f"there is no program plex at {named}" if named else "the program plex is not there; ./plex builds it")
+
+
+def built() -> pathlib.Path:
+    """The proved program of the repository; where there is a newer one that is not proved, its launcher, which says so
+    and looks whether that is fresh.
+    """
+    launcher, other = HERE.parent / "plex", HERE.parent / "out" / "plex"
+    proved = HERE.parent / "crates" / "plex" / "out" / "plex"
+    if other.is_file() and not (proved.is_file() and proved.stat().st_mtime > other.stat().st_mtime):
+        return launcher
+    return proved
 
 
 def bytes_of(name):

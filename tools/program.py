@@ -1,8 +1,11 @@
-"""Where the programs are, whether they are stale, and one call of one with a time limit. For the other tools.
+"""Where the programs are, whether they are stale or not proved, and one call of one with a time limit. For the other
+tools.
 
 `find()` gives the path of plex: the one that is named, or else that of the variable PLEX, or else the built one.
 `find_merger()` does the same for plex-merge, with the variable PLEX_MERGE. They end the tool where there is no such
-program, or where the built one is older than one of its sources.
+program, where the built one is older than one of its sources, and where the program is not proved. With
+PLEX_UNPROVED=1 a program that is not proved is taken, that of `tools/build --unproved` too, and the tool's last line
+says "unproved". `find_proved()` refuses it always, and `find_launcher()` gives the launcher of the built program.
 `answer()` calls it, and `wrong()` tells what an answer should not be. `verdict()` and `summed()` end a tool: with a
 last line, and with 1 where a case failed, where fewer cases ran than the least, and where more was left out than
 may be. `is_there()` tells whether a command of the system is there; where it is not, what needs it is left out, which
@@ -10,6 +13,7 @@ is told and counted. How much may be is said by the variable MOST_LEFT_OUT, and 
 gate sets it to 0. `seed()` is that of cases made by chance: each commit has another one. `version()` is the one
 that the sources have.
 """
+import atexit
 import os
 import pathlib
 import re
@@ -19,15 +23,20 @@ import signal
 import subprocess
 import sys
 from collections import namedtuple
+from collections.abc import Iterator, Mapping, Sequence
+from typing import Optional, Union
 
-ROOT = pathlib.Path(__file__).resolve().parent.parent
-BUILT = ROOT / "crates" / "plex" / "out" / "plex"
-BUILT_MERGER = ROOT / "crates" / "plex_merge" / "out" / "plex_merge"
+import programs
+
+ROOT = programs.ROOT
+PLEX, MERGER = programs.BY_NAME["plex"], programs.BY_NAME["plex-merge"]
 VERSION = ROOT / "crates" / "process_ends" / "src" / "complaint.rt"
 LONGEST, WHILE = 60, 600
 SHOWN = 120
 LATE, MOST_LATE = [], 2
 LEFT_OUT = []
+UNPROVED: list[pathlib.Path] = []  # the programs that were taken though they are not proved
+UNPROVED_TOLD: list[bool] = []  # whether a last line has said so
 SILENT = (0, 4, 5)
 
 Answer = namedtuple("Answer", "status wrote complaint")
@@ -36,7 +45,7 @@ Answer = namedtuple("Answer", "status wrote complaint")
 # where the program is
 
 
-def sources():
+def sources() -> Iterator[pathlib.Path]:
     """All files that the programs are built of, as the launcher `plex` looks at them."""
     yield ROOT / "crates.txt"
     for folder, folders, names in os.walk(ROOT / "crates"):
@@ -44,31 +53,88 @@ def sources():
         yield from (pathlib.Path(folder, name) for name in names)
 
 
-def newer_source(plex):
+def newer_source(plex: pathlib.Path) -> Optional[pathlib.Path]:
     """A source that has changed since a program was built, or None."""
     built = plex.stat().st_mtime_ns
     return next((path for path in sources() if path.stat().st_mtime_ns > built), None)
 
 
-def find(named=None):
-    """The path of plex. It ends the tool where that cannot be run, or is stale."""
-    return fresh(named or os.environ.get("PLEX"), BUILT, ROOT / "plex")
+def find(named: Union[str, pathlib.Path, None] = None) -> pathlib.Path:
+    """The path of plex. It ends the tool where that cannot be run, is stale, or is not proved."""
+    return found(PLEX, named)
 
 
-def find_merger(named=None):
+def find_merger(named: Union[str, pathlib.Path, None] = None) -> pathlib.Path:
     """The path of plex-merge, in the same way."""
-    return fresh(named or os.environ.get("PLEX_MERGE"), BUILT_MERGER, ROOT / "plex-merge")
+    return found(MERGER, named)
 
 
-def fresh(named, built, launcher):
-    """The path of a program, or of the built one; the launcher builds that."""
-    path = pathlib.Path(named or built).resolve()
-    if not path.is_file() or not os.access(path, os.X_OK):
-        sys.exit(f"{path} is no program that can be run; {launcher} builds it")
-    newer = newer_source(path) if path == built else None
-    if newer:
-        sys.exit(f"{path} is older than {newer.relative_to(ROOT)}; {launcher} builds it anew")
+def find_proved(program: programs.Program, named: Union[str, pathlib.Path, None] = None) -> pathlib.Path:
+    """The path of a program, in the same way; one that is not proved is refused by every means."""
+    path = fresh(program, named or os.environ.get(program.variable))
+    if not programs.is_proved(path):
+        sys.exit(f"{path} is not proved; tools/build {program.name} makes one that is")
     return path
+
+
+def find_launcher(program: programs.Program) -> pathlib.Path:
+    """The program that its variable names, or else the launcher of the built one, which then is there and fresh."""
+    path = found(program)
+    return program.launcher if path == program.proved.resolve() else path
+
+
+def found(program: programs.Program, named: Union[str, pathlib.Path, None] = None) -> pathlib.Path:
+    """The path of a program that is proved, or may be taken as it is."""
+    path = fresh(program, named or os.environ.get(program.variable))
+    if not programs.is_proved(path):
+        if not takes_unproved():
+            sys.exit(f"{path} is not proved; tools/build {program.name} makes one that is, and with PLEX_UNPROVED=1 "
+                     "this one is taken")
+        note_unproved(path)
+    return path
+
+
+def takes_unproved() -> bool:
+    return os.environ.get("PLEX_UNPROVED") == "1"
+
+
+def fresh(program: programs.Program, named: Union[str, pathlib.Path, None]) -> pathlib.Path:
+    """The path of the program that is named, or of the built one."""
+    path = pathlib.Path(named or built(program)).resolve()
+    command = f"tools/build {'--unproved ' if takes_unproved() else ''}{program.name}"
+    if not path.is_file() or not os.access(path, os.X_OK):
+        sys.exit(f"{path} is no program that can be run; {command} builds it")
+    newer = newer_source(path) if path in (program.proved.resolve(), program.unproved.resolve()) else None
+    if newer:
+        sys.exit(f"{path} is older than {newer.relative_to(ROOT)}; {command} builds it anew")
+    return path
+
+
+def built(program: programs.Program) -> pathlib.Path:
+    """Where the built program is: the proved one, but for one that may be taken in the place of a stale one."""
+    if takes_unproved() and (not program.proved.is_file() or newer_source(program.proved)):
+        return program.unproved
+    return program.proved
+
+
+def note_unproved(path: pathlib.Path) -> None:
+    """Notes that the tool takes a program that is not proved, which its last line then says."""
+    if not UNPROVED:
+        atexit.register(tell_unproved)
+    if path not in UNPROVED:
+        UNPROVED.append(path)
+
+
+def tell_unproved() -> None:
+    """Says so where the last line of the tool has not."""
+    if not UNPROVED_TOLD:
+        print(f"unproved: {', '.join(map(str, UNPROVED))}", flush=True)
+
+
+def unproved() -> str:
+    """What the last line of a tool says of its programs, if they are not proved."""
+    UNPROVED_TOLD.append(True)
+    return "; unproved" if UNPROVED else ""
 
 
 def version():
@@ -191,28 +257,30 @@ def left_out(told):
     print(f"left out: {told}", flush=True)
 
 
-def is_too_much_left_out():
+def is_too_much_left_out() -> bool:
     return len(LEFT_OUT) > int(os.environ.get("MOST_LEFT_OUT", len(LEFT_OUT)))
 
 
 # the end of a tool
 
 
-def verdict(name, passed, failed, least, more=""):
+def verdict(name: str, passed: int, failed: int, least: int, more: str = "") -> int:
     """The last line of a tool, and its exit status."""
     few = passed + failed < least
     more += f"; fewer than {least} cases" if few else ""
     more += f"; {len(LEFT_OUT)} left out" if LEFT_OUT else ""
+    more += unproved()
     print(f"{name}: {passed} passed, {failed} failed{more}", flush=True)
     return 1 if failed or few or is_too_much_left_out() else 0
 
 
-def summed(name, wrong, counts, more=""):
+def summed(name: str, wrong: Sequence[str], counts: Mapping[str, tuple[int, int]], more: str = "") -> int:
     """The same for a tool that counts several kinds of things, each beside its least; first it tells what is wrong."""
     few = [f"{number} {kind}, and {least} is the least" for kind, (number, least) in counts.items() if number < least]
     for line in [*wrong, *few]:
         print(line)
     counted = ", ".join(f"{number} {kind}" for kind, (number, _) in counts.items()) or "nothing tried"
     more += f"; {len(LEFT_OUT)} left out" if LEFT_OUT else ""
+    more += unproved()
     print(f"{name}: {counted}; {len(wrong) + len(few)} wrong{more}", flush=True)
     return 1 if wrong or few or is_too_much_left_out() else 0
