@@ -1,5 +1,5 @@
 " Vim syntax file for PLEX: exchange texts, signal files, tables of periodic signals and
-" filters. tools/highlighting makes it. Put it into ~/.vim/syntax, and into
+" filters. tools/maintain/highlighting makes it. Put it into ~/.vim/syntax, and into
 " ~/.vim/ftdetect/plex.vim the line
 "     autocmd BufRead,BufNewFile *.plex setfiletype plex
 if exists("b:current_syntax")

@@ -1,0 +1,1 @@
+"""The checks of the gate, and what they share."""

@@ -1,0 +1,1 @@
+"""What makes texts, exchanges and faults for checks and measurements."""

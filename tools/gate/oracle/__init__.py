@@ -1,0 +1,1 @@
+"""Second accounts of analyses, runs and listings, written from the documents alone."""

@@ -1,0 +1,1 @@
+"""What measures times and memory, and writes the figures of the documents."""

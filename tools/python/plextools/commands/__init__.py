@@ -1,0 +1,1 @@
+"""The commands, each with a `main` that a program of tools/bin calls."""

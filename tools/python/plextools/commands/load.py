@@ -1,0 +1,34 @@
+"""plex-load [--json] [--jobs N] E S [--workers N ..]
+
+Tells what N workers would bring for the load of the exchange text E and the signal file S, and what is in the way. It
+runs the load statement by statement, and plays its jobs as plex hands them to workers, with time in statements.
+Without --workers it does so for 1, 2, 4, 8, 16 and 64, and tells what jobs waited for with 4; else for each N from 1
+to 64 that is given, and what they waited for with the last. --jobs ends the run after N jobs. --json writes all
+figures for a program.
+"""
+
+from plextools import limits, programs, tables
+from plextools.runs import jobs
+from plextools.runs import report
+from plextools.analysis import why
+
+USUAL, CHOSEN = (1, 2, 4, 8, 16, 64), 4
+
+
+def main():
+    words = programs.Words(__doc__)
+    words.add_argument("--json", action="store_true")
+    words.add_argument("--jobs", type=programs.number_to(limits.MOST_JOBS), default=limits.USUAL_JOBS)
+    words.add_argument("--workers", type=programs.number_to(limits.MOST_WORKERS), nargs="+")
+    words.add_argument("exchange")
+    words.add_argument("signals")
+    words = words.parse_args()
+    exchange = why.Exchange(words.exchange)
+    load = jobs.jobs_of(exchange, programs.bytes_of(words.exchange), words.signals, words.jobs)
+    told = report.figures(exchange, load, words.workers or USUAL, words.workers[-1] if words.workers else CHOSEN)
+    if words.json:
+        print(tables.as_json(told))
+    else:
+        for line in report.text_of(exchange, told):
+            print(line)
+    return 0

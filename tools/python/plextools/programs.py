@@ -1,0 +1,227 @@
+"""The programs of plex: where they are, and one call of one. For the tools that stand beside them.
+
+`PROGRAMS` has each program once: a new program is one line there, and a link of its name to the launcher `plex`. `program()` finds one and looks whether it has the version of the tools,
+`answer(words)` gives what plex writes, and `lines_of(words)` gives that line by line as it comes. What keeps a tool
+from its work is raised as `Wrong`, and `run_tool(main)` tells it in one line on the standard error, or, where plex has
+refused a text, as plex tells it, with its status.
+"""
+import argparse
+import functools
+import os
+import pathlib
+import shutil
+import subprocess
+import sys
+import threading
+from typing import Iterator, NamedTuple
+
+from plextools import VERSION
+
+ROOT = pathlib.Path(__file__).resolve().parents[3]  # of the sources, where the tools are not installed
+LONGEST = 600
+
+
+class Program(NamedTuple):
+    """A program of plex: its name, the option by which tools take another one, and an example of it with the file of
+    its words.
+    """
+
+    name: str
+    option: str
+    example: str
+    words: str
+
+    @property
+    def crate(self) -> str:
+        """The crate of its main function."""
+        return self.name.replace("-", "_")
+
+    @property
+    def variable(self) -> str:
+        """The variable that names another program to run."""
+        return self.crate.upper()
+
+    @property
+    def launcher(self) -> pathlib.Path:
+        """What builds and runs it in the sources."""
+        return ROOT / self.name
+
+    @property
+    def proved(self) -> pathlib.Path:
+        """Where it is in the sources once it is proved and built."""
+        return ROOT / "crates" / self.crate / "out" / self.crate
+
+    @property
+    def unproved(self) -> pathlib.Path:
+        """Where `tools/build --unproved` puts the other one in the sources."""
+        return ROOT / "out" / self.name
+
+    @property
+    def built(self) -> pathlib.Path:
+        """The proved one in the sources; where there is a newer one that is not proved, its launcher, which says so
+        and looks whether that is fresh.
+        """
+        proved, other = self.proved, self.unproved
+        if other.is_file() and not (proved.is_file() and proved.stat().st_mtime > other.stat().st_mtime):
+            return self.launcher
+        return proved
+
+
+PROGRAMS = (
+    Program("plex", "--program", "three_ticks", "words"),
+    Program("plex-merge", "--merger", "merged_ticks", "merge"),
+)
+BY_NAME = {program.name: program for program in PROGRAMS}
+
+
+class Wrong(Exception):
+    """What keeps a tool from its work: a line to be told, and the exit status. `refused` is the line of plex itself."""
+
+    def __init__(self, told, status=2, refused=False):
+        super().__init__(told)
+        self.told, self.status, self.refused = told, status, refused
+
+
+def places(one: Program) -> Iterator[str]:
+    """Where a program may be: beside the tool that runs, built in the sources, and where the shell finds it, unless
+    that is the launcher of the sources, which may build for a long time.
+    """
+    yield str(pathlib.Path(sys.argv[0]).resolve().parent / one.name)
+    yield str(one.built)
+    found = shutil.which(one.name)
+    if found and pathlib.Path(found).resolve() != one.launcher.resolve():
+        yield found
+
+
+def can_run(path: str) -> bool:
+    return pathlib.Path(path).is_file() and os.access(path, os.X_OK)
+
+
+def program(name: str = "plex") -> str:
+    """The path of a program: the one that its variable names, or else the first that is there."""
+    one = BY_NAME[name]
+    named = os.environ.get(one.variable)
+    for place in [named] if named else places(one):
+        if can_run(place):
+            path = str(pathlib.Path(place).resolve())
+            check_version(name, path)
+            return path
+    if named:
+        raise Wrong(f"there is no program {name} at {named}")
+    raise Wrong(f"the program {name} is not there; ./{name} builds it")
+
+
+@functools.lru_cache(maxsize=None)
+def check_version(name: str, path: str) -> None:
+    """Raises `Wrong` where a program does not say that it has the version of the tools."""
+    pipes = {"stdin": subprocess.DEVNULL, "stdout": subprocess.PIPE, "stderr": subprocess.PIPE}
+    try:
+        done = subprocess.run([path, "--version"], timeout=LONGEST, check=False, **pipes)
+    except (OSError, subprocess.TimeoutExpired) as wrong:
+        raise Wrong(f"{path} cannot be run: {wrong}") from wrong
+    told = done.stderr.decode("utf-8", "replace").strip()
+    if told != f"{name} {VERSION}":
+        raise Wrong(f"{path} is not {name} {VERSION}, of which these tools are: its --version says {told[:80]!r}")
+
+
+def bytes_of(name):
+    """The bytes of a file that the command names, which plex reads too."""
+    try:
+        if os.path.exists(name) and not os.path.isfile(name):
+            raise Wrong(f"{str(name)!r} is no file that can be read more than once")
+        return pathlib.Path(name).read_bytes()
+    except (OSError, ValueError) as wrong:
+        raise Wrong(f"the file {str(name)!r} could not be read: {getattr(wrong, 'strerror', None) or wrong}") from wrong
+
+
+def ended(process, words, wrote):
+    """The program has ended: with a status other than 0 it has refused something, or something went wrong."""
+    if process.returncode == 0:
+        return
+    told = wrote.decode("utf-8", "replace").strip().split("\n")[0]
+    if process.returncode > 0 and told:
+        raise Wrong(told, process.returncode, refused=True)
+    if process.returncode == 6:
+        raise Wrong("a file could not be read by plex", 6)
+    raise Wrong(f"plex {words[0]} ended with the status {process.returncode}")
+
+
+def late(words):
+    return Wrong(f"plex {words[0]} did not end within {LONGEST} seconds")
+
+
+def answer(words, accepted=(0,)):
+    """What plex writes, in bytes, with one of the accepted statuses."""
+    try:
+        done = subprocess.run([program(), *words], stdin=subprocess.DEVNULL, stdout=subprocess.PIPE, timeout=LONGEST)
+    except subprocess.TimeoutExpired as wrong:
+        raise late(words) from wrong
+    if done.returncode not in accepted:
+        ended(done, words, done.stdout)
+    return done.stdout
+
+
+def lines_of(words):
+    """The lines that plex writes, in bytes and without their ends, as they come."""
+    with subprocess.Popen([program(), *words], stdin=subprocess.DEVNULL, stdout=subprocess.PIPE) as process:
+        first, timer = b"", threading.Timer(LONGEST, process.kill)
+        timer.daemon = True
+        timer.start()
+        try:
+            for line in process.stdout:
+                first = first or line
+                yield line[:-1]
+            process.wait()
+            if not timer.is_alive():
+                raise late(words)
+        finally:
+            timer.cancel()
+        ended(process, words, first)
+
+
+class Words(argparse.ArgumentParser):
+    """The words of a tool, by what its head says of it. Wrong ones are told in a line, with the usage."""
+
+    def __init__(self, about):
+        self.line = about.splitlines()[0]
+        super().__init__(
+            usage=self.line, description=about.split("\n", 2)[2], formatter_class=argparse.RawDescriptionHelpFormatter
+        )
+
+    def error(self, message):
+        raise Wrong(f"{message}\nusage: {self.line}")
+
+
+def number_to(most):
+    """Reads a word that is a number from 1 to this one."""
+
+    def number(word):
+        if not (word.isascii() and word.isdigit() and 1 <= int(word) <= most):
+            raise argparse.ArgumentTypeError(f"{word!r} is no number from 1 to {most}")
+        return int(word)
+
+    return number
+
+
+def run_tool(main):
+    """Runs the main function of a tool, and ends with its status: 2 where something is wrong, quietly where nobody
+    reads on.
+    """
+    name = pathlib.Path(sys.argv[0]).name
+    for stream in (sys.stdout, sys.stderr):
+        stream.reconfigure(errors="backslashreplace")
+    try:
+        status = main()
+        sys.stdout.flush()
+    except Wrong as wrong:
+        if wrong.refused:
+            print(wrong.told)
+        else:
+            print(f"{name}: {wrong.told}", file=sys.stderr)
+        status = wrong.status
+    except BrokenPipeError:
+        os.dup2(os.open(os.devnull, os.O_WRONLY), sys.stdout.fileno())
+        status = 0
+    except KeyboardInterrupt:
+        status = 130
+    sys.exit(status)
