@@ -43,7 +43,7 @@ ROOMS = {
     "maintain": BASE | {"gate.harness", "maintain"},
 }
 # Files that import more. One that no longer does is told, so that it does not stay here.
-MORE = {"python/plextools/runs/jobs.py": {"gate.oracle"}}
+MORE: dict[str, set[str]] = {}
 
 
 class Import(NamedTuple):

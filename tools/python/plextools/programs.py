@@ -13,7 +13,7 @@ import shutil
 import subprocess
 import sys
 import threading
-from typing import Iterator, NamedTuple
+from typing import Iterator, NamedTuple, Sequence
 
 from plextools import VERSION
 
@@ -77,7 +77,7 @@ BY_NAME = {program.name: program for program in PROGRAMS}
 class Wrong(Exception):
     """What keeps a tool from its work: a line to be told, and the exit status. `refused` is the line of plex itself."""
 
-    def __init__(self, told, status=2, refused=False):
+    def __init__(self, told: str, status: int = 2, refused: bool = False) -> None:
         super().__init__(told)
         self.told, self.status, self.refused = told, status, refused
 
@@ -124,7 +124,7 @@ def check_version(name: str, path: str) -> None:
         raise Wrong(f"{path} is not {name} {VERSION}, of which these tools are: its --version says {told[:80]!r}")
 
 
-def bytes_of(name):
+def bytes_of(name: str) -> bytes:
     """The bytes of a file that the command names, which plex reads too."""
     try:
         if os.path.exists(name) and not os.path.isfile(name):
@@ -150,7 +150,7 @@ def late(words):
     return Wrong(f"plex {words[0]} did not end within {LONGEST} seconds")
 
 
-def answer(words, accepted=(0,)):
+def answer(words: Sequence[str], accepted: Sequence[int] = (0,)) -> bytes:
     """What plex writes, in bytes, with one of the accepted statuses."""
     try:
         done = subprocess.run([program(), *words], stdin=subprocess.DEVNULL, stdout=subprocess.PIPE, timeout=LONGEST)

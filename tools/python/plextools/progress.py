@@ -8,18 +8,20 @@ ERASED = "\r\033[K"
 
 
 class Line:
-    """A line on the standard error that is written anew, ten times a second at most."""
+    """A line on the standard error that is written anew, ten times a second at most. Where that is no terminal,
+    nothing is written.
+    """
 
-    def __init__(self):
-        self.is_there, self.drawn = False, 0.0
+    def __init__(self) -> None:
+        self.is_shown, self.is_there, self.drawn = sys.stderr.isatty(), False, 0.0
 
-    def draw(self, text):
-        if time.monotonic() - self.drawn >= BETWEEN:
+    def draw(self, text: str) -> None:
+        if self.is_shown and time.monotonic() - self.drawn >= BETWEEN:
             sys.stderr.write(f"{ERASED}{text}")
             sys.stderr.flush()
             self.is_there, self.drawn = True, time.monotonic()
 
-    def erase(self):
+    def erase(self) -> None:
         if self.is_there:
             sys.stderr.write(ERASED)
             sys.stderr.flush()

@@ -43,7 +43,7 @@ def main():
     content, exchange = programs.bytes_of(words.exchange), why.Exchange(words.exchange)
     figures = load = made = None
     if words.signals:
-        load = jobs.jobs_of(exchange, content, words.signals, words.jobs)
+        load = jobs.jobs_of(exchange, words.signals, words.jobs)
         figures = report.figures(exchange, load, USUAL, words.workers)
         made = play.play(load, play.Rules(exchange.analysis), words.workers, keep_bars=True)
     title = " with ".join(os.path.basename(name) for name in filter(None, (words.exchange, words.signals)))

@@ -1,1 +1,1 @@
-"""The jobs of a run, and how several workers share them."""
+"""What an exchange does with the lines of a signal file, and how several workers share its jobs."""

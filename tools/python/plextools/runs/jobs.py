@@ -1,199 +1,140 @@
 """The jobs of a run, for plex-load and plex-page: what each started with, how many statements it did, and what it sent.
 
-`jobs_of(exchange, exchange_text, signals_name, limit)` gives a `Load`. The run is told by the oracle, statement by
-statement. Where its jobs do more statements than `PATIENCE`, the rest is told by `plex trace`: then the length of a
-job is the mean of those of its entry that were done statement by statement, and the records that it holds are those
-which earlier jobs of its forlopp may have seized.
+`jobs_of(exchange, signals_name, limit)` gives a `Load`. The run is told statement by statement, and its
+report must be that of plex. Where its jobs do more statements than `PATIENCE`, the rest is told by `plex trace`: then
+the length of a job is the mean of those of its entry that were done statement by statement, and the records that it
+holds are those which earlier jobs of its forlopp may have seized.
 """
 import os
-import pathlib
-import sys
 import tempfile
+from typing import Any, Dict, Iterator, List, Optional, Sequence, Set
 
-from plextools import programs
-
-# TODO: plextools.runs.machine takes the place of the oracle here, and then this block and the line of tools/install
-# that installs the oracle go. Until then the oracle is beside `python` in the sources, and beside plextools installed.
-sys.path += [str(place) for place in pathlib.Path(__file__).resolve().parents[2:4] if (place / "gate").is_dir()]
-from gate.oracle import machine as oracle_machine  # noqa: E402
+from plextools import progress
+from plextools.programs import answer, bytes_of
+from plextools.runs import check
+from plextools.runs.machine import Arrival, Job, Machine, TooLong
+from plextools.runs.running import Sent
+from plextools.runs.signals import Line, lines_of
+from plextools.runs.steps import Program
 
 PATIENCE = 20_000_000
 ENDINGS = (0, 4, 5)
+BETWEEN = 2000
 
-
-class Job:
-    """A job that waited: by its number in the order in which jobs came. `place` is its number in the run, None where
-    it never began.
-
-    `length` is in statements, `held` are the names of the files of which it held a record as it began, `sent` the
-    numbers of the jobs that came of it, `fault` the word of its fault. It came with a line of the signal file, or was
-    sent by the job `sender`.
-    """
-
-    __slots__ = (
-        "number",
-        "entry",
-        "level",
-        "values",
-        "forlopp",
-        "line",
-        "sender",
-        "place",
-        "length",
-        "held",
-        "sent",
-        "fault",
-    )
-
-    def __init__(self, number, entry, level, values, forlopp, line, sender):
-        self.number, self.entry, self.level, self.values, self.forlopp = number, entry, level, values, forlopp
-        self.line, self.sender = line, sender
-        self.place, self.length, self.held, self.sent, self.fault = None, 0, (), (), None
+# An exchange of plextools.analysis.why.
+Exchange = Any
 
 
 class Load:
     """The jobs of a run in the order in which they came, those that ran in their order, the lines, and how it ended.
 
-    `lines` has for each line of the signal file its count, after how many jobs it arrived, and its job, which is None
-    where it was lost.
+    `lines` has each line of the signal file that has arrived.
     """
 
-    def __init__(self, jobs, ran, lines, ending, limit, is_traced):
-        self.jobs, self.ran, self.lines, self.ending, self.limit, self.is_traced = (
-            jobs,
-            ran,
-            lines,
-            ending,
-            limit,
-            is_traced,
-        )
+    def __init__(
+        self, jobs: List[Job], ran: List[Job], lines: List[Arrival], ending: str, limit: int, is_traced: bool
+    ) -> None:
+        self.jobs, self.ran, self.lines, self.ending, self.limit = jobs, ran, lines, ending, limit
+        self.is_traced = is_traced
         self.statements = sum(job.length for job in ran)
 
-    def chain(self):
+    def chain(self) -> List[Job]:
         """The jobs of the longest chain: each was sent by the one before it, or came after it in one forlopp. The
         first comes first.
         """
-        best, before, last = {}, {}, {}
+        best: Dict[int, int] = {}
+        before: Dict[int, Optional[int]] = {}
+        last: Dict[int, int] = {}
         for job in self.ran:
             others = [number for number in (job.sender, last.get(job.forlopp)) if number is not None]
-            before[job.number] = max(others, key=best.get, default=None)
-            best[job.number] = job.length + (best[before[job.number]] if others else 0)
+            former = max(others, key=best.__getitem__) if others else None
+            before[job.number] = former
+            best[job.number] = job.length + (best[former] if former is not None else 0)
             if job.forlopp:
                 last[job.forlopp] = job.number
-        number, found = max(best, key=best.get, default=None), []
+        number, found = max(best, key=best.__getitem__, default=None), []
         while number is not None:
             found.append(self.jobs[number])
             number = before[number]
         return found[::-1]
 
 
-class Waiting(tuple):
-    """A job that waits, as the oracle has it, with its number."""
+class Recorder(Machine):
+    """The single run, which keeps its jobs and the lines that have arrived."""
 
+    def __init__(self, program: Program, lines: Sequence[Line], limit: int, patience: Optional[int]) -> None:
+        super().__init__(program, lines, limit, patience, keeps=True)
+        self.ran: List[Job] = []
+        self.arrivals: List[Arrival] = []
 
-class Recorder(oracle_machine.Machine):
-    """The single run, which keeps its jobs."""
+    def note(self, line: Line, job: Optional[Job]) -> None:
+        self.arrivals.append(Arrival(line.after, self.ended, job))
 
-    def __init__(self, exchange_text, signal_text, limit, patience):
-        super().__init__(exchange_text, signal_text, limit, patience)
-        self.entry_of = {node.point: number for number, node in enumerate(self.exchange.entries)}
-        self.files = [self.exchange.file_name(number) for number in range(len(self.exchange.files))]
-        self.jobs, self.ran, self.told_lines = [], [], []
-        self.sender, self.line, self.now = None, None, None
+    def run(self) -> None:
+        """The whole run, with a line on a terminal that tells how far it is."""
+        line, keep = progress.Line(), self.ran.append
+        try:
+            for job in self.jobs():
+                job.outbox = ()
+                keep(job)
+                if job.place % BETWEEN == 0:
+                    line.draw(f"{job.place} jobs have run")
+        finally:
+            line.erase()
 
-    def add(self, enter, values, forlopp):
-        level = self.exchange.signal_of(enter).level
-        job = Job(len(self.jobs), self.entry_of[enter.point], level, values, forlopp, self.line, self.sender)
-        self.jobs.append(job)
-        waiting = Waiting((enter, values, forlopp))
-        waiting.job = job
-        self.waiting[level].append(waiting)
-
-    def arrive(self):
-        while self.lines and (self.lines[0].count <= self.ended or self.nobody_waits()):
-            line, rest, came = self.lines[0], self.lines, len(self.jobs)
-            self.lines, self.line = oracle_machine.Queue([line]), line.number
-            super().arrive()
-            self.lines, self.line = rest, None
-            self.lines.pop(0)
-            self.told_lines.append((line.count, self.ended, self.jobs[came] if len(self.jobs) > came else None))
-
-    def next_job(self):
-        self.now = next(jobs for jobs in self.waiting.values() if jobs)[0].job
-        job = super().next_job()
-        self.now.held = tuple(sorted({self.files[file] for file, _ in job.chain}))
-        return job
-
-    def retire(self, job, fault):
-        came = len(self.jobs)
-        self.sender = self.now.number
-        super().retire(job, fault)
-        self.sender = None
-        self.now.sent = range(came, len(self.jobs))
-        self.now.length, self.now.fault, self.now.place = job.counted, fault, self.ended
-        self.ran.append(self.now)
-
-
-class TracedJob:
-    """A job that a trace tells of, in the place of one that does its statements."""
-
-    def __init__(self, entry, forlopp, told):
-        self.forlopp, self.chain, self.counted = forlopp, [], 0
-        self.outbox, self.fault = told
-        self.now = self.place = entry
+    def load(self, is_traced: bool) -> Load:
+        assert self.kept is not None
+        return Load(self.kept, self.ran, self.arrivals, self.ending, self.limit, is_traced)
 
 
 class Tracer(Recorder):
-    """The single run by the lines of a trace."""
+    """The single run by the lines of a trace. `seizes` has the files of which each entry may seize records."""
 
-    def __init__(self, exchange_text, signal_text, limit, trace, seizes, lengths):
-        super().__init__(exchange_text, signal_text, limit, 0)
-        self.trace, self.seizes, self.lengths, self.may_hold = trace, seizes, lengths, {}
-        self.head = next(trace, None)
+    def __init__(
+        self,
+        program: Program,
+        lines: Sequence[Line],
+        limit: int,
+        trace: Iterator[List[str]],
+        seizes: List[Set[str]],
+        lengths: List[int],
+    ) -> None:
+        super().__init__(program, lines, limit, None)
+        self.trace, self.seizes, self.lengths = trace, seizes, lengths
+        self.may_hold: Dict[int, Set[str]] = {}
+        self.head: List[str] = next(trace, [])
+        text = program.text
+        blocks = [block.name.text for block in text.blocks]
+        self.entry_of = {(node.signal.text, blocks[node.block]): place for place, node in enumerate(text.entries)}
 
-    def told(self):
-        """What the trace has of the next job: its outbox and its fault."""
-        job, outbox = self.head, []
+    def perform(self, job: Job) -> None:
+        """The job does what the trace has of it."""
+        held = self.may_hold.setdefault(job.forlopp, set()) if job.forlopp else set()
+        job.held, job.length = tuple(sorted(held)), self.lengths[job.entry]
+        held.update(self.seizes[job.entry])
+        job.fault = None if self.head[-1] == "ENDED" else self.head[-1]
+        outbox: List[Sent] = []
+        self.head = []
         for words in self.trace:
             if words[0] != "SEND":
                 self.head = words
                 break
             outbox.append(self.sent(words))
-        else:
-            self.head = None
-        return outbox, None if job[-1] == "ENDED" else job[-1]
+        job.outbox = outbox
 
-    def sent(self, words):
-        signal = self.exchange.signals[self.exchange.signal_number[words[2]]]
-        enter = (
-            None if words[3] == "OUTSIDE" else self.exchange.enter_at[self.exchange.block_number[words[3]], words[2]]
-        )
-        return signal, enter, [int(word) for word in words[4:-1]], words[-1] == "NEW"
-
-    def next_job(self):
-        self.now = next(jobs for jobs in self.waiting.values() if jobs)[0].job
-        _, _, forlopp = next(jobs for jobs in self.waiting.values() if jobs).pop(0)
-        held = self.may_hold.setdefault(forlopp, set()) if forlopp else set()
-        self.now.held = tuple(sorted(held))
-        held.update(self.seizes[self.now.entry])
-        job = TracedJob(self.exchange.entries[self.now.entry], forlopp, self.told())
-        job.run = lambda: job.fault
-        return job
-
-    def retire(self, job, fault):
-        super().retire(job, None)
-        self.now.fault, self.now.length = fault, self.lengths[self.now.entry]
-        if fault:
-            (self.release if job.forlopp else self.restart)(job, "")
+    def sent(self, words: List[str]) -> Sent:
+        signal: int = self.program.text.signals[words[2]].number
+        entry = -1 if words[3] == "OUTSIDE" else self.entry_of[words[2], words[3]]
+        return signal, entry, tuple(int(word) for word in words[4:-1]), words[-1] == "NEW"
 
 
-def trace_of(exchange_name, signals_name, limit):
+def trace_of(exchange_name: str, signals_name: str, limit: int) -> Iterator[List[str]]:
     """The words of each line of the trace of all jobs."""
     with tempfile.TemporaryDirectory() as folder:
         show = os.path.join(folder, "show")
         with open(show, "w", encoding="ascii") as file:
             file.write("SHOW\n")
-        wrote = programs.answer(["trace", exchange_name, signals_name, show, "--jobs", str(limit)], ENDINGS)
+        wrote = answer(["trace", exchange_name, signals_name, show, "--jobs", str(limit)], ENDINGS)
     for line in wrote.decode("ascii").split("\n"):
         words = line.split(" ")
         if words[0] not in ("JOB", "SEND"):
@@ -201,7 +142,7 @@ def trace_of(exchange_name, signals_name, limit):
         yield words
 
 
-def mean_lengths(ran, count):
+def mean_lengths(ran: List[Job], count: int) -> List[int]:
     """The mean length of the jobs of each entry, and that of all where none of the entry is among them."""
     sums = [[0, 0] for _ in range(count)]
     for job in ran:
@@ -211,17 +152,32 @@ def mean_lengths(ran, count):
     return [max(1, round(total / number)) if number else mean for total, number in sums]
 
 
-def jobs_of(exchange, content, signals_name, limit, patience=PATIENCE):
+def jobs_of(exchange: Exchange, signals_name: str, limit: int, patience: int = PATIENCE) -> Load:
     """The load of an exchange, whose text is known to be right, and of a signal file."""
-    signals = programs.bytes_of(signals_name)
-    programs.answer(["run", exchange.text.name, signals_name, "--workers", "1", "--jobs", "1"], ENDINGS)
-    machine, is_traced = Recorder(content, signals, limit, patience), False
+    signals, name = bytes_of(signals_name), exchange.text.name
+    answer(["run", name, signals_name, "--workers", "1", "--jobs", "1"], ENDINGS)
+    program = Program(exchange.text)
+    lines = lines_of(exchange.text, signals)
+    machine = Recorder(program, lines, limit, patience)
     try:
-        ending = machine.run()
-    except oracle_machine.TooLong:
-        entries = exchange.analysis.entries
-        lengths, is_traced = mean_lengths(machine.ran, len(entries)), True
-        trace = trace_of(exchange.text.name, signals_name, limit)
-        machine = Tracer(content, signals, limit, trace, [entry.seizes for entry in entries], lengths)
-        ending = machine.run()
-    return Load(machine.jobs, machine.ran, machine.told_lines, ending, limit, is_traced)
+        machine.run()
+    except TooLong:
+        return traced(exchange, program, lines, signals_name, machine)
+    words = ["run", name, signals_name, "--workers", "1", "--jobs", str(limit)]
+    try:
+        check.compare_report(machine, answer(words, ENDINGS))
+    except check.Different as different:
+        raise check.refused(different) from different
+    return machine.load(False)
+
+
+def traced(
+    exchange: Exchange, program: Program, lines: Sequence[Line], signals_name: str, begun: Recorder
+) -> Load:
+    """The load by a trace, where the run that was begun takes too long."""
+    entries = exchange.analysis.entries
+    lengths = mean_lengths(begun.ran, len(entries))
+    trace = trace_of(exchange.text.name, signals_name, begun.limit)
+    machine = Tracer(program, lines, begun.limit, trace, [entry.seizes for entry in entries], lengths)
+    machine.run()
+    return machine.load(True)

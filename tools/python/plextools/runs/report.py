@@ -1,13 +1,15 @@
 """What plex-load tells of a load: figures as plain data, and as text.
 
-`figures(exchange, load, counts, chosen)` plays the load with each count of workers, and looks at what jobs waited for
-with the chosen count. `text_of(exchange, figures)` gives the lines for a reader.
+`figures(exchange, load, counts, chosen, tell)` plays the load with each count of workers, and looks at what jobs waited
+for with the chosen count; `tell` is told how far each play is. `text_of(exchange, figures)` gives the lines for a reader.
 """
+import itertools
+
 from plextools.analysis import why as why_lines
-from plextools.runs.play import END, FULL, LINE, SAME, SENDER, Rules, keys_of, play
+from plextools.runs.play import END, FULL, LINE, SAME, SENDER, Rules, keys_of, play, plays
 from plextools.tables import in_columns
 
-WORST, SHOWN, OTHERS, SHORT = 10, 20, 3, 4000
+WORST, SHOWN, OTHERS, SHORT, MOST_ENTRIES = 10, 20, 3, 4000, 10
 WAITS = {"pair": "pair", LINE: "line", SENDER: "sender", END: "end"}
 HEADS = ["workers", "speed-up", "time", "in the window", "full", *WAITS.values()]
 MEANING = (
@@ -17,10 +19,8 @@ MEANING = (
 )
 
 
-def figures(exchange, load, counts, chosen):
-    rules, plays = Rules(exchange.analysis), {}
-    for workers in dict.fromkeys([*counts, chosen]):
-        plays[workers] = play(load, rules, workers)
+def figures(exchange, load, counts, chosen, tell=None):
+    made = plays(load, Rules(exchange.analysis), [*counts, chosen], tell)
     chain = sum(job.length for job in load.chain())
     return {
         "jobs": len(load.ran),
@@ -29,8 +29,8 @@ def figures(exchange, load, counts, chosen):
         "lengths_are_means": load.is_traced,
         "longest_chain": chain,
         "speed_up_by_chain": ratio(load.statements, chain),
-        "workers": [of_play(plays[workers]) for workers in counts],
-        "blockers": Blockers(exchange, load, plays[chosen]).told(),
+        "workers": [of_play(made[workers]) for workers in counts],
+        "blockers": Blockers(exchange, load, made[chosen], tell).told(),
         "entries": of_entries(exchange, load),
     }
 
@@ -66,8 +66,10 @@ class Blockers:
     reason in all pairs.
     """
 
-    def __init__(self, exchange, load, made):
-        self.exchange, self.load, self.made, self.known = exchange, load, made, {}
+    def __init__(self, exchange, load, made, tell=None):
+        self.exchange, self.load, self.made, self.tell = exchange, load, made, tell
+        self.rules, self.entries = Rules(exchange.analysis), sorted({job.entry for job in load.jobs})
+        self.known = {frozenset(): made.speed}
 
     def told(self):
         return {
@@ -79,9 +81,24 @@ class Blockers:
 
     def without(self, key):
         """The speed-up of the load without the reasons of a key."""
-        if key not in self.known:
-            self.known[key] = play(self.load, Rules(self.exchange.analysis, frozenset([key])), self.made.workers).speed
-        return self.known[key]
+        rules = Rules(self.exchange.analysis, frozenset([key]))
+        changes = self.changed(key, rules)
+        if changes not in self.known:
+            self.known[changes] = play(self.load, rules, self.made.workers, tell=self.tell).speed
+        return self.known[changes]
+
+    def changed(self, key, rules):
+        """What is otherwise by the rules without the reasons of a key: the pairs with another verdict. Where there are
+        too many pairs to look at, it is the key.
+        """
+        if len(self.entries) > MOST_ENTRIES:
+            return key
+        changes = set()
+        for i, j in itertools.product(self.entries, repeat=2):
+            verdict = verdict_words_of(rules.pair(i, j))
+            if verdict != verdict_words_of(self.rules.pair(i, j)):
+                changes.add((i, j, verdict))
+        return frozenset(changes)
 
     def pairs(self):
         for place, (time, (i, j, told, reason)) in enumerate(self.made.blockers()):
@@ -123,6 +140,11 @@ class Blockers:
         if reason.kind in ("LEVEL", "FORLOPP"):
             return f"{reason.told} of {entries[i].name}"
         return reason.told if reason.name else f"{reason.told} of {entries[i].name} and {entries[j].name}"
+
+
+def verdict_words_of(verdict):
+    """A verdict as far as time hangs on it: that there is a conflict, or the tests."""
+    return "NEVER" if verdict.conflict else tuple(test.told for test, _ in verdict.tests)
 
 
 def told_reason(told, reason):

@@ -4,10 +4,17 @@
 have their `level`. `words_from(token)` gives the words of the text from a token on, up to the next semicolon, which
 is the last of them.
 """
+from typing import Any, List, Tuple
+
 from plextools.text.tokens import KEYWORDS
 from plextools.text.tree import Tree, tree
 
-__all__ = ["KEYWORDS", "Tree", "tree", "words_from"]
+__all__ = ["Expression", "KEYWORDS", "Node", "Tree", "tree", "words_from"]
+
+# A statement or a declaration of the tree, with what it holds by name.
+Node = Any
+# An expression: its parts in their order, each with the operator before it.
+Expression = List[Tuple[str, Tuple[Any, ...]]]
 
 
 def words_from(token):

@@ -5,9 +5,11 @@ blocks as docs/ANALYSIS.md does it: each is a point. A point has its line, its `
 statements inside it, its `next`, and its `uses`.
 """
 from collections import namedtuple
+from typing import List, Optional
 
+from plextools.text.accepted import KEYWORDS, Node, Tree, tree, words_from
 from plextools.text.points import first_in, place
-from plextools.text.accepted import KEYWORDS, Tree, tree, words_from
+from plextools.text.tokens import RELATIONS
 
 LIST_WORDS = ("THEN", "IS", "DO")
 # What a statement does to stored data: READ or WRITE with VAR, FIELD or OWN; SEIZE; FREE. `pointer` is the temporary
@@ -18,7 +20,8 @@ Signal = namedtuple("Signal", "name kind count level answer line number told")
 
 class Reader(Tree):
     """Keeps of an expression its parts in their order, each with the operator before it: one part is a value that
-    stands alone.
+    stands alone. A condition is the list of its expressions, and the IF has the `relations` between each two of them
+    and the words in `joins`, AND or OR, between its relations.
     """
 
     def expr(self, depth=0):
@@ -27,6 +30,17 @@ class Reader(Tree):
             operator = self.take("+", "-", "*", "/", "MOD").text
             parts.append((operator, self.factor(depth)))
         return parts
+
+    def cond(self):
+        found, node = [], self.node
+        node.relations, node.joins = [], []
+        while True:
+            found.append(self.expr())
+            node.relations.append(self.take(*RELATIONS).text)
+            found.append(self.expr())
+            if not self.sees("AND", "OR"):
+                return found
+            node.joins.append(self.take("AND", "OR").text)
 
 
 def factors_of(expr):
@@ -143,10 +157,10 @@ class Text:
             return written(words[: end + 1]) + " .."
         return written(words)
 
-    def label_point(self, node):
+    def label_point(self, node: Node) -> int:
         return self.block_of(node).labels[node.label.text]
 
-    def receivers(self, node):
+    def receivers(self, node: Node) -> List[int]:
         """The ENTERs to which the signal of a SEND or TRANSFER may go."""
         enters = self.enters.get(node.signal.text, {})
         if node.reference and node.reference.kind == "named":
@@ -208,7 +222,7 @@ class Text:
         key = self.name_of(node, name)
         return Use(f"{does} OWN", key, None) if field.file.forlopp else Use(f"{does} FIELD", key, pointer)
 
-    def held(self, node):
+    def held(self, node: Node) -> Optional[str]:
         """The variable or temporary that holds the reference of a SEND or TRANSFER, if one does."""
         reference = getattr(node, "reference", None)
         return reference.first.text if reference and reference.kind == "held" else None
