@@ -1,7 +1,8 @@
-"""How large the parts of a text, of an exchange, of a job and of a run may be: the one place of the tools for it.
+"""How large the parts of a text, of an exchange, of a job and of a run may be: the one place of the
+tools for it.
 
-The names of the first part are those of the crate plex_limits, and have its numbers. The gate compares all of them with
-the sources of the program.
+The names of the first part are those of the crate plex_limits, and have its numbers. The gate
+compares all of them with the sources of the program.
 """
 
 # texts
@@ -31,7 +32,8 @@ MOST_RESTARTS = 3
 MOST_JOBS = 10_000_000
 MOST_WORKERS = 64
 
-# what the program says elsewhere: how long words are, how many numbers there are, and the bounds of commands
+# what the program says elsewhere: how long words are, how many numbers there are, and the bounds of
+# commands
 MOST_LETTERS = 31
 MOST_DIGITS = 10
 MOST_WIDTH = 32

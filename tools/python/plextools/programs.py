@@ -1,29 +1,33 @@
 """The programs of plex: where they are, and one call of one. For the tools that stand beside them.
 
-`PROGRAMS` has each program once: a new program is one line there, and a link of its name to the launcher `plex`. `program()` finds one and looks whether it has the version of the tools,
-`answer(words)` gives what plex writes, and `lines_of(words)` gives that line by line as it comes. What keeps a tool
-from its work is raised as `Wrong`, and `run_tool(main)` tells it in one line on the standard error, or, where plex has
-refused a text, as plex tells it, with its status.
+`PROGRAMS` has each program once: a new program is one line there, and a link of its name to the
+launcher `plex`. `program()` finds one and looks whether it has the version of the tools,
+`answer(words)` gives what plex writes, and `lines_of(words)` gives that line by line as it comes.
+What keeps a tool from its work is raised as `Wrong`, and `run_tool(main)` tells it in one line on
+the standard error, or, where plex has refused a text, as plex tells it, with its status.
 """
 import argparse
 import functools
+import io
 import os
 import pathlib
 import shutil
 import subprocess
 import sys
 import threading
-from typing import Iterator, NamedTuple, Sequence
+from typing import Callable, Iterator, NamedTuple, NoReturn, Sequence
 
-from plextools import VERSION
+from plextools import VERSION, tables
 
-ROOT = pathlib.Path(__file__).resolve().parents[3]  # of the sources, where the tools are not installed
+ROOT = (
+    pathlib.Path(__file__).resolve().parents[3]
+)  # of the sources, where the tools are not installed
 LONGEST = 600
 
 
 class Program(NamedTuple):
-    """A program of plex: its name, the option by which tools take another one, and an example of it with the file of
-    its words.
+    """A program of plex: its name, the option by which tools take another one, and an example of it
+    with the file of its words.
     """
 
     name: str
@@ -58,13 +62,15 @@ class Program(NamedTuple):
 
     @property
     def built(self) -> pathlib.Path:
-        """The proved one in the sources; where there is a newer one that is not proved, its launcher, which says so
-        and looks whether that is fresh.
+        """The proved one in the sources; where there is a newer one that is not proved, its
+        launcher, which says so and looks whether that is fresh.
         """
         proved, other = self.proved, self.unproved
-        if other.is_file() and not (proved.is_file() and proved.stat().st_mtime > other.stat().st_mtime):
-            return self.launcher
-        return proved
+        if not other.is_file():
+            return proved
+        if proved.is_file() and proved.stat().st_mtime > other.stat().st_mtime:
+            return proved
+        return self.launcher
 
 
 PROGRAMS = (
@@ -75,7 +81,9 @@ BY_NAME = {program.name: program for program in PROGRAMS}
 
 
 class Wrong(Exception):
-    """What keeps a tool from its work: a line to be told, and the exit status. `refused` is the line of plex itself."""
+    """What keeps a tool from its work: a line to be told, and the exit status. `refused` is the
+    line of plex itself.
+    """
 
     def __init__(self, told: str, status: int = 2, refused: bool = False) -> None:
         super().__init__(told)
@@ -83,8 +91,8 @@ class Wrong(Exception):
 
 
 def places(one: Program) -> Iterator[str]:
-    """Where a program may be: beside the tool that runs, built in the sources, and where the shell finds it, unless
-    that is the launcher of the sources, which may build for a long time.
+    """Where a program may be: beside the tool that runs, built in the sources, and where the shell
+    finds it, unless that is the launcher of the sources, which may build for a long time.
     """
     yield str(pathlib.Path(sys.argv[0]).resolve().parent / one.name)
     yield str(one.built)
@@ -114,61 +122,75 @@ def program(name: str = "plex") -> str:
 @functools.lru_cache(maxsize=None)
 def check_version(name: str, path: str) -> None:
     """Raises `Wrong` where a program does not say that it has the version of the tools."""
-    pipes = {"stdin": subprocess.DEVNULL, "stdout": subprocess.PIPE, "stderr": subprocess.PIPE}
     try:
-        done = subprocess.run([path, "--version"], timeout=LONGEST, check=False, **pipes)
+        done = subprocess.run(
+            [path, "--version"],
+            stdin=subprocess.DEVNULL,
+            stdout=subprocess.PIPE,
+            stderr=subprocess.PIPE,
+            timeout=LONGEST,
+            check=False,
+        )
     except (OSError, subprocess.TimeoutExpired) as wrong:
         raise Wrong(f"{path} cannot be run: {wrong}") from wrong
     told = done.stderr.decode("utf-8", "replace").strip()
     if told != f"{name} {VERSION}":
-        raise Wrong(f"{path} is not {name} {VERSION}, of which these tools are: its --version says {told[:80]!r}")
+        wanted = f"{name} {VERSION}, of which these tools are"
+        raise Wrong(f"{path} is not {wanted}: its --version says {told[:80]!r}")
 
 
 def bytes_of(name: str) -> bytes:
     """The bytes of a file that the command names, which plex reads too."""
     try:
         if os.path.exists(name) and not os.path.isfile(name):
-            raise Wrong(f"{str(name)!r} is no file that can be read more than once")
+            raise Wrong(f"{tables.quoted(str(name))} is no file that can be read more than once")
         return pathlib.Path(name).read_bytes()
     except (OSError, ValueError) as wrong:
-        raise Wrong(f"the file {str(name)!r} could not be read: {getattr(wrong, 'strerror', None) or wrong}") from wrong
+        told = getattr(wrong, "strerror", None) or wrong
+        raise Wrong(f"the file {tables.quoted(str(name))} could not be read: {told}") from wrong
 
 
-def ended(process, words, wrote):
-    """The program has ended: with a status other than 0 it has refused something, or something went wrong."""
-    if process.returncode == 0:
+def ended(returncode: int, words: Sequence[str], wrote: bytes) -> None:
+    """The program has ended: with a status other than 0 it has refused something, or something went
+    wrong.
+    """
+    if returncode == 0:
         return
     told = wrote.decode("utf-8", "replace").strip().split("\n")[0]
-    if process.returncode > 0 and told:
-        raise Wrong(told, process.returncode, refused=True)
-    if process.returncode == 6:
+    if returncode > 0 and told:
+        raise Wrong(told, returncode, refused=True)
+    if returncode == 6:
         raise Wrong("a file could not be read by plex", 6)
-    raise Wrong(f"plex {words[0]} ended with the status {process.returncode}")
+    raise Wrong(f"plex {words[0]} ended with the status {returncode}")
 
 
-def late(words):
+def late(words: Sequence[str]) -> Wrong:
     return Wrong(f"plex {words[0]} did not end within {LONGEST} seconds")
 
 
 def answer(words: Sequence[str], accepted: Sequence[int] = (0,)) -> bytes:
     """What plex writes, in bytes, with one of the accepted statuses."""
     try:
-        done = subprocess.run([program(), *words], stdin=subprocess.DEVNULL, stdout=subprocess.PIPE, timeout=LONGEST)
+        done = subprocess.run(
+            [program(), *words], stdin=subprocess.DEVNULL, stdout=subprocess.PIPE, timeout=LONGEST
+        )
     except subprocess.TimeoutExpired as wrong:
         raise late(words) from wrong
     if done.returncode not in accepted:
-        ended(done, words, done.stdout)
+        ended(done.returncode, words, done.stdout)
     return done.stdout
 
 
-def lines_of(words):
+def lines_of(words: Sequence[str]) -> Iterator[bytes]:
     """The lines that plex writes, in bytes and without their ends, as they come."""
-    with subprocess.Popen([program(), *words], stdin=subprocess.DEVNULL, stdout=subprocess.PIPE) as process:
+    with subprocess.Popen(
+        [program(), *words], stdin=subprocess.DEVNULL, stdout=subprocess.PIPE
+    ) as process:
         first, timer = b"", threading.Timer(LONGEST, process.kill)
         timer.daemon = True
         timer.start()
         try:
-            for line in process.stdout:
+            for line in process.stdout or ():
                 first = first or line
                 yield line[:-1]
             process.wait()
@@ -176,26 +198,32 @@ def lines_of(words):
                 raise late(words)
         finally:
             timer.cancel()
-        ended(process, words, first)
+        ended(process.returncode, words, first)
 
 
 class Words(argparse.ArgumentParser):
-    """The words of a tool, by what its head says of it. Wrong ones are told in a line, with the usage."""
+    """The words of a tool, by what its head says of it. Wrong ones are told in a line, with the
+    usage.
+    """
 
-    def __init__(self, about):
+    def __init__(self, about: str) -> None:
         self.line = about.splitlines()[0]
         super().__init__(
-            usage=self.line, description=about.split("\n", 2)[2], formatter_class=argparse.RawDescriptionHelpFormatter
+            usage=self.line,
+            description=about.split("\n", 2)[2],
+            formatter_class=argparse.RawDescriptionHelpFormatter,
         )
+        name = self.line.split()[0]
+        self.add_argument("--version", action="version", version=f"{name} {VERSION}")
 
-    def error(self, message):
-        raise Wrong(f"{message}\nusage: {self.line}")
+    def error(self, message: str) -> NoReturn:
+        raise Wrong(f"{tables.printed(message)}\nusage: {self.line}")
 
 
-def number_to(most):
+def number_to(most: int) -> Callable[[str], int]:
     """Reads a word that is a number from 1 to this one."""
 
-    def number(word):
+    def number(word: str) -> int:
         if not (word.isascii() and word.isdigit() and 1 <= int(word) <= most):
             raise argparse.ArgumentTypeError(f"{word!r} is no number from 1 to {most}")
         return int(word)
@@ -203,13 +231,14 @@ def number_to(most):
     return number
 
 
-def run_tool(main):
-    """Runs the main function of a tool, and ends with its status: 2 where something is wrong, quietly where nobody
-    reads on.
+def run_tool(main: Callable[[], int]) -> None:
+    """Runs the main function of a tool, and ends with its status: 2 where something is wrong,
+    quietly where nobody reads on.
     """
     name = pathlib.Path(sys.argv[0]).name
     for stream in (sys.stdout, sys.stderr):
-        stream.reconfigure(errors="backslashreplace")
+        if isinstance(stream, io.TextIOWrapper):
+            stream.reconfigure(errors="backslashreplace")
     try:
         status = main()
         sys.stdout.flush()

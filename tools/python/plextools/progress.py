@@ -2,14 +2,17 @@
 nothing is shown."""
 import sys
 import time
+from typing import Iterable, Iterator, TypeVar
+
+Case = TypeVar("Case")
 
 BETWEEN = 0.1
 ERASED = "\r\033[K"
 
 
 class Line:
-    """A line on the standard error that is written anew, ten times a second at most. Where that is no terminal,
-    nothing is written.
+    """A line on the standard error that is written anew, ten times a second at most. Where that is
+    no terminal, nothing is written.
     """
 
     def __init__(self) -> None:
@@ -28,7 +31,7 @@ class Line:
             self.is_there = False
 
 
-def shown(cases, name, count):
+def shown(cases: Iterable[Case], name: str, count: int) -> Iterator[Case]:
     """The cases one by one; while one is waited for, a line tells how many were done."""
     if not sys.stderr.isatty():
         yield from cases

@@ -1,20 +1,37 @@
-"""Tells why two jobs are kept apart: each conflict or test with the statements that make it, and what helps.
+"""Tells why two jobs are kept apart: each conflict or test with the statements that make it, and
+what helps.
 
-`Exchange(name)` asks plex about an exchange text. `told(exchange, i, j)` gives the lines for a pair of its entries.
+`Exchange(name)` asks plex about an exchange text. `told(exchange, i, j)` gives the lines for a pair
+of its entries.
 """
-from collections import namedtuple
+from typing import (
+    Callable,
+    Dict,
+    Iterable,
+    Iterator,
+    List,
+    NamedTuple,
+    Optional,
+    Sequence,
+    Tuple,
+    TypeVar,
+)
 
 from plextools import programs
 from plextools.analysis.entry_facts import Made, facts_of
-from plextools.analysis.lines import ANY, NoAnalysis, read
+from plextools.analysis.lines import (
+    ANY,
+    Entry,
+    NoAnalysis,
+    Numbers,
+    Reason,
+    Shared,
+    read,
+)
+from plextools.tables import quoted
 from plextools.text.statements import Text
 
 SHOWN, WIDEST = 3, 46
-# A statement with what it does: its point, which a signal has not, its line, its text, and words.
-Told = namedtuple("Told", "point line head does")
-# What one of two jobs has to do with a reason: an entry, and which of its statements. Equal sides have the same
-# statements.
-Side = namedtuple("Side", "entry what name value reads")
 RECORDS = {"ARG": "of record ARG {0}", "CONST": "of record {0}", "ANY": "of any record"}
 DOES = {"READ": "reads", "WRITE": "writes", "SEIZE": "seizes", "FREE": "frees"}
 FAULTS = {
@@ -31,39 +48,91 @@ FAULTS = {
 }
 
 
-def record_words(value):
+class Told(NamedTuple):
+    """A statement with what it does: its point, which a signal has not, its line, its text, and
+    words.
+    """
+
+    point: Optional[int]
+    line: int
+    head: str
+    does: str
+
+
+class Side(NamedTuple):
+    """What one of two jobs has to do with a reason: an entry, and which of its statements. Equal
+    sides have the same statements.
+
+    `what` is a key of `SIDES`, `name` a name or a line of a summary, `value` the selector of a
+    field. Whether what is only read counts too is told by `reads`. `parts` are sides of fields.
+    """
+
+    entry: int
+    what: str
+    name: str = ""
+    value: str = ""
+    reads: bool = True
+    parts: Tuple["Side", ...] = ()
+
+
+class Unknown(NamedTuple):
+    """A field that a statement of an entry uses in a record that is not known."""
+
+    entry: int
+    point: int
+    name: str
+
+
+class Sides(NamedTuple):
+    """The sides of two jobs."""
+
+    first: Side
+    later: Side
+
+
+Some = TypeVar("Some")
+NOBODY = Side(-1, "none")
+
+
+def record_words(value: str) -> str:
     kind, _, number = value.partition(" ")
     return RECORDS[kind].format(number)
 
 
-def short(name):
+def short(name: str) -> str:
     return name.partition(".")[2]
 
 
-def and_words(words):
-    words = list(dict.fromkeys(words))
+def and_words(some: Iterable[str]) -> str:
+    words = list(dict.fromkeys(some))
     return " and ".join(words) if len(words) < 3 else ", ".join(words[:-1]) + f" and {words[-1]}"
 
 
 class Exchange:
-    """An exchange text with its analysis, and what those of its entries that were looked at are made of."""
+    """An exchange text with its analysis, and what those of its entries that were looked at are
+    made of.
+    """
 
-    def __init__(self, name, keeps_facts=False):
+    def __init__(self, name: str, keeps_facts: bool = False) -> None:
         content = programs.bytes_of(name)
         lines = list(programs.lines_of(["analyse", name]))
         self.text, self.keeps_facts = Text(name, content), keeps_facts
+        self.made: Dict[int, Made] = {}
+        self.unknown: Dict[Unknown, str] = {}
+        self.sides: Dict[Side, List[Told]] = {}
         try:
             self.analysis = read(lines, self.text.names)
         except NoAnalysis as wrong:
-            raise programs.Wrong(f"what {programs.program()} writes is no analysis: {wrong}") from wrong
-        self.made, self.unknown, self.sides = {}, {}, {}
+            raise programs.Wrong(
+                f"what {programs.program()} writes is no analysis: {wrong}"
+            ) from wrong
 
-    def entry(self, number):
+    def entry(self, number: int) -> Entry:
         return self.analysis.entries[number]
 
-    def look_at(self, entries):
-        """Finds what these entries are made of, where that is not known. Their facts are let go then, as they may be
-        many.
+    def look_at(self, entries: Iterable[int]) -> None:
+        """Finds what these entries are made of, where that is not known. Their facts are let go
+        then, as they may be many.
         """
         new = set(entries) - self.made.keys()
         if not new:
@@ -75,16 +144,17 @@ class Exchange:
                 if line.endswith(f" {ANY}"):
                     for point in points:
                         name = line.split(" ")[2]
-                        self.unknown[facts.entry, point, name] = self.why_unknown(made, point, name)
+                        why = self.why_unknown(made, point, name)
+                        self.unknown[Unknown(facts.entry, point, name)] = why
             if not self.keeps_facts:
-                made.facts = made.ways = None
+                made.let_go()
 
-    def look_at_all(self):
+    def look_at_all(self) -> None:
         self.look_at(range(len(self.analysis.entries)))
 
     # why a record is not known
 
-    def why_unknown(self, made, point, name):
+    def why_unknown(self, made: Made, point: int, name: str) -> str:
         """Why it is not known which record of a field's file a statement names."""
         node = self.text.points[point]
         for use in self.text.uses(node):
@@ -95,14 +165,18 @@ class Exchange:
                     return self.origin_words(made, point, use.pointer)
         return "it is not known which one"
 
-    def origin_words(self, made, point, pointer):
+    def origin_words(self, made: Made, point: int, pointer: str) -> str:
         origins = made.origins(point, made.slot(self.text.points[point], pointer))
         if not origins:
             return f"it is not known what {pointer} is"
         node, here = self.text.points[origins[0].point], self.text.points[point].block
-        changed = getattr(getattr(node, "temporary", None), "text", pointer)
-        subject = pointer if node.block == here and changed == pointer else f"the value of {pointer}"
-        where = f"at line {node.line}" + (f" in {self.text.block_of(node).name.text}" if node.block != here else "")
+        changed = node.temporary.text if hasattr(node, "temporary") else pointer
+        subject = (
+            pointer if node.block == here and changed == pointer else f"the value of {pointer}"
+        )
+        where = f"at line {node.line}" + (
+            f" in {self.text.block_of(node).name.text}" if node.block != here else ""
+        )
         told = {
             "ON": f"{subject} is changed by ON {where}",
             "FOR": f"{subject} is found by FOR FIRST {where}",
@@ -115,191 +189,260 @@ class Exchange:
 
     # the statements of a side
 
-    def statements(self, side):
+    def statements(self, side: Side) -> List[Told]:
         """The statements of a side, in the order of the text."""
         if side not in self.sides:
-            self.sides[side] = getattr(self, "side_" + side.what)(side)
+            self.sides[side] = SIDES[side.what](self, side)
         return self.sides[side]
 
-    def statement(self, point, does):
+    def statement(self, point: int, does: str) -> Told:
         node = self.text.points[point]
         return Told(point, node.line, self.text.head(node), does)
 
-    def doing(self, side, lines, words):
-        """The statements that give any of these lines of a summary, each with the words for what it does."""
-        does = {}
-        for line in lines:
-            for point in self.made[side.entry].lines.get(line, ()):
-                does.setdefault(point, []).append(DOES[line.split(" ")[0]])
-        return [self.statement(point, words(point, and_words(does[point]))) for point in sorted(does)]
+    def points_of(self, side: Side, line: str) -> Sequence[int]:
+        """The statements that give a line of the summary of an entry."""
+        return self.made[side.entry].lines.get(line, ())
 
-    def side_variable(self, side):
+    def doing(
+        self, side: Side, lines: Iterable[str], words: Callable[[int, str], str]
+    ) -> List[Told]:
+        """The statements that give any of these lines of a summary, each with the words for what it
+        does.
+        """
+        does: Dict[int, List[str]] = {}
+        for line in lines:
+            for point in self.points_of(side, line):
+                does.setdefault(point, []).append(DOES[line.split(" ")[0]])
+        return [
+            self.statement(point, words(point, and_words(does[point]))) for point in sorted(does)
+        ]
+
+    def side_variable(self, side: Side) -> List[Told]:
         lines = [f"READ VAR {side.name}"] * side.reads + [f"WRITE VAR {side.name}"]
         return self.doing(side, lines, lambda _, does: f"{does} {short(side.name)}")
 
-    def side_field(self, side):
-        def words(point, does):
+    def side_field(self, side: Side) -> List[Told]:
+        def words(point: int, does: str) -> str:
             told = f"{does} {short(side.name)} {record_words(side.value)}"
-            return f"{told}: {self.unknown[side.entry, point, side.name]}" if side.value == ANY else told
+            if side.value != ANY:
+                return told
+            return f"{told}: {self.unknown[Unknown(side.entry, point, side.name)]}"
 
-        lines = [f"READ FIELD {side.name} {side.value}"] * side.reads + [f"WRITE FIELD {side.name} {side.value}"]
-        return self.doing(side, lines, words)
+        field = f"FIELD {side.name} {side.value}"
+        return self.doing(side, [f"READ {field}"] * side.reads + [f"WRITE {field}"], words)
 
-    def side_fields(self, side):
-        found = [told for one in side.value for told in self.statements(one)]
-        return sorted(found, key=lambda told: told.point)
+    def side_fields(self, side: Side) -> List[Told]:
+        found = [told for one in side.parts for told in self.statements(one)]
+        return sorted(found, key=lambda told: told.point or 0)
 
-    def side_file(self, side):
+    def side_file(self, side: Side) -> List[Told]:
         lines = [f"SEIZE {side.name}"] + [f"FREE {side.name}"] * side.reads
         return self.doing(side, lines, lambda _, does: f"{does} a record of {short(side.name)}")
 
-    def side_sends(self, side):
-        points = self.made[side.entry].lines.get(f"SEND {side.name}", ())
+    def side_sends(self, side: Side) -> List[Told]:
         return [
-            self.statement(point, f"sends {self.text.points[point].signal.text} to level {side.name}")
-            for point in points
+            self.statement(point, f"sends {self.sent_at(point)} to level {side.name}")
+            for point in self.points_of(side, f"SEND {side.name}")
         ]
 
-    def side_level(self, side):
+    def sent_at(self, point: int) -> str:
+        """The signal that a SEND sends."""
+        return self.text.points[point].signal.text
+
+    def side_level(self, side: Side) -> List[Told]:
         signal = self.text.signals[self.entry(side.entry).signal]
         return [Told(None, signal.line, signal.told, f"waits at level {signal.level}, below it")]
 
-    def side_faults(self, side):
-        faults = {}
+    def side_faults(self, side: Side) -> List[Told]:
+        faults: Dict[int, List[str]] = {}
         for fault in self.made[side.entry].faults:
             faults.setdefault(fault.point, []).append(fault.fault)
         return [
-            self.statement(point, "may fault: " + "; ".join(f"{word}, {FAULTS[word]}" for word in words))
+            self.statement(
+                point, "may fault: " + "; ".join(f"{word}, {FAULTS[word]}" for word in words)
+            )
             for point, words in faults.items()
         ]
 
-    def side_line(self, side):
+    def side_line(self, side: Side) -> List[Told]:
         """The statements of a line of an entry's summary, with why a record is not known."""
-        return [
-            self.statement(
-                point,
-                self.unknown.get((side.entry, point, side.name.split(" ")[-2]), "") if side.name.endswith(ANY) else "",
-            )
-            for point in self.made[side.entry].lines.get(side.name, ())
-        ]
 
-    def side_none(self, _):
+        def why(point: int) -> str:
+            if not side.name.endswith(ANY):
+                return ""
+            return self.unknown.get(Unknown(side.entry, point, side.name.split(" ")[-2]), "")
+
+        return [self.statement(point, why(point)) for point in self.points_of(side, side.name)]
+
+    def side_none(self, _: Side) -> List[Told]:
         return []
+
+
+SIDES: Dict[str, Callable[[Exchange, Side], List[Told]]] = {
+    "variable": Exchange.side_variable,
+    "field": Exchange.side_field,
+    "fields": Exchange.side_fields,
+    "file": Exchange.side_file,
+    "sends": Exchange.side_sends,
+    "level": Exchange.side_level,
+    "faults": Exchange.side_faults,
+    "line": Exchange.side_line,
+    "none": Exchange.side_none,
+}
 
 
 class Pair:
     """A pair of entries, with what is told of each of its reasons."""
 
-    def __init__(self, exchange, i, j):
+    def __init__(self, exchange: Exchange, i: int, j: int) -> None:
         self.exchange, self.i, self.j = exchange, i, j
         self.first, self.later = exchange.entry(i), exchange.entry(j)
 
-    def sides(self, reason):
+    def sides(self, reason: Reason) -> Sides:
         """The side of the first and that of the later job in a conflict or a test."""
-        return getattr(self, "sides_" + reason.kind.lower().replace(" ", "_"))(reason)
+        return OF_PAIRS[reason.kind].sides(self, reason)
 
-    def statements(self, reason):
+    def statements(self, reason: Reason) -> List[List[Told]]:
         return [self.exchange.statements(side) for side in self.sides(reason)]
 
-    def sides_variable(self, reason):
-        writes = [entry.variables[reason.name] for entry in (self.first, self.later)]
-        return Side(self.i, "variable", reason.name, None, writes[1]), Side(
-            self.j, "variable", reason.name, None, writes[0]
+    def sides_variable(self, reason: Reason) -> Sides:
+        first, later = (entry.variables[reason.name] for entry in (self.first, self.later))
+        return Sides(
+            Side(self.i, "variable", reason.name, reads=later),
+            Side(self.j, "variable", reason.name, reads=first),
         )
 
-    def sides_field(self, reason):
-        return self.field(reason.name, *reason.values)
+    def sides_field(self, reason: Reason) -> Sides:
+        first, later = chosen(reason.selectors)
+        return self.field(Shared(reason.name, first, later))
 
-    def field(self, name, u, v):
+    def field(self, shared: Shared) -> Sides:
         """A job's reads count where the other job writes, and its writes always."""
-        writes = self.first.fields[name][u], self.later.fields[name][v]
-        return Side(self.i, "field", name, u, writes[1]), Side(self.j, "field", name, v, writes[0])
-
-    def sides_seize(self, reason):
-        return tuple(
-            Side(entry.number, "file", reason.name, None, reason.name in other.seizes)
-            for entry, other in ((self.first, self.later), (self.later, self.first))
+        name, first, later = shared
+        writes_first, writes_later = self.first.fields[name][first], self.later.fields[name][later]
+        return Sides(
+            Side(self.i, "field", name, first, writes_later),
+            Side(self.j, "field", name, later, writes_first),
         )
 
-    def sides_level(self, reason):
-        return Side(self.i, "sends", reason.name, None, True), Side(self.j, "level", None, None, True)
-
-    def sides_differ(self, reason):
-        pairs = [self.field(*shared) for shared in reason.shared]
-        return tuple(
-            Side(number, "fields", None, tuple(pair[place] for pair in pairs), True)
-            for place, number in enumerate((self.i, self.j))
+    def sides_seize(self, reason: Reason) -> Sides:
+        return Sides(
+            self.file(reason, self.first, self.later), self.file(reason, self.later, self.first)
         )
 
-    sides_first_not = sides_later_not = sides_differ
+    def file(self, reason: Reason, entry: Entry, other: Entry) -> Side:
+        return Side(entry.number, "file", reason.name, reads=reason.name in other.seizes)
 
-    def sides_forlopp(self, _):
-        return Side(self.i, "faults", None, None, True), Side(None, "none", None, None, True)
+    def sides_level(self, reason: Reason) -> Sides:
+        return Sides(Side(self.i, "sends", reason.name), Side(self.j, "level"))
 
-    def sides_holds_no(self, reason):
-        return Side(self.i, "faults", None, None, True), Side(self.j, "file", reason.name, None, False)
+    def sides_differ(self, reason: Reason) -> Sides:
+        pairs = [self.field(shared) for shared in reason.shared]
+        return Sides(
+            Side(self.i, "fields", parts=tuple(pair.first for pair in pairs)),
+            Side(self.j, "fields", parts=tuple(pair.later for pair in pairs)),
+        )
+
+    def sides_forlopp(self, _: Reason) -> Sides:
+        return Sides(Side(self.i, "faults"), NOBODY)
+
+    def sides_holds_no(self, reason: Reason) -> Sides:
+        return Sides(Side(self.i, "faults"), Side(self.j, "file", reason.name, reads=False))
 
     # what helps
 
-    def cure(self, reason):
+    def cure(self, reason: Reason) -> str:
         """What helps, in words of this text."""
-        return getattr(self, "cure_" + reason.kind.lower().replace(" ", "_"))(reason)
+        return OF_PAIRS[reason.kind].cure(self, reason)
 
-    def cure_variable(self, reason):
-        line = self.exchange.text.declared[reason.name].first.line
-        return f"a field of a file for {short(reason.name)} (line {line}), one record for each line or call"
+    def cure_variable(self, reason: Reason) -> str:
+        line, name = self.exchange.text.declared[reason.name].first.line, short(reason.name)
+        return f"a field of a file for {name} (line {line}), one record for each line or call"
 
-    def cure_field(self, reason):
-        named = [entry for entry, value in zip((self.first, self.later), reason.values) if value == ANY]
+    def cure_field(self, reason: Reason) -> str:
+        selectors, name = chosen(reason.selectors), short(reason.name)
+        named = [entry for entry, value in zip((self.first, self.later), selectors) if value == ANY]
         if named:
-            name = short(reason.name)
+            whose = "only in the record whose number came with"
             return and_words(
-                f"let {entry.name} use {name} only in the record whose number came with {entry.signal}"
-                for entry in named
+                f"let {entry.name} use {name} {whose} {entry.signal}" for entry in named
             )
-        return f"let the two use other records of {short(reason.name)} than number {reason.values[0].split(' ')[1]}"
+        number = selectors.first.split(" ")[1]
+        return f"let the two use other records of {name} than number {number}"
 
-    def cure_seize(self, reason):
+    def cure_seize(self, reason: Reason) -> str:
+        first, later, name = self.first, self.later, short(reason.name)
         if self.i == self.j:
-            return (
-                f"a plain FILE in the place of {short(reason.name)}, whose record number comes with {self.first.signal}"
-            )
-        return f"a file of its own for what {self.first.name} or {self.later.name} takes of {short(reason.name)}"
+            whose = f"whose record number comes with {first.signal}"
+            return f"a plain FILE in the place of {name}, {whose}"
+        return f"a file of its own for what {first.name} or {later.name} takes of {name}"
 
-    def cure_level(self, reason):
-        text, points = self.exchange.text, self.exchange.made[self.i].lines.get(f"SEND {reason.name}", ())
-        return (
-            f"send {and_words(text.points[point].signal.text for point in points)} at level {self.later.level} or lower"
-        )
+    def cure_level(self, reason: Reason) -> str:
+        points = self.exchange.made[self.i].lines.get(f"SEND {reason.name}", ())
+        sent = and_words(self.exchange.sent_at(point) for point in points)
+        return f"send {sent} at level {self.later.level} or lower"
 
-    def cure_differ(self, reason):
-        one, other = reason.values
+    def cure_differ(self, reason: Reason) -> str:
+        (one, other), first, later = chosen(reason.numbers), self.first.signal, self.later.signal
         if self.i == self.j and one == other:
-            return f"let value {one} of two {self.first.signal} differ"
-        return f"let value {one} of {self.first.signal} differ from value {other} of {self.later.signal}"
+            return f"let value {one} of two {first} differ"
+        return f"let value {one} of {first} differ from value {other} of {later}"
 
-    def cure_first_not(self, reason):
-        return f"let value {reason.values[0]} of {self.first.signal} be another number than {reason.values[1]}"
+    def cure_first_not(self, reason: Reason) -> str:
+        return be_another(self.first, chosen(reason.numbers))
 
-    def cure_later_not(self, reason):
-        return f"let value {reason.values[0]} of {self.later.signal} be another number than {reason.values[1]}"
+    def cure_later_not(self, reason: Reason) -> str:
+        return be_another(self.later, chosen(reason.numbers))
 
-    def cure_forlopp(self, _):
+    def cure_forlopp(self, _: Reason) -> str:
         begun = "by NEW and not NONE in the signal file, or by a SEND of a job that is in one"
         return f"let {self.first.signal} begin in a forlopp: {begun}"
 
-    def cure_holds_no(self, reason):
-        return f"let {self.first.name} hold no record of {short(reason.name)} when it begins, or let it not fault"
+    def cure_holds_no(self, reason: Reason) -> str:
+        held = f"hold no record of {short(reason.name)} when it begins"
+        return f"let {self.first.name} {held}, or let it not fault"
+
+
+class OfPair(NamedTuple):
+    """What is told of a kind of reason: the sides of the two jobs, and what helps."""
+
+    sides: Callable[[Pair, Reason], Sides]
+    cure: Callable[[Pair, Reason], str]
+
+
+OF_PAIRS = {
+    "VARIABLE": OfPair(Pair.sides_variable, Pair.cure_variable),
+    "FIELD": OfPair(Pair.sides_field, Pair.cure_field),
+    "SEIZE": OfPair(Pair.sides_seize, Pair.cure_seize),
+    "LEVEL": OfPair(Pair.sides_level, Pair.cure_level),
+    "DIFFER": OfPair(Pair.sides_differ, Pair.cure_differ),
+    "FIRST NOT": OfPair(Pair.sides_differ, Pair.cure_first_not),
+    "LATER NOT": OfPair(Pair.sides_differ, Pair.cure_later_not),
+    "FORLOPP": OfPair(Pair.sides_forlopp, Pair.cure_forlopp),
+    "HOLDS NO": OfPair(Pair.sides_holds_no, Pair.cure_holds_no),
+}
+
+
+def be_another(entry: Entry, numbers: Numbers) -> str:
+    return f"let value {numbers.one} of {entry.signal} be another number than {numbers.other}"
+
+
+def chosen(part: Optional[Some]) -> Some:
+    """A part of a reason that reasons of its kind have."""
+    assert part is not None
+    return part
 
 
 # lines
 
 
-def verdict_words(i, j, reason):
+def verdict_words(i: int, j: int, reason: Reason) -> str:
     return f"PAIR {i} {j} {'NEVER' if reason.is_conflict else 'IF'} {reason.told}"
 
 
-def placed(name, statements, head, shown, left, widest):
+def placed(
+    name: str, statements: Sequence[Told], head: str, shown: int, left: int, widest: int
+) -> Iterator[str]:
     """The lines for the statements of one of the two jobs."""
     for place, told in enumerate(statements[:shown]):
         where = f"{name}:{told.line}: {told.head}"
@@ -309,10 +452,16 @@ def placed(name, statements, head, shown, left, widest):
         yield f"{'':<{left}}  and {more} statement{'s' if more > 1 else ''} more"
 
 
-def told(exchange, i, j, shown=SHOWN, reasons=None):
+def told(
+    exchange: Exchange,
+    i: int,
+    j: int,
+    shown: int = SHOWN,
+    reasons: Optional[Sequence[Reason]] = None,
+) -> Iterator[str]:
     """The lines for a pair: each conflict, or each test, with its statements and what helps."""
     exchange.look_at({i, j})
-    pair, name = Pair(exchange, i, j), exchange.text.name
+    pair, name = Pair(exchange, i, j), quoted(exchange.text.name)
     reasons = exchange.analysis.reasons(i, j) if reasons is None else reasons
     if not reasons:
         yield f"PAIR {i} {j} always together, unless they are of one forlopp"

@@ -1,14 +1,14 @@
 """plex-page E [S] -o PAGE [--workers N] [--jobs N]
 
-Writes one page about the exchange text E, which any browser shows: the text with the entries that reach each line,
-the table of pairs, and what plex-why says of each. With the signal file S it has the figures of plex-load too, and a
-time line of the run with N workers, 4 where none are said; --jobs ends the run after N jobs. The page asks for
-nothing else, and can be read without scripts.
+Writes one page about the exchange text E, which any browser shows: the text with the entries that
+reach each line, the table of pairs, and what plex-why says of each. With the signal file S it has
+the figures of plex-load too, and a time line of the run with N workers, 4 where none are said;
+--jobs ends the run after N jobs. The page asks for nothing else, and can be read without scripts.
 """
 import os
-import pathlib
 
-from plextools import limits, programs
+from plextools import limits, programs, tables
+from plextools.commands import outputs
 from plextools.runs import jobs
 from plextools.runs import play
 from plextools.runs import report
@@ -18,34 +18,24 @@ from plextools.analysis import why
 USUAL, CHOSEN = (1, 2, 4, 8, 16, 64), 4
 
 
-def write(name, parts):
-    """Writes the page beside its place first, so that no page is left half written."""
-    place = pathlib.Path(name)
-    fresh = place.with_name(f".{place.name}.{os.getpid()}")
-    try:
-        with open(fresh, "w", encoding="utf-8") as file:
-            file.writelines(parts)
-        fresh.replace(place)
-    except (OSError, ValueError) as wrong:
-        if fresh.exists():
-            fresh.unlink()
-        raise programs.Wrong(f"{name!r} could not be written: {getattr(wrong, 'strerror', None) or wrong}") from wrong
-
-
-def main():
+def main() -> int:
+    """Runs the command."""
     words = programs.Words(__doc__)
+    most_jobs, most_workers = limits.MOST_JOBS, limits.MOST_WORKERS
     words.add_argument("exchange")
     words.add_argument("signals", nargs="?")
     words.add_argument("-o", dest="page", required=True)
-    words.add_argument("--workers", type=programs.number_to(limits.MOST_WORKERS), default=CHOSEN)
-    words.add_argument("--jobs", type=programs.number_to(limits.MOST_JOBS), default=limits.USUAL_JOBS)
-    words = words.parse_args()
-    content, exchange = programs.bytes_of(words.exchange), why.Exchange(words.exchange)
-    figures = load = made = None
-    if words.signals:
-        load = jobs.jobs_of(exchange, words.signals, words.jobs)
-        figures = report.figures(exchange, load, USUAL, words.workers)
-        made = play.play(load, play.Rules(exchange.analysis), words.workers, keep_bars=True)
-    title = " with ".join(os.path.basename(name) for name in filter(None, (words.exchange, words.signals)))
-    write(words.page, page_html.Page(exchange, title, figures, load, made).parts(content))
+    words.add_argument("--workers", type=programs.number_to(most_workers), default=CHOSEN)
+    words.add_argument("--jobs", type=programs.number_to(most_jobs), default=limits.USUAL_JOBS)
+    given = words.parse_args()
+    inputs = [name for name in (given.exchange, given.signals) if name]
+    outputs.refuse_inputs(given.page, inputs)
+    content, exchange = programs.bytes_of(given.exchange), why.Exchange(given.exchange)
+    figures = made = None
+    if given.signals:
+        load = jobs.jobs_of(exchange, given.signals, given.jobs)
+        figures = report.figures(exchange, load, USUAL, given.workers)
+        made = play.play(load, play.Rules(exchange.analysis), given.workers, keep_bars=True)
+    title = " with ".join(tables.quoted(os.path.basename(name)) for name in inputs)
+    outputs.write(given.page, page_html.Page(exchange, title, figures, made).parts(content))
     return 0

@@ -1,8 +1,9 @@
 """Whether a run of this package is that of plex: a difference is an error that says so.
 
-`compared(machine, wrote)` goes on with a run and gives its jobs, while it looks whether each of them, with what it sent
-and how it ended, and at the end the report, are what `plex trace` wrote of all jobs. `compare_report(machine, wrote)`
-looks at the report alone. Both raise `Different` at the first line that differs.
+`compared(machine, wrote)` goes on with a run and gives its jobs, while it looks whether each of
+them, with what it sent and how it ended, and at the end the report, are what `plex trace` wrote of
+all jobs. `compare_report(machine, wrote)` looks at the report alone. Both raise `Different` at the
+first line that differs.
 """
 from typing import Iterable, Iterator, List
 
@@ -41,8 +42,8 @@ def told_job(machine: Machine, job: Job) -> List[bytes]:
 
 
 def compared(machine: Machine, wrote: Iterable[bytes]) -> Iterator[Job]:
-    """The jobs of a run, each as the trace has it; `wrote` are the lines of `plex trace` without their ends, of all
-    jobs.
+    """The jobs of a run, each as the trace has it; `wrote` are the lines of `plex trace` without
+    their ends, of all jobs.
     """
     lines = iter(wrote)
     for job in machine.jobs():
@@ -71,4 +72,5 @@ def compare_report(machine: Machine, wrote: bytes) -> None:
 
 def refused(different: Different) -> Exception:
     """The error with which a tool ends."""
-    return Wrong(f"its own account of the run differs from that of plex, which is a fault of this tool: {different}")
+    told = "its own account of the run differs from that of plex, which is a fault of this tool"
+    return Wrong(f"{told}: {different}")

@@ -1,15 +1,18 @@
-"""The jobs of a run, for plex-load and plex-page: what each started with, how many statements it did, and what it sent.
+"""The jobs of a run, for plex-load and plex-page: what each started with, how many statements it
+did, and what it sent.
 
-`jobs_of(exchange, signals_name, limit)` gives a `Load`. The run is told statement by statement, and its
-report must be that of plex. Where its jobs do more statements than `PATIENCE`, the rest is told by `plex trace`: then
-the length of a job is the mean of those of its entry that were done statement by statement, and the records that it
-holds are those which earlier jobs of its forlopp may have seized.
+`jobs_of(exchange, signals_name, limit)` gives a `Load`. The run is told statement by statement, and
+its report must be that of plex. Where its jobs do more statements than `PATIENCE`, the rest is told
+by `plex trace`: then the length of a job is the mean of those of its entry that were done statement
+by statement, and the records that it holds are those which earlier jobs of its forlopp may have
+seized.
 """
 import os
 import tempfile
-from typing import Any, Dict, Iterator, List, Optional, Sequence, Set
+from typing import Dict, Iterator, List, Optional, Sequence, Set
 
 from plextools import progress
+from plextools.analysis.why import Exchange
 from plextools.programs import answer, bytes_of
 from plextools.runs import check
 from plextools.runs.machine import Arrival, Job, Machine, TooLong
@@ -21,32 +24,38 @@ PATIENCE = 20_000_000
 ENDINGS = (0, 4, 5)
 BETWEEN = 2000
 
-# An exchange of plextools.analysis.why.
-Exchange = Any
-
 
 class Load:
-    """The jobs of a run in the order in which they came, those that ran in their order, the lines, and how it ended.
+    """The jobs of a run in the order in which they came, those that ran in their order, the lines,
+    and how it ended.
 
     `lines` has each line of the signal file that has arrived.
     """
 
     def __init__(
-        self, jobs: List[Job], ran: List[Job], lines: List[Arrival], ending: str, limit: int, is_traced: bool
+        self,
+        jobs: List[Job],
+        ran: List[Job],
+        lines: List[Arrival],
+        ending: str,
+        limit: int,
+        is_traced: bool,
     ) -> None:
         self.jobs, self.ran, self.lines, self.ending, self.limit = jobs, ran, lines, ending, limit
         self.is_traced = is_traced
         self.statements = sum(job.length for job in ran)
 
     def chain(self) -> List[Job]:
-        """The jobs of the longest chain: each was sent by the one before it, or came after it in one forlopp. The
-        first comes first.
+        """The jobs of the longest chain: each was sent by the one before it, or came after it in
+        one forlopp. The first comes first.
         """
         best: Dict[int, int] = {}
         before: Dict[int, Optional[int]] = {}
         last: Dict[int, int] = {}
         for job in self.ran:
-            others = [number for number in (job.sender, last.get(job.forlopp)) if number is not None]
+            others = [
+                number for number in (job.sender, last.get(job.forlopp)) if number is not None
+            ]
             former = max(others, key=best.__getitem__) if others else None
             before[job.number] = former
             best[job.number] = job.length + (best[former] if former is not None else 0)
@@ -62,7 +71,9 @@ class Load:
 class Recorder(Machine):
     """The single run, which keeps its jobs and the lines that have arrived."""
 
-    def __init__(self, program: Program, lines: Sequence[Line], limit: int, patience: Optional[int]) -> None:
+    def __init__(
+        self, program: Program, lines: Sequence[Line], limit: int, patience: Optional[int]
+    ) -> None:
         super().__init__(program, lines, limit, patience, keeps=True)
         self.ran: List[Job] = []
         self.arrivals: List[Arrival] = []
@@ -88,7 +99,9 @@ class Recorder(Machine):
 
 
 class Tracer(Recorder):
-    """The single run by the lines of a trace. `seizes` has the files of which each entry may seize records."""
+    """The single run by the lines of a trace. `seizes` has the files of which each entry may seize
+    records.
+    """
 
     def __init__(
         self,
@@ -105,7 +118,9 @@ class Tracer(Recorder):
         self.head: List[str] = next(trace, [])
         text = program.text
         blocks = [block.name.text for block in text.blocks]
-        self.entry_of = {(node.signal.text, blocks[node.block]): place for place, node in enumerate(text.entries)}
+        self.entry_of = {
+            (node.signal.text, blocks[node.block]): place for place, node in enumerate(text.entries)
+        }
 
     def perform(self, job: Job) -> None:
         """The job does what the trace has of it."""
@@ -143,7 +158,9 @@ def trace_of(exchange_name: str, signals_name: str, limit: int) -> Iterator[List
 
 
 def mean_lengths(ran: List[Job], count: int) -> List[int]:
-    """The mean length of the jobs of each entry, and that of all where none of the entry is among them."""
+    """The mean length of the jobs of each entry, and that of all where none of the entry is among
+    them.
+    """
     sums = [[0, 0] for _ in range(count)]
     for job in ran:
         sums[job.entry][0] += job.length
@@ -178,6 +195,8 @@ def traced(
     entries = exchange.analysis.entries
     lengths = mean_lengths(begun.ran, len(entries))
     trace = trace_of(exchange.text.name, signals_name, begun.limit)
-    machine = Tracer(program, lines, begun.limit, trace, [entry.seizes for entry in entries], lengths)
+    machine = Tracer(
+        program, lines, begun.limit, trace, [entry.seizes for entry in entries], lengths
+    )
     machine.run()
     return machine.load(True)

@@ -1,12 +1,13 @@
 """Where the stored data of an exchange lies: the cells of its variables, fields and marks.
 
-Cells are numbered as docs/LANGUAGE.md says: block by block, the variables first, then the files record by record, and
-within a record the fields and the mark.
+Cells are numbered as docs/LANGUAGE.md says: block by block, the variables first, then the files
+record by record, and within a record the fields and the mark.
 """
-from typing import Dict, List, NamedTuple, Tuple
+from typing import Dict, List, NamedTuple, Optional, Tuple
 
-from plextools.text.accepted import Node
+from plextools.text.grammar import Node
 from plextools.text.statements import Text
+from plextools.text.tokens import Token
 
 
 class Variable(NamedTuple):
@@ -30,8 +31,8 @@ class Field(NamedTuple):
 
 
 class File(NamedTuple):
-    """A file. Record r begins at the cell `first + r * stride`. The records of FORLOPP FILEs are numbered through the
-    exchange, those of this one from `first_record` on.
+    """A file. Record r begins at the cell `first + r * stride`. The records of FORLOPP FILEs are
+    numbered through the exchange, those of this one from `first_record` on.
     """
 
     number: int
@@ -59,6 +60,12 @@ def init_of(decl: Node) -> int:
     return int(decl.init.text) if decl.init else 0
 
 
+def number_of(token: Optional[Token]) -> int:
+    """A number that a right declaration has."""
+    assert token
+    return int(token.text)
+
+
 class Layout:
     """The cells of an exchange."""
 
@@ -78,17 +85,17 @@ class Layout:
     def place_variable(self, number: int, block: str, decl: Node) -> None:
         """Gives a variable the next cell."""
         name, init = decl.name.text, init_of(decl)
-        made = Variable(block, name, len(self.cells), int(decl.width.text), init, bool(decl.clear))
+        made = Variable(block, name, len(self.cells), number_of(decl.width), init, bool(decl.clear))
         self.variables[number, name] = made
         self.cells.append(init)
 
     def place_file(self, number: int, block: str, decl: Node) -> None:
         """Gives the records of a file the next cells."""
         fields = tuple(
-            Field(field.name.text, place, int(field.width.text), init_of(field))
+            Field(field.name.text, place, number_of(field.width), init_of(field))
             for place, field in enumerate(decl.fields)
         )
-        size, is_forlopp = int(decl.size.text), bool(decl.forlopp)
+        size, is_forlopp = number_of(decl.size), bool(decl.forlopp)
         file = File(
             len(self.files),
             block,
@@ -111,7 +118,9 @@ class Layout:
         for variable in self.variables.values():
             if variable.cell == cell:
                 return f"{variable.block}.{variable.name}"
-        file = next(one for one in self.files if one.first <= cell < one.first + one.size * one.stride)
+        file = next(
+            one for one in self.files if one.first <= cell < one.first + one.size * one.stride
+        )
         record, place = divmod(cell - file.first, file.stride)
         field = f".{file.fields[place].name}" if place < len(file.fields) else ""
         return file.told(record) + field

@@ -1,8 +1,10 @@
-"""The single run of an exchange: jobs, forlopps, chains, releases and restarts, as docs/MACHINE.md has them.
+"""The single run of an exchange: jobs, forlopps, chains, releases and restarts, as docs/MACHINE.md
+has them.
 
-`Machine(program, lines)` is a run at its beginning. `jobs()` goes on to its end and gives each job as it has retired;
-`turn()` does one job; `report()` is what plex writes of the run. `state()` keeps all that a run is between two jobs,
-and `go_back(state)` returns to it. Where the program is watched, the observer is told of what happens inside the jobs.
+`Machine(program, lines)` is a run at its beginning. `jobs()` goes on to its end and gives each job
+as it has retired; `turn()` does one job; `report()` is what plex writes of the run. `state()` keeps
+all that a run is between two jobs, and `go_back(state)` returns to it. Where the program is
+watched, the observer is told of what happens inside the jobs.
 """
 from collections import deque
 from typing import Deque, Dict, Iterator, List, NamedTuple, Optional, Sequence, Set, Tuple, Union
@@ -23,16 +25,29 @@ class TooLong(Exception):
 class Job:
     """A job: what it starts with, and, when it has run, what came of it.
 
-    `number` tells when it began to wait, from 0, and `place` which job of the run it is, from 1; it is 0 where it never
-    ran. It came with a `line` of the signal file, or was sent by the job `sender`, by its number. `length` is how many
-    statements it counted, `held` has the names of the files of which it held a record as it began, `sent` the numbers
-    of the jobs that came of it, `outbox` all that it sent. `fault` is the word of its fault and `point` the statement
-    of it. Its forlopp was released then, or the exchange restarted where it was in none.
+    `number` tells when it began to wait, from 0, and `place` which job of the run it is, from 1; it
+    is 0 where it never ran. It came with a `line` of the signal file, or was sent by the job
+    `sender`, by its number. `length` is how many statements it counted, `held` has the names of the
+    files of which it held a record as it began, `sent` the numbers of the jobs that came of it,
+    `outbox` all that it sent. `fault` is the word of its fault and `point` the statement of it. Its
+    forlopp was released then, or the exchange restarted where it was in none.
     """
 
     __slots__ = (
-        "number", "entry", "level", "values", "forlopp", "line", "sender",
-        "place", "length", "held", "sent", "outbox", "fault", "point",
+        "number",
+        "entry",
+        "level",
+        "values",
+        "forlopp",
+        "line",
+        "sender",
+        "place",
+        "length",
+        "held",
+        "sent",
+        "outbox",
+        "fault",
+        "point",
     )
 
     def __init__(
@@ -45,7 +60,13 @@ class Job:
         line: Optional[int],
         sender: Optional[int],
     ) -> None:
-        self.number, self.entry, self.level, self.values, self.forlopp = number, entry, level, values, forlopp
+        self.number, self.entry, self.level, self.values, self.forlopp = (
+            number,
+            entry,
+            level,
+            values,
+            forlopp,
+        )
         self.line, self.sender, self.place, self.length = line, sender, 0, 0
         self.held: Tuple[str, ...] = ()
         self.sent: Sequence[int] = ()
@@ -70,8 +91,8 @@ class Lost(NamedTuple):
 
 
 class Ended(NamedTuple):
-    """A release of a forlopp, or a restart where it is 0: for which fault of which job, how many jobs it removed, and
-    how many records it freed.
+    """A release of a forlopp, or a restart where it is 0: for which fault of which job, how many
+    jobs it removed, and how many records it freed.
     """
 
     forlopp: int
@@ -86,8 +107,8 @@ Event = Union[Out, Lost, Ended]
 
 
 class Arrival(NamedTuple):
-    """A line that has arrived: after how many jobs it was due and after how many it came, and its job, which is None
-    where it is lost.
+    """A line that has arrived: after how many jobs it was due and after how many it came, and its
+    job, which is None where it is lost.
     """
 
     after: int
@@ -111,8 +132,8 @@ class State(NamedTuple):
 
 
 class Machine:
-    """A run, job by job. `patience` bounds the statements of all jobs together. A run that `keeps` its jobs has them in
-    `kept`, by their numbers.
+    """A run, job by job. `patience` bounds the statements of all jobs together. A run that `keeps`
+    its jobs has them in `kept`, by their numbers.
     """
 
     def __init__(
@@ -126,14 +147,24 @@ class Machine:
     ) -> None:
         self.program, self.lines, self.limit, self.patience = program, lines, limit, patience
         layout, text = program.layout, program.text
-        self.context = Context(list(layout.cells), len(layout.files), program.segments, watch or Watch())
-        self.levels = [text.signals[node.signal.text].level for node in text.entries]
+        self.context = Context(
+            list(layout.cells), len(layout.files), program.segments, watch or Watch()
+        )
+        self.levels = [text.signals[node.signal.text].level or "" for node in text.entries]
         self.waiting: Dict[str, Deque[Job]] = {level: deque() for level in LEVELS}
-        # How many jobs wait, and how many of each forlopp. Jobs of a dead one stay in the lists until they are seen.
+        # How many jobs wait, and how many of each forlopp. Jobs of a dead one stay in the lists
+        # until they are seen.
         self.waits, self.waits_of = 0, {0: 0}
         self.chains: Dict[int, Dict[int, int]] = {}
         self.dead: Set[int] = set()
-        self.dead_upto, self.drawn, self.came, self.ended, self.restarts, self.arrived = 0, 0, 0, 0, 0, 0
+        self.dead_upto, self.drawn, self.came, self.ended, self.restarts, self.arrived = (
+            0,
+            0,
+            0,
+            0,
+            0,
+            0,
+        )
         # The forlopps of the lines that have arrived.
         self.origins: Dict[int, int] = {}
         self.counted = 0
@@ -153,7 +184,12 @@ class Machine:
         return 0 < forlopp <= self.dead_upto or forlopp in self.dead
 
     def add(
-        self, entry: int, values: Tuple[int, ...], forlopp: int, line: Optional[int], sender: Optional[int]
+        self,
+        entry: int,
+        values: Tuple[int, ...],
+        forlopp: int,
+        line: Optional[int],
+        sender: Optional[int],
     ) -> Job:
         """A job joins the list of its level."""
         level = self.levels[entry]
@@ -188,7 +224,13 @@ class Machine:
 
     def arrives(self, line: Line) -> Optional[Job]:
         """The job of a line; none where the line is lost."""
-        forlopp = 0 if line.origin == NONE else self.draw() if line.origin == NEW else self.origins[line.origin]
+        forlopp = (
+            0
+            if line.origin == NONE
+            else self.draw()
+            if line.origin == NEW
+            else self.origins[line.origin]
+        )
         self.origins[line.number] = forlopp
         if self.is_dead(forlopp):
             self.events.append(Lost(line.number))
@@ -294,7 +336,7 @@ class Machine:
         chain, context = self.chains.pop(forlopp, {}), self.context
         for number, file in self.records_of(chain):
             first = file.first + number * file.stride
-            context.cells[first:first + file.stride] = file.opening
+            context.cells[first : first + file.stride] = file.opening
             context.hints[file.number] = min(context.hints[file.number], number)
         return len(chain)
 
@@ -309,7 +351,8 @@ class Machine:
     def state(self) -> State:
         """What the run is now."""
         waiting = {
-            level: [job for job in jobs if not self.is_dead(job.forlopp)] for level, jobs in self.waiting.items()
+            level: [job for job in jobs if not self.is_dead(job.forlopp)]
+            for level, jobs in self.waiting.items()
         }
         return State(
             list(self.context.cells),
@@ -319,7 +362,15 @@ class Machine:
             set(self.dead),
             self.dead_upto,
             dict(self.origins),
-            (self.drawn, self.came, self.ended, self.restarts, self.arrived, self.counted, int(self.begun)),
+            (
+                self.drawn,
+                self.came,
+                self.ended,
+                self.restarts,
+                self.arrived,
+                self.counted,
+                int(self.begun),
+            ),
             len(self.events),
             self.ending,
         )
@@ -335,17 +386,34 @@ class Machine:
                 self.waits += 1
                 self.waits_of[job.forlopp] = self.waits_of.get(job.forlopp, 0) + 1
         self.chains = {forlopp: dict(chain) for forlopp, chain in state.chains.items()}
-        self.dead, self.dead_upto, self.origins = set(state.dead), state.dead_upto, dict(state.origins)
-        self.drawn, self.came, self.ended, self.restarts, self.arrived, self.counted, begun = state.numbers
+        self.dead, self.dead_upto, self.origins = (
+            set(state.dead),
+            state.dead_upto,
+            dict(state.origins),
+        )
+        (
+            self.drawn,
+            self.came,
+            self.ended,
+            self.restarts,
+            self.arrived,
+            self.counted,
+            begun,
+        ) = state.numbers
         self.begun, self.ending = bool(begun), state.ending
-        del self.events[state.events:]
+        del self.events[state.events :]
         self.context.callers.clear()
 
     # what plex writes
 
     def report(self) -> bytes:
         """The report of the run so far, which is that of plex at its end."""
-        lines = [*map(self.told_event, self.events), f"JOBS {self.ended}", *self.stored(), f"END {self.ending}"]
+        lines = [
+            *map(self.told_event, self.events),
+            f"JOBS {self.ended}",
+            *self.stored(),
+            f"END {self.ending}",
+        ]
         return "".join(line + "\n" for line in lines).encode("ascii")
 
     def told_event(self, event: Event) -> str:
@@ -358,7 +426,8 @@ class Machine:
         node = self.program.text.points[event.point]
         what = f"RELEASE F{event.forlopp}" if event.forlopp else "RESTART"
         place = f"{self.program.text.blocks[node.block].name.text}:{node.line}"
-        return f"{what} job {event.place} {event.fault} at {place} jobs {event.jobs} records {event.records}"
+        removed = f"jobs {event.jobs} records {event.records}"
+        return f"{what} job {event.place} {event.fault} at {place} {removed}"
 
     def stored(self) -> Iterator[str]:
         """The stored data and the chains as a report has them."""
@@ -377,7 +446,7 @@ class Machine:
         changed = [
             field
             for field in file.fields
-            if cells[file.first + field.place:end:file.stride].count(field.init) < file.size
+            if cells[file.first + field.place : end : file.stride].count(field.init) < file.size
         ]
         for record in range(file.size if changed else 0):
             first = file.first + record * file.stride

@@ -1,53 +1,114 @@
-"""Plays the jobs of a load as the dispatcher issues them: some at once, where they may, with time in statements.
+"""Plays the jobs of a load as the dispatcher issues them: some at once, where they may, with time
+in statements.
 
-`play(load, rules, workers)` gives a `Play`. The next job, which is the oldest of the highest level that waits, is
-issued beside those of the window where it may follow each of them; the oldest job of the window retires when it has
-ended, and what it sent waits from then on. So the jobs come in the order of the single run. A job takes as much time
-as it does statements, and all else takes none.
+`play(load, rules, workers)` gives a `Play`. The next job, which is the oldest of the highest level
+that waits, is issued beside those of the window where it may follow each of them; the oldest job of
+the window retires when it has ended, and what it sent waits from then on. So the jobs come in the
+order of the single run. A job takes as much time as it does statements, and all else takes none.
 """
 from collections import Counter, deque
-from typing import Any, Callable, Deque, Dict, FrozenSet, Hashable, Iterable, List, NamedTuple, Optional, Set, Tuple
+from typing import (
+    Callable,
+    Counter as Counts,
+    Deque,
+    Dict,
+    FrozenSet,
+    Iterable,
+    List,
+    NamedTuple,
+    Optional,
+    Set,
+    Tuple,
+    Union,
+)
+
+from plextools.analysis.lines import Analysis, Numbers, Reason
+from plextools.runs.jobs import Load
+from plextools.runs.machine import Job
 
 LEVELS = "ABCD"
 FULL, LINE, SENDER, END, SAME = "full", "line", "sender", "end", "SAME"
-
-# A job and a load of load_jobs, an analysis and a reason of analysis_lines.
-Job = Any
-Load = Any
-Analysis = Any
-Reason = Any
-Holds = Callable[[Job, Job], bool]
-# Is told now and then how many jobs have retired in a play with so many workers.
-Tell = Callable[[int, int], None]
 BETWEEN = 5000
-# So many jobs of a window are looked at one by one, without a look at their entries first.
-FEW = 2
+FEW = 2  # so many jobs of a window are looked at one by one, without a look at their entries first
 NEVER = float("inf")
 
+Holds = Callable[[Job, Job], bool]
+Key = Tuple[Union[int, str], ...]  # of a reason: see `keys_of`
+# Is told now and then how many jobs have retired in a play with so many workers.
+Tell = Callable[[int, int], None]
 
-class Verdict(NamedTuple):
-    """Of two entries the first conflict, or else their tests, each with a function that tells whether it holds of two
-    jobs.
-    """
+
+class Test(NamedTuple):
+    """A test of a pair, and the function that tells whether it holds of two jobs."""
+
+    reason: Reason
+    holds: Holds
+
+
+class OfPair(NamedTuple):
+    """The first conflict of two entries, or else their tests."""
 
     conflict: Optional[Reason]
-    tests: List[Tuple[Reason, Holds]]
+    tests: List[Test]
+
+
+class Blocked(NamedTuple):
+    """Why a job of an entry waits for one of another: as it is told, and the reason, which two jobs
+    of one forlopp have not.
+    """
+
+    first: int
+    later: int
+    told: str
+    reason: Optional[Reason]
+
+
+Waited = Union[str, Blocked]  # what a job waits for: FULL, LINE, SENDER, END, or a pair
+
+
+class Issued(NamedTuple):
+    """A job of the window: when it ends, and the row in which its bar is drawn."""
+
+    job: Job
+    end: int
+    row: int
+
+
+class Bar(NamedTuple):
+    """A job that was done: its row, and when it began and ended."""
+
+    job: Job
+    row: int
+    begin: int
+    end: int
+
+
+class Wait(NamedTuple):
+    """A time of waiting: its begin and its end, what was waited for, and the job that waited, if it
+    was there.
+    """
+
+    begin: int
+    end: int
+    reason: Waited
+    job: Optional[Job]
 
 
 class Rules:
-    """Which job may follow which. Reasons whose keys are in `without` do not count: see `keys_of`."""
+    """Which job may follow which. Reasons whose keys are in `without` do not count."""
 
-    def __init__(self, analysis: Analysis, without: FrozenSet[Hashable] = frozenset()) -> None:
+    def __init__(self, analysis: Analysis, without: FrozenSet[Key] = frozenset()) -> None:
         self.analysis, self.without = analysis, without
-        self.known: Dict[Tuple[int, int], Verdict] = {}
+        self.known: Dict[Tuple[int, int], OfPair] = {}
 
-    def pair(self, i: int, j: int) -> Verdict:
+    def pair(self, i: int, j: int) -> OfPair:
         """The verdict on two entries."""
         key = i, j
         if key not in self.known:
             conflicts = self.counting(i, j, self.analysis.conflicts(i, j))
             tests = [] if conflicts else self.counting(i, j, self.analysis.tests(i, j))
-            self.known[key] = Verdict(conflicts[0] if conflicts else None, [(test, holding(test)) for test in tests])
+            found = [Test(test, holding(test)) for test in tests]
+            self.known[key] = OfPair(conflicts[0] if conflicts else None, found)
         return self.known[key]
 
     def counting(self, i: int, j: int, reasons: List[Reason]) -> List[Reason]:
@@ -55,11 +116,15 @@ class Rules:
             return reasons
         return [reason for reason in reasons if not self.without & set(keys_of(i, j, reason))]
 
-    def refusal(self, first: Job, later: Job) -> Optional[Reason]:
-        """Why a job may not follow another one: a reason, SAME for two jobs of one forlopp, or None where it may."""
+    def refusal(self, first: Job, later: Job) -> Union[None, str, Reason]:
+        """Why a job may not follow another one: a reason, SAME for two jobs of one forlopp, or None
+        where it may.
+        """
         if first.forlopp and first.forlopp == later.forlopp:
             return SAME
-        conflict, tests = self.known.get((first.entry, later.entry)) or self.pair(first.entry, later.entry)
+        conflict, tests = self.known.get((first.entry, later.entry)) or self.pair(
+            first.entry, later.entry
+        )
         if conflict:
             return conflict
         for test, holds in tests:
@@ -82,43 +147,41 @@ class Rules:
 
 def holding(test: Reason) -> Holds:
     """The function that tells whether a test holds of the first and the later of two jobs."""
-    a, b = test.values or (None, None)
+    a, b = test.numbers or Numbers(0, 0)
     functions: Dict[str, Holds] = {
-        "DIFFER": lambda first, later: bool(first.values[a] != later.values[b]),
-        "FIRST NOT": lambda first, later: bool(first.values[a] != b),
-        "LATER NOT": lambda first, later: bool(later.values[a] != b),
-        "FORLOPP": lambda first, later: bool(first.forlopp != 0),
+        "DIFFER": lambda first, later: first.values[a] != later.values[b],
+        "FIRST NOT": lambda first, later: first.values[a] != b,
+        "LATER NOT": lambda first, later: later.values[a] != b,
+        "FORLOPP": lambda first, later: first.forlopp != 0,
         "HOLDS NO": lambda first, later: test.name not in first.held,
     }
     return functions[test.kind]
 
 
-def keys_of(i: int, j: int, reason: Reason) -> List[Hashable]:
-    """What may be left out of a reason: it alone in this pair; it in whatever pair it stands, as one change of the
-    text does away with it; and for a conflict all conflicts of the pair.
+def keys_of(i: int, j: int, reason: Reason) -> List[Key]:
+    """What may be left out of a reason: it alone in this pair; it in whatever pair it stands, as
+    one change of the text does away with it; and for a conflict all conflicts of the pair.
     """
-    anywhere: Hashable = (reason.kind, reason.name) if reason.name else (reason.kind, reason.told, i, j)
-    if reason.kind == "LEVEL":
-        anywhere = "LEVEL", reason.name, i
-    elif reason.kind == "FORLOPP":
-        anywhere = "FORLOPP", i
-    keys: List[Hashable] = [(i, j, reason.told), anywhere]
-    return keys + [(i, j, "NEVER")] if reason.is_conflict else keys
+    others: Key = (reason.kind, reason.told, i, j)
+    if reason.name:
+        others = (reason.kind, reason.name)
+    special: Dict[str, Key] = {"LEVEL": ("LEVEL", reason.name, i), "FORLOPP": ("FORLOPP", i)}
+    keys: List[Key] = [(i, j, reason.told), special.get(reason.kind, others)]
+    return keys + [(i, j, "NEVER")] * reason.is_conflict
 
 
 class Play:
-    """What came of it: the time, how long the window had how many jobs, and how long it stood still for which reason.
+    """What came of it: the time, how long the window had how many jobs, and how long it stood still
+    for which reason.
 
-    `waited` is by (i, j, reason as it is told, reason), or by one of the other reasons. Where bars are kept, `bars`
-    are the jobs with their row, begin and end, and `waits` the times of waiting, each with its begin, its end, its
-    reason and the job that waited, if it was there.
+    `bars` and `waits` are there where bars are kept.
     """
 
     def __init__(self, workers: int) -> None:
         self.workers, self.time, self.standing, self.busy, self.widest = workers, 0, 0, 0, 0
-        self.waited: Counter[Any] = Counter()
-        self.bars: List[Tuple[Job, int, int, int]] = []
-        self.waits: List[Tuple[int, int, Any, Optional[Job]]] = []
+        self.waited: Counts[Waited] = Counter()
+        self.bars: List[Bar] = []
+        self.waits: List[Wait] = []
         self.order: List[Job] = []
 
     @property
@@ -133,9 +196,11 @@ class Play:
         """How long the window stood still with room in it."""
         return sum(time for reason, time in self.waited.items() if reason != FULL)
 
-    def blockers(self) -> List[Tuple[int, Any]]:
-        """The pairs for which jobs waited, the costliest first."""
-        pairs = [(time, reason) for reason, time in self.waited.items() if isinstance(reason, tuple)]
+    def blockers(self) -> List[Tuple[int, Blocked]]:
+        """How long jobs waited for which pairs, the costliest first."""
+        pairs = [
+            (time, reason) for reason, time in self.waited.items() if isinstance(reason, Blocked)
+        ]
         return sorted(pairs, key=lambda one: (-one[0], one[1][:3]))
 
     def with_workers(self, workers: int) -> "Play":
@@ -146,7 +211,9 @@ class Play:
 
 
 class Player:
-    """A play: the jobs that wait, and those of the window, the oldest first, each with its end and its row."""
+    """A play: the jobs that wait, and those of the window, the oldest first, each with its end and
+    its row.
+    """
 
     def __init__(
         self, load: Load, rules: Rules, workers: int, keep_bars: bool, tell: Optional[Tell] = None
@@ -154,13 +221,19 @@ class Player:
         self.load, self.rules, self.workers, self.keep_bars = load, rules, workers, keep_bars
         self.tell = tell
         self.waiting: Dict[str, Deque[Job]] = {level: deque() for level in LEVELS}
-        # Jobs of these forlopps have left the lists of those that wait; they are taken out when they are seen.
+        # Jobs of these forlopps have left the lists of those that wait; they are taken out when
+        # they are seen.
         self.dead: Set[int] = set()
-        self.window: Deque[Tuple[Job, int, int]] = deque()
+        self.window: Deque[Issued] = deque()
         # The jobs of the window by their entries, the oldest first, and their forlopps.
         self.entries: Dict[int, List[Job]] = {}
         self.forlopps: Set[int] = set()
-        self.rows, self.ended, self.line, self.made = list(range(workers - 1, -1, -1)), 0, 0, Play(workers)
+        self.rows, self.ended, self.line, self.made = (
+            list(range(workers - 1, -1, -1)),
+            0,
+            0,
+            Play(workers),
+        )
         # After how many jobs the next line came in the single run, and after how many it was due.
         self.came, self.due = self.next_line()
 
@@ -175,7 +248,9 @@ class Player:
 
     def next_line(self) -> Tuple[float, float]:
         lines = self.load.lines
-        return (lines[self.line][1], lines[self.line][0]) if self.line < len(lines) else (NEVER, NEVER)
+        return (
+            (lines[self.line][1], lines[self.line][0]) if self.line < len(lines) else (NEVER, NEVER)
+        )
 
     def next_job(self) -> Optional[Job]:
         dead = self.dead
@@ -187,15 +262,15 @@ class Player:
         return None
 
     def what_comes(self) -> str:
-        """What the next job comes with, where nobody waits: a line of the signal file, or a job of the window; END
-        where none comes.
+        """What the next job comes with, where nobody waits: a line of the signal file, or a job of
+        the window; END where none comes.
         """
         begun = len(self.made.order)
         if begun >= len(self.load.ran):
             return END
         return SENDER if self.load.ran[begun].line is None else LINE
 
-    def refusal(self, job: Optional[Job]) -> Any:
+    def refusal(self, job: Optional[Job]) -> Optional[Waited]:
         """Why the next job is not issued now: None where it is."""
         size = len(self.window)
         if size >= self.workers:
@@ -220,14 +295,14 @@ class Player:
                 return True
         return False
 
-    def refusal_in_window(self, job: Job) -> Any:
+    def refusal_in_window(self, job: Job) -> Optional[Waited]:
         """Why the youngest of those jobs of the window that keep the next one back does so."""
         for older, _, _ in reversed(self.window):
             reason = self.rules.refusal(older, job)
-            if reason is SAME:
-                return older.entry, job.entry, SAME, None
+            if isinstance(reason, str):
+                return Blocked(older.entry, job.entry, reason, None)
             if reason:
-                return older.entry, job.entry, reason.told, reason
+                return Blocked(older.entry, job.entry, reason.told, reason)
         return None
 
     def issue(self, job: Job) -> None:
@@ -235,7 +310,7 @@ class Player:
         self.waiting[job.level].popleft()
         end = made.time + length
         row = self.rows.pop()
-        window.append((job, end, row))
+        window.append(Issued(job, end, row))
         if entry in self.entries:
             self.entries[entry].append(job)
         else:
@@ -247,7 +322,7 @@ class Player:
             made.widest = len(window)
         made.order.append(job)
         if self.keep_bars:
-            made.bars.append((job, row, made.time, end))
+            made.bars.append(Bar(job, row, made.time, end))
 
     def retire(self) -> None:
         """The oldest job of the window retires."""
@@ -261,7 +336,7 @@ class Player:
             del self.entries[job.entry]
         self.forlopps.discard(job.forlopp)
         if job.sent:
-            for sent in self.load.jobs[job.sent[0]:job.sent[-1] + 1]:
+            for sent in self.load.jobs[job.sent[0] : job.sent[-1] + 1]:
                 self.waiting[sent.level].append(sent)
         if job.fault:
             self.end_forlopps(job.forlopp)
@@ -278,14 +353,14 @@ class Player:
             for jobs in self.waiting.values():
                 jobs.clear()
 
-    def go_on(self, reason: Any, job: Optional[Job]) -> None:
+    def go_on(self, reason: Waited, job: Optional[Job]) -> None:
         """Time goes on until the oldest job has ended, for this reason."""
         made = self.made
         passed = self.window[0][1] - made.time
         if passed > 0:
             made.waited[reason] += passed
             if self.keep_bars and reason != FULL:
-                made.waits.append((made.time, made.time + passed, reason, job))
+                made.waits.append(Wait(made.time, made.time + passed, reason, job))
             made.standing += passed * len(self.window)
             made.time += passed
         self.retire()
@@ -298,9 +373,9 @@ class Player:
                 continue
             job = self.next_job()
             reason = self.refusal(job)
-            if reason is None:
+            if reason is None and job is not None:
                 self.issue(job)
-            elif self.window:
+            elif reason is not None and self.window:
                 self.go_on(reason, job)
             else:
                 return self.made
@@ -315,7 +390,9 @@ def play(
 def plays(
     load: Load, rules: Rules, counts: Iterable[int], tell: Optional[Tell] = None
 ) -> Dict[int, Play]:
-    """A play for each count of workers. One that never fills its window is that of all counts down to its widest."""
+    """A play for each count of workers. One that never fills its window is that of all counts down
+    to its widest.
+    """
     made: Dict[int, Play] = {}
     wider: Optional[Play] = None
     for workers in sorted(set(counts), reverse=True):

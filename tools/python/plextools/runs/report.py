@@ -1,25 +1,123 @@
 """What plex-load tells of a load: figures as plain data, and as text.
 
-`figures(exchange, load, counts, chosen, tell)` plays the load with each count of workers, and looks at what jobs waited
-for with the chosen count; `tell` is told how far each play is. `text_of(exchange, figures)` gives the lines for a reader.
+`figures(exchange, load, counts, chosen, tell)` plays the load with each count of workers, and looks
+at what jobs waited for with the chosen count; `tell` is told how far each play is.
+`text_of(exchange, figures)` gives the lines for a reader.
 """
 import itertools
+from typing import Dict, FrozenSet, Iterator, List, Optional, Sequence, Set, Tuple, TypedDict, Union
 
 from plextools.analysis import why as why_lines
-from plextools.runs.play import END, FULL, LINE, SAME, SENDER, Rules, keys_of, play, plays
+from plextools.analysis.lines import Reason
+from plextools.runs.jobs import Load
+from plextools.runs.play import END, FULL, LINE, SAME, SENDER
+from plextools.runs.play import Blocked, Key, OfPair, Play, Rules, Tell, keys_of, play, plays
 from plextools.tables import in_columns
 
 WORST, SHOWN, OTHERS, SHORT, MOST_ENTRIES = 10, 20, 3, 4000, 10
 WAITS = {"pair": "pair", LINE: "line", SENDER: "sender", END: "end"}
 HEADS = ["workers", "speed-up", "time", "in the window", "full", *WAITS.values()]
 MEANING = (
-    "In the window: the jobs that have begun and not retired, on average. Full: each worker has one.",
-    "Else a worker was free, but the next job waited: since a pair may not run together, for a line of",
-    "the signal file that comes first, or for the job that sends it; or no other job came, at the end.",
+    "In the window: the jobs that have begun and not retired, on average. "
+    "Full: each worker has one.",
+    "Else a worker was free, but the next job waited: "
+    "since a pair may not run together, for a line of",
+    "the signal file that comes first, or for the job that sends it; "
+    "or no other job came, at the end.",
+)
+MEANS = (
+    "The load is large, so plex trace told its later jobs: "
+    "each is as long as the mean of its entry, and is",
+    "taken to hold what the jobs of its forlopp before it may have seized.",
 )
 
 
-def figures(exchange, load, counts, chosen, tell=None):
+Words = Tuple[str, ...]  # of a verdict on a pair
+Change = Tuple[int, int, Words]  # another verdict on a pair of entries
+
+
+class OfPlay(TypedDict):
+    """The figures of the load with a count of workers."""
+
+    workers: int
+    time: int
+    speed_up: float
+    jobs_in_window: float
+    most_in_window: int
+    full: int
+    stood_still: int
+    stood_still_for: Dict[str, int]
+
+
+class PairBlocks(TypedDict, total=False):
+    """A pair for which jobs waited, and what the speed-up would be without its reason, without all
+    of its conflicts.
+    """
+
+    first: int
+    later: int
+    reason: str
+    waited: int
+    share: float
+    speed_up_without_it: float
+    other_conflicts: List[str]
+    speed_up_without_all: float
+
+
+class ChangePays(TypedDict, total=False):
+    """A reason in all pairs, and what the speed-up would be without it."""
+
+    change: str
+    waited: int
+    pairs: int
+    share: float
+    speed_up_without_it: float
+
+
+class Blocks(TypedDict):
+    """What jobs waited for with the chosen count of workers."""
+
+    workers: int
+    speed_up: float
+    pairs: List[PairBlocks]
+    changes: List[ChangePays]
+
+
+class OfEntry(TypedDict):
+    """The jobs of an entry, and how many statements they did."""
+
+    entry: int
+    signal: str
+    block: str
+    jobs: int
+    least: int
+    mean: float
+    most: int
+    share: float
+
+
+class Figures(TypedDict):
+    """All figures of a load, as --json writes them."""
+
+    jobs: int
+    statements: int
+    ending: str
+    lengths_are_means: bool
+    longest_chain: int
+    speed_up_by_chain: float
+    workers: List[OfPlay]
+    blockers: Blocks
+    entries: List[OfEntry]
+
+
+def figures(
+    exchange: why_lines.Exchange,
+    load: Load,
+    counts: Sequence[int],
+    chosen: int,
+    tell: Optional[Tell] = None,
+) -> Figures:
+    """The figures of a load for these counts of workers."""
     made = plays(load, Rules(exchange.analysis), [*counts, chosen], tell)
     chain = sum(job.length for job in load.chain())
     return {
@@ -35,20 +133,20 @@ def figures(exchange, load, counts, chosen, tell=None):
     }
 
 
-def ratio(whole, part):
+def ratio(whole: int, part: int) -> float:
     """How many times a part stands in a whole; once where there is nothing."""
     return whole / part if part else 1.0
 
 
-def part_of(part, whole):
+def part_of(part: int, whole: int) -> float:
     return part / whole if whole else 0.0
 
 
-def of_play(made):
+def of_play(made: Play) -> OfPlay:
     waits = dict.fromkeys(WAITS, 0)
     for reason, time in made.waited.items():
         if reason != FULL:
-            waits["pair" if isinstance(reason, tuple) else reason] += time
+            waits["pair" if isinstance(reason, Blocked) else reason] += time
     return {
         "workers": made.workers,
         "time": made.time,
@@ -62,16 +160,19 @@ def of_play(made):
 
 
 class Blockers:
-    """What jobs waited for in a play, by pairs with their reasons, and by the changes that would do away with a
-    reason in all pairs.
+    """What jobs waited for in a play, by pairs with their reasons, and by the changes that would do
+    away with a reason in all pairs.
     """
 
-    def __init__(self, exchange, load, made, tell=None):
+    def __init__(
+        self, exchange: why_lines.Exchange, load: Load, made: Play, tell: Optional[Tell] = None
+    ) -> None:
         self.exchange, self.load, self.made, self.tell = exchange, load, made, tell
-        self.rules, self.entries = Rules(exchange.analysis), sorted({job.entry for job in load.jobs})
-        self.known = {frozenset(): made.speed}
+        self.rules = Rules(exchange.analysis)
+        self.entries = sorted({job.entry for job in load.jobs})
+        self.known: Dict[Union[Key, FrozenSet[Change]], float] = {frozenset(): made.speed}
 
-    def told(self):
+    def told(self) -> Blocks:
         return {
             "workers": self.made.workers,
             "speed_up": self.made.speed,
@@ -79,30 +180,31 @@ class Blockers:
             "changes": list(self.changes()),
         }
 
-    def without(self, key):
+    def without(self, key: Key) -> float:
         """The speed-up of the load without the reasons of a key."""
         rules = Rules(self.exchange.analysis, frozenset([key]))
         changes = self.changed(key, rules)
         if changes not in self.known:
-            self.known[changes] = play(self.load, rules, self.made.workers, tell=self.tell).speed
+            made = play(self.load, rules, self.made.workers, tell=self.tell)
+            self.known[changes] = made.speed
         return self.known[changes]
 
-    def changed(self, key, rules):
-        """What is otherwise by the rules without the reasons of a key: the pairs with another verdict. Where there are
-        too many pairs to look at, it is the key.
+    def changed(self, key: Key, rules: Rules) -> Union[Key, FrozenSet[Change]]:
+        """What is otherwise by the rules without the reasons of a key: the pairs with another
+        verdict. Where there are too many pairs to look at, it is the key.
         """
         if len(self.entries) > MOST_ENTRIES:
             return key
-        changes = set()
+        changes: Set[Change] = set()
         for i, j in itertools.product(self.entries, repeat=2):
-            verdict = verdict_words_of(rules.pair(i, j))
-            if verdict != verdict_words_of(self.rules.pair(i, j)):
-                changes.add((i, j, verdict))
+            words = verdict_words_of(rules.pair(i, j))
+            if words != verdict_words_of(self.rules.pair(i, j)):
+                changes.add((i, j, words))
         return frozenset(changes)
 
-    def pairs(self):
+    def pairs(self) -> Iterator[PairBlocks]:
         for place, (time, (i, j, told, reason)) in enumerate(self.made.blockers()):
-            row = {
+            row: PairBlocks = {
                 "first": i,
                 "later": j,
                 "reason": told_reason(told, reason),
@@ -117,44 +219,53 @@ class Blockers:
                     if reason.is_conflict and other.told != reason.told
                 ]
                 if others:
-                    row["other_conflicts"], row["speed_up_without_all"] = others, self.without((i, j, "NEVER"))
+                    row["other_conflicts"], row["speed_up_without_all"] = others, self.without(
+                        (i, j, "NEVER")
+                    )
             yield row
 
-    def changes(self):
-        changes = {}
+    def changes(self) -> Iterator[ChangePays]:
+        changes: Dict[Key, ChangePays] = {}
         for time, (i, j, _, reason) in self.made.blockers():
             if reason:
                 change = changes.setdefault(
-                    keys_of(i, j, reason)[1], {"change": self.change(i, j, reason), "waited": 0, "pairs": 0}
+                    keys_of(i, j, reason)[1],
+                    {"change": self.change(i, j, reason), "waited": 0, "pairs": 0},
                 )
                 change["waited"] += time
                 change["pairs"] += 1
         for key, row in sorted(changes.items(), key=lambda one: -one[1]["waited"])[:WORST]:
-            yield {**row, "share": part_of(row["waited"], self.made.time), "speed_up_without_it": self.without(key)}
+            row["share"] = part_of(row["waited"], self.made.time)
+            row["speed_up_without_it"] = self.without(key)
+            yield row
 
-    def change(self, i, j, reason):
+    def change(self, i: int, j: int, reason: Reason) -> str:
         """A reason as it stands in all pairs that one change would mend."""
         entries = self.exchange.analysis.entries
         if reason.kind in ("VARIABLE", "FIELD", "SEIZE"):
             return f"{reason.kind} {reason.name}"
         if reason.kind in ("LEVEL", "FORLOPP"):
             return f"{reason.told} of {entries[i].name}"
-        return reason.told if reason.name else f"{reason.told} of {entries[i].name} and {entries[j].name}"
+        return (
+            reason.told
+            if reason.name
+            else f"{reason.told} of {entries[i].name} and {entries[j].name}"
+        )
 
 
-def verdict_words_of(verdict):
+def verdict_words_of(verdict: OfPair) -> Words:
     """A verdict as far as time hangs on it: that there is a conflict, or the tests."""
-    return "NEVER" if verdict.conflict else tuple(test.told for test, _ in verdict.tests)
+    return ("NEVER",) if verdict.conflict else tuple(test.reason.told for test in verdict.tests)
 
 
-def told_reason(told, reason):
+def told_reason(told: str, reason: Optional[Reason]) -> str:
     if reason is None:
         return "SAME FORLOPP" if told == SAME else told
     return ("NEVER " if reason.is_conflict else "IF ") + told
 
 
-def of_entries(exchange, load):
-    rows = []
+def of_entries(exchange: why_lines.Exchange, load: Load) -> List[OfEntry]:
+    rows: List[OfEntry] = []
     for entry in exchange.analysis.entries:
         lengths = [job.length for job in load.ran if job.entry == entry.number]
         if lengths:
@@ -176,33 +287,38 @@ def of_entries(exchange, load):
 # text
 
 
-def share(part):
+def share(part: float) -> str:
     return f"{100 * part:.0f} %"
 
 
-def text_of(exchange, told):
+def text_of(exchange: why_lines.Exchange, told: Figures) -> Iterator[str]:
+    """The figures as lines for a reader."""
     yield from of_run(told)
     yield ""
     yield from of_workers(told)
     yield ""
     yield from of_blockers(exchange, told["blockers"])
     yield "Jobs by entry"
-    yield from in_columns(["entry", "name", "jobs", "least", "mean", "most", "of all"], rows_of_entries(told), names=1)
+    yield from in_columns(
+        ["entry", "name", "jobs", "least", "mean", "most", "of all"], rows_of_entries(told), names=1
+    )
 
 
-def of_run(told):
-    yield f"{told['jobs']} jobs did {told['statements']} statements, and the run ended with {told['ending']}."
+def of_run(told: Figures) -> Iterator[str]:
+    did = f"{told['jobs']} jobs did {told['statements']} statements"
+    yield f"{did}, and the run ended with {told['ending']}."
     chain, speed = told["longest_chain"], told["speed_up_by_chain"]
-    yield f"The longest chain of jobs that wait for one another has {chain}: at best {speed:.2f} times as fast."
+    longest = f"The longest chain of jobs that wait for one another has {chain}"
+    yield f"{longest}: at best {speed:.2f} times as fast."
     if told["lengths_are_means"]:
-        yield "The load is large, so plex trace told its later jobs: each is as long as the mean of its entry, and is"
-        yield "taken to hold what the jobs of its forlopp before it may have seized."
+        yield from MEANS
     mean = ratio(told["statements"], told["jobs"])
     if told["jobs"] and mean < SHORT:
-        yield f"The jobs are short, {mean:.0f} statements each: plex hands jobs to other workers from some {SHORT} on."
+        short = f"The jobs are short, {mean:.0f} statements each"
+        yield f"{short}: plex hands jobs to other workers from some {SHORT} on."
 
 
-def rows_of_entries(told):
+def rows_of_entries(told: Figures) -> List[List[str]]:
     return [
         [
             str(row["entry"]),
@@ -217,7 +333,7 @@ def rows_of_entries(told):
     ]
 
 
-def rows_of_workers(told):
+def rows_of_workers(told: Figures) -> List[List[str]]:
     rows = []
     for row in told["workers"]:
         waits = [share(part_of(row["stood_still_for"][name], row["time"])) for name in WAITS]
@@ -234,27 +350,34 @@ def rows_of_workers(told):
     return rows
 
 
-def rows_of_changes(told):
+def rows_of_changes(told: Blocks) -> List[List[str]]:
     return [
-        [row["change"], str(row["pairs"]), str(row["waited"]), share(row["share"]), f"{row['speed_up_without_it']:.2f}"]
+        [
+            row["change"],
+            str(row["pairs"]),
+            str(row["waited"]),
+            share(row["share"]),
+            f"{row['speed_up_without_it']:.2f}",
+        ]
         for row in told["changes"]
     ]
 
 
-def of_workers(told):
+def of_workers(told: Figures) -> Iterator[str]:
     yield "How fast with how many workers, with time in statements"
     yield from in_columns(HEADS, rows_of_workers(told), names=None)
     yield from MEANING
 
 
-def of_blockers(exchange, told):
+def of_blockers(exchange: why_lines.Exchange, told: Blocks) -> Iterator[str]:
     rows = told["pairs"]
     if not rows:
         yield f"With {told['workers']} workers no job waits since a pair may not run together."
         yield ""
         return
-    yield f"What jobs waited for with {told['workers']} workers (speed-up {told['speed_up']:.2f}), the costliest first"
-    exchange.look_at({row[side] for row in rows[:SHOWN] for side in ("first", "later")})
+    workers = f"{told['workers']} workers (speed-up {told['speed_up']:.2f})"
+    yield f"What jobs waited for with {workers}, the costliest first"
+    exchange.look_at({entry for row in rows[:SHOWN] for entry in (row["first"], row["later"])})
     for row in rows[:SHOWN]:
         yield f"  {row['waited']} statements, {share(row['share'])} of the time{without(row)}"
         yield from (f"    {line}" for line in [*why(exchange, row), *behind(row)])
@@ -262,15 +385,21 @@ def of_blockers(exchange, told):
         yield f"  and {len(rows) - SHOWN} more pairs"
     yield ""
     yield "Which change would pay: a reason in all pairs, and the speed-up without it"
-    yield from in_columns(["reason", "pairs", "waited", "of the time", "speed-up"], rows_of_changes(told))
+    yield from in_columns(
+        ["reason", "pairs", "waited", "of the time", "speed-up"], rows_of_changes(told)
+    )
     yield ""
 
 
-def without(row):
-    return f"; speed-up without it {row['speed_up_without_it']:.2f}" if "speed_up_without_it" in row else ""
+def without(row: PairBlocks) -> str:
+    return (
+        f"; speed-up without it {row['speed_up_without_it']:.2f}"
+        if "speed_up_without_it" in row
+        else ""
+    )
 
 
-def behind(row):
+def behind(row: PairBlocks) -> Iterator[str]:
     """The other conflicts of a pair, which would still keep its jobs apart."""
     if "other_conflicts" in row:
         told = row["other_conflicts"]
@@ -279,11 +408,13 @@ def behind(row):
         yield f"also in its way: {', '.join(told[:OTHERS])}{more}; {speed}"
 
 
-def why(exchange, row):
+def why(exchange: why_lines.Exchange, row: PairBlocks) -> Iterator[str]:
     """What plex-why says of a pair and one reason."""
     i, j = row["first"], row["later"]
     if row["reason"] == "SAME FORLOPP":
         yield f"PAIR {i} {j}: jobs of one forlopp never run together"
         return
-    reason = next(reason for reason in exchange.analysis.reasons(i, j) if row["reason"].endswith(reason.told))
+    reason = next(
+        reason for reason in exchange.analysis.reasons(i, j) if row["reason"].endswith(reason.told)
+    )
     yield from why_lines.told(exchange, i, j, 1, [reason])

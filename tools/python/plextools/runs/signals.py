@@ -10,8 +10,8 @@ NONE, NEW = -1, 0
 
 
 class Line(NamedTuple):
-    """A line of a signal file: its number, after how many jobs it is due, its entry, its values, and its forlopp, which
-    is NONE, NEW or that of an earlier line by the number of that one.
+    """A line of a signal file: its number, after how many jobs it is due, its entry, its values,
+    and its forlopp, which is NONE, NEW or that of an earlier line by the number of that one.
     """
 
     number: int
@@ -32,7 +32,10 @@ def words_in(content: bytes) -> Iterator[Tuple[int, List[bytes]]]:
 def entries_of(text: Text) -> Dict[Tuple[bytes, bytes], int]:
     """The entry of each signal and block."""
     return {
-        (node.signal.text.encode("ascii"), text.blocks[node.block].name.text.encode("ascii")): number
+        (
+            node.signal.text.encode("ascii"),
+            text.blocks[node.block].name.text.encode("ascii"),
+        ): number
         for number, node in enumerate(text.entries)
     }
 
@@ -65,6 +68,8 @@ def merged(lines: List[Line], periods: Iterator[Line]) -> List[Line]:
     found = sorted([*lines, *periods], key=lambda line: line.after)
     numbers = {line.number: number for number, line in enumerate(found, 1) if line.number}
     return [
-        line._replace(number=number, origin=numbers[line.origin] if line.origin > 0 else line.origin)
+        line._replace(
+            number=number, origin=numbers[line.origin] if line.origin > 0 else line.origin
+        )
         for number, line in enumerate(found, 1)
     ]

@@ -1,12 +1,16 @@
-"""Writes the page of an exchange: its text, its pairs, its entries, and a load where there is one. It can be read
-without scripts.
+"""Writes the page of an exchange: its text, its pairs, its entries, and a load where there is one.
+It can be read without scripts.
 """
 import html
 import os
 import pathlib
+from string import Template
+from typing import Container, Dict, Iterable, Iterator, List, Optional, Sequence, Tuple
 
 from plextools import tables
+from plextools.analysis.why import Exchange
 from plextools.runs import report
+from plextools.runs.play import Play
 from plextools.show import page_data
 
 HERE = pathlib.Path(__file__).resolve().parent
@@ -20,79 +24,147 @@ LEGEND = (
 )
 CLASSES = {letter: kind for letter, kind, _ in LEGEND}
 HINT = (
-    "Choose a pair in the table, an entry, or a bar: what is to be told of it stands here, and its statements light "
-    "up in the text."
+    "Choose a pair in the table, an entry, or a bar: what is to be told of it stands here, and its "
+    "statements light up in the text."
+)
+HEAD = Template(
+    """<!doctype html>
+<html lang="en">
+<head>
+<meta charset="utf-8">
+<meta name="viewport" content="width=device-width, initial-scale=1">
+<title>$title</title>
+<style>
+$style</style>
+</head>
+<body>
+<header>
+<h1>$title</h1>
+<p>$counts</p>
+<nav>$links</nav>
+</header>
+<main>
+"""
+)
+END = Template(
+    f"""</main>
+<aside id="told" aria-live="polite" aria-label="What is chosen" data-hint="{HINT}" hidden></aside>
+<script type="application/json" id="data">$data</script>
+<script>
+$script</script>
+</body>
+</html>
+"""
+)
+PAIRS = Template(
+    """<section id="pairs">
+<h2>Pairs of entries</h2>
+<p>A row is the entry of the job that comes first, a column that of the later one. \
+Jobs of one forlopp never run together.</p>
+<ul class="legend">$legend</ul>
+<div class="wide" tabindex="-1"><table id="table" style="--columns: $columns">
+<thead><tr><th class="corner">first, by rows; later, by columns</th>$heads</tr></thead>
+<tbody>
+"""
+)
+ROW_OF_PAIRS = Template(
+    """<tr$begins><th class="first" scope="row">\
+<a href="#entry=$number" data-entry="$number">$number $name</a></th>$cells
+"""
+)
+TIME_LINE = Template(
+    """<section id="time">
+<h2>Time line with $workers workers</h2>
+<p>$which: a row is a worker, and a bar a job. \
+A worker whose job has ended takes another one when all older jobs have ended too. \
+The last row has the times in which a worker was free and the next job waited.</p>
+<p class="keys">$keys</p>
+<div class="wide" tabindex="-1">"""
+)
+TEXT = Template(
+    """<section id="text">
+<h2>The text</h2>
+<p>$name, with the entries that reach each line.</p>
+<div id="lines">"""
+)
+ENTRY = Template(
+    """<details><summary><a href="#entry=$number">$number $name</a>, level $level</summary>\
+<pre>$lines</pre></details>
+"""
 )
 MOST_LINES, LONGEST_LINE, TOLD_CELLS, CHUNK = 60_000, 400, 64, 200
 ROW, TALL, LEFT, WIDEST, USUAL_WIDTH, USUAL_BAR = 26, 20, 80, 30_000, 760, 12
 
 
-def escaped(text):
+def escaped(text: str) -> str:
     return html.escape(text, quote=True)
 
 
-def tag(name, text, more=""):
+def tag(name: str, text: str, more: str = "") -> str:
     return f"<{name}{more}>{text}</{name}>"
 
 
 class Page:
     """A page; `figures` and `made` are those of the load and its play, or None."""
 
-    def __init__(self, exchange, title, figures=None, load=None, made=None):
-        self.exchange, self.title, self.figures, self.load, self.made = exchange, title, figures, load, made
+    def __init__(
+        self,
+        exchange: Exchange,
+        title: str,
+        figures: Optional[report.Figures] = None,
+        made: Optional[Play] = None,
+    ) -> None:
+        self.exchange, self.title, self.figures = exchange, title, figures
         self.analysis, self.text = exchange.analysis, exchange.text
         self.data = page_data.of_exchange(exchange)
-        self.data["play"] = page_data.of_play(load, made) if made else None
+        self.data["play"] = page_data.of_play(made) if made else None
 
-    def parts(self, content):
+    def parts(self, content: bytes) -> Iterator[str]:
         """The page in parts; `content` is the exchange text in bytes."""
-        yield '<!doctype html>\n<html lang="en">\n<head>\n<meta charset="utf-8">\n'
-        yield '<meta name="viewport" content="width=device-width, initial-scale=1">\n'
         style, script = ((HERE / name).read_text() for name in ("page.css", "page.js"))
-        yield f"<title>{escaped(self.title)}</title>\n<style>\n{style}</style>\n</head>\n<body>\n"
-        yield from self.head()
-        yield "<main>\n"
+        yield HEAD.substitute(
+            title=escaped(self.title), style=style, counts=self.counts(), links=self.links()
+        )
         yield from self.pairs()
         if self.figures:
-            yield from self.of_load()
+            yield from self.of_load(self.figures)
+        if self.data["play"]:
+            yield from self.time_line(self.data["play"])
         yield from self.entries()
         yield from self.lines(content)
-        yield "</main>\n"
-        yield f'<aside id="told" aria-live="polite" aria-label="What is chosen" data-hint="{HINT}" hidden></aside>\n'
         told = tables.as_json(self.data, is_short=True).replace("<", "\\u003c")
-        yield f'<script type="application/json" id="data">{told}</script>\n'
-        yield f"<script>\n{script}</script>\n</body>\n</html>\n"
+        yield END.substitute(data=told, script=script)
 
-    def head(self):
+    def counts(self) -> str:
+        """How many blocks, entries and statements there are."""
         kinds = (
-            ("block", "blocks", self.text.blocks),
-            ("entry", "entries", self.analysis.entries),
-            ("statement", "statements", self.text.points),
+            ("block", "blocks", len(self.text.blocks)),
+            ("entry", "entries", len(self.analysis.entries)),
+            ("statement", "statements", len(self.text.points)),
         )
-        counts = ", ".join(f"{len(some)} {one if len(some) == 1 else more}" for one, more, some in kinds) + "."
-        links = (
-            [("pairs", "Pairs")]
-            + [("load", "Load"), ("time", "Time line")] * bool(self.figures)
-            + [("entries", "Entries"), ("text", "Text")]
-        )
-        yield f"<header>\n<h1>{escaped(self.title)}</h1>\n<p>{counts}</p>\n<nav>"
-        yield "".join(tag("a", name, f' href="#{place}"') for place, name in links) + "</nav>\n</header>\n"
+        return ", ".join(f"{some} {one if some == 1 else more}" for one, more, some in kinds) + "."
+
+    def links(self) -> str:
+        """The links to the parts of the page."""
+        of_load = {"load": "Load", "time": "Time line"} if self.figures else {}
+        names = {"pairs": "Pairs", **of_load, "entries": "Entries", "text": "Text"}
+        return "".join(tag("a", name, f' href="#{place}"') for place, name in names.items())
 
     # pairs
 
-    def letter(self, i, j):
+    def letter(self, i: int, j: int) -> str:
         told = self.analysis.told.get((i, j))
         if not told:
             return "."
         return told[0].split(" ")[1][0] if told[0].startswith("NEVER") else "?"
 
-    def name(self, entry):
+    def name(self, entry: int) -> str:
         return escaped(self.analysis.entries[entry].name)
 
-    def names(self, i, j):
+    def names(self, i: int, j: int) -> str:
         return f"{self.name(i)} first, {self.name(j)} later"
 
-    def cell(self, i, j):
+    def cell(self, i: int, j: int) -> str:
         letter = self.letter(i, j)
         told = ""
         if len(self.analysis.entries) <= TOLD_CELLS:
@@ -100,57 +172,64 @@ class Page:
             told = f' title="{self.names(i, j)}: {reasons}"'
         return f"<td class={CLASSES[letter]}{told}>{letter}"
 
-    def run(self, i):
-        """A row of a large table as one run of letters, of which the script makes places when they come to be seen."""
-        return '<td class="run">' + "".join(self.letter(i, later.number) for later in self.analysis.entries)
-
-    def pairs(self):
-        entries = self.analysis.entries
-        yield '<section id="pairs">\n<h2>Pairs of entries</h2>\n'
-        yield "<p>A row is the entry of the job that comes first, a column that of the later one. "
-        yield "Jobs of one forlopp never run together.</p>\n"
-        yield '<ul class="legend">' + "".join(
-            f'<li><span class="{kind}">{letter}</span>{told}</li>' for letter, kind, told in LEGEND
-        ) + "</ul>\n"
-        yield '<div class="wide" tabindex="-1"><table id="table" style="--columns: ' + str(
-            len(entries)
-        ) + '">\n<thead><tr><th class="corner">first, by rows; later, by columns</th>'
-        yield "".join(
-            f'<th class="later" scope="col"><span>{escaped(entry.name)} {entry.number}</span></th>' for entry in entries
+    def run(self, i: int) -> str:
+        """A row of a large table as one run of letters, of which the script makes places when they
+        come to be seen.
+        """
+        return '<td class="run">' + "".join(
+            self.letter(i, later.number) for later in self.analysis.entries
         )
-        yield "</tr></thead>\n<tbody>\n"
+
+    def pairs(self) -> Iterator[str]:
+        entries = self.analysis.entries
+        yield PAIRS.substitute(
+            legend="".join(
+                f'<li><span class="{kind}">{letter}</span>{told}</li>'
+                for letter, kind, told in LEGEND
+            ),
+            columns=len(entries),
+            heads="".join(
+                f'<th class="later" scope="col"><span>{escaped(one.name)} {one.number}</span></th>'
+                for one in entries
+            ),
+        )
         block = None
         for first in entries:
-            begins = ' class="begins"' if first.block != block else ""
+            yield ROW_OF_PAIRS.substitute(
+                begins=' class="begins"' if first.block != block else "",
+                number=first.number,
+                name=escaped(first.name),
+                cells=self.cells(first.number),
+            )
             block = first.block
-            name = (
-                f'<a href="#entry={first.number}" data-entry="{first.number}">{first.number} {escaped(first.name)}</a>'
-            )
-            cells = (
-                "".join(self.cell(first.number, later.number) for later in entries)
-                if len(entries) <= TOLD_CELLS
-                else self.run(first.number)
-            )
-            yield f'<tr{begins}><th class="first" scope="row">{name}</th>{cells}\n'
         yield "</tbody></table></div>\n</section>\n"
+
+    def cells(self, first: int) -> str:
+        """The places of a row; those of a large table are made by the script."""
+        entries = self.analysis.entries
+        if len(entries) > TOLD_CELLS:
+            return self.run(first)
+        return "".join(self.cell(first, later.number) for later in entries)
 
     # a load
 
-    def of_load(self):
-        told = self.figures
+    def of_load(self, told: report.Figures) -> Iterator[str]:
         yield '<section id="load">\n<h2>The load</h2>\n'
         yield tag("p", escaped(" ".join(report.of_run(told)))) + "\n"
         yield from figures_table(report.HEADS, report.rows_of_workers(told))
-        yield tag("p", "Time is told in statements. " + " ".join(report.MEANING), ' class="soft"') + "\n"
+        yield tag(
+            "p", "Time is told in statements. " + " ".join(report.MEANING), ' class="soft"'
+        ) + "\n"
         yield from self.blockers(told["blockers"])
         yield "<h3>Jobs by entry</h3>\n"
         yield from figures_table(
-            ["entry", "name", "jobs", "least", "mean", "most", "of all"], report.rows_of_entries(told), names=(1,)
+            ["entry", "name", "jobs", "least", "mean", "most", "of all"],
+            report.rows_of_entries(told),
+            names=(1,),
         )
         yield "</section>\n"
-        yield from self.time_line()
 
-    def blockers(self, told):
+    def blockers(self, told: report.Blocks) -> Iterator[str]:
         yield f"<h3>What jobs waited for with {told['workers']} workers</h3>\n"
         if not told["pairs"]:
             yield "<p>No job waited for a pair.</p>\n"
@@ -171,40 +250,39 @@ class Page:
             names=(0,),
         )
 
-    def time_line(self):
-        play = self.data["play"]
-        yield f'<section id="time">\n<h2>Time line with {play["workers"]} workers</h2>\n'
+    def time_line(self, play: page_data.OfPlay) -> Iterator[str]:
         drawn = len(play["bars"])
         which = "All jobs" if drawn == play["jobs"] else f"The first {drawn} of {play['jobs']} jobs"
-        yield f"<p>{which}: a row is a worker, and a bar a job. A worker whose job has ended takes another one "
-        yield "when all older jobs have ended too. "
-        yield "The last row has the times in which a worker was free and the next job waited.</p>\n"
         used = sorted({bar["entry"] for bar in play["bars"]})
-        yield '<p class="keys">' + "".join(
+        keys = "".join(
             f'<span><i style="background:{colour(entry)}"></i>{entry} {self.name(entry)}</span>'
             for entry in used[:40]
         )
-        yield "</p>\n" + '<div class="wide" tabindex="-1">'
+        yield TIME_LINE.substitute(workers=play["workers"], which=which, keys=keys)
         yield from self.drawing(play)
         yield "</div>\n</section>\n"
 
-    def drawing(self, play):
+    def drawing(self, play: page_data.OfPlay) -> Iterator[str]:
         rows = min(play["workers"], max((bar["row"] for bar in play["bars"]), default=0) + 1)
-        scale = min(max(USUAL_WIDTH, USUAL_BAR * len(play["bars"]) / rows), WIDEST) / max(1, play["end"])
+        scale = min(max(USUAL_WIDTH, USUAL_BAR * len(play["bars"]) / rows), WIDEST) / max(
+            1, play["end"]
+        )
         width = LEFT + scale * play["end"] + 70
-        yield f'<svg width="{width:.0f}" height="{ROW * (rows + 1) + 22}" role="group" aria-label="Time line">\n'
+        size = f'width="{width:.0f}" height="{ROW * (rows + 1) + 22}"'
+        yield f'<svg {size} role="group" aria-label="Time line">\n'
         for row in range(rows):
             yield f'<text x="4" y="{ROW * row + 15}">worker {row + 1}</text>\n'
         yield f'<text x="4" y="{ROW * rows + 15}">waits</text>\n'
         for place, bar in enumerate(play["bars"]):
             name = f"job {bar['job']}: {self.name(bar['entry'])}, from {bar['from']} to {bar['to']}"
-            shape = box(scale, bar, bar["row"])
+            shape = box(scale, bar["from"], bar["to"], bar["row"])
             shape += f' fill="{colour(bar["entry"])}"'
             yield f'<rect class="bar" data-bar="{place}" {shape}><title>{name}</title></rect>\n'
         for place, wait in enumerate(play["waits"]):
             name = escaped(f"from {wait['from']} to {wait['to']}: {wait['reason']}")
+            shape = box(scale, wait["from"], wait["to"], rows)
             kind = f"wait {CLASSES[wait['kind']]}" if wait["kind"] else "wait"
-            yield f'<rect class="{kind}" data-wait="{place}" {box(scale, wait, rows)}><title>{name}</title></rect>\n'
+            yield f'<rect class="{kind}" data-wait="{place}" {shape}><title>{name}</title></rect>\n'
         marks = max(1, int((width - LEFT) // 90))
         for place in range(marks + 1):
             time = play["end"] * place // marks
@@ -213,17 +291,21 @@ class Page:
 
     # entries and the text
 
-    def entries(self):
+    def entries(self) -> Iterator[str]:
         yield '<section id="entries">\n<h2>Entries</h2>\n'
         for entry in self.analysis.entries:
-            lines = escaped("\n".join(entry.lines)) or "nothing that is stored, sent or may fault"
-            link = f'<a href="#entry={entry.number}">{entry.number} {escaped(entry.name)}</a>'
-            yield f"<details><summary>{link}, level {entry.level}</summary><pre>{lines}</pre></details>\n"
+            yield ENTRY.substitute(
+                number=entry.number,
+                name=escaped(entry.name),
+                level=entry.level,
+                lines=escaped("\n".join(entry.lines))
+                or "nothing that is stored, sent or may fault",
+            )
         yield "</section>\n"
 
-    def reached_by(self):
+    def reached_by(self) -> Dict[int, str]:
         """The entries that reach each line, as words."""
-        found = {}
+        found: Dict[int, List[int]] = {}
         for number, made in sorted(self.exchange.made.items()):
             for line in {self.text.points[point].line for point in made.reached}:
                 found.setdefault(line, []).append(number)
@@ -232,15 +314,16 @@ class Page:
             for line, numbers in found.items()
         }
 
-    def lines(self, content):
-        name = escaped(os.path.basename(self.text.name))
-        yield f'<section id="text">\n<h2>The text</h2>\n<p>{name}, with the entries that reach each line.</p>\n'
-        yield '<div id="lines">'
+    def lines(self, content: bytes) -> Iterator[str]:
+        yield TEXT.substitute(name=escaped(tables.quoted(os.path.basename(self.text.name))))
         reached, lines = self.reached_by(), content.split(b"\n")
         lines = lines[:-1] if lines[-1] == b"" else lines
-        kept = range(1, len(lines) + 1)
+        kept: Sequence[int] = range(1, len(lines) + 1)
         if len(lines) > MOST_LINES:
-            kept = sorted({node.line for node in self.text.points} | {block.first.line for block in self.text.blocks})
+            kept = sorted(
+                {node.line for node in self.text.points}
+                | {block.node.first.line for block in self.text.blocks}
+            )
         for place, number in enumerate(kept):
             if place % CHUNK == 0:
                 yield ("</div>" if place else "") + '<div class="some">\n'
@@ -251,30 +334,34 @@ class Page:
         yield ("</div>" if kept else "") + "</div>\n</section>\n"
 
 
-def colour(entry):
+def colour(entry: int) -> str:
     return f"hsl({entry * 137 % 360},{55 + entry * 7 % 25}%,{50 + entry * 11 % 18}%)"
 
 
-def box(scale, part, row):
-    width = max(2.0, scale * (part["to"] - part["from"]) - 1)
-    return f'x="{LEFT + scale * part["from"]:.1f}" y="{ROW * row}" width="{width:.1f}" height="{TALL}"'
+def box(scale: float, begin: int, end: int, row: int) -> str:
+    width, left = max(2.0, scale * (end - begin) - 1), LEFT + scale * begin
+    return f'x="{left:.1f}" y="{ROW * row}" width="{width:.1f}" height="{TALL}"'
 
 
-def span(first, last):
+def span(first: int, last: int) -> str:
     return str(first) if first == last else f"{first}-{last}"
 
 
-def pairs_of(numbers):
+def pairs_of(numbers: Sequence[int]) -> Iterable[Tuple[int, int]]:
     return zip(numbers[::2], numbers[1::2])
 
 
-def figures_table(heads, rows, names=()):
+def figures_table(
+    heads: Sequence[str], rows: Sequence[Sequence[str]], names: Container[int] = ()
+) -> Iterator[str]:
     yield '<div class="plain"><table class="figures">\n<tr>'
     yield "".join(
-        f'<th class="name">{head}</th>' if place in names else f"<th>{head}</th>" for place, head in enumerate(heads)
+        f'<th class="name">{head}</th>' if place in names else f"<th>{head}</th>"
+        for place, head in enumerate(heads)
     ) + "</tr>\n"
     for row in rows:
         yield "<tr>" + "".join(
-            f'<td class="name">{word}</td>' if place in names else f"<td>{word}</td>" for place, word in enumerate(row)
+            f'<td class="name">{word}</td>' if place in names else f"<td>{word}</td>"
+            for place, word in enumerate(row)
         ) + "</tr>\n"
     yield "</table></div>\n"

@@ -42,7 +42,8 @@ class Table:
         pair = f"{first.signal} {first.block} first, {later.signal} {later.block} later"
         if verdict is None:
             return f"{pair}: always together"
-        return f"{pair}: {'never, for ' if verdict.is_never else 'where '}{' and '.join(verdict.reasons)}"
+        how = "never, for" if verdict.is_never else "where"
+        return f"{pair}: {how} {' and '.join(verdict.reasons)}"
 
 
 # text

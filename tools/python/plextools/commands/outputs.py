@@ -1,0 +1,46 @@
+"""The files that commands write: never one that they read, and never one that is half written."""
+import os
+import pathlib
+from typing import Iterable, Sequence
+
+from plextools.programs import Wrong
+from plextools.tables import quoted
+
+
+def refuse_inputs(name: str, inputs: Sequence[str]) -> None:
+    """Raises `Wrong` where an output is a file that is read, by whatever name."""
+    for read in inputs:
+        try:
+            is_same = os.path.samefile(name, read)
+        except (OSError, ValueError):
+            continue  # one of them is not there, which is told where it is opened
+        if is_same:
+            raise Wrong(f"{quoted(name)} is read, and would be lost: name another file to write")
+
+
+def write(name: str, parts: Iterable[str]) -> None:
+    """Writes a file beside its place first, so that none is left half written. What is no plain
+    file, as a pipe, is written as it is.
+    """
+    try:
+        place = pathlib.Path(os.path.realpath(name))
+        if place.exists() and not place.is_file() and not place.is_dir():
+            with open(place, "w", encoding="utf-8") as file:
+                file.writelines(parts)
+        else:
+            write_beside(place, parts)
+    except (OSError, ValueError) as wrong:
+        told = getattr(wrong, "strerror", None) or wrong
+        raise Wrong(f"{quoted(name)} could not be written: {told}") from wrong
+
+
+def write_beside(place: pathlib.Path, parts: Iterable[str]) -> None:
+    fresh = place.with_name(f".{place.name}.{os.getpid()}")
+    try:
+        with open(fresh, "x", encoding="utf-8") as file:
+            file.writelines(parts)
+        fresh.replace(place)
+    except BaseException:
+        if fresh.exists():
+            fresh.unlink()
+        raise
