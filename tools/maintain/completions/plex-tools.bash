@@ -1,5 +1,5 @@
-# Completion of the words of plex-why, plex-load and plex-page in bash. Source this file, or put it
-# into a folder of bash-completion under the name of each tool.
+# Completion of the words of plex-why, plex-load, plex-page and plex-test in bash. Source this file,
+# or put it into a folder of bash-completion under the name of each tool.
 
 # The file names that begin with the word.
 _plex_tools_files() {
@@ -14,6 +14,25 @@ _plex_tools_words() {
     mapfile -t COMPREPLY < <(compgen -W "$*" -- "$begun")
 }
 
+# plex-test takes folders; its --jobs counts cases.
+_plex_test() {
+    case $2 in
+        -j | --jobs) _plex_tools_words "$1" 1 2 4 8 16 32 64 ;;
+        --timeout) _plex_tools_words "$1" 10 60 600 ;;
+        --junit) _plex_tools_files "$1" ;;
+        -k) ;;
+        *)
+            if [[ $1 == -* ]]; then
+                _plex_tools_words "$1" '-j --jobs -k --list -v --verbose --update --no-faults' \
+                    '--junit --timeout --help --version'
+            else
+                compopt -o filenames 2>/dev/null
+                mapfile -t COMPREPLY < <(compgen -d -- "$1")
+            fi
+            ;;
+    esac
+}
+
 _plex_tools() {
     local word=${COMP_WORDS[COMP_CWORD]} before=${COMP_WORDS[COMP_CWORD-1]} options
     COMPREPLY=()
@@ -21,6 +40,7 @@ _plex_tools() {
         plex-why) options='--all --help' ;;
         plex-load) options='--workers --jobs --json --help' ;;
         plex-page) options='-o --workers --jobs --help' ;;
+        plex-test) _plex_test "$word" "$before"; return ;;
     esac
     case $before in
         --workers) _plex_tools_words "$word" 1 2 4 8 16 32 64 ;;
@@ -35,4 +55,4 @@ _plex_tools() {
     esac
 }
 
-complete -F _plex_tools plex-why plex-load plex-page
+complete -F _plex_tools plex-why plex-load plex-page plex-test

@@ -133,7 +133,8 @@ def check_version(name: str, path: str) -> None:
         )
     except (OSError, subprocess.TimeoutExpired) as wrong:
         raise Wrong(f"{path} cannot be run: {wrong}") from wrong
-    told = done.stderr.decode("utf-8", "replace").strip()
+    lines = done.stderr.decode("utf-8", "replace").strip()
+    told = lines.rpartition("\n")[2]  # the last line, since a launcher says more before it
     if told != f"{name} {VERSION}":
         wanted = f"{name} {VERSION}, of which these tools are"
         raise Wrong(f"{path} is not {wanted}: its --version says {told[:80]!r}")

@@ -3,6 +3,7 @@ import os
 import pathlib
 from typing import Iterable, Sequence
 
+from plextools import files
 from plextools.programs import Wrong
 from plextools.tables import quoted
 
@@ -28,19 +29,7 @@ def write(name: str, parts: Iterable[str]) -> None:
             with open(place, "w", encoding="utf-8") as file:
                 file.writelines(parts)
         else:
-            write_beside(place, parts)
+            files.replace(place, (part.encode() for part in parts))
     except (OSError, ValueError) as wrong:
         told = getattr(wrong, "strerror", None) or wrong
         raise Wrong(f"{quoted(name)} could not be written: {told}") from wrong
-
-
-def write_beside(place: pathlib.Path, parts: Iterable[str]) -> None:
-    fresh = place.with_name(f".{place.name}.{os.getpid()}")
-    try:
-        with open(fresh, "x", encoding="utf-8") as file:
-            file.writelines(parts)
-        fresh.replace(place)
-    except BaseException:
-        if fresh.exists():
-            fresh.unlink()
-        raise
