@@ -22,9 +22,8 @@ import shutil
 import signal
 import subprocess
 import sys
-from collections import namedtuple
 from collections.abc import Iterator, Mapping, Sequence
-from typing import Optional, Union
+from typing import NamedTuple, Optional, Union
 
 from gate import proved
 from plextools import programs
@@ -40,7 +39,13 @@ UNPROVED: list[pathlib.Path] = []  # the programs that were taken though they ar
 UNPROVED_TOLD: list[bool] = []  # whether a last line has said so
 SILENT = (0, 4, 5)
 
-Answer = namedtuple("Answer", "status wrote complaint")
+
+class Answer(NamedTuple):
+    """How a call ended, with None where it did not in time, and what it wrote."""
+
+    status: Optional[int]
+    wrote: bytes
+    complaint: bytes
 
 
 # where the program is
@@ -138,7 +143,7 @@ def unproved() -> str:
     return "; unproved" if UNPROVED else ""
 
 
-def version():
+def version() -> str:
     """The version of the programs: the one constant of the sources that says it."""
     return re.search(r'^const VERSION: &str = "(\d[0-9A-Za-z.+~]*)";$', VERSION.read_text(), re.M)[1]
 
@@ -146,13 +151,20 @@ def version():
 # one call
 
 
-def write_files(folder, files):
+def write_files(
+    folder: Union[str, pathlib.Path], files: Mapping[str, Union[str, bytes]]
+) -> None:
     """Writes files into a folder: for each name its bytes, or its text."""
     for name, content in files.items():
         pathlib.Path(folder, name).write_bytes(content if isinstance(content, bytes) else content.encode())
 
 
-def answer(plex, words, folder=None, longest=LONGEST):
+def answer(
+    plex: Union[str, pathlib.Path],
+    words: Sequence[object],
+    folder: Union[str, pathlib.Path, None] = None,
+    longest: int = LONGEST,
+) -> Answer:
     """The status, the output and the complaint of a call.
 
     The status is None where no answer came: after so many seconds of the processor, or after a long while, since
@@ -175,7 +187,7 @@ def answer(plex, words, folder=None, longest=LONGEST):
     return Answer(child.returncode, wrote, complaint)
 
 
-def limit_processor(child, seconds):
+def limit_processor(child: "subprocess.Popen[bytes]", seconds: int) -> None:
     """The system ends a child that takes more seconds of the processor."""
     try:
         resource.prlimit(child.pid, resource.RLIMIT_CPU, (seconds, seconds + 1))
@@ -183,20 +195,20 @@ def limit_processor(child, seconds):
         child.poll()
 
 
-def late():
+def late() -> None:
     """Notes that a call did not end in time."""
     LATE.append(True)
     give_up()
 
 
-def give_up():
+def give_up() -> None:
     """Ends the tool where some calls did not end in time, as each of them costs so much."""
     if len(LATE) >= MOST_LATE:
         sys.stdout.flush()
         sys.exit(f"{MOST_LATE} calls of the program did not end in time; the other cases are not tried")
 
 
-def first_difference(wrote, wanted):
+def first_difference(wrote: bytes, wanted: bytes) -> str:
     """The first line that differs, with its number: as it was written, and as it must be."""
     lines, others = wrote.splitlines(keepends=True), wanted.splitlines(keepends=True)
     pairs = enumerate(zip(lines, others))
@@ -205,7 +217,7 @@ def first_difference(wrote, wanted):
     return f"line {place + 1} is {got!r} and not {needed!r}"
 
 
-def wrong(got, status, wanted=None):
+def wrong(got: Answer, status: Optional[int], wanted: Optional[bytes] = None) -> Optional[str]:
     """What is wrong with an answer, or None; what it wrote is compared where that is known."""
     if got.status is None:
         return "no answer in time"
@@ -223,7 +235,7 @@ def wrong(got, status, wanted=None):
 # the cases of a tool
 
 
-def count(word):
+def count(word: str) -> int:
     """How many cases are asked for, which must be one at least."""
     number = int(word)
     if number < 1:
@@ -231,7 +243,7 @@ def count(word):
     return number
 
 
-def seed():
+def seed() -> str:
     """The seed of cases made by chance, a word: the date of the commit in seconds, and 1 where there is no commit."""
     words = ["git", "-C", ROOT, "log", "-1", "--format=%ct"]
     try:
@@ -244,7 +256,7 @@ def seed():
 # what is left out
 
 
-def is_there(command, needed_for):
+def is_there(command: str, needed_for: str) -> bool:
     """Whether a command of the system is there; where it is not, what it is needed for is left out."""
     if shutil.which(command):
         return True
@@ -252,7 +264,7 @@ def is_there(command, needed_for):
     return False
 
 
-def left_out(told):
+def left_out(told: str) -> None:
     """Tells and counts what a tool does not try on this machine."""
     LEFT_OUT.append(told)
     print(f"left out: {told}", flush=True)

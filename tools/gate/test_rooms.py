@@ -40,7 +40,7 @@ ROOMS = {
     "gate": PRODUCT
     | {"gate", "gate.oracle", "gate.makers", "measure.measured", "measure.count_threads"},
     "measure": BASE | {"gate.harness", "gate.makers", "measure"},
-    "maintain": BASE | {"gate.harness", "maintain"},
+    "maintain": BASE | {"gate.harness", "maintain", "measure.count_threads"},
 }
 # Files that import more. One that no longer does is told, so that it does not stay here.
 MORE: dict[str, set[str]] = {}

@@ -11,7 +11,13 @@ import pytest
 
 ROOT = pathlib.Path(__file__).resolve().parent.parent.parent
 PYTHON = "/usr/bin/python3"
-TYPED = ("tools/python/plextools", "tools/bin", "tools/gate/test_types.py")
+TYPED = (
+    "tools/python/plextools",
+    "tools/bin",
+    "tools/maintain",
+    "tools/measure",
+    "tools/gate/test_types.py",
+)
 TOOLS = {"mypy": ("--strict",), "black": ("--check", "--quiet"), "flake8": ()}
 LONGEST = 600
 

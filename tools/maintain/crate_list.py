@@ -1,8 +1,9 @@
-"""The crates as crates.txt lists them. For the tools that prove, and those that tell what proofs cost.
+"""The crates as crates.txt lists them. For the tools that prove, and those that tell what proofs
+cost.
 
-`listed()` gives each crate with the libraries that its line names, those of the kit among them, lowest first.
-`own()` leaves the kit's out; `needed()` is what a crate stands on, itself among it; and `waiting()` tells how
-long it takes from a task's begin until the end of all that wait for it.
+`listed()` gives each crate with the libraries that its line names, those of the kit among them,
+lowest first. `own()` leaves the kit's out; `needed()` is what a crate stands on, itself among it;
+and `waiting()` tells how long it takes from a task's begin until the end of all that wait for it.
 """
 import pathlib
 import re
@@ -24,7 +25,10 @@ def listed(root: pathlib.Path = ROOT) -> Dict[str, List[str]]:
 
 def own(crates: Dict[str, List[str]]) -> Dict[str, List[str]]:
     """The same with libraries of this repository alone."""
-    return {crate: [library for library in libraries if library in crates] for crate, libraries in crates.items()}
+    return {
+        crate: [library for library in libraries if library in crates]
+        for crate, libraries in crates.items()
+    }
 
 
 def needed(crates: Dict[str, List[str]], top: str) -> List[str]:
@@ -40,8 +44,8 @@ def needed(crates: Dict[str, List[str]], top: str) -> List[str]:
 
 
 def waiting(lasts: Mapping[Task, float], waits: Mapping[Task, Sequence[Task]]) -> Dict[Task, float]:
-    """For each task how long it and the longest chain of those that wait for it last. `lasts` has the tasks in an
-    order in which each comes after those that it waits for."""
+    """For each task how long it and the longest chain of those that wait for it last. `lasts` has
+    the tasks in an order in which each comes after those that it waits for."""
     behind = dict(lasts)
     for key in reversed(list(lasts)):
         for low in waits[key]:

@@ -1,8 +1,10 @@
-"""The measure of the machine: the seconds that the proofs of three small crates take, whose files seldom change.
+"""The measure of the machine: the seconds that the proofs of three small crates take, whose files
+seldom change.
 
-docs/PROVING.md has them beside those of the table before, and of the slowest and the fastest machine that was seen, so
-that tables of different machines can be read against one another. With each crate stands a sum of its files: one
-that has changed is left out of the comparison, and its seconds on another machine are reckoned by the others.
+docs/PROVING.md has them beside those of the table before, and of the slowest and the fastest
+machine that was seen, so that tables of different machines can be read against one another. With
+each crate stands a sum of its files: one that has changed is left out of the comparison, and its
+seconds on another machine are reckoned by the others.
 """
 import hashlib
 import pathlib
@@ -11,7 +13,13 @@ from typing import Dict, Iterator, List, NamedTuple, Optional
 
 CRATES = "plex_lexer", "plex_ast", "flow_table"
 TITLE = "Measure of the machine"
-NOW, BEFORE, SLOWEST, FASTEST, SUMS = "This table", "The table before", "Slowest machine", "Fastest machine", "Files"
+NOW, BEFORE, SLOWEST, FASTEST, SUMS = (
+    "This table",
+    "The table before",
+    "Slowest machine",
+    "Fastest machine",
+    "Files",
+)
 PARTS = "src", "specs", "proofs"
 SUM_LENGTH = 12
 
@@ -53,7 +61,9 @@ class Measure(NamedTuple):
 def sum_of(crate: pathlib.Path) -> str:
     """The sum of a crate's files."""
     found = hashlib.sha256()
-    for path in sorted(path for part in PARTS for path in (crate / part).rglob("*") if path.is_file()):
+    for path in sorted(
+        path for part in PARTS for path in (crate / part).rglob("*") if path.is_file()
+    ):
         content = path.read_bytes()
         found.update(f"{path.relative_to(crate)} {len(content)}\n".encode() + content)
     return found.hexdigest()[:SUM_LENGTH]
@@ -85,7 +95,9 @@ def measured(before: Optional[Measure], now: Seconds, sums: Dict[str, str]) -> M
         return Measure({NOW: now, SLOWEST: now, FASTEST: now}, sums)
     same = [crate for crate in CRATES if before.sums.get(crate) == sums[crate]]
     if not same:
-        raise NoMeasure(f"all crates by which the machine is measured have changed: {', '.join(CRATES)}")
+        raise NoMeasure(
+            f"all crates by which the machine is measured have changed: {', '.join(CRATES)}"
+        )
 
     def here(seconds: Seconds) -> Seconds:
         """Seconds of another machine, those of crates that have changed reckoned by the others."""

@@ -1,26 +1,36 @@
 """What a command takes of the processor and of memory. For `large_texts`.
 
-`measured(command, folder, most)` runs a command in a folder, in which its output is the file WRITTEN, and gives
-what it came to. A command that takes more seconds of the processor than the most is ended by the system, with the
-signal SIGXCPU; one that takes none and does not end is ended too, after a longer while, since others may use the
-processor beside it.
+`measured(command, folder, most)` runs a command in a folder, in which its output is the file
+WRITTEN, and gives what it came to. A command that takes more seconds of the processor than the most
+is ended by the system, with the signal SIGXCPU; one that takes none and does not end is ended too,
+after a longer while, since others may use the processor beside it.
 """
 import os
+import pathlib
 import signal
 import subprocess
 import sys
 import time
-from collections import namedtuple
+from typing import NamedTuple, Optional, Sequence, Union
 
 WRITTEN = "written"
 WHILE = 120
 PACE, TURNS = 0.066, 2_000_000
 
-Measure = namedtuple("Measure", "status seconds memory")
 
-# Runs a command and tells its status, its time of the processor and its peak of memory. What a process takes counts
-# for its children until they have begun, so this small one stands between them and the tool, which holds large
-# texts.
+class Measure(NamedTuple):
+    """What a command came to: its exit status, None where it did not end, the seconds of the
+    processor, and the peak of memory in bytes.
+    """
+
+    status: Optional[int]
+    seconds: float
+    memory: int
+
+
+# Runs a command and tells its status, its time of the processor and its peak of memory. What a
+# process takes counts for its children until they have begun, so this small one stands between them
+# and the tool, which holds large texts.
 SMALL = """
 import os, resource, sys
 most = int(sys.argv[1])
@@ -34,12 +44,18 @@ print(os.waitstatus_to_exitcode(status), used.ru_utime + used.ru_stime, used.ru_
 """
 
 
-def measured(command, folder, most):
-    """The exit status, the seconds of the processor and the peak of memory in bytes.
-
-    The status is None where the command did not end.
-    """
-    words = [sys.executable, "-I", "-S", "-c", SMALL, str(int(most) + 1), WRITTEN, *map(str, command)]
+def measured(command: Sequence[object], folder: Union[str, pathlib.Path], most: float) -> Measure:
+    """What a command comes to in a folder."""
+    words = [
+        sys.executable,
+        "-I",
+        "-S",
+        "-c",
+        SMALL,
+        str(int(most) + 1),
+        WRITTEN,
+        *map(str, command),
+    ]
     small = subprocess.Popen(words, cwd=folder, stdout=subprocess.PIPE, start_new_session=True)
     try:
         told = small.communicate(timeout=WHILE + 10 * most)[0].split()
@@ -53,7 +69,7 @@ def measured(command, folder, most):
     return Measure(None if status == -signal.SIGXCPU else status, float(told[1]), int(told[2]))
 
 
-def pace():
+def pace() -> float:
     """How much slower this machine is than the one of the known figures: 1 where it is faster."""
     taken = []
     for _ in range(3):

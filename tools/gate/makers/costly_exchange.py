@@ -5,6 +5,7 @@ entries, and each of these reads and writes many fields of records that its valu
 and a pair has many tests; records of a forlopp file are held by other forlopps all the while; and jobs are short or
 long. How many there are of each is far apart from case to case, and the whole stays a run of some seconds at most.
 """
+import random
 MOST_ACCESSES, MOST_TURNS = 4_000_000, 20_000_000  # of all jobs of a run
 POINTERS, RECORDS, IN_SUM = 7, 256, 60  # of the eight values that a signal may have, one is the length of a loop
 POINTER, FILES = "PQRTUWX", "FGHJKLM"
@@ -28,7 +29,7 @@ def entry(chance, number, files, fields):
     return "\n".join([*lines, "EXIT;"])
 
 
-def made(chance):
+def made(chance: random.Random) -> tuple[str, str, str]:
     """An exchange text, a signal file, and what they are."""
     entries, files, held = spread(chance, 40), spread(chance, POINTERS), spread(chance, 4000)
     fields = spread(chance, min(2000, 20_000 // entries))
