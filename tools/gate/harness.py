@@ -2,8 +2,8 @@
 tools.
 
 `find()` gives the path of plex: the one that is named, or else that of the variable PLEX, or else the built one.
-`find_merger()` does the same for plex-merge, with the variable PLEX_MERGE. They end the tool where there is no such
-program, where the built one is older than one of its sources, and where the program is not proved. With
+`find_merger()` does the same for plex-merge, with the variable PLEX_MERGE, and `find_conflicts()` for plex-conflicts,
+with PLEX_CONFLICTS. They end the tool where there is no such program, where the built one is older than one of its sources, and where the program is not proved. With
 PLEX_UNPROVED=1 a program that is not proved is taken, that of `tools/build --unproved` too, and the tool's last line
 says "unproved". `find_proved()` refuses it always, and `find_launcher()` gives the launcher of the built program.
 `answer()` calls it, and `wrong()` tells what an answer should not be. `verdict()` and `summed()` end a tool: with a
@@ -29,7 +29,7 @@ from gate import proved
 from plextools import programs
 ROOT = programs.ROOT
 CASES = ROOT / "tools" / "gate" / "cases"
-PLEX, MERGER = programs.BY_NAME["plex"], programs.BY_NAME["plex-merge"]
+PLEX, MERGER, CONFLICTS = (programs.BY_NAME[name] for name in ("plex", "plex-merge", "plex-conflicts"))
 VERSION = ROOT / "crates" / "process_ends" / "src" / "complaint.rt"
 LONGEST, WHILE = 60, 600
 SHOWN = 120
@@ -73,6 +73,11 @@ def find(named: Union[str, pathlib.Path, None] = None) -> pathlib.Path:
 def find_merger(named: Union[str, pathlib.Path, None] = None) -> pathlib.Path:
     """The path of plex-merge, in the same way."""
     return found(MERGER, named)
+
+
+def find_conflicts(named: Union[str, pathlib.Path, None] = None) -> pathlib.Path:
+    """The path of plex-conflicts, in the same way."""
+    return found(CONFLICTS, named)
 
 
 def find_proved(program: programs.Program, named: Union[str, pathlib.Path, None] = None) -> pathlib.Path:

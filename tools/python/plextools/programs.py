@@ -76,6 +76,7 @@ class Program(NamedTuple):
 PROGRAMS = (
     Program("plex", "--program", "three_ticks", "words"),
     Program("plex-merge", "--merger", "merged_ticks", "merge"),
+    Program("plex-conflicts", "--conflicts", "all_conflicts", "conflicts"),
 )
 BY_NAME = {program.name: program for program in PROGRAMS}
 

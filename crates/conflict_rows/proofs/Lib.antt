@@ -1,0 +1,9 @@
+pub mod Loops
+pub mod Finding
+pub mod Pushed
+pub mod Joining
+pub mod Covering
+pub mod Ordering
+pub mod Pointed
+pub mod Alone
+pub mod Rowing

@@ -1,0 +1,7 @@
+use Rattle.entry_accesses.specs.Adding.{Adds}
+use Rattle.conflict_rows.specs.Near.{IsOfFirst}
+use Rattle.conflict_rows.proofs.Loops.{GivenBelow}
+use Rattle.conflict_rows.proofs.clashes.push_of_first.Given as goal
+
+abbrev pub invariant-loop-place : goal.invariant-loop-place
+invariant-loop-place l = Adds l.fn.rows l.rows (GivenBelow (IsOfFirst l.others) l.ones l.place)

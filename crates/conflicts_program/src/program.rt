@@ -1,0 +1,182 @@
+// The program as one call.
+ghost use Rattle.std.specs.Prelude.{◌≡◌, ◌∷◌, [], Ok, IfOk, IfSome};
+ghost use Rattle.std.specs.Str.{bytes_eq};
+ghost use Rattle.answer_meaning.specs.ExchangeAnswer.{FromExchange};
+ghost use Rattle.answer_meaning.specs.Stages.{Performs, ReadAs};
+ghost use Rattle.answer_meaning.specs.Program.{Answers, ProcessEnds, ProcessEndsAs, IsComplete};
+ghost use Rattle.answer_meaning.specs.Program.{IsEnding};
+ghost use Rattle.answer_meaning.specs.Program.{Makes, ReadCause, WriteCause};
+ghost use Rattle.conflicts_program.specs.Words.{AnswersConflicts, AreOthers, IsConflictsAnswer};
+ghost use Rattle.conflicts_program.specs.Words.{asked_by, is_own, usage_answer, usage_text};
+
+use answer_meaning::{Answer, Stop};
+use command_answers::write_answer;
+use command_words::Status;
+use conflicts_meaning::EntryPair;
+use conflicts_text::conflicts;
+use exchange_model::Exchange;
+use known_exchange::exchange_in;
+use plex_io::{Shelf, Sink, Word};
+use plex_num::{Memory, Seq, read_number};
+use std::alloc::Global;
+use text_parts::Text;
+
+/// The program: reads the exchange text that the words name, and writes the answer.
+///
+/// `words` are the command's words without the program's name. Where the shelf tells its files, the
+/// status and the text are those of the answer (`IsConflictsAnswer`), but for `Read` where a read
+/// failed, `Write` where the sink failed or is full, and then a proper front of the text was
+/// written, and `Memory`.
+#[tactic(auto, using(answer_meaning::proofs::Endings::ending))]
+pub fn plex_conflicts<S: Shelf, K: Sink>(
+    alloc: Global,
+    words: &[Word],
+    shelf: &mut S,
+    sink: &mut K,
+) -> Status
+    ensures answers { IfSome (S.held shelf.old)
+        (λ files. ProcessEndsAs (IsConflictsAnswer words.now files)
+        (K.written sink.old) (K.written sink.new) result) }
+    ensures unshaped { AreOthers words.now →
+        ProcessEnds usage_answer (K.written sink.old) (K.written sink.new) result }
+    ensures usage { result ≡ Status.Usage → AreOthers words.now }
+    ensures read { result ≡ Status.Read →
+        ReadCause (IsConflictsAnswer words.now) (S.held shelf.old)
+        (S.faults shelf.old) (S.faults shelf.new) (K.written sink.old) (K.written sink.new) }
+    ensures write { result ≡ Status.Write →
+        WriteCause (K.size sink.old) (K.written sink.new) (K.faults sink.old) (K.faults sink.new) }
+    ensures memory { result ≡ Status.Memory → K.written sink.new ≡ K.written sink.old }
+    ensures complete { IfSome (S.held shelf.old)
+        (λ files. IsComplete (IsConflictsAnswer words.now files)
+        (S.faults shelf.old) (S.faults shelf.new) (K.faults sink.old) (K.faults sink.new) result) }
+{
+    match answered(alloc, words, shelf) {
+        Ok(answer) => write_answer(sink, &answer),
+        Err(Stop::Told(answer)) => write_answer(sink, &answer),
+        Err(Stop::NotHeld) => Status::Read,
+        Err(Stop::Failed) => Status::Read,
+        Err(Stop::Memory) => Status::Memory,
+    }
+}
+
+/// The answer to the words.
+fn answered<S: Shelf>(alloc: Global, words: &[Word], shelf: &mut S) -> Result<Answer, Stop>
+    ensures answers { Answers (IsConflictsAnswer words.now) (S.held shelf.old) (S.faults shelf.old)
+        (S.faults shelf.new) result }
+    ensures made { Makes (AreOthers words.now) usage_answer result }
+{
+    match words {
+        [name] => tell_all(alloc, shelf, name),
+        [exchange, first, later] => tell_pair(alloc, shelf, exchange, first, later),
+        _ => usage_answer(alloc),
+    }
+}
+
+/// What is told of all entries, where the word is the name of a file.
+#[tactic(auto, using(crate::proofs::Answering::all_rules))]
+fn tell_all<S: Shelf>(alloc: Global, shelf: &mut S, exchange: &Word) -> Result<Answer, Stop>
+    ensures answers { Answers (IsConflictsAnswer (exchange.now ∷ [])) (S.held shelf.old)
+        (S.faults shelf.old) (S.faults shelf.new) result }
+    ensures made { Makes (AreOthers (exchange.now ∷ [])) usage_answer result }
+{
+    if is_own(exchange.as_slice()) {
+        return usage_answer(alloc);
+    }
+    tell(alloc, shelf, exchange, None)
+}
+
+/// Whether a word alone asks for the help or the version of the program.
+fn is_own(word: &[u8]) -> bool
+    ensures { result ≡ is_own word.now }
+{
+    is(word, b"--help") | is(word, b"-h") | is(word, b"--version")
+}
+
+fn is(word: &[u8], text: &[u8]) -> bool
+    ensures { result ≡ bytes_eq word.now text.now }
+{
+    word == text
+}
+
+/// What is told of the pair of entries of these numbers, if both are numbers.
+#[tactic(auto, using(crate::proofs::Answering::pair_rules))]
+fn tell_pair<S: Shelf>(
+    alloc: Global,
+    shelf: &mut S,
+    exchange: &Word,
+    first: &Word,
+    later: &Word,
+) -> Result<Answer, Stop>
+    ensures answers { Answers (IsConflictsAnswer (exchange.now ∷ first.now ∷ later.now ∷ []))
+        (S.held shelf.old) (S.faults shelf.old) (S.faults shelf.new) result }
+    ensures made { Makes (AreOthers (exchange.now ∷ first.now ∷ later.now ∷ [])) usage_answer
+        result }
+{
+    match pair_of(first, later) {
+        Some(pair) => tell(alloc, shelf, exchange, Some(pair)),
+        None => usage_answer(alloc),
+    }
+}
+
+/// The pair of entries that has these numbers; `None` where one of them is no number.
+fn pair_of(first: &Word, later: &Word) -> Option<EntryPair>
+    ensures { result ≡ asked_by first.now later.now }
+{
+    let Some(first) = read_number(first.as_slice()) else {
+        return None;
+    };
+    let Some(later) = read_number(later.as_slice()) else {
+        return None;
+    };
+    Some(EntryPair {
+        first: first as usize,
+        later: later as usize,
+    })
+}
+
+/// What is told of the exchange of a file.
+#[tactic(auto, using(answer_meaning::proofs::Stages::performs_rules))]
+fn tell<S: Shelf>(
+    alloc: Global,
+    shelf: &mut S,
+    name: &Word,
+    asked: Option<EntryPair>,
+) -> Result<Answer, Stop>
+    ensures comes { Performs (S.held shelf.old) (FromExchange name.now (AnswersConflicts asked))
+        (S.faults shelf.old) (S.faults shelf.new) result }
+    ensures ending { IfOk result (λ a. IsEnding a.status) }
+{
+    let exchange = exchange_in(alloc, shelf, name)?;
+    let answer = conflicts_answer(alloc, &exchange, asked)?;
+    Ok(answer)
+}
+
+/// The answer with the conflicts of an exchange.
+fn conflicts_answer(
+    alloc: Global,
+    exchange: &Exchange,
+    asked: Option<EntryPair>,
+) -> Result<Answer, Memory>
+    ensures answer { IfOk result (AnswersConflicts asked exchange.now) }
+    ensures ending { IfOk result (λ a. IsEnding a.status) }
+{
+    let text = conflicts(alloc, exchange, asked)?;
+    Ok(Answer {
+        status: Status::Done,
+        text,
+    })
+}
+
+/// The usage line.
+#[tactic(auto, unfolding(crate::specs::Words::usage_text))]
+fn usage_answer(alloc: Global) -> Result<Answer, Stop>
+    ensures { ReadAs (Ok usage_answer) result }
+{
+    match Seq::copied(alloc, b"usage: plex-conflicts E [i j]\n") {
+        Ok(text) => Ok(Answer {
+            status: Status::Usage,
+            text: Text::whole(alloc, text),
+        }),
+        Err(_) => Err(Stop::Memory),
+    }
+}

@@ -1,0 +1,6 @@
+pub mod Ranges
+pub mod Telling
+pub mod Within
+pub mod Alike
+pub mod Sectioned
+pub mod Lining

@@ -1,0 +1,13 @@
+// The text of the conflicts of an exchange.
+//
+// What goes in: an exchange, and the pair of entries that is asked for, if one is. What comes out:
+// its analysis, and behind it the points whose statements give what each entry does, and all that
+// clashes of each pair. It does not know how facts are found, nor how rows are.
+#![tactic(auto)]
+
+mod lines;
+mod sections;
+mod told;
+mod whole;
+
+pub use whole::conflicts;

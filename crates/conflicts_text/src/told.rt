@@ -1,0 +1,156 @@
+// The texts of the sections.
+ghost use Rattle.std.specs.Prelude.{◌≡◌, ◌<◌, ◌++◌, Some, length, slice_get, IfOk, OnOk};
+ghost use Rattle.least_facts.specs.Least.{IsFor};
+ghost use Rattle.analysis_text.specs.Pairs.{GainsText};
+ghost use Rattle.conflicts_meaning.specs.Lines.{last_line, limit_line};
+ghost use Rattle.conflicts_meaning.specs.Told.{IsEntryText, IsPairText, IsSectionText, Told};
+ghost use Rattle.conflicts_text.specs.Means.{AreOf};
+ghost use Rattle.conflicts_text.specs.Within.{AllWithin, IsWithin};
+
+use crate::lines::{clash_lines, limit_text, point_lines};
+use conflict_rows::{KnownEntry, clashes_of, given_in};
+use conflicts_meaning::{EntryPair, Section};
+use entry_accesses::CellNumbers;
+use exchange_model::Exchange;
+use flow_table::{FlowTable, PlaceAt, reached_places};
+use kept_summaries::Summaries;
+use least_facts::Analyser;
+use plex_num::{Memory, Seq};
+use std::alloc::Global;
+use text_parts::Text;
+
+/// What is made once of an exchange.
+#[derive(Clone, Copy)]
+pub(crate) struct Means<'a> {
+    pub exchange: &'a Exchange,
+    pub table: &'a FlowTable,
+    pub places: &'a [PlaceAt<'a>],
+    pub numbers: &'a CellNumbers,
+    pub summaries: &'a Summaries,
+}
+
+/// Appends the texts of the sections, and the last line; less where they are more than the most
+/// bytes that are told.
+pub(crate) fn add_sections(
+    text: &mut Text,
+    alloc: Global,
+    means: &Means<'_>,
+    analyser: &mut Analyser,
+    sections: &[Section],
+    most: usize,
+) -> Result<(), Memory>
+    requires of { AreOf means.now.exchange.now means.now.table.now means.now.places.now
+        means.now.numbers.now means.now.summaries.now }
+    requires own { IsFor means.now.exchange.now means.now.table.now analyser.old }
+    requires within { AllWithin (length means.now.summaries.now) sections.now }
+    ensures { OnOk result (GainsText
+        (Told (IsSectionText means.now.exchange.now means.now.summaries.now) most sections.now most)
+        text.old text.new) }
+{
+    let mut room = most;
+    for place in 0..sections.len() {
+        let part = section_text(alloc, means, analyser, section_at(sections, place))?;
+        let size = part.len();
+        if room < size {
+            add_limit(text, alloc, most)?;
+            return Ok(());
+        }
+        room -= size;
+        let bytes = part.as_slice();
+        text.append(bytes)?;
+    }
+    add_last(text)?;
+    Ok(())
+}
+
+/// Appends that more than so many bytes are not told.
+fn add_limit(text: &mut Text, alloc: Global, most: usize) -> Result<(), Memory>
+    ensures { OnOk result (text.new ≡ text.old ++ limit_line most) }
+{
+    let limit = limit_text(alloc, most)?;
+    text.append(limit.as_slice())
+}
+
+/// Appends the last line.
+fn add_last(text: &mut Text) -> Result<(), Memory>
+    ensures { OnOk result (text.new ≡ text.old ++ last_line) }
+{
+    text.append(b"END CONFLICTS\n")
+}
+
+/// The section at a place.
+fn section_at(sections: &[Section], place: usize) -> Section
+    requires { place < length sections.now }
+    ensures { slice_get sections.now place ≡ Some result }
+{
+    sections[place]
+}
+
+/// The text of a section.
+fn section_text(
+    alloc: Global,
+    means: &Means<'_>,
+    analyser: &mut Analyser,
+    section: Section,
+) -> Result<Seq<u8>, Memory>
+    requires of { AreOf means.now.exchange.now means.now.table.now means.now.places.now
+        means.now.numbers.now means.now.summaries.now }
+    requires own { IsFor means.now.exchange.now means.now.table.now analyser.old }
+    requires within { IsWithin (length means.now.summaries.now) section }
+    ensures own { OnOk result (IsFor means.now.exchange.now means.now.table.now analyser.new) }
+    ensures text { IfOk result
+        (IsSectionText means.now.exchange.now means.now.summaries.now section) }
+{
+    match section {
+        Section::Entry { number } => entry_text(alloc, means, analyser, number),
+        Section::Pair { pair } => pair_text(alloc, means.summaries, pair),
+    }
+}
+
+/// All points of an entry. What its jobs may have before each is found once more.
+fn entry_text(
+    alloc: Global,
+    means: &Means<'_>,
+    analyser: &mut Analyser,
+    number: usize,
+) -> Result<Seq<u8>, Memory>
+    requires of { AreOf means.now.exchange.now means.now.table.now means.now.places.now
+        means.now.numbers.now means.now.summaries.now }
+    requires own { IsFor means.now.exchange.now means.now.table.now analyser.old }
+    requires within { number < length means.now.summaries.now }
+    ensures own { OnOk result (IsFor means.now.exchange.now means.now.table.now analyser.new) }
+    ensures text { IfOk result
+        (IsEntryText means.now.exchange.now means.now.summaries.now number) }
+{
+    means.exchange.kept();
+    let entry = number as u32;
+    analyser.learn(alloc, means.exchange, means.table, entry, None)?;
+    let facts = analyser.known();
+    let there = reached_places(alloc, means.places, facts, entry)?;
+    let reached = there.as_slice();
+    let of = KnownEntry {
+        exchange: means.exchange,
+        numbers: means.numbers,
+        known: facts,
+        entry,
+    };
+    let summary = means.summaries.at(number);
+    let rows = given_in(alloc, &of, reached, summary)?;
+    let lines = rows.as_slice();
+    let text = point_lines(alloc, means.exchange, number, lines)?;
+    Ok(text)
+}
+
+/// All that clashes of the entries of a pair.
+fn pair_text(alloc: Global, summaries: &Summaries, pair: EntryPair) -> Result<Seq<u8>, Memory>
+    requires first { pair.first < length summaries.now }
+    requires later { pair.later < length summaries.now }
+    ensures { IfOk result (IsPairText summaries.now pair) }
+{
+    let first = summaries.at(pair.first);
+    let later = summaries.at(pair.later);
+    let rows = clashes_of(alloc, first, later)?;
+    let lines = rows.as_slice();
+    let text = clash_lines(alloc, pair, lines)?;
+    Ok(text)
+}

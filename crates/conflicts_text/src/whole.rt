@@ -1,0 +1,48 @@
+// The text.
+ghost use Rattle.std.specs.Prelude.{◌≡◌, IfOk};
+ghost use Rattle.conflicts_meaning.specs.Told.{AreConflicts};
+
+use crate::sections::sections;
+use crate::told::{Means, add_sections};
+use access_summary::summaries_of;
+use analysis_text::analysis;
+use conflicts_meaning::{EntryPair, MOST_TOLD};
+use entry_accesses::numbers_of;
+use exchange_model::Exchange;
+use flow_table::{places_of, table_of};
+use least_facts::Analyser;
+use plex_num::Memory;
+use std::alloc::Global;
+use text_parts::Text;
+
+/// The conflicts of an exchange, of all entries or of the pair that is asked for: the analysis, the
+/// points that give each access and each level of the entries, and all that clashes. Memory is the
+/// only reason for an error.
+pub fn conflicts(
+    alloc: Global,
+    exchange: &Exchange,
+    asked: Option<EntryPair>,
+) -> Result<Text, Memory>
+    ensures { IfOk result (AreConflicts exchange.now asked) }
+{
+    exchange.kept();
+    let summaries = summaries_of(alloc, exchange)?;
+    let table = table_of(alloc, exchange)?;
+    let places = places_of(alloc, exchange)?;
+    let numbers = numbers_of(alloc, exchange)?;
+    let mut analyser = Analyser::new(alloc, exchange, &table)?;
+    let made = sections(alloc, summaries.len(), asked)?;
+    let told = made.as_slice();
+    let stands = places.as_slice();
+    let means = Means {
+        exchange,
+        table: &table,
+        places: stands,
+        numbers: &numbers,
+        summaries: &summaries,
+    };
+    let mut text = analysis(alloc, exchange, &summaries)?;
+    text.append(b"CONFLICTS 1\n")?;
+    add_sections(&mut text, alloc, &means, &mut analyser, told, MOST_TOLD)?;
+    Ok(text)
+}
