@@ -4,3 +4,4 @@ pub mod Conflicting
 pub mod Nearing
 pub mod Tested
 pub mod Holding
+pub mod Skipping

@@ -33,7 +33,7 @@ use Rattle.pair_tests.specs.Nearby.{file_access, lowest, highest, passes_reads, 
 use Rattle.pair_tests.proofs.Leasts.{least_joined, least_same}
 use Rattle.pair_tests.proofs.Conflicting.{shared, chosen}
 
-accesses_total : IsTotalOrder access_order
+pub accesses_total : IsTotalOrder access_order
 accesses_total = total-law
 
 -- what stands below in order passes a bound that is passed above
@@ -101,7 +101,7 @@ counted b xs count front past = record { there = front.there; parts = (front.eac
 
 -- what is near stands between the two bounds
 
-itself : (x : Access) → access_order x x ≡ Equal
+pub itself : (x : Access) → access_order x x ≡ Equal
 itself x = tied_itself accesses_total x
 
 field_order : (v : Bool) (n : ℕ) (u z : Value) → access_order (Field v n u) (Field v n z) ≡ value_order u z
@@ -111,7 +111,7 @@ field_order false n u z = rw (tied_itself nat_cmp_total n)
 not_below_zero : (k : ℕ) → is_lt (nat_cmp k 0) ≡ false
 not_below_zero k = grind (arith, nat_tests)
 
-not_below_arg : (z : Value) → is_lt (value_order z (Arg 0)) ≡ false
+pub not_below_arg : (z : Value) → is_lt (value_order z (Arg 0)) ≡ false
 not_below_arg (Arg k) = not_below_zero k
 not_below_arg (Const c) = refl
 not_below_arg Any = refl

@@ -3,3 +3,4 @@ pub mod Pairs
 pub mod Clashes
 pub mod Nearby
 pub mod Asked
+pub mod Idle

@@ -10,8 +10,9 @@ ghost use Rattle.pair_tests.specs.Orders.{test_order};
 ghost use Rattle.pair_tests.specs.Pairs.{IsTest};
 
 use crate::clash::share;
-use crate::near::{Hints, near, passes_reads};
+use crate::near::{Hints, at, near, passes_reads};
 use crate::pair::Test;
+use crate::skip::next_near;
 use entry_summary::{Access, Summary};
 use flow_points::Value;
 use plex_num::{Memory, Seq};
@@ -132,15 +133,19 @@ fn push_with(
     Ok(())
 }
 
-/// Appends the tests of accesses of the first with those of the later. Lists in order are gone through once.
+/// Appends the tests of accesses of the first with those of the later. Lists in order are gone through once, and what can ask for none is
+/// passed.
 #[tactic(auto, using(crate::proofs::Tested::all_begin, crate::proofs::Tested::all_more, crate::proofs::Tested::all_end))]
 fn push_fields(ones: &[Access], others: &[Access], tests: &mut Seq<Test>) -> Result<(), Memory>
-    requires { IsStrictlySortedBy access_order others.now }
+    requires ones { IsStrictlySortedBy access_order ones.now }
+    requires others { IsStrictlySortedBy access_order others.now }
     ensures { OnOk result (AddsTests (Asked ones.now others.now) tests.old tests.new) }
 {
     let mut hints = Hints::new();
-    for one in ones {
-        push_with(*one, others, &mut hints, tests)?;
+    let mut place: usize = 0;
+    while place < ones.len() {
+        push_with(at(ones, place), others, &mut hints, tests)?;
+        place = next_near(ones, others, place + 1, &mut hints);
     }
     Ok(())
 }

@@ -5,8 +5,9 @@ ghost use Rattle.std.specs.List.Sorted.{IsStrictlySortedBy};
 ghost use Rattle.entry_summary.specs.Orders.{access_order};
 ghost use Rattle.pair_tests.specs.Clashes.{above_of, clash_of, only_if as only_if_of, meet as meet_of, share as share_of, Clashes, ClashesAbove, ClashesWith, IsLeastConflict};
 
-use crate::near::{Hints, near, passes_reads};
+use crate::near::{Hints, at, near, passes_reads};
 use crate::pair::Conflict;
+use crate::skip::next_sooner;
 use crate::sooner::{number_of, sooner};
 use entry_summary::Access;
 use flow_points::Value;
@@ -141,16 +142,20 @@ fn first_with(one: Access, others: &[Access], hints: &mut Hints) -> Option<Confl
     sooner(reads, writes)
 }
 
-/// The first conflict of accesses of the first with those of the later. Lists in order are gone through once.
+/// The first conflict of accesses of the first with those of the later. Lists in order are gone through once, and what can have no
+/// conflict, or none before one that was found, is passed.
 #[tactic(auto, using(crate::proofs::Leasts::of_none, crate::proofs::Leasts::of_more))]
 pub fn first_clash(ones: &[Access], others: &[Access]) -> Option<Conflict>
-    requires { IsStrictlySortedBy access_order others.now }
+    requires ones { IsStrictlySortedBy access_order ones.now }
+    requires others { IsStrictlySortedBy access_order others.now }
     ensures { IsLeastConflict (Clashes ones.now others.now) result }
 {
     let mut least = None;
     let mut hints = Hints::new();
-    for one in ones {
-        least = sooner(least, first_with(*one, others, &mut hints));
+    let mut place: usize = 0;
+    while place < ones.len() {
+        least = sooner(least, first_with(at(ones, place), others, &mut hints));
+        place = next_sooner(ones, others, place + 1, least, &mut hints);
     }
     least
 }

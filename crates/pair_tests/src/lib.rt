@@ -11,6 +11,7 @@ mod laws;
 mod near;
 mod pair;
 mod passing;
+mod skip;
 mod sooner;
 mod verdict;
 

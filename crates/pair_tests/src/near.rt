@@ -42,7 +42,7 @@ fn near_access(one: Access, write: bool, selector: Value) -> Access
 }
 
 /// The first access that there may be of the number of this one.
-fn lowest(one: Access, write: bool) -> Access
+pub(crate) fn lowest(one: Access, write: bool) -> Access
     ensures { result ≡ lowest_of one write }
 {
     near_access(one, write, Value::Arg(0))
@@ -79,7 +79,7 @@ const TRIES: usize = 4;
 
 /// How many accesses are within a bound, which are the first ones. `hint` is where their end is looked for first: a list that is
 /// asked for one number after the other is gone through once.
-fn count_within(accesses: &[Access], bound: Bound, hint: usize) -> usize
+pub(crate) fn count_within(accesses: &[Access], bound: Bound, hint: usize) -> usize
     requires { IsStrictlySortedBy access_order accesses.now }
     ensures { AreCounted bound accesses.now result }
 {
@@ -136,7 +136,7 @@ fn is_past(accesses: &[Access], bound: Bound, place: usize) -> bool
 }
 
 /// The access at a place.
-fn at(accesses: &[Access], place: usize) -> Access
+pub(crate) fn at(accesses: &[Access], place: usize) -> Access
     requires { place < length accesses.now }
     ensures { slice_get accesses.now place ≡ Some result }
 {

@@ -8,8 +8,9 @@ ghost use Rattle.pair_tests.specs.Pairs.{IsTest, Passes};
 
 use crate::asking::{asked, asks, release_test};
 use crate::jobs::{are_apart, holds};
-use crate::near::{Hints, near, passes_reads};
+use crate::near::{Hints, at, near, passes_reads};
 use crate::pair::Test;
+use crate::skip::next_near;
 use crate::verdict::first_conflict;
 use entry_summary::{Access, Summary};
 use job_types::JobStart;
@@ -55,17 +56,21 @@ fn hold_with(one: Access, others: &[Access], hints: &mut Hints, a: &JobStart, b:
     reads & writes
 }
 
-/// Whether the tests of accesses of the first with those of the later hold. Lists in order are gone through once.
+/// Whether the tests of accesses of the first with those of the later hold. Lists in order are gone through once, and what can ask for
+/// none is passed.
 #[tactic(auto, using(crate::proofs::Holding::all_begin, crate::proofs::Holding::all_more, crate::proofs::Holding::all_fails, crate::proofs::Holding::all_end))]
 fn fields_hold(ones: &[Access], others: &[Access], a: &JobStart, b: &JobStart) -> bool
-    requires { IsStrictlySortedBy access_order others.now }
+    requires ones { IsStrictlySortedBy access_order ones.now }
+    requires others { IsStrictlySortedBy access_order others.now }
     ensures { IsTrue result ↔ AllHold (Asked ones.now others.now) a.now b.now }
 {
     let mut hints = Hints::new();
-    for one in ones {
-        if !hold_with(*one, others, &mut hints, a, b) {
+    let mut place: usize = 0;
+    while place < ones.len() {
+        if !hold_with(at(ones, place), others, &mut hints, a, b) {
             return false;
         }
+        place = next_near(ones, others, place + 1, &mut hints);
     }
     true
 }

@@ -29,6 +29,10 @@ const ROUNDS: u32 = 10;
 /// times as many as are made in the time of a look.
 const STEPS_FOR_LOOK: u64 = 1000;
 
+/// More instructions than the jobs of a run make: an analysis for which memory was refused is not
+/// tried again.
+const NEVER: u64 = u64::MAX;
+
 /// What becomes of a run while its jobs are short.
 #[derive(Drop)]
 pub enum Grown {
@@ -65,24 +69,29 @@ pub fn until_long<G: Gate>(
             Come::Over(end) => return Ok(Grown::Over(end)),
             Come::Among(rests) => rests,
         };
-        if let Some(checked) = kept_within(alloc, exchange, looks) {
-            return Ok(Grown::Long(there, checked));
-        }
+        let kept = kept_within(alloc, exchange, looks);
         looks = looks.saturating_mul(2);
-        least = (looks as u64).saturating_mul(STEPS_FOR_LOOK);
+        least = match kept {
+            Ok(Some(checked)) => return Ok(Grown::Long(there, checked)),
+            Ok(None) => (looks as u64).saturating_mul(STEPS_FOR_LOOK),
+            Err(_) => NEVER,
+        };
     }
     let end = run_books(exchange, layout, there, runner, &mut Unwatched)?;
     Ok(Grown::Over(end))
 }
 
-/// What is kept of the exchange's own certificate; nothing where it takes more looks, or more
-/// memory than there is.
-fn kept_within(alloc: Global, exchange: &Exchange, looks: usize) -> Option<Checked>
-    ensures { IfSome result (IsChecked exchange.now) }
+/// What is kept of the exchange's own certificate; nothing where it takes more looks. Memory is the
+/// only reason for an error.
+fn kept_within(
+    alloc: Global,
+    exchange: &Exchange,
+    looks: usize,
+) -> Result<Option<Checked>, Memory>
+    ensures { IfOk result (λ kept. IfSome kept (IsChecked exchange.now)) }
 {
-    match keep_own_if_few(alloc, exchange, looks) {
-        Ok(Own::Kept(checked)) => Some(checked),
-        Ok(Own::Many(_)) => None,
-        Err(_) => None,
+    match keep_own_if_few(alloc, exchange, looks)? {
+        Own::Kept(checked) => Ok(Some(checked)),
+        Own::Many(_) => Ok(None),
     }
 }

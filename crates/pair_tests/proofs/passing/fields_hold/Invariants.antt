@@ -1,6 +1,9 @@
-use Rattle.std.proofs.Common.{take}
+use Rattle.std.proofs.Common.{◌≤◌, ◌-◌, length, take}
 use Rattle.pair_tests.specs.Asked.{AllHold, Asked}
 use Rattle.pair_tests.proofs.passing.fields_hold.Given as goal
 
-abbrev pub invariant-loop-one : goal.invariant-loop-one
-invariant-loop-one l = AllHold (Asked (take l.one-index l.ones) l.others) l.a l.b
+abbrev pub invariant-loop-place : goal.invariant-loop-place
+invariant-loop-place l = (l.place ≤ length l.ones) × AllHold (Asked (take l.place l.ones) l.others) l.a l.b
+
+abbrev pub decreases-loop-place : goal.decreases-loop-place
+decreases-loop-place l = length l.ones - l.place
