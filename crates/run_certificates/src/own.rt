@@ -45,7 +45,8 @@ pub enum Grown {
 /// Goes on for as long as jobs are short, one after the other, since the analysis and the threads
 /// cost more than those take; then the analysis is made, with a bound. Where it takes more, the run
 /// goes on as before until it has made so much that an analysis with twice the bound is a small
-/// part of that, and so on. Memory is the only reason for an error.
+/// part of that, and so on; where memory is refused for one, none is made again. Memory is the only
+/// reason for an error.
 #[tactic(auto, using(exchange_run::proofs::Resting::way_rules))]
 pub fn until_long<G: Gate>(
     alloc: Global,
@@ -69,13 +70,13 @@ pub fn until_long<G: Gate>(
             Come::Over(end) => return Ok(Grown::Over(end)),
             Come::Among(rests) => rests,
         };
-        let kept = kept_within(alloc, exchange, looks);
-        looks = looks.saturating_mul(2);
-        least = match kept {
+        let more = looks.saturating_mul(2);
+        least = match kept_within(alloc, exchange, looks) {
             Ok(Some(checked)) => return Ok(Grown::Long(there, checked)),
-            Ok(None) => (looks as u64).saturating_mul(STEPS_FOR_LOOK),
+            Ok(None) => (more as u64).saturating_mul(STEPS_FOR_LOOK),
             Err(_) => NEVER,
         };
+        looks = more;
     }
     let end = run_books(exchange, layout, there, runner, &mut Unwatched)?;
     Ok(Grown::Over(end))
@@ -83,11 +84,7 @@ pub fn until_long<G: Gate>(
 
 /// What is kept of the exchange's own certificate; nothing where it takes more looks. Memory is the
 /// only reason for an error.
-fn kept_within(
-    alloc: Global,
-    exchange: &Exchange,
-    looks: usize,
-) -> Result<Option<Checked>, Memory>
+fn kept_within(alloc: Global, exchange: &Exchange, looks: usize) -> Result<Option<Checked>, Memory>
     ensures { IfOk result (λ kept. IfSome kept (IsChecked exchange.now)) }
 {
     match keep_own_if_few(alloc, exchange, looks)? {

@@ -11,8 +11,8 @@ loop-round-preserved g c = record {
   faithful = c.in_ok-end.ensures.runner;
 }
 
-pub returns-in-Some : goal.returns-in-Some
-returns-in-Some g c = (come_among c.loop-round.invariant.way c.in_ok-end.ensures.come c.in-Among.is, c.in-Some.ensures)
+pub returns-in-Ok-Some : goal.returns-in-Ok-Some
+returns-in-Ok-Some g c = (come_among c.loop-round.invariant.way c.in_ok-end.ensures.come c.in-Among.is, rw c.in-Ok-Some.field-0-is at c.in-Ok-Some.ensures)
 
 pub returns : goal.returns
 returns g c = way_over c.loop-round.invariant.way c.in_ok-end-2.ensures.end
