@@ -9,13 +9,13 @@ ghost use Rattle.conflicts_meaning.specs.Rows.{AreClashRows, row_order};
 ghost use Rattle.conflict_rows.specs.Items.{GivenBy};
 ghost use Rattle.conflict_rows.specs.Near.{ClashesFirst, ClashesLater, IsOfFirst, IsOfLater, IsOfLevel, IsOfLevelAt, NearFirst, NearLater};
 
-use crate::clash::{clash, listed, number_of};
-use crate::near::{is_field, near_access, selector_of};
+use crate::clash::{clash, listed};
+use crate::near::selector_of;
 use crate::places::{at, level_at, place_of};
 use conflicts_meaning::ClashRow;
 use entry_summary::{Access, Summary};
 use flow_points::Value;
-use pair_tests::Conflict;
+use pair_tests::{Conflict, asks, near_access, number_of};
 use plex_num::{Level, Memory, Seq};
 use std::alloc::Global;
 
@@ -125,7 +125,7 @@ fn push_field(
     requires { IsStrictlySortedBy access_order ones.now }
     ensures { OnOk result (Adds rows.old rows.new (IsOfLater ones.now place other)) }
 {
-    if !is_field(other) {
+    if !asks(other) {
         return Ok(());
     }
     push_any(place, other, ones, rows)?;

@@ -100,7 +100,7 @@ fn on_freeing(file: u32, other: Access) -> Option<Conflict>
 }
 
 /// The conflict of an access of the first with one of the later, if they conflict.
-fn clash(one: Access, other: Access) -> Option<Conflict>
+pub fn conflict_of(one: Access, other: Access) -> Option<Conflict>
     ensures { result ≡ clash_of one other }
 {
     match one {
@@ -123,7 +123,7 @@ fn first_among(one: Access, others: &[Access]) -> Option<Conflict>
 {
     let mut least = None;
     for other in others {
-        least = sooner(least, clash(one, *other));
+        least = sooner(least, conflict_of(one, *other));
     }
     least
 }

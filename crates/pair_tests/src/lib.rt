@@ -15,9 +15,12 @@ mod skip;
 mod sooner;
 mod verdict;
 
-pub use asking::tests_of;
+pub use asking::{asks, tests_of};
+pub use clash::conflict_of;
 pub use jobs::{all_hold, are_apart};
 pub use laws::first_conflict_is_one;
+pub use near::near_access;
 pub use pair::{Conflict, Test, Verdict};
 pub use passing::passes;
+pub use sooner::number_of;
 pub use verdict::verdict_of;

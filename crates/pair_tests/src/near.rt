@@ -21,7 +21,7 @@ fn file_access(file: u32, frees: bool) -> Access
 }
 
 /// The access of the number of this one that writes, or that does not; of a field with this selector.
-fn near_access(one: Access, write: bool, selector: Value) -> Access
+pub fn near_access(one: Access, write: bool, selector: Value) -> Access
     ensures { result ≡ near_access_of one write selector }
 {
     match one {
