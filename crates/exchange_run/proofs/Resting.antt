@@ -77,7 +77,8 @@ module _ (x : Exchange) (first : State) (limit n : ℕ) (goes : (m : ℕ) → m 
   same_end : (e : Ending) → ending_at limit (end_state x limit there) ≡ Some e → jobs_at_end x limit first ≡ rest + n
   same_end e is = ends_at x first limit (rest + n) e (at_most x first limit (rest + n) all_go) all_go (ap (ending_at limit) (sym (after_both x first n rest)) ∙ is)
 
-  rests : (s : State) (words : List ℕ) (e : Ending) → RunsTo x there limit s words e → RunsTo x first limit s words e
+  -- what it comes to from there is what it comes to
+  pub rests : (s : State) (words : List ℕ) (e : Ending) → RunsTo x there limit s words e → RunsTo x first limit s words e
   rests s words e r =
       let far : end_state x limit there ≡ end_state x limit first = after_both x first n rest ∙ ap (after x first) (sym (same_end e r.ends)) in
       record {

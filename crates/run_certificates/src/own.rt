@@ -10,24 +10,12 @@ use certificate_check::{Own, keep_own_if_few};
 use checked::Checked;
 use exchange_model::Exchange;
 use exchange_run::{Come, Ended, Standing, Unwatched, run_books, run_until};
-use offload_policy::Rest;
+use offload_policy::{FIRST_LOOKS, ROUNDS, Rest, STEPS_FOR_LOOK};
 use plex_io::Gate;
 use plex_num::Memory;
 use run_engines::ByCode;
 use std::alloc::Global;
 use store_layout::Layout;
-
-/// How many looks at facts the first analysis of a run may take. That is a sixtieth of a second or
-/// so with all that belongs to it.
-const FIRST_LOOKS: usize = 16_384;
-
-/// So many analyses are tried at most, each with twice the looks of the one before: the last one
-/// with eight million, which take some two seconds and 200 megabytes.
-const ROUNDS: u32 = 10;
-
-/// How many instructions the jobs of a run must have made for each look of a further analysis: four
-/// times as many as are made in the time of a look.
-const STEPS_FOR_LOOK: u64 = 1000;
 
 /// More instructions than the jobs of a run make: an analysis for which memory was refused is not
 /// tried again.
