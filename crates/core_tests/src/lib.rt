@@ -15,4 +15,6 @@ mod lent;
 #[cfg(test)]
 mod pairs;
 #[cfg(test)]
+mod permits;
+#[cfg(test)]
 mod texts;

@@ -14,7 +14,7 @@ use std::test::Fail;
 type Pair = (usize, usize, bool);
 
 /// The jobs of these lines, in the order in which they begin.
-fn starts_of(alloc: Global, exchange: &Exchange, text: &str) -> Result<Seq<JobStart>, NotMade> {
+pub fn starts_of(alloc: Global, exchange: &Exchange, text: &str) -> Result<Seq<JobStart>, NotMade> {
     let lines = lines_of(alloc, exchange, text)?;
     let mut books = books_of(alloc, exchange, lines)?;
     let mut starts = Seq::new(alloc);
