@@ -1,0 +1,4 @@
+pub mod Growing
+pub mod Pairing
+pub mod Owning
+pub mod Wording
