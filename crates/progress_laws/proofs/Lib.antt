@@ -1,0 +1,5 @@
+pub mod Counting
+pub mod Ending
+pub mod Pacing
+pub mod Going
+pub mod Reaching
