@@ -26,7 +26,7 @@ itself a = tied_itself total-law a
 same_access : (a b : Access) → equal.ghosts.eq a b ≡ true → a ≡ b
 same_access a b is = search (rules, is)
 
-equal_is : (a b : Access) → access_order a b ≡ Equal → a ≡ b
+pub equal_is : (a b : Access) → access_order a b ≡ Equal → a ≡ b
 equal_is a b e = same_access a b (matches_eq-law a b ∙ ap is_eq e)
 
 module _ (xs : List Access) (up : IsStrictlySortedBy access_order xs) where

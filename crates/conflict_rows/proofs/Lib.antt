@@ -7,3 +7,4 @@ pub mod Ordering
 pub mod Pointed
 pub mod Alone
 pub mod Rowing
+pub mod Bounded

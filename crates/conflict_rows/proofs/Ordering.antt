@@ -1,7 +1,9 @@
 -- Rows in order, each once.
-use Rattle.std.proofs.Common.{◌≡◌, ◌↔◌, Bool, true, List, sym, ◌∙◌, subst, rules, IsPermutation, IsSorted}
+use Rattle.std.proofs.Common.{◌≡◌, ◌↔◌, Bool, true, List, sym, ap, ◌∙◌, subst, rules, IsPermutation, IsSorted}
 use Rattle.std.specs.List.{Contains, dedup}
 use Rattle.std.specs.List.Sorted.{IsStrictlySortedBy}
+use Rattle.std.specs.Ordering.{is_eq}
+use Rattle.std.specs.declared.cmp.Ordering.TheVariants.{Equal}
 use Rattle.std.proofs.lemmas.List.Kept.{IsStrictlySortedBy-dedup}
 use Rattle.entry_summary.proofs.Sorting.{same_items}
 use Rattle.conflicts_meaning.specs.declared.rows.ClashRow.{ClashRow}
@@ -15,6 +17,9 @@ alike = equal.ghosts.eq
 
 same_row : (a b : ClashRow) → alike a b ≡ true → a ≡ b
 same_row a b is = search (rules, is)
+
+pub row_tied : (a b : ClashRow) → row_order a b ≡ Equal → a ≡ b
+row_tied a b tied = same_row a b (order_laws.matches_eq-law a b ∙ ap is_eq tied)
 
 pub sorted_rising : (sorted new result : List ClashRow) → IsSorted row_order sorted → new ≡ dedup alike sorted → result ≡ new → IsStrictlySortedBy row_order result
 sorted_rising sorted new result h is same = subst (IsStrictlySortedBy row_order) (sym (same ∙ is)) (IsStrictlySortedBy-dedup order_laws.total-law order_laws.matches_eq-law sorted h)

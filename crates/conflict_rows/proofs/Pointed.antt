@@ -1,8 +1,10 @@
 -- One row of a point more, or none.
-use Rattle.std.proofs.Common.{◌≡◌, ◌↔◌, ◌⊎◌, ⊎_elim, ℕ, ◌+◌, Bool, true, false, nat_eq, ◌||◌, List, [], ◌∷◌, ◌++◌, Option, Some, None, refl, sym, ap, ◌∙◌, subst, rules, IsPermutation, IsSorted}
+use Rattle.std.proofs.Common.{◌≡◌, ◌↔◌, ⊎_elim, ℕ, ◌+◌, Bool, true, false, nat_eq, ◌||◌, List, [], ◌∷◌, ◌++◌, Option, Some, None, refl, sym, ap, ◌∙◌, subst, rules, IsPermutation, IsSorted}
 use Rattle.std.specs.Prelude.{slice_get}
 use Rattle.std.specs.List.{Contains, dedup}
 use Rattle.std.specs.List.Sorted.{IsStrictlySortedBy}
+use Rattle.std.specs.Ordering.{is_eq}
+use Rattle.std.specs.declared.cmp.Ordering.TheVariants.{Equal}
 use Rattle.std.proofs.lemmas.Bool.{eq-eqb, eqb-true}
 use Rattle.std.proofs.lemmas.List.Kept.{IsStrictlySortedBy-dedup}
 use Rattle.plex_num.specs.declared.level.Level.{Level}
@@ -95,6 +97,9 @@ alike = equal.ghosts.eq
 
 same_given : (a b : GivenAt) → alike a b ≡ true → a ≡ b
 same_given a b is = search (rules, is)
+
+pub given_tied : (a b : GivenAt) → given_order a b ≡ Equal → a ≡ b
+given_tied a b tied = same_given a b (order_laws.matches_eq-law a b ∙ ap is_eq tied)
 
 pub given_rising : (sorted new result : List GivenAt) → IsSorted given_order sorted → new ≡ dedup alike sorted → result ≡ new → IsStrictlySortedBy given_order result
 given_rising sorted new result h is same = subst (IsStrictlySortedBy given_order) (sym (same ∙ is)) (IsStrictlySortedBy-dedup order_laws.total-law order_laws.matches_eq-law sorted h)

@@ -1,3 +1,4 @@
 pub mod Items
 pub mod Near
 pub mod Points
+pub mod Found

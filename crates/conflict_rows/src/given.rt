@@ -1,5 +1,5 @@
 // The points whose statements give what a summary has.
-ghost use Rattle.std.specs.Prelude.{◌≡◌, ◌↔◌, ◌∷◌, ◌+◌, ◌<◌, ℕ, [], map, length, slice_get, Some, IfOk, OnOk};
+ghost use Rattle.std.specs.Prelude.{◌≡◌, ◌↔◌, ◌∷◌, ◌+◌, ◌<◌, ℕ, true, [], map, length, slice_get, Some, IfOk, OnOk};
 ghost use Rattle.std.specs.List.{Contains};
 ghost use Rattle.std.specs.List.Sorted.{IsStrictlySortedBy};
 ghost use Rattle.flow_table.specs.Texts.{AreReachedAmong, seen};
@@ -10,11 +10,13 @@ ghost use Rattle.entry_accesses.specs.Levels.{is_sent};
 ghost use Rattle.entry_accesses.specs.Listed.{AreAccesses};
 ghost use Rattle.entry_accesses.specs.Numbered.{AreNumbers};
 ghost use Rattle.conflicts_meaning.specs.declared.rows.GivenAt.{GivenAt as RowType};
-ghost use Rattle.conflicts_meaning.specs.Points.{AreGiven, given_order};
+ghost use Rattle.conflicts_meaning.specs.Points.{AreGiven, AreSomeGiven, given_order};
+ghost use Rattle.conflict_rows.specs.Found.{FindsWithin, is_past as is_past_bound};
 ghost use Rattle.conflict_rows.specs.Items.{GivenBy};
 ghost use Rattle.conflict_rows.specs.Points.{AccessAt, GivesAt, LevelAt};
 
 use crate::at_point::AtPoint;
+use crate::found::{GivenRows, is_past};
 use crate::places::{at, level_at, place_of};
 use conflicts_meaning::GivenAt;
 use entry_accesses::{CellNumbers, Listed, accesses_within, levels_of};
@@ -49,12 +51,43 @@ pub fn given_in(
     ensures { IfOk result (AreGiven of.now.exchange.now (Knows of.now.known.now) of.now.entry
         summary.now) }
 {
+    let found = given_within(alloc, of, places, summary, None)?;
+    match found {
+        GivenRows::Whole { rows } => Ok(rows),
+        GivenRows::Over { .. } => unreachable!(),
+    }
+}
+
+/// The same points where no more than so many are found, if there is a bound; else some of them,
+/// which are more. Memory is the only reason for an error.
+pub fn given_within(
+    alloc: Global,
+    of: &KnownEntry<'_>,
+    places: &[PlaceAt<'_>],
+    summary: &Summary,
+    most: Option<usize>,
+) -> Result<GivenRows, Memory>
+    requires places { AreReachedAmong of.now.exchange.now (Knows of.now.known.now) of.now.entry
+        (map seen places.now) }
+    requires numbers { AreNumbers of.now.exchange.now of.now.numbers.now }
+    ensures { IfOk result (FindsWithin most
+        (AreGiven of.now.exchange.now (Knows of.now.known.now) of.now.entry summary.now)
+        (AreSomeGiven of.now.exchange.now (Knows of.now.known.now) of.now.entry summary.now)) }
+{
     let mut rows = Seq::new(alloc);
     for place in 0..places.len() {
         let at = place_at(places, place);
         push_place(alloc, of, &at, summary, &mut rows)?;
+        rows = few_or_in_order(rows, most);
+        if is_past(most, rows.len()) {
+            return Ok(GivenRows::Over { rows });
+        }
     }
-    Ok(in_order(rows))
+    let sorted = in_order(rows);
+    if is_past(most, sorted.len()) {
+        return Ok(GivenRows::Over { rows: sorted });
+    }
+    Ok(GivenRows::Whole { rows: sorted })
 }
 
 /// The statement at a place of the list.
@@ -204,6 +237,19 @@ fn is_sent_to(sent: &[Level], level: Level) -> bool
     ensures { result ≡ is_sent sent.now level }
 {
     sent.contains(&level)
+}
+
+/// The same rows; where they are more than may be found, in order, each once.
+#[tactic(auto, using(crate::proofs::Bounded::few_rise))]
+fn few_or_in_order(rows: Seq<GivenAt>, most: Option<usize>) -> Seq<GivenAt>
+    ensures same { (r : RowType) → Contains result r ↔ Contains rows r }
+    ensures rising { is_past_bound most (length result) ≡ true
+        → IsStrictlySortedBy given_order result }
+{
+    if is_past(most, rows.len()) {
+        return in_order(rows);
+    }
+    rows
 }
 
 /// The same rows in order, each once.

@@ -54,3 +54,8 @@ given_order = given.ghosts.cmp
 pub record AreGiven (x : Exchange) (P : Facts) (e : ℕ) (s : Summary) (rows : List GivenAt) : Type 0 where
   pub exact : (r : GivenAt) → Contains rows r ↔ IsGiven x P e s r
   pub rising : IsStrictlySortedBy given_order rows
+
+-- points of accesses and levels of a summary, some or all, in order, each once
+pub record AreSomeGiven (x : Exchange) (P : Facts) (e : ℕ) (s : Summary) (rows : List GivenAt) : Type 0 where
+  pub each : (r : GivenAt) → Contains rows r → IsGiven x P e s r
+  pub rising : IsStrictlySortedBy given_order rows

@@ -52,3 +52,8 @@ row_order = rows.ghosts.cmp
 pub record AreClashRows (first later : Summary) (rows : List ClashRow) : Type 0 where
   pub exact : (r : ClashRow) → Contains rows r ↔ IsClashRow first later r
   pub rising : IsStrictlySortedBy row_order rows
+
+-- what clashes of two summaries, some of it or all, in order, each once
+pub record AreSomeClashRows (first later : Summary) (rows : List ClashRow) : Type 0 where
+  pub each : (r : ClashRow) → Contains rows r → IsClashRow first later r
+  pub rising : IsStrictlySortedBy row_order rows

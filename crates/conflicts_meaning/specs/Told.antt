@@ -13,8 +13,8 @@ use Rattle.conflicts_meaning.specs.declared.rows.GivenAt.{GivenAt}
 use Rattle.conflicts_meaning.specs.declared.rows.Section.{Section}
 use Rattle.conflicts_meaning.specs.declared.rows.Section.TheVariants.{Entry, Pair}
 use Rattle.conflicts_meaning.specs.declared.rows.TheConstants.{MOST_TOLD}
-use Rattle.conflicts_meaning.specs.Points.{AreGiven}
-use Rattle.conflicts_meaning.specs.Rows.{AreClashRows}
+use Rattle.conflicts_meaning.specs.Points.{AreGiven, AreSomeGiven}
+use Rattle.conflicts_meaning.specs.Rows.{AreClashRows, AreSomeClashRows}
 use Rattle.conflicts_meaning.specs.Lines.{clash_text, first_line, last_line, limit_line, point_text}
 
 -- all points of the entry of this number
@@ -39,13 +39,36 @@ abbrev pub IsSectionText : Exchange → List Summary → Section → List ℕ �
 IsSectionText x summaries (Entry e) text = IsEntryText x summaries e text
 IsSectionText x summaries (Pair p) text = IsPairText summaries p text
 
+-- lines of these, some or all, in order, each once
+
+pub record HasEntryLines (x : Exchange) (summaries : List Summary) (e : ℕ) (lines : List ℕ) : Type 0 where
+  pub summary : Summary
+  pub there : slice_get summaries e ≡ Some summary
+  pub rows : List GivenAt
+  pub given : AreSomeGiven x (IsLeast x) e summary rows
+  pub are : lines ≡ flat_map (point_text x e) rows
+
+pub record HasPairLines (summaries : List Summary) (p : EntryPair) (lines : List ℕ) : Type 0 where
+  pub first : Summary
+  pub later : Summary
+  pub of_first : slice_get summaries p.first ≡ Some first
+  pub of_later : slice_get summaries p.later ≡ Some later
+  pub rows : List ClashRow
+  pub clash : AreSomeClashRows first later rows
+  pub are : lines ≡ flat_map (clash_text p) rows
+
+abbrev pub HasSectionLines : Exchange → List Summary → Section → List ℕ → Type 0
+HasSectionLines x summaries (Entry e) lines = HasEntryLines x summaries e lines
+HasSectionLines x summaries (Pair p) lines = HasPairLines summaries p lines
+
 -- the texts of these sections, one after the other, and the last line, where there is room for so many bytes of the most that are
--- told: the first text for which there is none is not told, nor is anything behind it
-pub data Told (P : Section → List ℕ → Type 0) (most : ℕ) : List Section → ℕ → List ℕ → Type 0 where
-  all_told : (room : ℕ) → Told P most [] room last_line
-  no_room : (s : Section) (rest : List Section) (room : ℕ) (part : List ℕ) → P s part → room < length part → Told P most (s ∷ rest) room (limit_line most)
-  told : (s : Section) (rest : List Section) (room : ℕ) (part text : List ℕ) → P s part → length part ≤ room → Told P most rest (room - length part) text
-      → Told P most (s ∷ rest) room (part ++ text)
+-- told: the first section of which some lines take more than that is not told, nor is anything behind it
+pub data Told (IsText HasLines : Section → List ℕ → Type 0) (most : ℕ) : List Section → ℕ → List ℕ → Type 0 where
+  all_told : (room : ℕ) → Told IsText HasLines most [] room last_line
+  no_room : (s : Section) (rest : List Section) (room : ℕ) (lines : List ℕ) → HasLines s lines → room < length lines
+      → Told IsText HasLines most (s ∷ rest) room (limit_line most)
+  told : (s : Section) (rest : List Section) (room : ℕ) (part text : List ℕ) → IsText s part → length part ≤ room
+      → Told IsText HasLines most rest (room - length part) text → Told IsText HasLines most (s ∷ rest) room (part ++ text)
 
 -- a pair of these numbers
 abbrev pub pair : ℕ → ℕ → EntryPair
@@ -78,5 +101,5 @@ pub record AreConflicts (x : Exchange) (asked : Option EntryPair) (text : List �
   pub analysis : List ℕ
   pub analysed : IsAnalysis x summaries analysis
   pub rest : List ℕ
-  pub tells : Told (IsSectionText x summaries) MOST_TOLD (sections (length x.entries) asked) MOST_TOLD rest
+  pub tells : Told (IsSectionText x summaries) (HasSectionLines x summaries) MOST_TOLD (sections (length x.entries) asked) MOST_TOLD rest
   pub is : text ≡ analysis ++ (first_line ++ rest)

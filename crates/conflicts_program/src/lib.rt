@@ -6,6 +6,8 @@
 // runs nothing.
 #![tactic(auto)]
 
+mod laws;
 mod program;
 
+pub use laws::{an_answer_comes, answers_are_one};
 pub use program::plex_conflicts;

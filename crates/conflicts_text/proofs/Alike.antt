@@ -13,7 +13,7 @@ use Rattle.least_facts.specs.Looks.{FindsWithin}
 use Rattle.entry_summary.specs.declared.summary.Access.{Access}
 use Rattle.entry_summary.specs.declared.summary.Summary.{Summary}
 use Rattle.conflicts_meaning.specs.declared.rows.GivenAt.{GivenAt}
-use Rattle.conflicts_meaning.specs.Points.{AreGiven, GivesAccess, IsGiven, SendsFrom}
+use Rattle.conflicts_meaning.specs.Points.{AreGiven, AreSomeGiven, GivesAccess, IsGiven, SendsFrom}
 use Rattle.conflict_rows.proofs.Alone.{accesses_by}
 
 module _ (x : Exchange) (P Q : Facts) (e : ℕ) (on : (p : ℕ) (s : Slot) (v : Value) → Known P e p s v → Known Q e p s v) where
@@ -23,7 +23,7 @@ module _ (x : Exchange) (P Q : Facts) (e : ℕ) (on : (p : ℕ) (s : Slot) (v : 
   sends_on : (l : Level) (p : ℕ) → SendsFrom x P e l p → SendsFrom x Q e l p
   sends_on l p g = record { at = g.at; stands = g.stands; reached = (g.reached.0, on p _ g.reached.0 g.reached.1); sends = g.sends }
 
-  given_on : (s : Summary) (r : GivenAt) → IsGiven x P e s r → IsGiven x Q e s r
+  pub given_on : (s : Summary) (r : GivenAt) → IsGiven x P e s r → IsGiven x Q e s r
   given_on s r (inl h) = inl (record { access = h.access; there = h.there; gives = access_on h.access r.point h.gives })
   given_on s r (inr h) = inr (record { level = h.level; place = h.place; there = h.there; number = h.number; sends = sends_on h.level r.point h.sends })
 
@@ -33,6 +33,12 @@ given_of_least x e k s rows know given = record {
     λ c. given_on x (Knows k) (IsLeast x) e (λ p t v f. ((know.exact (fact e p t v)).0 f).1) s r ((given.exact r).0 c),
     λ g. (given.exact r).1 (given_on x (IsLeast x) (Knows k) e (λ p t v f. (know.exact (fact e p t v)).1 (refl, f)) s r g),
   );
+  rising = given.rising;
+}
+
+pub some_of_least : (x : Exchange) (e : ℕ) (k : BitRows) (s : Summary) (rows : List GivenAt) → KnowLeast x e k → AreSomeGiven x (Knows k) e s rows → AreSomeGiven x (IsLeast x) e s rows
+some_of_least x e k s rows know given = record {
+  each = λ r c. given_on x (Knows k) (IsLeast x) e (λ p t v f. ((know.exact (fact e p t v)).0 f).1) s r (given.each r c);
   rising = given.rising;
 }
 

@@ -4,3 +4,5 @@ pub mod Within
 pub mod Alike
 pub mod Sectioned
 pub mod Lining
+pub mod Sizing
+pub mod Fitting

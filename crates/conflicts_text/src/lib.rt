@@ -6,6 +6,7 @@
 #![tactic(auto)]
 
 mod lines;
+mod points;
 mod sections;
 mod told;
 mod whole;

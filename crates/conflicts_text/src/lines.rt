@@ -1,27 +1,35 @@
 // The lines of points and of clashes.
-ghost use Rattle.std.specs.Prelude.{◌≡◌, ◌++◌, flat_map, IfOk, OnOk};
+ghost use Rattle.std.specs.Prelude.{◌≡◌, ◌<◌, ◌++◌, nat_lt, Some, flat_map, length, slice_get, IfOk, OnOk};
 ghost use Rattle.std.specs.Fmt.{decimal};
 ghost use Rattle.conflicts_meaning.specs.Lines.{clash_text, later_words, limit_line, line_at as line_of_point, point_text};
+ghost use Rattle.conflicts_text.specs.Fits.{TextWithin};
 
 use conflicts_meaning::{Clash, ClashRow, EntryPair, GivenAt};
 use exchange_model::Exchange;
 use plex_num::{Memory, Seq, add_number};
 use std::alloc::Global;
 
-/// The lines of the points of an entry.
+/// The lines of the points of an entry; none where they take more bytes than the room.
 pub(crate) fn point_lines(
     alloc: Global,
     exchange: &Exchange,
     entry: usize,
     rows: &[GivenAt],
-) -> Result<Seq<u8>, Memory>
-    ensures { IfOk result (λ text. text ≡ flat_map (point_text exchange.now entry) rows.now) }
+    room: usize,
+) -> Result<Option<Seq<u8>>, Memory>
+    ensures { IfOk result (TextWithin
+        (λ text. text ≡ flat_map (point_text exchange.now entry) rows.now)
+        (λ text. text ≡ flat_map (point_text exchange.now entry) rows.now) room) }
 {
     let mut text = Seq::new(alloc);
-    for row in rows {
-        add_point(&mut text, exchange, entry, row)?;
+    for place in 0..rows.len() {
+        let row = row_at(rows, place);
+        add_point(&mut text, exchange, entry, &row)?;
+        if room < text.len() {
+            return Ok(None);
+        }
     }
-    Ok(text)
+    Ok(Some(text))
 }
 
 /// `AT e k POINT p LINE n`.
@@ -58,19 +66,77 @@ fn line_at(exchange: &Exchange, point: u32) -> u32
     }
 }
 
-/// The lines of what clashes of a pair.
+/// Whether the lines of these points of an entry take more bytes than the room.
+pub(crate) fn points_outgrow(
+    alloc: Global,
+    exchange: &Exchange,
+    entry: usize,
+    rows: &[GivenAt],
+    room: usize,
+) -> Result<bool, Memory>
+    ensures { IfOk result (λ over. over ≡
+        nat_lt room (length (flat_map (point_text exchange.now entry) rows.now))) }
+{
+    let mut left = room;
+    for place in 0..rows.len() {
+        let size = point_size(alloc, exchange, entry, row_at(rows, place))?;
+        if left < size {
+            return Ok(true);
+        }
+        left -= size;
+    }
+    Ok(false)
+}
+
+/// How many bytes the line of a point takes.
+fn point_size(
+    alloc: Global,
+    exchange: &Exchange,
+    entry: usize,
+    row: GivenAt,
+) -> Result<usize, Memory>
+    ensures { IfOk result (λ size. size ≡ length (point_text exchange.now entry row)) }
+{
+    let mut line = Seq::new(alloc);
+    add_point(&mut line, exchange, entry, &row)?;
+    Ok(line.len())
+}
+
+/// The row of a point at a place.
+fn row_at(rows: &[GivenAt], place: usize) -> GivenAt
+    requires { place < length rows.now }
+    ensures { slice_get rows.now place ≡ Some result }
+{
+    rows[place]
+}
+
+/// The lines of what clashes of a pair; none where they take more bytes than the room.
 pub(crate) fn clash_lines(
     alloc: Global,
     pair: EntryPair,
     rows: &[ClashRow],
-) -> Result<Seq<u8>, Memory>
-    ensures { IfOk result (λ text. text ≡ flat_map (clash_text pair) rows.now) }
+    room: usize,
+) -> Result<Option<Seq<u8>>, Memory>
+    ensures { IfOk result (TextWithin (λ text. text ≡ flat_map (clash_text pair) rows.now)
+        (λ text. text ≡ flat_map (clash_text pair) rows.now) room) }
 {
     let mut text = Seq::new(alloc);
-    for row in rows {
-        add_clash(&mut text, pair, row)?;
+    for place in 0..rows.len() {
+        let row = clash_at(rows, place);
+        add_clash(&mut text, pair, &row)?;
+        if room < text.len() {
+            return Ok(None);
+        }
     }
-    Ok(text)
+    Ok(Some(text))
+}
+
+/// The row of a clash at a place.
+fn clash_at(rows: &[ClashRow], place: usize) -> ClashRow
+    requires { place < length rows.now }
+    ensures { slice_get rows.now place ≡ Some result }
+{
+    rows[place]
 }
 
 /// `CLASH i j k l`, or `CLASH i j k` of a level.

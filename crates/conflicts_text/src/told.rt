@@ -3,12 +3,14 @@ ghost use Rattle.std.specs.Prelude.{◌≡◌, ◌<◌, ◌++◌, Some, length, 
 ghost use Rattle.least_facts.specs.Least.{IsFor};
 ghost use Rattle.analysis_text.specs.Pairs.{GainsText};
 ghost use Rattle.conflicts_meaning.specs.Lines.{last_line, limit_line};
-ghost use Rattle.conflicts_meaning.specs.Told.{IsEntryText, IsPairText, IsSectionText, Told};
+ghost use Rattle.conflicts_meaning.specs.Told.{HasEntryLines, HasPairLines, HasSectionLines, IsEntryText, IsPairText, IsSectionText, Told};
+ghost use Rattle.conflicts_text.specs.Fits.{TextWithin};
 ghost use Rattle.conflicts_text.specs.Means.{AreOf};
 ghost use Rattle.conflicts_text.specs.Within.{AllWithin, IsWithin};
 
 use crate::lines::{clash_lines, limit_text, point_lines};
-use conflict_rows::{KnownEntry, clashes_of, given_in};
+use crate::points::points_within;
+use conflict_rows::{KnownEntry, clashes_of};
 use conflicts_meaning::{EntryPair, Section};
 use entry_accesses::CellNumbers;
 use exchange_model::Exchange;
@@ -44,17 +46,19 @@ pub(crate) fn add_sections(
     requires own { IsFor means.now.exchange.now means.now.table.now analyser.old }
     requires within { AllWithin (length means.now.summaries.now) sections.now }
     ensures { OnOk result (GainsText
-        (Told (IsSectionText means.now.exchange.now means.now.summaries.now) most sections.now most)
+        (Told (IsSectionText means.now.exchange.now means.now.summaries.now)
+        (HasSectionLines means.now.exchange.now means.now.summaries.now) most sections.now most)
         text.old text.new) }
 {
     let mut room = most;
     for place in 0..sections.len() {
-        let part = section_text(alloc, means, analyser, section_at(sections, place))?;
-        let size = part.len();
-        if room < size {
+        let section = section_at(sections, place);
+        let found = section_text(alloc, means, analyser, section, room)?;
+        let Some(part) = found else {
             add_limit(text, alloc, most)?;
             return Ok(());
-        }
+        };
+        let size = part.len();
         room -= size;
         let bytes = part.as_slice();
         text.append(bytes)?;
@@ -86,41 +90,46 @@ fn section_at(sections: &[Section], place: usize) -> Section
     sections[place]
 }
 
-/// The text of a section.
+/// The text of a section; none where some lines of it take more bytes than the room.
 fn section_text(
     alloc: Global,
     means: &Means<'_>,
     analyser: &mut Analyser,
     section: Section,
-) -> Result<Seq<u8>, Memory>
+    room: usize,
+) -> Result<Option<Seq<u8>>, Memory>
     requires of { AreOf means.now.exchange.now means.now.table.now means.now.places.now
         means.now.numbers.now means.now.summaries.now }
     requires own { IsFor means.now.exchange.now means.now.table.now analyser.old }
     requires within { IsWithin (length means.now.summaries.now) section }
     ensures own { OnOk result (IsFor means.now.exchange.now means.now.table.now analyser.new) }
-    ensures text { IfOk result
-        (IsSectionText means.now.exchange.now means.now.summaries.now section) }
+    ensures text { IfOk result (TextWithin
+        (IsSectionText means.now.exchange.now means.now.summaries.now section)
+        (HasSectionLines means.now.exchange.now means.now.summaries.now section) room) }
 {
     match section {
-        Section::Entry { number } => entry_text(alloc, means, analyser, number),
-        Section::Pair { pair } => pair_text(alloc, means.summaries, pair),
+        Section::Entry { number } => entry_text(alloc, means, analyser, number, room),
+        Section::Pair { pair } => pair_text(alloc, means.summaries, pair, room),
     }
 }
 
-/// All points of an entry. What its jobs may have before each is found once more.
+/// All points of an entry; none where some lines of them take more bytes than the room. What its
+/// jobs may have before each is found once more.
 fn entry_text(
     alloc: Global,
     means: &Means<'_>,
     analyser: &mut Analyser,
     number: usize,
-) -> Result<Seq<u8>, Memory>
+    room: usize,
+) -> Result<Option<Seq<u8>>, Memory>
     requires of { AreOf means.now.exchange.now means.now.table.now means.now.places.now
         means.now.numbers.now means.now.summaries.now }
     requires own { IsFor means.now.exchange.now means.now.table.now analyser.old }
     requires within { number < length means.now.summaries.now }
     ensures own { OnOk result (IsFor means.now.exchange.now means.now.table.now analyser.new) }
-    ensures text { IfOk result
-        (IsEntryText means.now.exchange.now means.now.summaries.now number) }
+    ensures text { IfOk result (TextWithin
+        (IsEntryText means.now.exchange.now means.now.summaries.now number)
+        (HasEntryLines means.now.exchange.now means.now.summaries.now number) room) }
 {
     means.exchange.kept();
     let entry = number as u32;
@@ -135,22 +144,32 @@ fn entry_text(
         entry,
     };
     let summary = means.summaries.at(number);
-    let rows = given_in(alloc, &of, reached, summary)?;
+    let found = points_within(alloc, &of, reached, summary, number, room)?;
+    let Some(rows) = found else {
+        return Ok(None);
+    };
     let lines = rows.as_slice();
-    let text = point_lines(alloc, means.exchange, number, lines)?;
+    let text = point_lines(alloc, means.exchange, number, lines, room)?;
     Ok(text)
 }
 
-/// All that clashes of the entries of a pair.
-fn pair_text(alloc: Global, summaries: &Summaries, pair: EntryPair) -> Result<Seq<u8>, Memory>
+/// All that clashes of the entries of a pair; none where some lines of it take more bytes than the
+/// room.
+fn pair_text(
+    alloc: Global,
+    summaries: &Summaries,
+    pair: EntryPair,
+    room: usize,
+) -> Result<Option<Seq<u8>>, Memory>
     requires first { pair.first < length summaries.now }
     requires later { pair.later < length summaries.now }
-    ensures { IfOk result (IsPairText summaries.now pair) }
+    ensures { IfOk result
+        (TextWithin (IsPairText summaries.now pair) (HasPairLines summaries.now pair) room) }
 {
     let first = summaries.at(pair.first);
     let later = summaries.at(pair.later);
     let rows = clashes_of(alloc, first, later)?;
     let lines = rows.as_slice();
-    let text = clash_lines(alloc, pair, lines)?;
+    let text = clash_lines(alloc, pair, lines, room)?;
     Ok(text)
 }
