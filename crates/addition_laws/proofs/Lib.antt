@@ -1,0 +1,12 @@
+pub mod Adding
+pub mod Amounting
+pub mod Going
+pub mod Leading
+pub mod Mixing
+pub mod Naming
+pub mod Ordering
+pub mod Outside
+pub mod Permitting
+pub mod Shifting
+pub mod Sparing
+pub mod Summing

@@ -1,0 +1,87 @@
+// What additions leave alone, said by clauses.
+ghost use Rattle.std.specs.Prelude.{ℕ, List, []};
+ghost use Rattle.std.specs.List.{Contains};
+ghost use Rattle.job_types.specs.declared.job.JobStart.{JobStart};
+ghost use Rattle.job_types.specs.declared.touch.Touch.{Touch};
+ghost use Rattle.exchange_model.specs.declared.exchange.Exchange.{Exchange};
+ghost use Rattle.exchange_model.specs.Kept.{IsExchange};
+ghost use Rattle.source_meaning.specs.Job.{after_steps, begins, job};
+ghost use Rattle.source_meaning.specs.State.{State};
+ghost use Rattle.source_meaning.specs.Valid.{IsFitting, IsJob, IsValid, StoreFits};
+ghost use Rattle.entry_summary.specs.Summaries.{IsSummary};
+ghost use Rattle.entry_summary.specs.declared.summary.Summary.{Summary};
+ghost use Rattle.flow_points.specs.declared.fact.Fact.{Fact};
+ghost use Rattle.flow_points.specs.Facts.{IsClosed, IsLeast};
+ghost use Rattle.addition_laws.specs.Sparing.{IsSparing};
+ghost use Rattle.pair_laws.specs.Together.{HaveOwnWords};
+ghost use Rattle.addition_laws.specs.Either.{AreApartBut, SameInEitherOrder, ShareOnly};
+ghost use Rattle.additions_meaning.specs.Additions.{IsAddedWord, OnlyAddsToAll};
+ghost use Rattle.additions_meaning.specs.Amounts.{DiffersBy, RunsAlike};
+
+/// A job over stored words that fit the exchange, and the same job over others: at each variable of
+/// a list, to which the jobs of its entry only add by facts that are closed, these have so much
+/// more, modulo 2^32, and else they are the same. Then both runs take the same way: after any
+/// number of steps they are at the same statement, with the same temporaries, callers, records,
+/// count and outcome, and have sent the same signals. And the words differ as they did: each
+/// variable of the list has so much more in the second run, so that both have added as much to it.
+/// All this holds of the whole job, and of the least facts, which are closed.
+pub fn jobs_add_as_much_to_other_words()
+    ensures steps { (x : Exchange) (facts : List Fact) (start : JobStart) (numbers : List ℕ)
+        (more : ℕ → ℕ) (s t : List ℕ) (n : ℕ)
+        → IsExchange x → IsClosed x (Contains facts) → IsJob x start.job → StoreFits x s
+        → OnlyAddsToAll x (Contains facts) start.job.entry numbers
+        → DiffersBy (IsAddedWord x numbers) more s t
+        → RunsAlike (IsAddedWord x numbers) more (after_steps n x (begins x start s))
+        (after_steps n x (begins x start t)) }
+    ensures job { (x : Exchange) (facts : List Fact) (start : JobStart) (numbers : List ℕ)
+        (more : ℕ → ℕ) (s t : List ℕ)
+        → IsExchange x → IsClosed x (Contains facts) → IsJob x start.job → StoreFits x s
+        → OnlyAddsToAll x (Contains facts) start.job.entry numbers
+        → DiffersBy (IsAddedWord x numbers) more s t
+        → RunsAlike (IsAddedWord x numbers) more (job x start s) (job x start t) }
+    ensures least { (x : Exchange) (start : JobStart) (numbers : List ℕ) (more : ℕ → ℕ)
+        (s t : List ℕ)
+        → IsExchange x → IsJob x start.job → StoreFits x s
+        → OnlyAddsToAll x (IsLeast x) start.job.entry numbers
+        → DiffersBy (IsAddedWord x numbers) more s t
+        → RunsAlike (IsAddedWord x numbers) more (job x start s) (job x start t) }
+{}
+
+/// Two jobs that both only add to the variables of a list, by facts that are closed, begun over
+/// words that fit the exchange. Stores may follow the first one, such as those of its retirement,
+/// which are to none of these variables. But for these neither stores to a word that the other one
+/// touches. Then in either order each of them takes the same way as alone: it sends the same, holds
+/// the same, and ends the same. And the words in the end are the same in both orders. So it is,
+/// where nothing follows the first one, of two jobs that begin in a valid state, if no word that
+/// one of them may write, by the summary of its entry, is one that the other one may read, but
+/// those of these variables.
+pub fn jobs_add_in_either_order()
+    ensures touches { (x : Exchange) (facts : List Fact) (a b : JobStart) (numbers s : List ℕ)
+        (ending : List Touch)
+        → IsExchange x → IsClosed x (Contains facts) → IsJob x a.job → IsJob x b.job
+        → StoreFits x s
+        → OnlyAddsToAll x (Contains facts) a.job.entry numbers
+        → OnlyAddsToAll x (Contains facts) b.job.entry numbers
+        → AreApartBut x (IsAddedWord x numbers) s a b ending
+        → SameInEitherOrder x s a b ending }
+    ensures permits { (x : Exchange) (facts : List Fact) (s : State) (first later : Summary)
+        (a b : JobStart) (numbers : List ℕ)
+        → IsExchange x → IsClosed x (Contains facts) → IsValid x s
+        → IsFitting x s a → IsFitting x s b
+        → IsSummary x (Contains facts) a.job.entry first
+        → IsSummary x (Contains facts) b.job.entry later
+        → OnlyAddsToAll x (Contains facts) a.job.entry numbers
+        → OnlyAddsToAll x (Contains facts) b.job.entry numbers
+        → ShareOnly x (IsAddedWord x numbers) s first later a b
+        → SameInEitherOrder x s.store a b [] }
+{}
+
+/// Where two summaries without their accesses to the variables of a list let two jobs share no
+/// word, the whole summaries let them share no words but those of these variables.
+pub fn spared_words_are_those_of_variables()
+    ensures { (x : Exchange) (numbers : List ℕ) (s : State) (first later one other : Summary)
+        (a b : JobStart)
+        → IsSparing numbers first one → IsSparing numbers later other
+        → HaveOwnWords x s one other a b
+        → ShareOnly x (IsAddedWord x numbers) s first later a b }
+{}
