@@ -6,11 +6,10 @@ use Rattle.job_types.specs.declared.outcome.JobDone.{JobDone}
 use Rattle.job_types.specs.Own.{done_of}
 use Rattle.machine_code.specs.Coded.{Code}
 use Rattle.exchange_model.specs.declared.exchange.Exchange.{Exchange}
-use Rattle.store_layout.specs.Laid.{IsLayout}
 use Rattle.source_meaning.specs.Arrivals.{arrivals}
 use Rattle.source_meaning.specs.Retirement.{retires}
 use Rattle.source_meaning.specs.State.{State}
-use Rattle.machine_meaning.specs.Faithful.{Ends, Faithful, begun, started}
+use Rattle.machine_meaning.specs.Faithful.{Ends, begun, started}
 use Rattle.machine_meaning.specs.Machine.{Machine}
 use Rattle.machine_meaning.specs.Private.{Private}
 use Rattle.retire_order.specs.Accounts.{Account, after_start, upcoming, with_words}
@@ -20,12 +19,6 @@ use Rattle.exchange_run.specs.Runs.{HasTurn, IsTurn, left_by, words_after}
 use Rattle.shared_store.specs.declared.view.Top.{Top}
 use Rattle.shared_store.specs.Loans.{unlent}
 use Rattle.shared_store.specs.Seats.{RootView, StoreId}
-use Rattle.lone_job.specs.declared.ground.Ground.{Ground}
-
--- the layout and the code are of the exchange
-pub record FitsTogether (g : Ground) : Type 0 where
-  pub laid : IsLayout g.exchange.now.blocks g.layout.now
-  pub faithful : Faithful g.exchange.now g.code.now
 
 -- the next job of the books may run on the root's own words: there is a turn, and the root has lent nothing
 pub record MayTurn (x : Exchange) (books : Account) (top : Top) : Type 0 where

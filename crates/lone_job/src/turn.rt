@@ -7,9 +7,10 @@ ghost use Rattle.retire_order.specs.Stores.{MayStore};
 ghost use Rattle.job_runner.specs.Seen.{free_to_write};
 ghost use Rattle.exchange_run.specs.Runs.{MayRun};
 ghost use Rattle.machine_meaning.specs.Faithful.{Faithful, started};
-ghost use Rattle.lone_job.specs.Turns.{FitsTogether, HasRetiredOn, HasRunAlone, HasTurnedAlone, KeepsLoans, LendsNothing, MayTurn, arrived};
+ghost use Rattle.lone_job.specs.Contexts.{IsContext};
+ghost use Rattle.lone_job.specs.Turns.{HasRetiredOn, HasRunAlone, HasTurnedAlone, KeepsLoans, LendsNothing, MayTurn, arrived};
 
-use crate::ground::Ground;
+use crate::context::RunContext;
 use exchange_model::Exchange;
 use job_run::JobRun;
 use job_runner::RootWords;
@@ -45,34 +46,35 @@ pub fn number_of_next(books: &Books) -> u64
 /// the root comes back, which has lent nothing.
 #[tactic(auto, using(crate::proofs::Turning::some_next))]
 pub fn turn_alone<G: Gate>(
-    ground: &Ground<'_>,
+    context: &RunContext<'_>,
+    store: &SharedStore,
     gate: &G,
     books: &mut Books,
     root: RootSeat,
     run: &mut JobRun,
 ) -> Result<Alone, RootSeat>
-    requires ground { FitsTogether ground.now }
-    requires home { root.0 ≡ ground.now.store.now }
-    requires may { MayTurn ground.now.exchange.now books.old root.1 }
+    requires context { IsContext context.now }
+    requires home { root.0 ≡ store.now }
+    requires may { MayTurn context.now.exchange.now books.old root.1 }
     ensures turned { IfOk result (λ alone.
-        HasTurnedAlone ground.now.exchange.now ground.now.code.now books.old root.1
+        HasTurnedAlone context.now.exchange.now context.now.code.now books.old root.1
         books.new alone.root.1 alone.steps) }
     ensures home { IfOk result (λ alone. alone.root.0 ≡ root.0) }
     ensures left { IfErr result (LendsNothing root.0) }
 {
-    let exchange = ground.exchange;
+    let exchange = context.exchange;
     exchange.kept();
     let job = number_of_next(books);
     let Some(start) = books.next_job() else {
         unreachable!()
     };
-    run.begin(ground.code, &start);
+    run.begin(context.code, &start);
     gate.at(job, Moment::Before);
-    let root = run_on_root(exchange, ground.code, ground.store, root, run, &start);
+    let root = run_on_root(exchange, context.code, store, root, run, &start);
     let steps = run.steps();
     gate.at(job, Moment::After { steps });
     let done = run.done();
-    match retire_on_root(ground, books, root, &start, done) {
+    match retire_on_root(context, store, books, root, &start, done) {
         Ok(root) => Ok(Alone {
             root,
             steps,
@@ -87,30 +89,31 @@ pub fn turn_alone<G: Gate>(
 /// what is due arrives where no job runs any more. Where memory is refused the root comes back with
 /// the loans that it had.
 pub fn retire_on_root(
-    ground: &Ground<'_>,
+    context: &RunContext<'_>,
+    store: &SharedStore,
     books: &mut Books,
     root: RootSeat,
     start: &JobStart,
     done: &JobDone,
 ) -> Result<RootSeat, RootSeat>
-    requires layout { IsLayout ground.now.exchange.now.blocks ground.now.layout.now }
-    requires home { root.0 ≡ ground.now.store.now }
+    requires layout { IsLayout context.now.exchange.now.blocks context.now.layout.now }
+    requires home { root.0 ≡ store.now }
     requires running { 0 < books.old.running }
     requires forlopp { MayBe books.old.state start.now.job.forlopp }
     requires words { MayStore (free_to_write root.1)
-        (retired_trace ground.now.exchange.now start.now done.now books.old.state root.1.values) }
-    ensures retired { IfOk result (λ now. HasRetiredOn ground.now.exchange.now start.now done.now
+        (retired_trace context.now.exchange.now start.now done.now books.old.state root.1.values) }
+    ensures retired { IfOk result (λ now. HasRetiredOn context.now.exchange.now start.now done.now
         books.old root.1 books.new now.1) }
     ensures home { IfOk result (λ now. now.0 ≡ root.0) }
     ensures left { IfErr result (λ now. KeepsLoans root now) }
 {
-    let mut words = RootWords::new(ground.store, root);
-    let retired = books.retire(ground.exchange, ground.layout, start, done, &mut words);
+    let mut words = RootWords::new(store, root);
+    let retired = books.retire(context.exchange, context.layout, start, done, &mut words);
     let root = words.into_root();
     let Ok(()) = retired else {
         return Err(root);
     };
-    let Ok(()) = arrive(books, ground.exchange) else {
+    let Ok(()) = arrive(books, context.exchange) else {
         return Err(root);
     };
     Ok(root)

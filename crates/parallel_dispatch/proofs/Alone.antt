@@ -9,7 +9,7 @@ use Rattle.source_meaning.specs.SingleRun.{ending_at, next_start, turn}
 use Rattle.source_meaning.specs.State.{State}
 use Rattle.source_meaning.specs.Valid.{IsValid}
 use Rattle.source_meaning.proofs.Retiring.{turn_valid}
-use Rattle.checked.specs.Kept.{KeptSummaries}
+use Rattle.checked.specs.Kept.{IsChecked, KeptSummaries}
 use Rattle.order_laws.specs.Books.{AreAhead}
 use Rattle.order_laws.specs.Keeps.{NoLineBefore}
 use Rattle.order_laws.proofs.Following.{ahead_none}
@@ -22,13 +22,16 @@ use Rattle.shared_store.specs.declared.view.Lent.{Lent}
 use Rattle.shared_store.specs.declared.view.Top.{Top}
 use Rattle.shared_store.specs.Loans.{Has, lender, lent}
 use Rattle.shared_store.specs.Seats.{StoreId, no_permit}
-use Rattle.lone_job.specs.declared.ground.Ground.{Ground}
-use Rattle.lone_job.specs.Turns.{FitsTogether, HasTurnedAlone, MayTurn, arrived}
+use Rattle.lone_job.specs.declared.context.RunContext.{RunContext}
+use Rattle.lone_job.specs.Contexts.{IsContext}
+use Rattle.lone_job.specs.Turns.{HasTurnedAlone, MayTurn, arrived}
+use Rattle.ticket_book.specs.Pages.{BookId}
+use Rattle.worker_pool.specs.declared.means.Means.{Means}
 use Rattle.parallel_dispatch.specs.declared.moves.Retired.{Retired}
 use Rattle.parallel_dispatch.specs.Flying.{Fly}
 use Rattle.parallel_dispatch.specs.Made.{JobMakes}
 use Rattle.parallel_dispatch.specs.Events.{IsLed, whole_turn}
-use Rattle.parallel_dispatch.specs.Moves.{AreCounted, AreOf, HasTurned, IsGround, MayRunAlone, to_do}
+use Rattle.parallel_dispatch.specs.Moves.{AreCounted, HasTurned, MayRunAlone, Suits, to_do}
 use Rattle.parallel_dispatch.specs.Windows.{View}
 use Rattle.parallel_dispatch.proofs.Events.{is_issued, issue_then_turn, turn_led}
 
@@ -60,11 +63,13 @@ fly_none x k s books top valid same nobody bare = record {
 
 -- ## The next job runs alone
 
--- what it runs on fits together
-pub ground_fits : (x : Exchange) (code : Code) (store : StoreId) (k : KeptSummaries) (ground : Ground) → IsGround x code store ground → AreOf x ground.layout.now code k → FitsTogether ground
-ground_fits x code store k ground is set = record {
-  laid = subst (λ (y : Exchange). IsLayout y.blocks ground.layout.now) (sym is.exchange) set.laid;
-  faithful = subst (λ (z : Exchange × Code). Faithful z.0 z.1) (λ i. (sym is.exchange i, sym is.code i)) set.faithful;
+-- a context that suits is one
+pub context_fits : {x : Exchange} {o : Code} {s : StoreId} {b : BookId} {k : KeptSummaries} {w : ℕ} {c : RunContext} {m : Means} {book : BookId} → Suits x o s b k w c m book → IsContext c
+context_fits {c = c} u = record {
+  laid = subst (λ (y : Exchange). IsLayout y.blocks c.layout.now) (sym u.exchange) u.laid;
+  faithful = subst (λ (z : Exchange × Code). Faithful z.0 z.1) (λ i. (sym u.exchange i, sym u.code i)) u.set.faithful;
+  checked = subst (λ (z : Exchange × KeptSummaries). IsChecked z.0 z.1) (λ i. (sym u.exchange i, sym u.kept i)) u.set.checked;
+  some = u.some;
 }
 
 pub may_turn : (x y : Exchange) (k : KeptSummaries) (books : Account) (top : Top) (w : View) → y ≡ x → MayRunAlone books w → ending_at books.limit books.state ≡ None → books.limit ≤ MOST_JOBS → (s : State) × Fly x k s books top w.loans → MayTurn y books top

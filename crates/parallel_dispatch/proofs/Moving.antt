@@ -1,5 +1,6 @@
 -- The moves, over what the calls leave.
-use Rattle.std.proofs.Common.{◌≡◌, ℕ, ◌+◌, ◌^◌, ◌<◌, ◌≤◌, List, [], ◌∷◌, ◌++◌, length, Option, Some, refl, sym, ap, ◌∙◌, subst, arith}
+use Rattle.std.proofs.Common.{◌≡◌, ℕ, zero, suc, ◌+◌, ◌^◌, ◌<◌, ◌≤◌, List, [], ◌∷◌, ◌++◌, length, Option, Some, refl, sym, ap, ◌∙◌, subst, arith}
+use Rattle.std.specs.Prelude.{slice_get}
 use Rattle.plex_limits.specs.declared.limits.TheConstants.{MOST_JOBS}
 use Rattle.job_types.specs.declared.job.JobStart.{JobStart}
 use Rattle.job_types.specs.declared.outcome.JobDone.{JobDone}
@@ -32,7 +33,7 @@ use Rattle.parallel_dispatch.specs.Bare.{bare}
 use Rattle.lone_job.specs.Turns.{arrived}
 use Rattle.parallel_dispatch.specs.Flying.{Fly, starts_of}
 use Rattle.parallel_dispatch.specs.Made.{JobMakes}
-use Rattle.parallel_dispatch.specs.Moves.{AreCounted, Flying, HasSummary, HasTurned, MayFly, to_do}
+use Rattle.parallel_dispatch.specs.Moves.{AreCounted, Flying, HasTurned, MayFly, to_do}
 use Rattle.parallel_dispatch.specs.Told.{AreTrue, IsSummaryOf}
 use Rattle.parallel_dispatch.specs.Windows.{View}
 use Rattle.interleave_core.specs.Runs.{setting}
@@ -44,6 +45,12 @@ use Rattle.parallel_dispatch.proofs.Told.{all_pass_of}
 use Rattle.parallel_dispatch.proofs.Issuing.{fits_beside, fly_more, for_job, is_job, upcoming_parts}
 use Rattle.parallel_dispatch.proofs.Retiring.{Leaves, back, done_is, fly_fewer, makes, may_write_there, turn_ended}
 
+-- an item of a list is there
+slice_get_there : {A : Type 0} (xs : List A) (i : ℕ) → i < length xs → (x : A) × (slice_get xs i ≡ Some x)
+slice_get_there [] i lt = absurd (omega (arith, lt))
+slice_get_there (x ∷ xs) zero lt = (x, refl)
+slice_get_there (x ∷ xs) (suc i) lt = slice_get_there xs i (omega (arith, lt))
+
 -- ## One more flies
 
 module _ (x : Exchange) (k : KeptSummaries) (kept : IsExchange x) (checked : IsChecked x k) (true_of : AreTrue x k) (books : Account) (root : RootView) (w : View) (start : JobStart) (may : MayFly k books w start) (flying : Flying x k books root w) where
@@ -54,8 +61,9 @@ module _ (x : Exchange) (k : KeptSummaries) (kept : IsExchange x) (checked : IsC
   pub number_fits : AreCounted books w → books.state.ended + books.running + 1 < 2 ^ 64
   number_fits counted = (let few = (upcoming_parts books start may.next).0 in let most = counted.limited in omega (arith, few, most))
 
-  pub has_summary : HasSummary k start
-  has_summary = (let entry = entry_there in let each = checked.by_facts.each_entry in omega (arith, entry, each))
+  -- a summary is kept of its entry
+  pub has_told : (n : Summary) × IsSummaryOf k start n
+  has_told = (let entry = entry_there in let each = checked.by_facts.each_entry in slice_get_there k.summaries start.job.entry (omega (arith, entry, each)))
 
   pub entry_within : (code own : Code) → length x.entries ≤ length code.entries → own ≡ code → start.job.entry < length own.entries
   entry_within code own le same = subst (λ (c : Code). start.job.entry < length c.entries) (sym same) (let entry = entry_there in omega (arith, entry, le))

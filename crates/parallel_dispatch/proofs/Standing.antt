@@ -1,5 +1,5 @@
 -- From the first state of the run to its end.
-use Rattle.std.proofs.Common.{◌≡◌, ℕ, zero, suc, ◌+◌, ◌<◌, false, List, [], ◌∷◌, length, Option, Some, None, Result, Ok, Err, IfOk, refl, sym, ap, ◌∙◌, subst, arith}
+use Rattle.std.proofs.Common.{◌≡◌, ℕ, zero, suc, ◌+◌, ◌<◌, false, List, [], ◌∷◌, length, Option, Some, None, refl, sym, ap, ◌∙◌, subst, arith}
 use Rattle.std.proofs.lemmas.Bool.{or_parts}
 use Rattle.std.proofs.lemmas.Bool.Decides.{nat_tests}
 use Rattle.std.proofs.lemmas.Option.{none-some, slice_get_within}
@@ -32,12 +32,7 @@ use Rattle.exchange_run.proofs.Turning.{goes_on, some_start, upcoming_is}
 use Rattle.shared_store.specs.declared.view.Lent.{Lent}
 use Rattle.shared_store.specs.declared.view.Top.{Top}
 use Rattle.shared_store.specs.Loans.{unlent}
-use Rattle.shared_store.specs.Seats.{RootView}
-use Rattle.parallel_dispatch.specs.declared.dispatcher.Ended.{Ended}
-use Rattle.parallel_dispatch.specs.declared.dispatcher.StoredRun.{StoredRun}
-use Rattle.parallel_dispatch.specs.declared.driving.Over.{Over}
-use Rattle.parallel_dispatch.specs.declared.setting.Work.{Work}
-use Rattle.parallel_dispatch.specs.Ends.{EndsAs, IsDispatched, IsOverFrom}
+use Rattle.parallel_dispatch.specs.Ends.{EndsAs}
 use Rattle.interleave_core.specs.Runs.{Runs}
 use Rattle.parallel_dispatch.specs.Events.{IsReached, first_core}
 use Rattle.parallel_dispatch.specs.Made.{NoJob}
@@ -125,11 +120,3 @@ pub words_at_end : (x : Exchange) (code : Code) (first : State) (limit : ℕ) (b
 words_at_end x code first limit books words e steps kept valid ends =
     let there : IsValid x (after x first (jobs_at_end x limit first)) = after_valid x kept first (jobs_at_end x limit first) valid in
     ap (λ (s : State). length s.store) ends.state ∙ there.store.whole ∙ kept.numbered.cells
-
--- ## The end
-
--- what a run that is over has left is the end to which it was dispatched
-pub dispatched : (work : Work) (workers : ℕ) (run : StoredRun) (over : Over) (r : Result Ended RootView) → IsOverFrom work.exchange.now work.code.now work.checked.now workers run.store (with_words run.books.state run.root.1.values) run.books.limit over
-    → IfOk r (λ (end : Ended). end ≡ record { books = over.books.value; words = over.root.1.values; ending = over.ending; steps = over.steps }) → IfOk r (λ (end : Ended). IsDispatched work workers run end)
-dispatched work workers run over (Ok end) o is = subst (IsDispatched work workers run) (sym is) (record { ends = o.ends; led = o.led; nobody = o.nobody })
-dispatched work workers run over (Err back) o is = tt

@@ -6,74 +6,54 @@ use Rattle.job_types.specs.declared.job.JobStart.{JobStart}
 use Rattle.machine_code.specs.Coded.{Code}
 use Rattle.exchange_model.specs.declared.exchange.Exchange.{Exchange}
 use Rattle.exchange_model.specs.Kept.{IsExchange}
-use Rattle.store_layout.specs.declared.layout.Layout.{Layout}
 use Rattle.store_layout.specs.Laid.{IsLayout}
 use Rattle.source_meaning.specs.SingleRun.{turn}
 use Rattle.source_meaning.specs.State.{State}
-use Rattle.source_meaning.specs.Valid.{IsValid}
 use Rattle.checked.specs.Kept.{IsChecked, KeptSummaries}
 use Rattle.order_laws.specs.Keeps.{NoLineBefore}
 use Rattle.machine_meaning.specs.Faithful.{Faithful}
 use Rattle.retire_order.specs.Accounts.{Account, upcoming, with_words}
 use Rattle.shared_store.specs.declared.view.Top.{Top}
 use Rattle.shared_store.specs.declared.view.Lent.{Lent}
-use Rattle.shared_store.specs.Loans.{Has, unlent}
+use Rattle.shared_store.specs.Loans.{Has}
 use Rattle.shared_store.specs.Seats.{RootView, StoreId}
-use Rattle.ticket_book.specs.Pages.{BookId}
-use Rattle.lone_job.specs.declared.ground.Ground.{Ground}
+use Rattle.ticket_book.specs.Pages.{BookId, PenView}
+use Rattle.lone_job.specs.declared.context.RunContext.{RunContext}
+use Rattle.worker_pool.specs.declared.means.Means.{Means}
 use Rattle.worker_pool.specs.Ways.{AreMeans}
+use Rattle.parallel_dispatch.specs.declared.dispatcher.StoredRun.{StoredRun}
 use Rattle.parallel_dispatch.specs.declared.moves.Move.{Move}
 use Rattle.parallel_dispatch.specs.declared.moves.Move.TheVariants.{Issue, Retire, RunAlone}
 use Rattle.parallel_dispatch.specs.declared.moves.Retired.{Retired}
-use Rattle.parallel_dispatch.specs.declared.setting.Setting.{Setting}
-use Rattle.parallel_dispatch.specs.declared.threads.Beginning.{Beginning}
 use Rattle.interleave_core.specs.declared.event.CoreEvent.{CoreEvent}
 use Rattle.interleave_core.specs.Allowed.{MayFollow}
 use Rattle.interleave_core.specs.Runs.{setting}
+use Rattle.parallel_dispatch.specs.Ends.{MayStart}
 use Rattle.parallel_dispatch.specs.Events.{IsIssued, IsLed}
 use Rattle.parallel_dispatch.specs.Flying.{Fly, starts_of}
 use Rattle.parallel_dispatch.specs.Made.{JobMakes}
 use Rattle.parallel_dispatch.specs.Told.{AreTrue}
 use Rattle.parallel_dispatch.specs.Windows.{View}
 
--- the layout, the code and the summaries are of the exchange
-pub record AreOf (x : Exchange) (layout : Layout) (code : Code) (k : KeptSummaries) : Type 0 where
+-- the code and the summaries are of the exchange, and what they tell of its jobs is true
+pub record AreOf (x : Exchange) (code : Code) (k : KeptSummaries) : Type 0 where
   pub exchange : IsExchange x
-  pub laid : IsLayout x.blocks layout
   pub faithful : Faithful x code
   pub checked : IsChecked x k
   pub true_of : AreTrue x k
 
--- the jobs of the setting are run with this exchange, this code and this store, and their tickets are of this book
-pub record HasNames (x : Exchange) (code : Code) (store : StoreId) (book : BookId) (s : Setting) : Type 0 where
-  pub means : AreMeans x code store s.means
-  pub book_is : s.book.now ≡ book
-
--- what is done on the ground is done on this exchange, by this code, in this store
-pub record IsGround (x : Exchange) (c : Code) (s : StoreId) (g : Ground) : Type 0 where
-  pub exchange : g.exchange.now ≡ x
-  pub code : g.code.now ≡ c
-  pub store : g.store.now ≡ s
-
--- the layout and the summaries of the setting are of this exchange, and so is this code
-abbrev pub IsSet : Exchange → Code → Setting → Type 0
-IsSet x code s = AreOf x s.ground.layout.now code s.checked.now
-
--- the setting has these names, its ground too, and what it sets is of them
-pub record Suits (x : Exchange) (code : Code) (store : StoreId) (book : BookId) (s : Setting) : Type 0 where
-  pub named : HasNames x code store book s
-  pub ground : IsGround x code store s.ground
-  pub set : IsSet x code s
-
--- and this is kept of its certificate
-pub record SuitsBy (x : Exchange) (code : Code) (store : StoreId) (book : BookId) (k : KeptSummaries) (s : Setting) : Type 0 where
-  pub suits : Suits x code store book s
-  pub kept : s.checked.now ≡ k
-
--- with some layout of the exchange this code and what is kept of its certificate are of it
-pub record IsSetBy (x : Exchange) (code : Code) (k : KeptSummaries) : Type 0 where
-  pub layout : Layout
-  pub set : AreOf x layout code k
+-- the run is of this exchange, this code and these summaries, of which so many jobs may run at once; its jobs are run with the first two and
+-- this store, and their tickets are of this book; and what has these names belongs together
+pub record Suits (x : Exchange) (o : Code) (s : StoreId) (b : BookId) (k : KeptSummaries) (w : ℕ) (c : RunContext) (m : Means) (book : BookId) : Type 0 where
+  pub exchange : c.exchange.now ≡ x
+  pub code : c.code.now ≡ o
+  pub kept : c.checked.now ≡ k
+  pub workers : c.workers ≡ w
+  pub some : 0 < c.workers
+  pub means : AreMeans x o s m
+  pub book_is : book ≡ b
+  pub laid : IsLayout x.blocks c.layout.now
+  pub set : AreOf x o k
 
 -- a summary is kept of the entry of the start
 abbrev pub HasSummary : KeptSummaries → JobStart → Type 0
@@ -157,15 +137,9 @@ pub record IsBare (store : StoreId) (root : RootView) : Type 0 where
   pub home : root.0 ≡ store
   pub bare : root.1.loans ≡ []
 
--- there is room for a job, no ticket was written, no job runs in the books, the root has lent nothing, and they stand for this state, which
--- is valid
-pub record MayBegin (x : Exchange) (store : StoreId) (book : BookId) (workers : ℕ) (first : State) (limit : ℕ) (b : Beginning) : Type 0 where
-  pub some : 0 < b.workers
-  pub workers_are : b.workers ≡ workers
-  pub pen_is : b.pen ≡ (book, 0)
-  pub nobody : b.books.running ≡ 0
-  pub limited : b.books.limit ≤ MOST_JOBS
-  pub limit_is : b.books.limit ≡ limit
-  pub root_is : b.root ≡ (store, unlent b.root.1.values)
-  pub first_is : with_words b.books.state b.root.1.values ≡ first
-  pub valid : IsValid x first
+-- no ticket was written, and books and root, which may go on, stand for this state and this limit
+pub record MayBegin (x : Exchange) (store : StoreId) (book : BookId) (first : State) (limit : ℕ) (pen : PenView) (run : StoredRun) : Type 0 where
+  pub start : MayStart x store run
+  pub pen_is : pen ≡ (book, 0)
+  pub limit_is : run.books.limit ≡ limit
+  pub first_is : with_words run.books.state run.root.1.values ≡ first

@@ -1,26 +1,30 @@
 // The dispatcher's desk: its books, the root of the store and the jobs that fly, which are a state of the core of events.
-ghost use Rattle.std.specs.Prelude.{◌≡◌, ◌<◌, [], Some, IfOk, IfErr};
+ghost use Rattle.std.specs.Prelude.{◌≡◌, ◌<◌, [], length, Some, IfOk, IfErr};
+ghost use Rattle.shared_store.specs.Loans.{unlent};
 ghost use Rattle.retire_order.specs.Events.{ending_of};
 ghost use Rattle.source_meaning.specs.SingleRun.{ending_at};
 ghost use Rattle.source_meaning.specs.Valid.{IsValid};
 ghost use Rattle.parallel_dispatch.specs.Desks.{GoesOn, TellsEnd};
-ghost use Rattle.parallel_dispatch.specs.Ends.{IsOverFrom};
-ghost use Rattle.parallel_dispatch.specs.Moves.{IsBare, IsLeft, IsSetBy, MayBegin, SuitsBy, to_do};
+ghost use Rattle.parallel_dispatch.specs.Ends.{IsRunEnd};
+ghost use Rattle.parallel_dispatch.specs.Moves.{IsBare, IsLeft, MayBegin, Suits, to_do};
 
 use crate::course::Course;
-use crate::driving::{Over, hire_meanwhile, relieve, way_for};
+use crate::dispatcher::{Ended, StoredRun};
+use crate::driving::{hire_meanwhile, relieve, way_for};
+use crate::hall::Hall;
 use crate::moves::{Left, Move, issue, next_move, retire, run_alone};
-use crate::setting::{Hall, Setting};
-use crate::threads::Beginning;
 use crate::window::Window;
 use interference_check::PairTable;
 use job_pace::Pace;
 use plex_io::Gate;
+use plex_num::{Memory, Seq};
 use retire_order::{Books, Ending, let_arrive};
-use shared_store::RootSeat;
+use shared_store::{RootSeat, SharedStore};
+use std::alloc::Global;
 use std::marker::Model;
 use std::sync::Wait;
 use std::thread::{Scope, Threads};
+use ticket_book::Pen;
 
 /// The books, the root of the store, and the jobs that fly. They are a state of the core of events, in which each job that flies stands at
 /// its start, and events lead to it from the state in which the run began. It cannot be dropped, since no job that flies may be.
@@ -47,24 +51,24 @@ impl<B: Course> Model for Desk<B> {
 
 impl<B: Course + Send + Sync> Desk<B> {
     /// Before the first job: what is due arrives. The root is given back where memory is refused.
-    pub fn open(setting: &Setting<'_>, beginning: Beginning) -> Result<Desk<B>, RootSeat>
-        requires setting { SuitsBy B.exchange B.code B.store B.book B.kept setting.now }
-        requires begin { MayBegin B.exchange B.store B.book B.workers B.first B.limit beginning }
+    pub fn open<R, G>(
+        hall: &Hall<'_, B, R, G>,
+        pen: Pen,
+        run: StoredRun,
+    ) -> Result<Desk<B>, RootSeat>
+        requires suits { Suits B.exchange B.code B.store B.book B.kept B.workers
+            hall.now.context hall.now.means hall.now.book.now }
+        requires begin { MayBegin B.exchange B.store B.book B.first B.limit pen run }
         ensures bare { IfErr result (λ root. IsBare B.store root) }
     {
-        let Beginning {
-            mut books,
-            root,
-            pen,
-            workers,
-        } = beginning;
-        let Ok(()) = let_arrive(setting.ground.exchange, &mut books) else {
+        let StoredRun { mut books, root } = run;
+        let Ok(()) = let_arrive(hall.context.exchange, &mut books) else {
             return Err(root);
         };
-        let Ok(books) = Box::new(setting.alloc, books) else {
+        let Ok(books) = Box::new(hall.alloc, books) else {
             return Err(root);
         };
-        let Ok(window) = Window::<B>::new(setting.alloc, pen, workers) else {
+        let Ok(window) = Window::<B>::new(hall.alloc, pen, hall.context.workers) else {
             return Err(root);
         };
         Ok(Desk {
@@ -88,7 +92,6 @@ impl<B: Course + Send + Sync> Desk<B> {
     /// The next move of a run that is not over, once the workers are started that are wanted for it:
     /// the next job runs alone to its end and retires, or it flies, or the oldest that flies retires.
     /// The root and the window are given back where memory is refused.
-    #[tactic(auto, using(crate::proofs::Desking::set_by))]
     pub fn make_move<'s, 'e: 's, R: Threads + Wait + Sync, G: Gate + Sync>(
         self,
         scope: &'s Scope<'s, &'e ()>,
@@ -96,7 +99,8 @@ impl<B: Course + Send + Sync> Desk<B> {
         pairs: &mut PairTable<'_>,
         pace: &mut Pace,
     ) -> Result<Desk<B>, Left<B>>
-        requires setting { SuitsBy B.exchange B.code B.store B.book B.kept hall.now.setting }
+        requires suits { Suits B.exchange B.code B.store B.book B.kept B.workers
+            hall.now.context hall.now.means hall.now.book.now }
         requires pairs { pairs.old ≡ B.kept }
         requires goes_on { GoesOn self.books self.window }
         ensures kept { pairs.new ≡ B.kept }
@@ -113,7 +117,7 @@ impl<B: Course + Send + Sync> Desk<B> {
         let held: &mut Books = &mut books;
         match next_move(held, &window, pairs, hall.shop, pace) {
             Move::RunAlone => {
-                match run_alone(&hall.setting, hall.gate, pace, held, root, &mut window) {
+                match run_alone(hall, pace, held, root, &mut window) {
                     Ok(alone) => Ok(Desk {
                         books,
                         root: alone.root,
@@ -150,26 +154,54 @@ impl<B: Course + Send + Sync> Desk<B> {
         }
     }
 
-    /// The run is over, and none flies.
-    pub fn finish(self, ending: Ending) -> Over
-        requires set { IsSetBy B.exchange B.code B.kept }
+    /// The end of a run that is over, where none flies. The root is given back where memory is
+    /// refused.
+    pub fn finish<R, G>(self, hall: &Hall<'_, B, R, G>, ending: Ending) -> Result<Ended, RootSeat>
+        requires suits { Suits B.exchange B.code B.store B.book B.kept B.workers
+            hall.now.context hall.now.means hall.now.book.now }
         requires valid { IsValid B.exchange B.first }
         requires none { self.window.loans ≡ [] }
         requires over { Some (ending_of ending) ≡ ending_at self.books.limit self.books.state }
-        ensures { IsOverFrom B.exchange B.code B.kept B.workers B.store B.first B.limit result }
+        ensures end { IfOk result
+            (λ end. IsRunEnd B.exchange B.code B.kept B.workers B.first B.limit end) }
+        ensures bare { IfErr result (λ root. IsBare B.store root) }
     {
         let Desk {
             books,
-            root,
+            mut root,
             window,
             steps,
         } = self;
         window.close();
-        Over {
-            books,
-            root,
-            ending,
-            steps,
+        let cells = hall.context.layout.words();
+        match words_of(hall.alloc, hall.means.store, &mut root, cells) {
+            Ok(words) => Ok(Ended {
+                books: Box::into_inner(books),
+                words,
+                ending,
+                steps,
+            }),
+            Err(_) => Err(root),
         }
     }
+}
+
+/// The words of a store, of which this is the root, that has lent nothing.
+fn words_of(
+    alloc: Global,
+    store: &SharedStore,
+    root: &mut RootSeat,
+    cells: u32,
+) -> Result<Seq<u32>, Memory>
+    requires store { root.old.0 ≡ store.now }
+    requires bare { root.old.1 ≡ unlent root.old.1.values }
+    requires cells { length root.old.1.values ≡ cells }
+    ensures words { IfOk result (λ words. words ≡ root.old.1.values) }
+    ensures root { root.new ≡ root.old }
+{
+    let mut words = Seq::new(alloc);
+    for word in 0..cells {
+        words.push(store.root_load(root, word))?;
+    }
+    Ok(words)
 }

@@ -9,9 +9,10 @@ ghost use Rattle.worker_pool.specs.Ways.{AreMeans};
 ghost use Rattle.parallel_dispatch.specs.Flying.{starts_of};
 ghost use Rattle.parallel_dispatch.specs.Events.{whole_turn};
 ghost use Rattle.parallel_dispatch.specs.Turning.{turn_of};
-ghost use Rattle.parallel_dispatch.specs.Moves.{CountsOne, HasIssued, HasNames, HasSummary, HasTurned, IsBare, IsLeft, MayIssue, MayMove, MayRunAlone, StandBeside, Suits};
+ghost use Rattle.parallel_dispatch.specs.Moves.{CountsOne, HasIssued, HasSummary, HasTurned, IsBare, IsLeft, MayIssue, MayMove, MayRunAlone, StandBeside, Suits};
 
-use crate::setting::{Hall, Setting};
+use crate::course::Course;
+use crate::hall::Hall;
 use crate::window::{Oldest, Window};
 use interference_check::PairTable;
 use job_pace::{Pace, Way};
@@ -134,36 +135,35 @@ fn is_sum_below(a: u64, b: u64, most: u64) -> bool
 
 /// One more job flies, which may, in this way.
 #[tactic(auto, using(crate::proofs::Choosing::some_next))]
-pub(crate) fn issue<B: Naming, R: Wait, G: Gate>(
+pub(crate) fn issue<B: Course, R: Wait, G: Gate>(
     hall: &Hall<'_, B, R, G>,
     way: Way,
     books: &mut Books,
     root: &mut RootSeat,
     window: &mut Window<B>,
 ) -> Result<(), Memory>
-    requires setting { Suits B.exchange B.code B.store B.book hall.now.setting }
-    requires next { MayIssue hall.now.setting.checked.now books.old window.old }
-    requires beside { StandBeside B.exchange hall.now.setting.checked.now B.store
+    requires suits { Suits B.exchange B.code B.store B.book B.kept B.workers
+        hall.now.context hall.now.means hall.now.book.now }
+    requires next { MayIssue B.kept books.old window.old }
+    requires beside { StandBeside B.exchange B.kept B.store
         books.old root.old window.old }
-    ensures issued { OnOk result (HasIssued B.exchange hall.now.setting.checked.now B.code
+    ensures issued { OnOk result (HasIssued B.exchange B.kept B.code
         books.old root.old.1 window.old books.new root.new.1 window.new) }
     ensures counted { OnOk result (CountsOne books.old books.new window.new) }
     ensures left { OnErr result (IsLeft B.store root.new window.new.loans) }
     ensures root { root.new.0 ≡ B.store }
     ensures room { window.new.room ≡ window.old.room }
 {
-    let setting = &hall.setting;
     let job = number_of_next(books);
     let Some(next) = books.next_job() else {
         unreachable!()
     };
-    let made = with_run(setting.alloc, window, next)?;
+    let made = with_run(hall.alloc, window, next)?;
     let (place, mut run) = made;
     let start: &JobStart = &place;
-    let _told = setting.checked.summary(start.job.entry);
-    run.begin(setting.means.code, start);
-    let seat = setting.means.store.lend_as::<Brand>(root, start);
-    let flight = window.launch(setting.book, seat, run, job);
+    run.begin(hall.means.code, start);
+    let seat = hall.means.store.lend_as::<Brand>(root, start);
+    let flight = window.launch(hall.book, seat, run, job);
     let flight = set_out(hall, way, flight);
     window.push(flight, place);
     Ok(())
@@ -192,41 +192,42 @@ fn set_out<B: Naming, R: Wait, G: Gate>(
     way: Way,
     flight: Flight<B>,
 ) -> Flight<B>
-    requires means { AreMeans B.exchange B.code B.store hall.now.setting.means }
+    requires means { AreMeans B.exchange B.code B.store hall.now.means }
     ensures { result ≡ flight }
 {
     match way {
         Way::InHand => flight,
         Way::Brought => flight.bring(hall.rt, hall.shop),
-        Way::Here => flight.run_here(&hall.setting.means, hall.gate),
+        Way::Here => flight.run_here(&hall.means, hall.gate),
     }
 }
 
 /// The next job runs to its end on the root's own words, where none flies. It retires at once, and what is due arrives.
 #[tactic(auto, using(crate::proofs::Leaving::left_nothing))]
-pub(crate) fn run_alone<B: Naming, G: Gate>(
-    setting: &Setting<'_>,
-    gate: &G,
+pub(crate) fn run_alone<B: Course, R, G: Gate>(
+    hall: &Hall<'_, B, R, G>,
     pace: &mut Pace,
     books: &mut Books,
     root: RootSeat,
     window: &mut Window<B>,
 ) -> Result<Retired, RootSeat>
-    requires setting { Suits B.exchange B.code B.store B.book setting.now }
+    requires suits { Suits B.exchange B.code B.store B.book B.kept B.workers
+        hall.now.context hall.now.means hall.now.book.now }
     requires next { MayRunAlone books.old window.old }
     requires goes_on { ending_at books.old.limit books.old.state ≡ None }
-    requires beside { StandBeside B.exchange setting.now.checked.now B.store
+    requires beside { StandBeside B.exchange B.kept B.store
         books.old root window.old }
     ensures turned { IfOk result (λ left.
-        HasTurned B.exchange setting.now.checked.now B.code B.store whole_turn
+        HasTurned B.exchange B.kept B.code B.store whole_turn
         books.old root.1 window.old books.new left window.new) }
     ensures left { IfErr result (λ back. IsLeft B.store back window.new.loans) }
 {
-    let Ok(run) = window.idle_run(setting.alloc) else {
+    let Ok(run) = window.idle_run(hall.alloc) else {
         return Err(root);
     };
     let mut run = run;
-    let turn = turn_alone(&setting.ground, gate, books, root, &mut run);
+    let store = hall.means.store;
+    let turn = turn_alone(&hall.context, store, hall.gate, books, root, &mut run);
     window.keep_run(run);
     match turn {
         Ok(alone) => {
@@ -241,19 +242,20 @@ pub(crate) fn run_alone<B: Naming, G: Gate>(
 }
 
 /// The oldest job retires, once it has come to its end, and what is due arrives where no job is left. There must be one.
-pub(crate) fn retire<B: Naming, R: Wait, G: Gate>(
+pub(crate) fn retire<B: Course, R: Wait, G: Gate>(
     hall: &Hall<'_, B, R, G>,
     pace: &mut Pace,
     books: &mut Books,
     root: RootSeat,
     window: &mut Window<B>,
 ) -> Result<Retired, RootSeat>
-    requires setting { Suits B.exchange B.code B.store B.book hall.now.setting }
+    requires suits { Suits B.exchange B.code B.store B.book B.kept B.workers
+        hall.now.context hall.now.means hall.now.book.now }
     requires some { 0 < length window.old.loans }
-    requires beside { StandBeside B.exchange hall.now.setting.checked.now B.store
+    requires beside { StandBeside B.exchange B.kept B.store
         books.old root window.old }
     ensures turned { IfOk result (λ left.
-        HasTurned B.exchange hall.now.setting.checked.now B.code B.store turn_of
+        HasTurned B.exchange B.kept B.code B.store turn_of
         books.old root.1 window.old books.new left window.new) }
     ensures left { IfErr result (λ back. IsLeft B.store back window.new.loans) }
 {
@@ -267,16 +269,16 @@ pub(crate) fn retire<B: Naming, R: Wait, G: Gate>(
     let start: &JobStart = &place;
     let entry = start.job.entry;
     pace.sets_down(entry, (window.len() == 0) & flight.is_in_hand());
-    let setting = &hall.setting;
-    let (seat, run) = flight.finish(hall.rt, hall.shop, &setting.means, setting.book, hall.gate);
+    let (seat, run) = flight.finish(hall.rt, hall.shop, &hall.means, hall.book, hall.gate);
     let ended: &JobRun = &run;
     let steps = ended.steps();
     pace.has_ended(entry, length_of(ended));
     pace.has_retired();
     let mut root = root;
-    setting.means.store.take_back(&mut root, seat);
+    let store = hall.means.store;
+    store.take_back(&mut root, seat);
     let done = ended.done();
-    let retired = retire_on_root(&setting.ground, books, root, start, done);
+    let retired = retire_on_root(&hall.context, store, books, root, start, done);
     window.keep_run(run);
     match retired {
         Ok(root) => Ok(Retired { root, steps }),
@@ -291,11 +293,12 @@ pub(crate) struct Left<B: Naming> {
 }
 
 /// All jobs that fly come to their ends, and give back their words: the root, which has lent nothing then.
-pub(crate) fn drain<B: Naming, R: Wait, G: Gate>(
+pub(crate) fn drain<B: Course, R: Wait, G: Gate>(
     hall: &Hall<'_, B, R, G>,
     left: Left<B>,
 ) -> RootSeat
-    requires named { HasNames B.exchange B.code B.store B.book hall.now.setting }
+    requires suits { Suits B.exchange B.code B.store B.book B.kept B.workers
+        hall.now.context hall.now.means hall.now.book.now }
     requires left { IsLeft B.store left.root left.window.loans }
     ensures { IsBare B.store result }
 {
@@ -308,13 +311,7 @@ pub(crate) fn drain<B: Naming, R: Wait, G: Gate>(
             return root;
         };
         let Oldest { flight, start: _ } = oldest;
-        let (seat, _run) = flight.finish(
-            hall.rt,
-            hall.shop,
-            &hall.setting.means,
-            hall.setting.book,
-            hall.gate,
-        );
-        hall.setting.means.store.take_back(&mut root, seat);
+        let (seat, _run) = flight.finish(hall.rt, hall.shop, &hall.means, hall.book, hall.gate);
+        hall.means.store.take_back(&mut root, seat);
     }
 }

@@ -8,12 +8,13 @@ ghost use Rattle.command_words.specs.Bounded.{IsBounded};
 use answer_meaning::{Answer, Stop};
 use command_answers::{perform_analysis, perform_certificate};
 use command_words::Command;
+use parallel_dispatch::Host;
 use plex_io::{Gate, Shelf};
 use std::sync::Wait;
 use std::thread::Threads;
 use view_answers::{perform_list, perform_trace};
 use worker_answers::{
-    Host, Way, perform_certified, perform_change, perform_load, perform_run, perform_timed,
+    Way, perform_certified, perform_change, perform_load, perform_run, perform_timed,
 };
 
 /// What a command comes to. Jobs may run at once on the threads of the host, and the thread of each

@@ -11,13 +11,13 @@ use crate::perform::perform;
 use answer_meaning::{Answer, Stop};
 use command_answers::{usage_line, write_answer};
 use command_words::{Status, read_command};
+use parallel_dispatch::Host;
 use plex_io::{Gate, Shelf, Sink, Word};
 use plex_num::Seq;
 use std::alloc::Global;
 use std::sync::Wait;
 use std::thread::Threads;
 use text_parts::Text;
-use worker_answers::Host;
 
 /// The program: reads the files that the words name, and writes the answer.
 ///

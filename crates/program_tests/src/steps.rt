@@ -15,8 +15,9 @@ use code_gen::compile;
 use exchange_model::Exchange;
 use exchange_run::{Standing, before_lines};
 use known_exchange::{known_in, lines_in};
+use lone_job::RunContext;
 use machine_code::Code;
-use parallel_dispatch::{StoredRun, Work, dispatch};
+use parallel_dispatch::{Host, StoredRun, dispatch};
 use plex_io::{NoGate, SteadyShelf};
 use plex_num::Seq;
 use shared_store::SharedStore;
@@ -83,18 +84,25 @@ fn dispatched<R: Threads + Wait + Sync>(
     requires run { MayGoOn exchange.now run }
     requires limit { run.books.limit ≤ MOST_JOBS }
 {
-    let work = Work {
+    let context = RunContext {
         exchange,
         layout,
         code,
         checked,
+        workers: 2,
     };
     let (store, root) = SharedStore::new(alloc, &run.words)?;
     let stored = StoredRun {
         books: run.books,
-        store,
         root,
     };
-    let end = dispatch(rt, alloc, &work, &NoGate, stored, 2)?;
-    Ok(end.steps)
+    let host = Host {
+        rt,
+        alloc,
+        gate: &NoGate,
+    };
+    match dispatch(&host, &context, &store, stored) {
+        Ok(end) => Ok(end.steps),
+        Err(_) => Err(NotMade),
+    }
 }

@@ -126,6 +126,10 @@ own_before limit s Restarted is less = tt
 own_before limit s Finished is less = tt
 own_before limit s Limited is less = (let le = limit_reached limit s is in omega (arith, le, less))
 
+-- so many are few, where no more may run than so many
+pub at_few : (at jobs most : ℕ) → at ≤ jobs → jobs ≤ most → at ≤ most
+at_few at jobs most le few = omega (arith, le, few)
+
 -- ## The change
 
 -- whether it fits

@@ -10,13 +10,15 @@ ghost use Rattle.answer_meaning.specs.Program.{IsEnding};
 ghost use Rattle.answer_meaning.specs.Lines.{AreRead};
 ghost use Rattle.command_words.specs.Bounded.{AreWithin, HasBounds};
 
-use crate::going::{Crew, Host, go_on, run_first};
+use crate::going::{Way, go_on};
 use crate::running::run_answer;
 use answer_meaning::{Answer, Stop, Which};
 use block_change::{Named, misfit_of};
 use command_words::{Bounds, ChangeWords};
 use exchange_model::Exchange;
+use exchange_run::before_lines;
 use known_exchange::{exchange_as, known_in, lines_in};
+use parallel_dispatch::Host;
 use plex_io::{Gate, Shelf};
 use plex_num::{Memory, Seq};
 use retire_order::BookParts;
@@ -90,7 +92,7 @@ fn change_answer<R: Threads + Wait + Sync, G: Gate + Sync>(
         Some(misfit) => misfit_answer(host.alloc, change.old, misfit),
         None => {
             if change.at > bounds.jobs {
-                return run_answer(host, change.old, None, lines, bounds);
+                return run_answer(host, change.old, Way::Code, None, lines, bounds);
             }
             fitting_answer(host, change, lines, bounds)
         }
@@ -117,13 +119,9 @@ fn fitting_answer<R: Threads + Wait + Sync, G: Gate + Sync>(
 {
     let old = change.old;
     old.kept();
-    let Bounds { workers, jobs: _ } = bounds;
-    let until = Bounds {
-        workers,
-        jobs: change.at,
-    };
     let layout = layout_of(host.alloc, old)?;
-    let end = run_first(host, old, &layout, None, lines, until)?;
+    let run = before_lines(host.alloc, old, &layout, lines, u64::from(change.at))?;
+    let end = go_on(host, old, &layout, Way::Code, None, bounds.workers, run)?;
     if ends_before(&end, change.at) {
         return end_answer(host.alloc, old, end);
     }
@@ -155,11 +153,15 @@ fn changed_answer<R: Threads + Wait + Sync, G: Gate + Sync>(
     let text = text_before(host.alloc, old, &parts, change.at)?;
     let to = layout_of(host.alloc, new.exchange)?;
     let run = carried_run(host.alloc, change, layout, &to, parts, words, bounds.jobs)?;
-    let crew = Crew {
-        given: None,
-        workers: bounds.workers,
-    };
-    let end = go_on(host, new.exchange, &to, crew, run)?;
+    let end = go_on(
+        host,
+        new.exchange,
+        &to,
+        Way::Code,
+        None,
+        bounds.workers,
+        run,
+    )?;
     let answer = headed_answer(text, new.exchange, end)?;
     Ok(answer)
 }

@@ -13,6 +13,6 @@ mod running;
 mod timing;
 
 pub use changing::perform_change;
-pub use going::Host;
-pub use performing::{Way, perform_certified, perform_load, perform_run};
+pub use going::Way;
+pub use performing::{perform_certified, perform_load, perform_run};
 pub use timing::perform_timed;

@@ -9,31 +9,22 @@ ghost use Rattle.answer_meaning.specs.LoadAnswer.{load_of};
 ghost use Rattle.answer_meaning.specs.Lines.{AreRead};
 ghost use Rattle.command_words.specs.Bounded.{AreWithin, HasBounds};
 
-use crate::going::Host;
+use crate::going::Way;
 use crate::running::{load_answer, run_answer};
 use answer_meaning::{Answer, Stop};
 use command_words::{Bounds, RunWords};
 use exchange_model::Exchange;
 use known_exchange::{fitting, known_in, known_of_file, lines_in, lines_of_file, text_in};
 use load_maker::{load_exchange, load_signals};
+use parallel_dispatch::Host;
 use plex_io::{Gate, Shelf, Word};
 use plex_limits::MOST_BYTES;
-use plex_num::{Memory, Seq};
+use plex_num::Seq;
 use refusal_lines::certificate_stop;
-use run_answers::source_answer;
 use run_certificates::kept_of_text;
 use signal_file::Line;
 use std::sync::Wait;
 use std::thread::Threads;
-
-/// By what the jobs of a run without a certificate are.
-#[derive(Clone, Copy)]
-pub enum Way {
-    /// By the source itself, one after the other.
-    Source,
-    /// By compiled code.
-    Code,
-}
 
 /// `single`, and `run` without a certificate.
 #[tactic(auto, using(answer_meaning::proofs::Stages::comes_rules))]
@@ -50,27 +41,8 @@ pub fn perform_run<R: Threads + Wait + Sync, S: Shelf, G: Gate + Sync>(
 {
     let known = known_in(host.alloc, shelf, &words.exchange)?;
     let lines = lines_in(host.alloc, shelf, &known, &words.signals)?;
-    let answer = answer_by(host, way, &known.exchange, lines, words.bounds)?;
+    let answer = run_answer(host, &known.exchange, way, None, lines, words.bounds)?;
     Ok(answer)
-}
-
-/// The answer of the run of these lines, in this way.
-fn answer_by<R: Threads + Wait + Sync, G: Gate + Sync>(
-    host: &Host<'_, R, G>,
-    way: Way,
-    exchange: &Exchange,
-    lines: Seq<Line>,
-    bounds: Bounds,
-) -> Result<Answer, Memory>
-    requires lines { AreRead exchange.now lines }
-    requires bounds { AreWithin bounds }
-    ensures answer { IfOk result (λ a. a ≡ run_answer exchange.now lines bounds.jobs) }
-    ensures ending { IfOk result (λ a. IsEnding a.status) }
-{
-    match way {
-        Way::Source => source_answer(host.alloc, host.gate, exchange, lines, bounds.jobs),
-        Way::Code => run_answer(host, exchange, None, lines, bounds),
-    }
 }
 
 /// `run` with a certificate.
@@ -110,7 +82,8 @@ fn certified_answer<R: Threads + Wait + Sync, G: Gate + Sync>(
 {
     match kept_of_text(host.alloc, exchange, text)? {
         Ok(checked) => {
-            let answer = run_answer(host, exchange, Some(checked), lines, bounds)?;
+            let given = Some(checked);
+            let answer = run_answer(host, exchange, Way::Code, given, lines, bounds)?;
             Ok(answer)
         }
         Err(fault) => Err(certificate_stop(host.alloc, fault)),

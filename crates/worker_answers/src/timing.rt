@@ -5,11 +5,12 @@ ghost use Rattle.answer_meaning.specs.TimedAnswer.{timed_of};
 ghost use Rattle.answer_meaning.specs.Program.{IsEnding};
 ghost use Rattle.command_words.specs.Bounded.{HasBounds};
 
-use crate::going::Host;
+use crate::going::Way;
 use crate::running::run_answer;
 use answer_meaning::{Answer, Stop};
 use command_words::TimedWords;
 use known_exchange::{known_in, lines_in, merged_in};
+use parallel_dispatch::Host;
 use plex_io::{Gate, Shelf};
 use std::sync::Wait;
 use std::thread::Threads;
@@ -29,6 +30,7 @@ pub fn perform_timed<R: Threads + Wait + Sync, S: Shelf, G: Gate + Sync>(
     let known = known_in(host.alloc, shelf, &words.run.exchange)?;
     let lines = lines_in(host.alloc, shelf, &known, &words.run.signals)?;
     let all = merged_in(host.alloc, shelf, &known, &lines, &words.table)?;
-    let answer = run_answer(host, &known.exchange, None, all, words.run.bounds)?;
+    let bounds = words.run.bounds;
+    let answer = run_answer(host, &known.exchange, Way::Code, None, all, bounds)?;
     Ok(answer)
 }

@@ -1,6 +1,6 @@
 use Rattle.std.proofs.Common.{◌≡◌}
 use Rattle.parallel_dispatch.specs.Moves.{to_do}
-use Rattle.parallel_dispatch.proofs.driving.run_jobs.Given as goal
+use Rattle.parallel_dispatch.proofs.threads.drive.Given as goal
 
 abbrev pub invariant-jobs : goal.invariant-jobs
 invariant-jobs g l = l.pairs ≡ g.B.Course.kept
