@@ -5,8 +5,8 @@ ghost use Rattle.std.specs.Prelude.{◌≡◌};
 
 use interference_check::PairTable;
 use offload_policy::{
-    ENOUGH, FED, FIRST_REST, LEAST_MEAN, LONELY, LONGEST_REST, MOST_COUNTED, MOST_WAIT, PART,
-    SHORT, TEST, VERY_SHORT, WAKE, long_job,
+    Company, ENOUGH, FED, FIRST_REST, LEAST_MEAN, LONELY, LONGEST_REST, MOST_COUNTED, MOST_WAIT,
+    PART, SHORT, TEST, VERY_SHORT, WAKE, long_job,
 };
 use plex_num::Memory;
 use std::alloc::Global;
@@ -87,6 +87,8 @@ pub struct Pace {
     long_job: u64,
     /// They run alone again where they make fewer than so many.
     short_job: u64,
+    /// How much of what jobs make is made beside others.
+    company: Company,
 }
 
 impl Drop for Pace {
@@ -102,6 +104,7 @@ impl Drop for Pace {
             behind: _,
             long_job: _,
             short_job: _,
+            company: _,
         } = self;
     }
 }
@@ -123,6 +126,7 @@ impl Pace {
                 behind: 0,
                 long_job: long,
                 short_job: (long / 5).saturating_mul(3),
+                company: Company::new(),
             }),
             Err(_) => Err(Memory),
         }
@@ -266,6 +270,16 @@ impl Pace {
             known.next_rest = known.next_rest.saturating_mul(2).min(LONGEST_REST);
         }
         self.put(entry, known);
+    }
+
+    /// Whether hardly any job of late had company, so that the run costs less without a dispatcher.
+    pub fn rests(&self) -> bool {
+        self.company.is_rare()
+    }
+
+    /// A job has ended that made so many instructions, with nobody beside it or not.
+    pub fn has_made(&mut self, made: u64, alone: bool) {
+        self.company.add(made, alone);
     }
 
     /// A job of this entry has ended, which was so long, in instructions.

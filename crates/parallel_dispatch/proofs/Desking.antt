@@ -1,5 +1,5 @@
 -- What each move leaves of what the type of the desk keeps.
-use Rattle.std.proofs.Common.{◌≡◌, ℕ, ◌+◌, ◌%◌, ◌^◌, ◌<◌, ◌≤◌, List, [], length, None, Some, sym, ap, ◌∙◌, subst, arith}
+use Rattle.std.proofs.Common.{◌≡◌, ℕ, ◌+◌, ◌%◌, ◌^◌, ◌<◌, ◌≤◌, List, [], length, None, Some, refl, sym, ap, ◌∙◌, subst, arith}
 use Rattle.std.specs.List.{AllByRecursion}
 use Rattle.plex_limits.specs.declared.limits.TheConstants.{MOST_JOBS}
 use Rattle.job_types.specs.declared.job.JobStart.{JobStart}
@@ -21,15 +21,18 @@ use Rattle.shared_store.specs.declared.view.Lent.{Lent}
 use Rattle.shared_store.specs.Seats.{RootView, StoreId}
 use Rattle.ticket_book.specs.Pages.{BookId, PenView}
 use Rattle.parallel_dispatch.specs.declared.moves.Retired.{Retired}
+use Rattle.exchange_run.specs.declared.turns.Standing.{Standing}
+use Rattle.exchange_run.specs.Comes.{IsOnTheWay}
 use Rattle.parallel_dispatch.specs.declared.dispatcher.Ended.{Ended}
+use Rattle.parallel_dispatch.specs.declared.dispatcher.Rested.{Rested}
 use Rattle.parallel_dispatch.specs.declared.dispatcher.StoredRun.{StoredRun}
 use Rattle.parallel_dispatch.specs.Desks.{IsDesk}
-use Rattle.parallel_dispatch.specs.Ends.{AreLedTo, EndsAs, IsRunEnd}
+use Rattle.parallel_dispatch.specs.Ends.{AreLedTo, EndsAs, IsRunEnd, IsRunRest}
 use Rattle.parallel_dispatch.specs.Events.{IsIssued, IsLed, IsReached}
 use Rattle.parallel_dispatch.specs.Flying.{Fly, starts_of}
 use Rattle.parallel_dispatch.specs.Moves.{AreCounted, AreOf, Flying, HasSummary, HasTurned, MayBegin, StandBeside}
 use Rattle.parallel_dispatch.specs.Windows.{View}
-use Rattle.parallel_dispatch.proofs.Reaching.{reached_ended, reached_issue, reached_led, reached_turn}
+use Rattle.parallel_dispatch.proofs.Reaching.{reached_ended, reached_issue, reached_led, reached_rests, reached_turn}
 use Rattle.parallel_dispatch.proofs.Standing.{all_summaries, next_summary, none_lent, stand_begin, stand_line, stand_some, words_at_end}
 
 -- the first state is valid
@@ -131,4 +134,24 @@ module _ (x : Exchange) (k : KeptSummaries) (code : Code) (store : StoreId) (wor
                 ends = subst (λ (z : (Account × List ℕ) × (Ending × ℕ)). EndsAs x code first limit z.0.0.state z.0.1 z.1.0 z.1.1) (λ i. ((sym books_are i, sym words_are i), (sym ending_is i, sym steps_are i))) desk_ends;
                 led = subst (λ (z : Account × (List ℕ × ℕ)). AreLedTo (setting x code k workers) first limit z.0.state z.1.0 z.1.1) (λ i. (sym books_are i, (sym words_are i, sym steps_are i))) led;
                 nobody = ap (λ (b : Account). b.running) books_are ∙ over_here.fly.running;
+              }
+
+        -- ## A rest
+
+        module _ (valid : IsValid x first) where
+          desk_way : (run : Standing) → run.books ≡ books → run.words ≡ root.1.values → IsOnTheWay x first limit run
+          desk_way run books_are words_are = reached_rests x k code workers first limit o.exchange o.faithful o.checked valid books root.1 steps over_here run books_are words_are
+
+          -- there is a word for each cell
+          pub rest_cells : (cells : ℕ) → cells ≡ cell_count x.blocks → length root.1.values ≡ cells
+          rest_cells cells is =
+              let way = desk_way (record { books = books; words = root.1.values }) refl refl in
+              way.may.valid.store.whole ∙ o.exchange.numbered.cells ∙ sym is
+
+          pub desk_rests : (run : Rested) → run.there.books ≡ books → run.there.words ≡ root.1.values → run.steps ≡ steps → IsRunRest x code k workers first limit run
+          desk_rests run books_are words_are steps_are =
+              let led : AreLedTo (setting x code k workers) first limit books.state root.1.values steps = reached_led x k code workers first limit books root.1 steps over_here in
+              record {
+                way = desk_way run.there books_are words_are;
+                led = subst (λ (z : Account × (List ℕ × ℕ)). AreLedTo (setting x code k workers) first limit z.0.state z.1.0 z.1.1) (λ i. (sym books_are i, (sym words_are i, sym steps_are i))) led;
               }

@@ -1,5 +1,5 @@
 -- The events from the first state on, to the end of the run.
-use Rattle.std.proofs.Common.{◌≡◌, ℕ, suc, ◌+◌, ◌%◌, ◌^◌, List, [], ◌∷◌, ◌++◌, length, Some, refl, sym, ap, ◌∙◌, subst, arith}
+use Rattle.std.proofs.Common.{◌≡◌, ℕ, suc, ◌+◌, ◌%◌, ◌^◌, ◌<◌, List, [], ◌∷◌, ◌++◌, length, None, Some, refl, sym, ap, ◌∙◌, subst, arith}
 use Rattle.job_types.specs.declared.outcome.JobDone.{JobDone}
 use Rattle.job_types.specs.Own.{World, done_of}
 use Rattle.job_types.specs.Touches.{stored}
@@ -22,13 +22,17 @@ use Rattle.run_laws.proofs.Going.{end_framed}
 use Rattle.checked.specs.Kept.{IsChecked, KeptSummaries}
 use Rattle.order_laws.proofs.Following.{ahead_none}
 use Rattle.retire_order.specs.Accounts.{Account, with_words}
+use Rattle.exchange_run.specs.declared.turns.Standing.{Standing}
+use Rattle.exchange_run.specs.Comes.{IsOnTheWay}
+use Rattle.exchange_run.specs.Runs.{RunsTo}
+use Rattle.exchange_run.proofs.Resting.{rests}
 use Rattle.interleave_core.specs.declared.event.CoreEvent.{CoreEvent}
 use Rattle.interleave_core.specs.declared.event.CoreEvent.TheVariants.{Issue}
 use Rattle.interleave_core.specs.Allowed.{MayFollow}
 use Rattle.interleave_core.specs.Runs.{Runs, Setting, setting}
 use Rattle.interleave_core.proofs.Certified.{pairs_give}
 use Rattle.interleave_core.proofs.Changing.{done_is}
-use Rattle.interleave_core.proofs.Following.{Beside}
+use Rattle.interleave_core.proofs.Following.{Beside, follows_single_run}
 use Rattle.shared_store.specs.declared.view.Lent.{Lent}
 use Rattle.shared_store.specs.declared.view.Top.{Top}
 use Rattle.shared_store.specs.Loans.{taken_back}
@@ -154,3 +158,18 @@ module _ (x : Exchange) (k : KeptSummaries) (code : Code) (workers : ℕ) (first
           ends = ap (ending_at limit) (ap (after x first) at_end ∙ sym end.0) ∙ ap (λ n. ending_at n c.state) (sym r.limited) ∙ sym is;
           made = subst (λ n. AllMake x code first n steps) (sym at_end) r.made;
         }
+
+    -- none flies, and the run may rest
+    pub reached_rests : (books : Account) (top : Top) (steps : ℕ) → Here books top [] steps → (run : Standing) → run.books ≡ books → run.words ≡ top.values → IsOnTheWay x first limit run
+    reached_rests books top steps r run books_are words_are =
+        let c = shown code books top [] r.retired in
+        let pairs = pairs_give x k kept checked in
+        let f = went_runs x kept code faithful k pairs first workers r.events (first_core x first limit) c begins (went_first x kept code faithful k pairs first (first_core x first limit) refl refl) r.runs in
+        let same : c.state ≡ after x first r.retired = (follows_single_run x kept code faithful k pairs first c f.0).empty refl in
+        let goes : (n : ℕ) → n < r.retired → ending_at limit (after x first n) ≡ None = λ n less. ap (λ m. ending_at m (after x first n)) (sym r.limited) ∙ f.1.goes_on n (omega (arith, less)) in
+        let there : IsOnTheWay x first limit (record { books = books; words = top.values }) = record {
+          limited = r.limited;
+          may = record { nobody = r.fly.running; valid = subst (IsValid x) (sym same) (after_valid x kept first r.retired valid) };
+          leads = λ s words e runs. rests x first limit r.retired goes s words e (subst (λ (z : State × ℕ). RunsTo x z.0 z.1 s words e) (λ i. (same i, r.limited i)) runs);
+        } in
+        subst (λ (z : Account × List ℕ). IsOnTheWay x first limit (record { books = z.0; words = z.1 })) (λ i. (sym books_are i, sym words_are i)) there

@@ -14,7 +14,12 @@ use Rattle.interleave_core.specs.Cores.{Core}
 use Rattle.interleave_core.specs.Runs.{Runs, Setting, setting}
 use Rattle.shared_store.specs.Loans.{unlent}
 use Rattle.shared_store.specs.Seats.{StoreId}
+use Rattle.exchange_run.specs.declared.turns.Standing.{Standing}
+use Rattle.exchange_run.specs.Comes.{IsOnTheWay}
+use Rattle.parallel_dispatch.specs.declared.dispatcher.Dispatched.{Dispatched}
+use Rattle.parallel_dispatch.specs.declared.dispatcher.Dispatched.TheVariants.{Over, Rests}
 use Rattle.parallel_dispatch.specs.declared.dispatcher.Ended.{Ended}
+use Rattle.parallel_dispatch.specs.declared.dispatcher.Rested.{Rested}
 use Rattle.parallel_dispatch.specs.declared.dispatcher.StoredRun.{StoredRun}
 use Rattle.lone_job.specs.declared.context.RunContext.{RunContext}
 use Rattle.parallel_dispatch.specs.Events.{first_core}
@@ -44,6 +49,22 @@ pub record IsRunEnd (x : Exchange) (code : Code) (k : KeptSummaries) (workers : 
   pub led : AreLedTo (setting x code k workers) first limit end.books.state end.words end.steps
   pub nobody : end.books.running ≡ 0
 
+-- these books and words stand on the way of the single run from this first state, and so many jobs at once, at most, brought the run there:
+-- events led to them, and no job is left in the window
+pub record IsRunRest (x : Exchange) (code : Code) (k : KeptSummaries) (workers : ℕ) (first : State) (limit : ℕ) (run : Rested) : Type 0 where
+  pub way : IsOnTheWay x first limit run.there
+  pub led : AreLedTo (setting x code k workers) first limit run.there.books.state run.there.words run.steps
+
+-- the run has come to its end, or rests on its way
+abbrev pub IsRunTo : Exchange → Code → KeptSummaries → ℕ → State → ℕ → Dispatched → Type 0
+IsRunTo x code k workers first limit (Over end) = IsRunEnd x code k workers first limit end
+IsRunTo x code k workers first limit (Rests run) = IsRunRest x code k workers first limit run
+
+-- it has come to its end
+abbrev pub IsOver : Dispatched → Type 0
+IsOver (Over end) = Unit {0}
+IsOver (Rests run) = ⊥
+
 -- books and root may go on: nobody runs, the root is that of the store and has lent nothing, and they stand for a valid state
 pub record MayStart (x : Exchange) (store : StoreId) (run : StoredRun) : Type 0 where
   pub nobody : run.books.running ≡ 0
@@ -51,7 +72,7 @@ pub record MayStart (x : Exchange) (store : StoreId) (run : StoredRun) : Type 0 
   pub root : run.root ≡ (store, unlent run.root.1.values)
   pub valid : IsValid x (with_words run.books.state run.root.1.values)
 
--- the end to which the jobs of such a context bring these books and the words of this root
-abbrev pub IsDispatched : RunContext → StoredRun → Ended → Type 0
-IsDispatched c run end =
-    IsRunEnd c.exchange.now c.code.now c.checked.now c.workers (with_words run.books.state run.root.1.values) run.books.limit end
+-- what the jobs of such a context bring these books and the words of this root to
+abbrev pub IsDispatched : RunContext → StoredRun → Dispatched → Type 0
+IsDispatched c run come =
+    IsRunTo c.exchange.now c.code.now c.checked.now c.workers (with_words run.books.state run.root.1.values) run.books.limit come

@@ -2,8 +2,8 @@
 use std::marker::Brand;
 use worker_pool::Naming;
 
-/// Names besides what is kept of the certificate, how many jobs may run at once, the state in which the run begins, before what is due
-/// arrives, and after how many jobs it ends.
+/// Names besides what is kept of the certificate, how many jobs may run at once, the state in which
+/// the run begins, before what is due arrives, and after how many jobs it ends.
 pub(crate) trait Course: Naming {
     ghost use Rattle.std.specs.Prelude.{ℕ};
     ghost use Rattle.checked.specs.Kept.{KeptSummaries};

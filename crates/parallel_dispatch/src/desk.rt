@@ -1,19 +1,21 @@
-// The dispatcher's desk: its books, the root of the store and the jobs that fly, which are a state of the core of events.
-ghost use Rattle.std.specs.Prelude.{◌≡◌, ◌<◌, [], length, Some, IfOk, IfErr};
+// The dispatcher's desk: its books, the root of the store and the jobs that fly, which are a state
+// of the core of events.
+ghost use Rattle.std.specs.Prelude.{◌≡◌, ◌<◌, [], length, Some, IsTrue, IfOk, IfErr};
 ghost use Rattle.shared_store.specs.Loans.{unlent};
 ghost use Rattle.retire_order.specs.Events.{ending_of};
 ghost use Rattle.source_meaning.specs.SingleRun.{ending_at};
 ghost use Rattle.source_meaning.specs.Valid.{IsValid};
 ghost use Rattle.parallel_dispatch.specs.Desks.{GoesOn, TellsEnd};
-ghost use Rattle.parallel_dispatch.specs.Ends.{IsRunEnd};
+ghost use Rattle.parallel_dispatch.specs.Ends.{IsRunEnd, IsRunRest};
 ghost use Rattle.parallel_dispatch.specs.Moves.{IsBare, IsLeft, MayBegin, Suits, to_do};
 
 use crate::course::Course;
-use crate::dispatcher::{Ended, StoredRun};
+use crate::dispatcher::{Ended, Rested, StoredRun};
 use crate::driving::{hire_meanwhile, relieve, way_for};
 use crate::hall::Hall;
 use crate::moves::{Left, Move, issue, next_move, retire, run_alone};
 use crate::window::Window;
+use exchange_run::Standing;
 use interference_check::PairTable;
 use job_pace::Pace;
 use plex_io::Gate;
@@ -26,8 +28,9 @@ use std::sync::Wait;
 use std::thread::{Scope, Threads};
 use ticket_book::Pen;
 
-/// The books, the root of the store, and the jobs that fly. They are a state of the core of events, in which each job that flies stands at
-/// its start, and events lead to it from the state in which the run began. It cannot be dropped, since no job that flies may be.
+/// The books, the root of the store, and the jobs that fly. They are a state of the core of events,
+/// in which each job that flies stands at its start, and events lead to it from the state in which
+/// the run began. It cannot be dropped, since no job that flies may be.
 pub(crate) struct Desk<B: Course> {
     books: Box<Books>,
     root: RootSeat,
@@ -61,7 +64,11 @@ impl<B: Course + Send + Sync> Desk<B> {
         requires begin { MayBegin B.exchange B.store B.book B.first B.limit pen run }
         ensures bare { IfErr result (λ root. IsBare B.store root) }
     {
-        let StoredRun { mut books, root } = run;
+        let StoredRun {
+            mut books,
+            root,
+            may_rest: _,
+        } = run;
         let Ok(()) = let_arrive(hall.context.exchange, &mut books) else {
             return Err(root);
         };
@@ -89,9 +96,16 @@ impl<B: Course + Send + Sync> Desk<B> {
         None
     }
 
-    /// The next move of a run that is not over, once the workers are started that are wanted for it:
-    /// the next job runs alone to its end and retires, or it flies, or the oldest that flies retires.
-    /// The root and the window are given back where memory is refused.
+    /// Whether no job flies.
+    pub fn is_idle(&self) -> bool
+        ensures { IsTrue result → self.now.window.loans ≡ [] }
+    {
+        self.window.len() == 0
+    }
+
+    /// The next move of a run that is not over, once the workers are started that are wanted for
+    /// it: the next job runs alone to its end and retires, or it flies, or the oldest that flies
+    /// retires. The root and the window are given back where memory is refused.
     pub fn make_move<'s, 'e: 's, R: Threads + Wait + Sync, G: Gate + Sync>(
         self,
         scope: &'s Scope<'s, &'e ()>,
@@ -181,6 +195,36 @@ impl<B: Course + Send + Sync> Desk<B> {
                 ending,
                 steps,
             }),
+            Err(_) => Err(root),
+        }
+    }
+
+    /// Where a run rests, in which none flies. The root is given back where memory is refused.
+    pub fn rest<R, G>(self, hall: &Hall<'_, B, R, G>) -> Result<Rested, RootSeat>
+        requires suits { Suits B.exchange B.code B.store B.book B.kept B.workers
+            hall.now.context hall.now.means hall.now.book.now }
+        requires valid { IsValid B.exchange B.first }
+        requires none { self.window.loans ≡ [] }
+        ensures rest { IfOk result
+            (λ run. IsRunRest B.exchange B.code B.kept B.workers B.first B.limit run) }
+        ensures bare { IfErr result (λ root. IsBare B.store root) }
+    {
+        let Desk {
+            books,
+            mut root,
+            window,
+            steps,
+        } = self;
+        window.close();
+        let cells = hall.context.layout.words();
+        match words_of(hall.alloc, hall.means.store, &mut root, cells) {
+            Ok(words) => {
+                let books = Box::into_inner(books);
+                Ok(Rested {
+                    there: Standing { books, words },
+                    steps,
+                })
+            }
             Err(_) => Err(root),
         }
     }

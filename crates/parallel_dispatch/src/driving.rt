@@ -11,8 +11,8 @@ use std::sync::Wait;
 use std::thread::{Scope, Threads};
 use worker_pool::{Naming, start_workers};
 
-/// Runs a job that waits for a thread, where enough do, each worker has one, and the oldest that flies
-/// is not in hand.
+/// Runs a job that waits for a thread, where enough do, each worker has one, and the oldest that
+/// flies is not in hand.
 pub(crate) fn relieve<B: Naming, R: Wait, G: Gate>(
     hall: &Hall<'_, B, R, G>,
     pace: &Pace,
@@ -65,8 +65,8 @@ pub(crate) fn way_for<
     way
 }
 
-/// Starts the workers that are wanted while the dispatcher waits for the oldest that flies, or runs it:
-/// one more where a job waits.
+/// Starts the workers that are wanted while the dispatcher waits for the oldest that flies, or runs
+/// it: one more where a job waits.
 pub(crate) fn hire_meanwhile<
     's,
     'e: 's,

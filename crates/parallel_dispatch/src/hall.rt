@@ -4,8 +4,8 @@ use std::alloc::Global;
 use ticket_book::TicketBook;
 use worker_pool::{Means, Naming, Shop};
 
-/// What a run is given beside what it is of: threads, memory, and the gate that is called before and
-/// after each job.
+/// What a run is given beside what it is of: threads, memory, and the gate that is called before
+/// and after each job.
 #[derive(Drop)]
 pub struct Host<'a, R, G> {
     pub rt: &'a R,
@@ -13,8 +13,8 @@ pub struct Host<'a, R, G> {
     pub gate: &'a G,
 }
 
-/// Where jobs fly: the handle of threads, memory, the gate that the thread of each job calls, what the
-/// run is of, what the jobs that fly are run with, the book of tickets, and the shop from which
+/// Where jobs fly: the handle of threads, memory, the gate that the thread of each job calls, what
+/// the run is of, what the jobs that fly are run with, the book of tickets, and the shop from which
 /// workers take jobs.
 #[derive(Drop)]
 pub(crate) struct Hall<'e, B: Naming, R, G> {

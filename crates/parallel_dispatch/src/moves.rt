@@ -1,4 +1,5 @@
-// The moves of the dispatcher: the next job runs alone, or it flies, or the oldest that flies retires.
+// The moves of the dispatcher: the next job runs alone, or it flies, or the oldest that flies
+// retires.
 ghost use Rattle.std.specs.Prelude.{◌≡◌, ◌+◌, ◌<◌, [], length, Some, None, IsTrue, OnOk, OnErr, IfOk, IfErr};
 ghost use Rattle.std.specs.List.{AllByRecursion};
 ghost use Rattle.job_types.specs.declared.job.JobStart.{JobStart as StartType};
@@ -40,15 +41,17 @@ pub(crate) enum Move {
     Retire,
 }
 
-/// A job that has retired: the root of the store, and how many instructions its run made, modulo 2^64.
+/// A job that has retired: the root of the store, and how many instructions its run made, modulo
+/// 2^64.
 #[derive(Drop)]
 pub(crate) struct Retired {
     pub root: RootSeat,
     pub steps: u64,
 }
 
-/// The next move. Where none flies the next job runs alone, or flies where it is worth a loan. Beside others it flies where it may, once
-/// those in front that have ended have retired; else the oldest retires.
+/// The next move. Where none flies the next job runs alone, or flies where it is worth a loan.
+/// Beside others it flies where it may, once those in front that have ended have retired; else the
+/// oldest retires.
 #[tactic(auto, using(crate::proofs::Choosing::may_run_alone, crate::proofs::Choosing::some_fly, crate::proofs::Choosing::some_wait, crate::proofs::Choosing::none_comes))]
 pub(crate) fn next_move<B: Naming>(
     books: &Books,
@@ -169,8 +172,8 @@ pub(crate) fn issue<B: Course, R: Wait, G: Gate>(
     Ok(())
 }
 
-/// A start in a place of its own, where it is not moved as the job goes from hand to hand, and a run
-/// in which its job may begin. Memory is the only reason for an error.
+/// A start in a place of its own, where it is not moved as the job goes from hand to hand, and a
+/// run in which its job may begin. Memory is the only reason for an error.
 fn with_run<B: Naming>(
     alloc: Global,
     window: &mut Window<B>,
@@ -202,7 +205,8 @@ fn set_out<B: Naming, R: Wait, G: Gate>(
     }
 }
 
-/// The next job runs to its end on the root's own words, where none flies. It retires at once, and what is due arrives.
+/// The next job runs to its end on the root's own words, where none flies. It retires at once, and
+/// what is due arrives.
 #[tactic(auto, using(crate::proofs::Leaving::left_nothing))]
 pub(crate) fn run_alone<B: Course, R, G: Gate>(
     hall: &Hall<'_, B, R, G>,
@@ -232,6 +236,7 @@ pub(crate) fn run_alone<B: Course, R, G: Gate>(
     match turn {
         Ok(alone) => {
             pace.has_ended(alone.entry, alone.length);
+            pace.has_made(alone.steps, true);
             Ok(Retired {
                 root: alone.root,
                 steps: alone.steps,
@@ -241,7 +246,8 @@ pub(crate) fn run_alone<B: Course, R, G: Gate>(
     }
 }
 
-/// The oldest job retires, once it has come to its end, and what is due arrives where no job is left. There must be one.
+/// The oldest job retires, once it has come to its end, and what is due arrives where no job is
+/// left. There must be one.
 pub(crate) fn retire<B: Course, R: Wait, G: Gate>(
     hall: &Hall<'_, B, R, G>,
     pace: &mut Pace,
@@ -268,11 +274,13 @@ pub(crate) fn retire<B: Course, R: Wait, G: Gate>(
     } = oldest;
     let start: &JobStart = &place;
     let entry = start.job.entry;
-    pace.sets_down(entry, (window.len() == 0) & flight.is_in_hand());
+    let alone = (window.len() == 0) & flight.is_in_hand();
+    pace.sets_down(entry, alone);
     let (seat, run) = flight.finish(hall.rt, hall.shop, &hall.means, hall.book, hall.gate);
     let ended: &JobRun = &run;
     let steps = ended.steps();
     pace.has_ended(entry, length_of(ended));
+    pace.has_made(steps, alone);
     pace.has_retired();
     let mut root = root;
     let store = hall.means.store;
@@ -292,7 +300,8 @@ pub(crate) struct Left<B: Naming> {
     pub window: Window<B>,
 }
 
-/// All jobs that fly come to their ends, and give back their words: the root, which has lent nothing then.
+/// All jobs that fly come to their ends, and give back their words: the root, which has lent
+/// nothing then.
 pub(crate) fn drain<B: Course, R: Wait, G: Gate>(
     hall: &Hall<'_, B, R, G>,
     left: Left<B>,

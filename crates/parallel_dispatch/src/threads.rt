@@ -1,12 +1,12 @@
 // The run of all jobs in a scope of threads.
-ghost use Rattle.std.specs.Prelude.{◌≡◌, ◌<◌, IfOk, IfErr};
+ghost use Rattle.std.specs.Prelude.{◌≡◌, ◌<◌, false, IfOk, IfErr};
 ghost use Rattle.store_layout.specs.Laid.{IsLayout};
-ghost use Rattle.parallel_dispatch.specs.Ends.{IsRunEnd};
+ghost use Rattle.parallel_dispatch.specs.Ends.{IsOver, IsRunTo};
 ghost use Rattle.parallel_dispatch.specs.Moves.{AreOf, IsBare, MayBegin, Suits};
 
 use crate::course::Course;
 use crate::desk::Desk;
-use crate::dispatcher::{Ended, StoredRun};
+use crate::dispatcher::{Dispatched, StoredRun};
 use crate::hall::{Hall, Host};
 use crate::moves::drain;
 use interference_check::PairTable;
@@ -20,8 +20,8 @@ use std::thread::{Scope, Threads, available_parallelism};
 use ticket_book::{Pen, TicketBook};
 use worker_pool::{Means, Shop};
 
-/// Runs the jobs to the end of the run: the end. Memory is the only reason for an error, and the root
-/// has lent nothing then.
+/// Runs the jobs to the end of the run, or to where it rests. Memory is the only reason for an
+/// error, and the root has lent nothing then.
 pub(crate) fn run_named<B: Course + Send + Sync, R: Threads + Wait + Sync, G: Gate + Sync>(
     host: &Host<'_, R, G>,
     context: &RunContext<'_>,
@@ -29,12 +29,13 @@ pub(crate) fn run_named<B: Course + Send + Sync, R: Threads + Wait + Sync, G: Ga
     book: &TicketBook,
     pen: Pen,
     run: StoredRun,
-) -> Result<Ended, RootSeat>
+) -> Result<Dispatched, RootSeat>
     requires suits { Suits B.exchange B.code B.store B.book B.kept B.workers
         context.now means.now book.now }
     requires begin { MayBegin B.exchange B.store B.book B.first B.limit pen run }
-    ensures end { IfOk result
-        (λ end. IsRunEnd B.exchange B.code B.kept B.workers B.first B.limit end) }
+    ensures come { IfOk result
+        (λ come. IsRunTo B.exchange B.code B.kept B.workers B.first B.limit come) }
+    ensures over { run.may_rest ≡ false → IfOk result (λ come. IsOver come) }
     ensures bare { IfErr result (λ root. IsBare B.store root) }
 {
     let Ok(shop) = Shop::<B>::new(host.alloc, context.workers) else {
@@ -43,9 +44,9 @@ pub(crate) fn run_named<B: Course + Send + Sync, R: Threads + Wait + Sync, G: Ga
     run_shop(host, context, means, book, &shop, pen, run)
 }
 
-/// The same with a place for the pool's jobs. What the threads see is handed to the closure one by one,
-/// and the hall is put together in it: of a closure that captures structs of references contracts follow
-/// nothing.
+/// The same with a place for the pool's jobs. What the threads see is handed to the closure one by
+/// one, and the hall is put together in it: of a closure that captures structs of references
+/// contracts follow nothing.
 fn run_shop<'x, B: Course + Send + Sync, R: Threads + Wait + Sync, G: Gate + Sync>(
     host: &'x Host<'x, R, G>,
     context: &'x RunContext<'x>,
@@ -54,12 +55,13 @@ fn run_shop<'x, B: Course + Send + Sync, R: Threads + Wait + Sync, G: Gate + Syn
     shop: &'x Shop<B>,
     pen: Pen,
     run: StoredRun,
-) -> Result<Ended, RootSeat>
+) -> Result<Dispatched, RootSeat>
     requires suits { Suits B.exchange B.code B.store B.book B.kept B.workers
         context.now means.now book.now }
     requires begin { MayBegin B.exchange B.store B.book B.first B.limit pen run }
-    ensures end { IfOk result
-        (λ end. IsRunEnd B.exchange B.code B.kept B.workers B.first B.limit end) }
+    ensures come { IfOk result
+        (λ come. IsRunTo B.exchange B.code B.kept B.workers B.first B.limit come) }
+    ensures over { run.may_rest ≡ false → IfOk result (λ come. IsOver come) }
     ensures bare { IfErr result (λ root. IsBare B.store root) }
 {
     let rt = host.rt;
@@ -74,7 +76,7 @@ fn run_shop<'x, B: Course + Send + Sync, R: Threads + Wait + Sync, G: Gate + Syn
     thread::scope(
         thread::scope_env(),
         rt,
-        |scope| -> Result<Ended, RootSeat>
+        |scope| -> Result<Dispatched, RootSeat>
             requires { ((exchange.now ≡ B.exchange) × (code.now ≡ B.code)
                 × (store.now ≡ B.store) × (book.now ≡ B.book))
                 × (checked.now ≡ B.kept)
@@ -83,7 +85,8 @@ fn run_shop<'x, B: Course + Send + Sync, R: Threads + Wait + Sync, G: Gate + Syn
                 × AreOf B.exchange B.code B.kept
                 × MayBegin B.exchange B.store B.book B.first B.limit pen run }
             ensures { IfOk result
-                (λ end. IsRunEnd B.exchange B.code B.kept B.workers B.first B.limit end)
+                (λ come. IsRunTo B.exchange B.code B.kept B.workers B.first B.limit come)
+                × (run.may_rest ≡ false → IfOk result (λ come. IsOver come))
                 × IfErr result (λ root. IsBare B.store root) }
         {
             let hall = Hall {
@@ -110,21 +113,22 @@ fn run_shop<'x, B: Course + Send + Sync, R: Threads + Wait + Sync, G: Gate + Syn
     )
 }
 
-/// The same in a scope. Jobs run alone, or fly and retire, until the run is over; workers are started
-/// for the jobs that are brought to them. In the end no job flies, also where memory was refused, and
-/// the workers are told that no more jobs come.
+/// The same in a scope. Jobs run alone, or fly and retire, until the run is over or rests; workers
+/// are started for the jobs that are brought to them. In the end no job flies, also where memory
+/// was refused, and the workers are told that no more jobs come.
 #[tactic(auto, using(crate::proofs::Desking::begins_valid))]
 fn drive<'s, 'e: 's, B: Course + Send + Sync, R: Threads + Wait + Sync, G: Gate + Sync>(
     scope: &'s Scope<'s, &'e ()>,
     hall: &Hall<'e, B, R, G>,
     pen: Pen,
     run: StoredRun,
-) -> Result<Ended, RootSeat>
+) -> Result<Dispatched, RootSeat>
     requires suits { Suits B.exchange B.code B.store B.book B.kept B.workers
         hall.now.context hall.now.means hall.now.book.now }
     requires begin { MayBegin B.exchange B.store B.book B.first B.limit pen run }
-    ensures end { IfOk result
-        (λ end. IsRunEnd B.exchange B.code B.kept B.workers B.first B.limit end) }
+    ensures come { IfOk result
+        (λ come. IsRunTo B.exchange B.code B.kept B.workers B.first B.limit come) }
+    ensures over { run.may_rest ≡ false → IfOk result (λ come. IsOver come) }
     ensures bare { IfErr result (λ root. IsBare B.store root) }
 {
     let context = &hall.context;
@@ -136,6 +140,7 @@ fn drive<'s, 'e: 's, B: Course + Send + Sync, R: Threads + Wait + Sync, G: Gate 
     let Ok(mut pace) = Pace::new(hall.alloc, entries, helpers, context.workers) else {
         return Err(run.root);
     };
+    let may_rest = run.may_rest;
     let mut desk = match Desk::<B>::open(hall, pen, run) {
         Ok(desk) => desk,
         Err(root) => return Err(root),
@@ -143,7 +148,12 @@ fn drive<'s, 'e: 's, B: Course + Send + Sync, R: Threads + Wait + Sync, G: Gate 
     let _closing = hall.shop.closing();
     'jobs: loop {
         if let Some(ending) = desk.ending() {
-            return desk.finish(hall, ending);
+            let end = desk.finish(hall, ending)?;
+            return Ok(Dispatched::Over(end));
+        }
+        if may_rest && pace.rests() && desk.is_idle() {
+            let there = desk.rest(hall)?;
+            return Ok(Dispatched::Rests(there));
         }
         desk = match desk.make_move(scope, hall, &mut pairs, &mut pace) {
             Ok(next) => next,

@@ -18,7 +18,8 @@ use std::marker::Model;
 use ticket_book::{Pen, TicketBook};
 use worker_pool::{Flight, Naming, Shop, launch};
 
-/// A job that flies, and how it started. Contracts see the loan that it is of. It cannot be dropped: its flight must be finished.
+/// A job that flies, and how it started. Contracts see the loan that it is of. It cannot be
+/// dropped: its flight must be finished.
 struct InFlight<B: Naming> {
     flight: Flight<B>,
     start: Box<JobStart>,
@@ -53,9 +54,10 @@ impl<B: Naming> InFlight<B> {
     }
 }
 
-/// The window: the jobs that have begun and not retired, the oldest first, and what writes their tickets. Runs that are over wait
-/// here for the next job. Contracts see the loans, for how many there is room, and how many jobs have flown so far. It cannot be dropped: it
-/// must be closed, when none flies.
+/// The window: the jobs that have begun and not retired, the oldest first, and what writes their
+/// tickets. Runs that are over wait here for the next job. Contracts see the loans, for how many
+/// there is room, and how many jobs have flown so far. It cannot be dropped: it must be closed,
+/// when none flies.
 pub(crate) struct Window<B: Naming> {
     flying: VecDeque<InFlight<B>>,
     idle: Vec<Box<JobRun>>,
@@ -110,7 +112,8 @@ impl<B: Naming> Window<B> {
         self.flying.capacity()
     }
 
-    /// How many of the oldest must retire before a job passes with each that flies, as the later one: it does so now where none must.
+    /// How many of the oldest must retire before a job passes with each that flies, as the later
+    /// one: it does so now where none must.
     pub fn blockers(&self, pairs: &mut PairTable<'_>, later: &JobStart) -> usize
         requires window { AllByRecursion (HasSummary pairs.old) (starts_of self.now.loans) }
         requires later { HasSummary pairs.old later.now }
@@ -121,7 +124,8 @@ impl<B: Naming> Window<B> {
         blockers_among(pairs, &self.flying, later)
     }
 
-    /// How many tests it takes, about, to ask whether a job of this entry passes with each that flies.
+    /// How many tests it takes, about, to ask whether a job of this entry passes with each that
+    /// flies.
     pub fn asking(&self, pairs: &mut PairTable<'_>, entry: u32) -> u64
         ensures { pairs.new ≡ pairs.old }
     {
@@ -174,7 +178,8 @@ impl<B: Naming> Window<B> {
         let _ = self.idle.push(run);
     }
 
-    /// Makes a flight of a seat and a run that are ready, which the gate knows by this number. It is to come into the window.
+    /// Makes a flight of a seat and a run that are ready, which the gate knows by this number. It
+    /// is to come into the window.
     pub fn launch(
         &mut self,
         book: &TicketBook,
@@ -225,8 +230,8 @@ impl<B: Naming> Window<B> {
     }
 }
 
-/// How many of these, the first ones, end with one with which a job does not pass, as the later one: it passes with all where there is
-/// none.
+/// How many of these, the first ones, end with one with which a job does not pass, as the later
+/// one: it passes with all where there is none.
 #[tactic(auto, using(crate::proofs::Passing::passes_begin, crate::proofs::Passing::passes_more, crate::proofs::Passing::passes_end, crate::proofs::Passing::summary_there))]
 fn blockers_among<B: Naming>(
     pairs: &mut PairTable<'_>,

@@ -1,4 +1,5 @@
-// The program over devices in memory: each status that a device can cause, and what is written then.
+// The program over devices in memory: each status that a device can cause, and what is written
+// then.
 use command_words::Status;
 use plex_io::{MemoryShelf, MemorySink, NoGate, StoredFile, Word};
 use plex_num::{Memory, Seq};

@@ -1,4 +1,5 @@
-// The program with several workers: jobs that may run at once do begin so, where they are held at a gate.
+// The program with several workers: jobs that may run at once do begin so, where they are held at a
+// gate.
 use crate::steps::steps_of;
 use crate::whole::{NotMade, answers};
 use command_words::Status;
@@ -10,10 +11,10 @@ use std::sync::atomic::{AtomicU64, Ordering};
 use std::test::Fail;
 use std::thread::{Threads, available_parallelism};
 
-/// Jobs of this exchange may run at once: each counts to 8,000 and shows what it was asked, in 72,013
-/// instructions, which makes it a long one. The first of them runs before any other: by it is seen
-/// that they are long. Each has a forlopp of its own, since a job with a loop may fault, and one that
-/// may fault runs alone where it has none.
+/// Jobs of this exchange may run at once: each counts to 8,000 and shows what it was asked, in
+/// 72,013 instructions, which makes it a long one. The first of them runs before any other: by it
+/// is seen that they are long. Each has a forlopp of its own, since a job with a loop may fault,
+/// and one that may fault runs alone where it has none.
 const QUESTIONS: &str = "SIGNAL ASK SINGLE BUFFERED B DATA 1;
 SIGNAL SHOW OUTSIDE DATA 1;
 BLOCK Q;
@@ -74,7 +75,8 @@ impl Gate for StepsGate {
     }
 }
 
-/// A gate that holds each job from one number to another before its first step until so many jobs have begun.
+/// A gate that holds each job from one number to another before its first step until so many jobs
+/// have begun.
 #[derive(Drop)]
 struct CrowdGate {
     first: u64,
@@ -131,8 +133,8 @@ fn runs<R: Threads + Wait + Sync, G: Gate + Sync>(
     answers(rt, alloc, &words, &files, gate, wanted)
 }
 
-/// How many jobs of the last two of three asks found that both had begun, and how many steps the gate
-/// was told of.
+/// How many jobs of the last two of three asks found that both had begun, and how many steps the
+/// gate was told of.
 fn meetings<R: Threads + Wait + Sync>(
     rt: &R,
     alloc: Global,
@@ -233,8 +235,8 @@ JOBS 12
 END DONE
 ";
 
-/// Behind the first job three begin before any of them goes on where there are three threads, and two
-/// where there are two: two workers are used, or one.
+/// Behind the first job three begin before any of them goes on where there are three threads, and
+/// two where there are two: two workers are used, or one.
 #[test]
 fn each_worker_is_used(rt: HostRuntime) -> Result<(), Fail> {
     let threads = match available_parallelism(&rt) {
@@ -248,9 +250,9 @@ fn each_worker_is_used(rt: HostRuntime) -> Result<(), Fail> {
     Ok(())
 }
 
-/// The second job goes on when all twelve have begun: so eleven fly, whatever number of threads runs
-/// them. With a certificate the dispatcher runs the first job too, and until one has ended it takes
-/// the jobs of an entry for long ones.
+/// The second job goes on when all twelve have begun: so eleven fly, whatever number of threads
+/// runs them. With a certificate the dispatcher runs the first job too, and until one has ended it
+/// takes the jobs of an entry for long ones.
 #[test]
 fn more_jobs_fly_than_threads_run(rt: HostRuntime) -> Result<(), Fail> {
     let gate = CrowdGate::new(2, 2, 12);

@@ -17,7 +17,7 @@ use exchange_run::{Standing, before_lines};
 use known_exchange::{known_in, lines_in};
 use lone_job::RunContext;
 use machine_code::Code;
-use parallel_dispatch::{Host, StoredRun, dispatch};
+use parallel_dispatch::{Dispatched, Host, StoredRun, dispatch};
 use plex_io::{NoGate, SteadyShelf};
 use plex_num::Seq;
 use shared_store::SharedStore;
@@ -95,6 +95,7 @@ fn dispatched<R: Threads + Wait + Sync>(
     let stored = StoredRun {
         books: run.books,
         root,
+        may_rest: false,
     };
     let host = Host {
         rt,
@@ -102,7 +103,8 @@ fn dispatched<R: Threads + Wait + Sync>(
         gate: &NoGate,
     };
     match dispatch(&host, &context, &store, stored) {
-        Ok(end) => Ok(end.steps),
+        Ok(Dispatched::Over(end)) => Ok(end.steps),
+        Ok(Dispatched::Rests(_)) => Err(NotMade),
         Err(_) => Err(NotMade),
     }
 }

@@ -1,18 +1,28 @@
 -- A store that holds the words of a run and has lent nothing: jobs may start on it, and what they come to is that of the single run.
-use Rattle.std.proofs.Common.{◌≡◌, ℕ, ◌≤◌, List, sym, ap, ◌∙◌, subst}
+use Rattle.std.proofs.Common.{◌≡◌, ℕ, ◌<◌, ◌≤◌, Bool, List, sym, ap, ◌∙◌, subst}
 use Rattle.plex_limits.specs.declared.limits.TheConstants.{MOST_JOBS}
 use Rattle.machine_code.specs.Coded.{Code}
+use Rattle.store_layout.specs.Laid.{IsLayout}
+use Rattle.machine_meaning.specs.Faithful.{Faithful}
+use Rattle.lone_job.specs.declared.context.RunContext.{RunContext}
+use Rattle.lone_job.specs.Contexts.{IsContext}
 use Rattle.exchange_model.specs.declared.exchange.Exchange.{Exchange}
 use Rattle.source_meaning.specs.State.{State}
 use Rattle.source_meaning.specs.Valid.{IsValid}
 use Rattle.retire_order.specs.Accounts.{Account, with_words}
-use Rattle.retire_order.specs.Events.{ending_of as told_ending}
 use Rattle.shared_store.specs.Loans.{unlent}
 use Rattle.shared_store.specs.Seats.{RootView, StoreId}
-use Rattle.checked.specs.Kept.{KeptSummaries}
-use Rattle.exchange_run.specs.Runs.{IsEndOf, MayGoOn}
-use Rattle.parallel_dispatch.specs.declared.dispatcher.Ended.{Ended as Dispatched}
-use Rattle.parallel_dispatch.specs.Ends.{EndsAs, IsRunEnd, MayStart}
+use Rattle.checked.specs.Kept.{IsChecked, KeptSummaries}
+use Rattle.exchange_run.specs.declared.turns.Ended.{Ended}
+use Rattle.exchange_run.specs.declared.turns.Standing.{Standing}
+use Rattle.exchange_run.specs.Comes.{IsOnTheWay}
+use Rattle.exchange_run.specs.Runs.{IsEndOf, MayGoOn, state_of}
+use Rattle.exchange_run.proofs.Resting.{way_more, way_over}
+use Rattle.parallel_dispatch.specs.declared.dispatcher.Dispatched.{Dispatched}
+use Rattle.parallel_dispatch.specs.declared.dispatcher.Dispatched.TheVariants.{Over, Rests}
+use Rattle.parallel_dispatch.specs.declared.dispatcher.Ended.{Ended as End}
+use Rattle.parallel_dispatch.specs.declared.dispatcher.Rested.{Rested}
+use Rattle.parallel_dispatch.specs.Ends.{IsRunEnd, IsRunRest, IsRunTo, MayStart}
 
 -- its values are the words that it was made of
 values_are : (root : RootView) (store : StoreId) (words : List ℕ) → root ≡ (store, unlent words) → root.1.values ≡ words
@@ -25,20 +35,45 @@ root_unlent root store words is = is ∙ ap (λ v. (store, unlent v)) (sym (valu
 pub root_valid : (x : Exchange) (s : State) (root : RootView) (store : StoreId) (words : List ℕ) → root ≡ (store, unlent words) → IsValid x (with_words s words) → IsValid x (with_words s root.1.values)
 root_valid x s root store words is valid = subst (λ v. IsValid x (with_words s v)) (sym (values_are root store words is)) valid
 
-pub root_starts : (x : Exchange) (b : Account) (root : RootView) (store : StoreId) (words : List ℕ) → root ≡ (store, unlent words) → MayGoOn x (record { books = b; words = words }) → b.limit ≤ MOST_JOBS → MayStart x store (record { books = b; root = root })
-root_starts x b root store words is may limit = record {
+pub root_starts : (x : Exchange) (b : Account) (root : RootView) (store : StoreId) (words : List ℕ) → root ≡ (store, unlent words) → MayGoOn x (record { books = b; words = words }) → b.limit ≤ MOST_JOBS → (may_rest : Bool) → MayStart x store (record { books = b; root = root; may_rest = may_rest })
+root_starts x b root store words is may limit may_rest = record {
   nobody = may.nobody;
   limit = limit;
   root = root_unlent root store words is;
   valid = root_valid x b.state root store words is may.valid;
 }
 
--- what the single run comes to that goes on with its values
-pub root_ends : (x : Exchange) (code : Code) (k : KeptSummaries) (workers : ℕ) (b : Account) (root : RootView) (store : StoreId) (words : List ℕ) (end : Dispatched) → root ≡ (store, unlent words) → IsRunEnd x code k workers (with_words b.state root.1.values) b.limit end
-    → IsEndOf x (with_words b.state words) b.limit (record { books = end.books; words = end.words; ending = end.ending })
-root_ends x code k workers b root store words end is over =
-    let from : EndsAs x code (with_words b.state words) b.limit end.books.state end.words (told_ending end.ending) end.steps =
-    subst (λ v. EndsAs x code (with_words b.state v) b.limit end.books.state end.words (told_ending end.ending) end.steps) (values_are root store words is) over.ends in
-    record { runs = record { state = from.state; ends = from.ends }; nobody = over.nobody }
+-- what the dispatcher comes to that goes on with its values
+pub root_comes : (x : Exchange) (code : Code) (k : KeptSummaries) (workers : ℕ) (b : Account) (root : RootView) (store : StoreId) (words : List ℕ) (come : Dispatched) → root ≡ (store, unlent words) → IsRunTo x code k workers (with_words b.state root.1.values) b.limit come
+    → IsRunTo x code k workers (with_words b.state words) b.limit come
+root_comes x code k workers b root store words come is to = subst (λ v. IsRunTo x code k workers (with_words b.state v) b.limit come) (values_are root store words is) to
 
-pub ruleset root_rules = (root_starts, root_ends)
+pub ruleset root_rules = (root_starts, root_comes)
+
+module _ (x : Exchange) (code : Code) (k : KeptSummaries) (workers : ℕ) (first : State) (limit : ℕ) (come : Dispatched) (to : IsRunTo x code k workers first limit come) where
+  -- the end to which the dispatcher comes is that of the single run
+  pub end_comes : (end : End) → come ≡ Over end → IsEndOf x first limit (record { books = end.books; words = end.words; ending = end.ending })
+  end_comes end is =
+      let over : IsRunEnd x code k workers first limit end = subst (IsRunTo x code k workers first limit) is to in
+      record { runs = record { state = over.ends.state; ends = over.ends.ends }; nobody = over.nobody }
+
+  -- a run that rests stands on its way
+  pub rest_comes : (run : Rested) → come ≡ Rests run → IsOnTheWay x first limit run.there
+  rest_comes run is =
+      let rest : IsRunRest x code k workers first limit run = subst (IsRunTo x code k workers first limit) is to in
+      rest.way
+
+-- the dispatcher goes on with a run on its way
+
+pub way_ended : (x : Exchange) (code : Code) (k : KeptSummaries) (workers : ℕ) (first : State) (limit : ℕ) (run : Standing) (come : Dispatched) → IsOnTheWay x first limit run → IsRunTo x code k workers (state_of run) run.books.limit come → (end : End) → come ≡ Over end
+    → (result : Ended) → result ≡ record { books = end.books; words = end.words; ending = end.ending } → IsEndOf x first limit result
+way_ended x code k workers first limit run come way to end is result result_is =
+    subst (IsEndOf x first limit) (sym result_is) (way_over way (end_comes x code k workers (state_of run) run.books.limit come to end is))
+
+pub way_rested : (x : Exchange) (code : Code) (k : KeptSummaries) (workers : ℕ) (first : State) (limit : ℕ) (run : Standing) (come : Dispatched) → IsOnTheWay x first limit run → IsRunTo x code k workers (state_of run) run.books.limit come → (rested : Rested) → come ≡ Rests rested
+    → IsOnTheWay x first limit rested.there
+way_rested x code k workers first limit run come way to rested is = way_more way (rest_comes x code k workers (state_of run) run.books.limit come to rested is)
+
+-- what a run is of, by its parts
+pub is_context : (c : RunContext) → IsLayout c.exchange.now.blocks c.layout.now → Faithful c.exchange.now c.code.now → IsChecked c.exchange.now c.checked.now → 0 < c.workers → IsContext c
+is_context c laid faithful checked some = record { laid = laid; faithful = faithful; checked = checked; some = some }

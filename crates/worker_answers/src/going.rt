@@ -1,20 +1,22 @@
 // The single run that goes on with books and words, which need not be those before the first line:
 // one job after the other, or several at once.
-ghost use Rattle.std.specs.Prelude.{◌≤◌, IfOk, IfSome};
+ghost use Rattle.std.specs.Prelude.{◌≡◌, ◌≤◌, false, IfOk, IfSome};
 ghost use Rattle.plex_limits.specs.declared.limits.TheConstants.{MOST_JOBS};
 ghost use Rattle.store_layout.specs.Laid.{IsLayout};
-ghost use Rattle.machine_meaning.specs.Faithful.{Faithful};
 ghost use Rattle.checked.specs.Kept.{IsChecked};
+ghost use Rattle.exchange_run.specs.Comes.{HasCome};
 ghost use Rattle.exchange_run.specs.Runs.{IsEndOf, MayGoOn, state_of};
+ghost use Rattle.lone_job.specs.Contexts.{IsContext};
+ghost use Rattle.parallel_dispatch.specs.Ends.{IsOver, IsRunTo};
 ghost use Rattle.command_words.specs.Bounded.{AreWorkers};
 
 use checked::Checked;
 use code_gen::compile;
 use exchange_model::Exchange;
-use exchange_run::{Ended, Standing, Unwatched, run_books};
+use exchange_run::{Come, Ended, Standing, Unwatched, run_books, run_until};
 use lone_job::RunContext;
-use machine_code::Code;
-use parallel_dispatch::{Host, StoredRun, dispatch};
+use offload_policy::{MOST_APART, Rest, time_apart};
+use parallel_dispatch::{Dispatched, Host, StoredRun, dispatch};
 use plex_io::Gate;
 use plex_num::Memory;
 use run_answers::has_short_code;
@@ -67,57 +69,128 @@ pub fn go_on<R: Threads + Wait + Sync, G: Gate + Sync>(
         return run_books(exchange, layout, run, &mut runner, &mut Unwatched);
     }
     if let Some(checked) = given {
-        return run_at_once(host, exchange, layout, &code, &checked, run, workers);
+        let context = RunContext {
+            exchange,
+            layout,
+            code: &code,
+            checked: &checked,
+            workers,
+        };
+        return run_at_once(host, &context, run);
     }
     let mut runner = ByCode::behind(&code, host.gate, run.books.ended());
     match until_long(host.alloc, exchange, layout, run, &mut runner, workers)? {
         Grown::Over(end) => Ok(end),
         Grown::Long(long, checked) => {
-            let end = run_at_once(host, exchange, layout, &code, &checked, long, workers)?;
+            let context = RunContext {
+                exchange,
+                layout,
+                code: &code,
+                checked: &checked,
+                workers,
+            };
+            let end = run_at_once(host, &context, long)?;
             Ok(end)
         }
     }
 }
 
-/// The same with several jobs at once, as far as what is kept of a certificate lets them. Where memory
-/// is refused meanwhile, each of them has come to its end and given back its words.
-#[tactic(auto, using(crate::proofs::Rooted::root_rules))]
+/// The same with several jobs at once, as far as what is kept of a certificate lets them. While
+/// hardly any job has company they run one after the other, for so long that leaving the dispatcher
+/// and coming back costs little beside.
 fn run_at_once<R: Threads + Wait + Sync, G: Gate + Sync>(
     host: &Host<'_, R, G>,
-    exchange: &Exchange,
-    layout: &Layout,
-    code: &Code,
-    checked: &Checked,
+    context: &RunContext<'_>,
     run: Standing,
-    workers: u32,
 ) -> Result<Ended, Memory>
-    requires layout { IsLayout exchange.now.blocks layout.now }
-    requires faithful { Faithful exchange.now code.now }
-    requires checked { IsChecked exchange.now checked.now }
-    requires run { MayGoOn exchange.now run }
+    requires context { IsContext context.now }
+    requires run { MayGoOn context.now.exchange.now run }
     requires limit { run.books.limit ≤ MOST_JOBS }
-    requires workers { AreWorkers workers }
-    ensures { IfOk result (λ end. IsEndOf exchange.now (state_of run) run.books.limit end) }
+    ensures { IfOk result
+        (λ end. IsEndOf context.now.exchange.now (state_of run) run.books.limit end) }
 {
-    let context = RunContext {
-        exchange,
-        layout,
-        code,
-        checked,
-        workers,
-    };
+    let mut there = run;
+    let mut apart = 0;
+    for _round in 0..MOST_APART {
+        let rested = match by_dispatcher(host, context, there, true)? {
+            Dispatched::Over(end) => return Ok(ended(end)),
+            Dispatched::Rests(rested) => rested,
+        };
+        let words = rested.there.words.len() as u64;
+        apart = time_apart(words, apart, rested.steps);
+        there = match run_apart(host, context, rested.there, apart)? {
+            Come::Over(end) => return Ok(end),
+            Come::Among(rests) => rests,
+        };
+    }
+    match by_dispatcher(host, context, there, false)? {
+        Dispatched::Over(end) => Ok(ended(end)),
+        Dispatched::Rests(_) => unreachable!(),
+    }
+}
+
+/// One job after the other, to the end of the run or until its jobs are long and have made so many
+/// instructions.
+fn run_apart<R, G: Gate>(
+    host: &Host<'_, R, G>,
+    context: &RunContext<'_>,
+    run: Standing,
+    apart: u64,
+) -> Result<Come, Memory>
+    requires context { IsContext context.now }
+    requires run { MayGoOn context.now.exchange.now run }
+    ensures { IfOk result
+        (λ come. HasCome context.now.exchange.now (state_of run) run.books.limit come) }
+{
+    let mut runner = ByCode::behind(context.code, host.gate, run.books.ended());
+    let rest = Some(Rest::when(context.workers, apart));
+    run_until(
+        context.exchange,
+        context.layout,
+        run,
+        &mut runner,
+        &mut Unwatched,
+        rest,
+    )
+}
+
+/// What the dispatcher comes to with these books and words. Where memory is refused meanwhile, each
+/// job has come to its end and given back its words.
+#[tactic(auto, using(crate::proofs::Rooted::root_rules))]
+fn by_dispatcher<R: Threads + Wait + Sync, G: Gate + Sync>(
+    host: &Host<'_, R, G>,
+    context: &RunContext<'_>,
+    run: Standing,
+    may_rest: bool,
+) -> Result<Dispatched, Memory>
+    requires context { IsContext context.now }
+    requires run { MayGoOn context.now.exchange.now run }
+    requires limit { run.books.limit ≤ MOST_JOBS }
+    ensures come { IfOk result (λ come. IsRunTo context.now.exchange.now
+        context.now.code.now context.now.checked.now context.now.workers
+        (state_of run) run.books.limit come) }
+    ensures over { may_rest ≡ false → IfOk result (λ come. IsOver come) }
+{
     let (store, root) = SharedStore::new(host.alloc, &run.words)?;
     let stored = StoredRun {
         books: run.books,
         root,
+        may_rest,
     };
-    match dispatch(host, &context, &store, stored) {
-        Ok(end) => Ok(Ended {
-            books: end.books,
-            words: end.words,
-            ending: end.ending,
-        }),
+    match dispatch(host, context, &store, stored) {
+        Ok(come) => Ok(come),
         Err(_) => Err(Memory),
+    }
+}
+
+/// The end to which the dispatcher came.
+fn ended(end: parallel_dispatch::Ended) -> Ended
+    ensures { result ≡ record { books = end.books; words = end.words; ending = end.ending } }
+{
+    Ended {
+        books: end.books,
+        words: end.words,
+        ending: end.ending,
     }
 }
 

@@ -24,8 +24,8 @@ use store_layout::layout_of;
 
 /// The answer of the single run of these lines within these bounds, in this way, as far as what is
 /// kept of a certificate lets jobs run at once, or the exchange's own, where none is given. Where
-/// that would have so many facts that it takes long to make, and with one worker, one job runs after
-/// the other.
+/// that would have so many facts that it takes long to make, and with one worker, one job runs
+/// after the other.
 #[tactic(auto, using(run_answers::proofs::Opened::limit_few))]
 pub fn run_answer<R: Threads + Wait + Sync, G: Gate + Sync>(
     host: &Host<'_, R, G>,
