@@ -1,17 +1,19 @@
-"""Where the programs are, whether they are stale or not proved, and one call of one with a time limit. For the other
-tools.
+"""Where the programs are, whether they are stale or not proved, and one call of one with a time
+limit. For the other tools.
 
-`find()` gives the path of plex: the one that is named, or else that of the variable PLEX, or else the built one.
-`find_merger()` does the same for plex-merge, with the variable PLEX_MERGE, and `find_conflicts()` for plex-conflicts,
-with PLEX_CONFLICTS. They end the tool where there is no such program, where the built one is older than one of its sources, and where the program is not proved. With
-PLEX_UNPROVED=1 a program that is not proved is taken, that of `tools/build --unproved` too, and the tool's last line
-says "unproved". `find_proved()` refuses it always, and `find_launcher()` gives the launcher of the built program.
-`answer()` calls it, and `wrong()` tells what an answer should not be. `verdict()` and `summed()` end a tool: with a
-last line, and with 1 where a case failed, where fewer cases ran than the least, and where more was left out than
-may be. `is_there()` tells whether a command of the system is there; where it is not, what needs it is left out, which
-is told and counted. How much may be is said by the variable MOST_LEFT_OUT, and anything where that is not set; the
-gate sets it to 0. `seed()` is that of cases made by chance: each commit has another one. `version()` is the one
-that the sources have.
+`find()` gives the path of plex: the one that is named, or else that of the variable PLEX, or else
+the built one. `find_merger()` does the same for plex-merge, with the variable PLEX_MERGE, and
+`find_conflicts()` for plex-conflicts, with PLEX_CONFLICTS. They end the tool where there is no such
+program, where the built one is older than one of its sources, and where the program is not proved.
+With PLEX_UNPROVED=1 a program that is not proved is taken, that of `tools/build --unproved` too,
+and the tool's last line says "unproved". `find_proved()` refuses it always, and `find_launcher()`
+gives the launcher of the built program. `answer()` calls it, and `wrong()` tells what an answer
+should not be. `verdict()` and `summed()` end a tool: with a last line, and with 1 where a case
+failed, where fewer cases ran than the least, and where more was left out than may be. `is_there()`
+tells whether a command of the system is there; where it is not, what needs it is left out, which is
+told and counted. How much may be is said by the variable MOST_LEFT_OUT, and anything where that is
+not set; the gate sets it to 0. `seed()` is that of cases made by chance: each commit has another
+one. `version()` is the one that the sources have.
 """
 import atexit
 import os
@@ -27,10 +29,14 @@ from typing import NamedTuple, Optional, Union
 
 from gate import proved
 from plextools import programs
+
 ROOT = programs.ROOT
 CASES = ROOT / "tools" / "gate" / "cases"
-PLEX, MERGER, CONFLICTS = (programs.BY_NAME[name] for name in ("plex", "plex-merge", "plex-conflicts"))
+PLEX, MERGER, CONFLICTS = (
+    programs.BY_NAME[name] for name in ("plex", "plex-merge", "plex-conflicts")
+)
 VERSION = ROOT / "crates" / "process_ends" / "src" / "complaint.rt"
+VERSION_TOLD = re.compile(r'^const VERSION: &str = "(\d[0-9A-Za-z.+~]*)";$', re.M)
 LONGEST, WHILE = 60, 600
 SHOWN = 120
 LATE, MOST_LATE = [], 2
@@ -80,7 +86,9 @@ def find_conflicts(named: Union[str, pathlib.Path, None] = None) -> pathlib.Path
     return found(CONFLICTS, named)
 
 
-def find_proved(program: programs.Program, named: Union[str, pathlib.Path, None] = None) -> pathlib.Path:
+def find_proved(
+    program: programs.Program, named: Union[str, pathlib.Path, None] = None
+) -> pathlib.Path:
     """The path of a program, in the same way; one that is not proved is refused by every means."""
     path = fresh(program, named or os.environ.get(program.variable))
     if not proved.is_proved(path):
@@ -89,7 +97,9 @@ def find_proved(program: programs.Program, named: Union[str, pathlib.Path, None]
 
 
 def find_launcher(program: programs.Program) -> pathlib.Path:
-    """The program that its variable names, or else the launcher of the built one, which then is there and fresh."""
+    """The program that its variable names, or else the launcher of the built one, which then is
+    there and fresh.
+    """
     path = found(program)
     return program.launcher if path == program.proved.resolve() else path
 
@@ -99,8 +109,10 @@ def found(program: programs.Program, named: Union[str, pathlib.Path, None] = Non
     path = fresh(program, named or os.environ.get(program.variable))
     if not proved.is_proved(path):
         if not takes_unproved():
-            sys.exit(f"{path} is not proved; tools/build {program.name} makes one that is, and with PLEX_UNPROVED=1 "
-                     "this one is taken")
+            sys.exit(
+                f"{path} is not proved; tools/build {program.name} makes one that is, and with "
+                "PLEX_UNPROVED=1 this one is taken"
+            )
         note_unproved(path)
     return path
 
@@ -115,14 +127,17 @@ def fresh(program: programs.Program, named: Union[str, pathlib.Path, None]) -> p
     command = f"tools/build {'--unproved ' if takes_unproved() else ''}{program.name}"
     if not path.is_file() or not os.access(path, os.X_OK):
         sys.exit(f"{path} is no program that can be run; {command} builds it")
-    newer = newer_source(path) if path in (program.proved.resolve(), program.unproved.resolve()) else None
+    is_built_here = path in (program.proved.resolve(), program.unproved.resolve())
+    newer = newer_source(path) if is_built_here else None
     if newer:
         sys.exit(f"{path} is older than {newer.relative_to(ROOT)}; {command} builds it anew")
     return path
 
 
 def built(program: programs.Program) -> pathlib.Path:
-    """Where the built program is: the proved one, but for one that may be taken in the place of a stale one."""
+    """Where the built program is: the proved one, but for one that may be taken in the place of a
+    stale one.
+    """
     if takes_unproved() and (not program.proved.is_file() or newer_source(program.proved)):
         return program.unproved
     return program.proved
@@ -150,18 +165,21 @@ def unproved() -> str:
 
 def version() -> str:
     """The version of the programs: the one constant of the sources that says it."""
-    return re.search(r'^const VERSION: &str = "(\d[0-9A-Za-z.+~]*)";$', VERSION.read_text(), re.M)[1]
+    found = VERSION_TOLD.search(VERSION.read_text())
+    if not found:
+        sys.exit(f"{VERSION} tells no version")
+    return found[1]
 
 
 # one call
 
 
-def write_files(
-    folder: Union[str, pathlib.Path], files: Mapping[str, Union[str, bytes]]
-) -> None:
+def write_files(folder: Union[str, pathlib.Path], files: Mapping[str, Union[str, bytes]]) -> None:
     """Writes files into a folder: for each name its bytes, or its text."""
     for name, content in files.items():
-        pathlib.Path(folder, name).write_bytes(content if isinstance(content, bytes) else content.encode())
+        pathlib.Path(folder, name).write_bytes(
+            content if isinstance(content, bytes) else content.encode()
+        )
 
 
 def answer(
@@ -172,13 +190,19 @@ def answer(
 ) -> Answer:
     """The status, the output and the complaint of a call.
 
-    The status is None where no answer came: after so many seconds of the processor, or after a long while, since
-    others may use the processor beside it.
+    The status is None where no answer came: after so many seconds of the processor, or after a long
+    while, since others may use the processor beside it.
     """
     give_up()
-    words = [plex, *(word if isinstance(word, bytes) else str(word) for word in words)]
-    pipes = {"stdin": subprocess.DEVNULL, "stdout": subprocess.PIPE, "stderr": subprocess.PIPE}
-    with subprocess.Popen(words, cwd=folder, **pipes) as child:
+    called: list[Union[str, bytes, pathlib.Path]] = [plex]
+    called += [word if isinstance(word, bytes) else str(word) for word in words]
+    with subprocess.Popen(
+        called,
+        cwd=folder,
+        stdin=subprocess.DEVNULL,
+        stdout=subprocess.PIPE,
+        stderr=subprocess.PIPE,
+    ) as child:
         limit_processor(child, longest)
         try:
             wrote, complaint = child.communicate(timeout=max(WHILE, 10 * longest))
@@ -210,14 +234,18 @@ def give_up() -> None:
     """Ends the tool where some calls did not end in time, as each of them costs so much."""
     if len(LATE) >= MOST_LATE:
         sys.stdout.flush()
-        sys.exit(f"{MOST_LATE} calls of the program did not end in time; the other cases are not tried")
+        sys.exit(
+            f"{MOST_LATE} calls of the program did not end in time; the other cases are not tried"
+        )
 
 
 def first_difference(wrote: bytes, wanted: bytes) -> str:
     """The first line that differs, with its number: as it was written, and as it must be."""
     lines, others = wrote.splitlines(keepends=True), wanted.splitlines(keepends=True)
     pairs = enumerate(zip(lines, others))
-    place = next((place for place, (one, other) in pairs if one != other), min(len(lines), len(others)))
+    place = next(
+        (place for place, (one, other) in pairs if one != other), min(len(lines), len(others))
+    )
     got, needed = (some[place][:SHOWN] if place < len(some) else b"" for some in (lines, others))
     return f"line {place + 1} is {got!r} and not {needed!r}"
 
@@ -227,7 +255,8 @@ def wrong(got: Answer, status: Optional[int], wanted: Optional[bytes] = None) ->
     if got.status is None:
         return "no answer in time"
     if got.status != status:
-        return f"status {got.status} and not {status}; it wrote {got.wrote[:SHOWN]!r} and {got.complaint[:SHOWN]!r}"
+        told = f"it wrote {got.wrote[:SHOWN]!r} and {got.complaint[:SHOWN]!r}"
+        return f"status {got.status} and not {status}; {told}"
     if status in SILENT and got.complaint:
         return f"it complains: {got.complaint[:SHOWN]!r}"
     if status not in SILENT and not got.complaint:
@@ -249,10 +278,14 @@ def count(word: str) -> int:
 
 
 def seed() -> str:
-    """The seed of cases made by chance, a word: the date of the commit in seconds, and 1 where there is no commit."""
-    words = ["git", "-C", ROOT, "log", "-1", "--format=%ct"]
+    """The seed of cases made by chance, a word: the date of the commit in seconds, and 1 where
+    there is no commit.
+    """
+    words = ["git", "-C", str(ROOT), "log", "-1", "--format=%ct"]
     try:
-        told = subprocess.run(words, stdout=subprocess.PIPE, stderr=subprocess.DEVNULL, timeout=60, check=False).stdout
+        told = subprocess.run(
+            words, stdout=subprocess.PIPE, stderr=subprocess.DEVNULL, timeout=60, check=False
+        ).stdout
     except (OSError, subprocess.TimeoutExpired):
         told = b""
     return told.decode().strip() or "1"
@@ -262,7 +295,7 @@ def seed() -> str:
 
 
 def is_there(command: str, needed_for: str) -> bool:
-    """Whether a command of the system is there; where it is not, what it is needed for is left out."""
+    """Whether a command of the system is there; where not, what it is needed for is left out."""
     if shutil.which(command):
         return True
     left_out(f"{needed_for}, as there is no {command}")
@@ -292,12 +325,22 @@ def verdict(name: str, passed: int, failed: int, least: int, more: str = "") -> 
     return 1 if failed or few or is_too_much_left_out() else 0
 
 
-def summed(name: str, wrong: Sequence[str], counts: Mapping[str, tuple[int, int]], more: str = "") -> int:
-    """The same for a tool that counts several kinds of things, each beside its least; first it tells what is wrong."""
-    few = [f"{number} {kind}, and {least} is the least" for kind, (number, least) in counts.items() if number < least]
+def summed(
+    name: str, wrong: Sequence[str], counts: Mapping[str, tuple[int, int]], more: str = ""
+) -> int:
+    """The same for a tool that counts several kinds of things, each beside its least; first it
+    tells what is wrong.
+    """
+    few = [
+        f"{number} {kind}, and {least} is the least"
+        for kind, (number, least) in counts.items()
+        if number < least
+    ]
     for line in [*wrong, *few]:
         print(line)
-    counted = ", ".join(f"{number} {kind}" for kind, (number, _) in counts.items()) or "nothing tried"
+    counted = (
+        ", ".join(f"{number} {kind}" for kind, (number, _) in counts.items()) or "nothing tried"
+    )
     more += f"; {len(LEFT_OUT)} left out" if LEFT_OUT else ""
     more += unproved()
     print(f"{name}: {counted}; {len(wrong) + len(few)} wrong{more}", flush=True)

@@ -1,14 +1,18 @@
-"""What plex says of faults on the standard error: the sentences that the program has, those of the tables in
-docs/FORMATS.md, and the line that belongs to a line of the output."""
+"""What plex says of faults on the standard error: the sentences that the program has, those of the
+tables in docs/FORMATS.md, and the line that belongs to a line of the output."""
+from __future__ import annotations
+
 import functools
 import pathlib
 import re
+from typing import Sequence, Union, cast
 
 ROOT = pathlib.Path(__file__).resolve().parents[2]
 DOCUMENT = ROOT / "docs" / "FORMATS.md"
 PROGRAM = ROOT / "crates" / "process_ends" / "src" / "sentences.rt"
 
-# Each table of the program, with the heading under which the document has it, and which of the tables there it is.
+# Each table of the program, with the heading under which the document has it, and which of the
+# tables there it is.
 TABLES = {
     "SOURCE": ("Mending an exchange text", 0),
     "SIGNALS": ("Mending a signal file", 0),
@@ -24,24 +28,32 @@ ROW = re.compile(r'\(\s*"(\w+)",\s*"([^"]*)",?\s*\)')
 REASONS = re.compile(r"^pub fn (\w+_reason)\(.*?^}$", re.M | re.S)
 REASON = re.compile(r'=> "([^"]*)"')
 
-# The place among the words of a command of the file in which the fault is, by the first word of the line that tells it.
+# The place among the words of a command of the file in which the fault is, by the first word of the
+# line that tells it.
 PLACES = {"SOURCE": 1, "SIGNALS": 2, "TABLE": 3, "FILTER": 3, "NEWSOURCE": 3, "CHANGE": 3}
 FAULT = re.compile(r"([A-Z]+) (?:line (\d+) )?(\w+)")
 
 
+# A row of a table: a word and its sentence, or a reason alone.
+Row = Union[tuple[str, str], str]
+
+
 @functools.lru_cache(maxsize=None)
-def compiled():
-    """The tables of the program: for each its rows, of a word and a sentence, or of a reason alone."""
+def compiled() -> dict[str, list[Row]]:
+    """The tables of the program, each with its rows: a word and a sentence, or a reason alone."""
     text = PROGRAM.read_text()
-    tables = {found[1]: ROW.findall(found[2]) for found in TABLE.finditer(text)}
+    tables: dict[str, list[Row]] = {
+        found[1]: ROW.findall(found[2]) for found in TABLE.finditer(text)
+    }
     tables.update((found[1], REASON.findall(found[0])) for found in REASONS.finditer(text))
     return tables
 
 
-def tables_under(heading):
+def tables_under(heading: str) -> list[list[list[str]]]:
     """The tables under a heading of the document, each as rows of cells."""
     part = DOCUMENT.read_text().split(f"\n## {heading}\n", 1)[1].split("\n## ", 1)[0]
-    tables, inside = [], False
+    tables: list[list[list[str]]] = []
+    inside = False
     for line in part.split("\n"):
         if line.startswith("|---"):
             tables.append([])
@@ -54,31 +66,43 @@ def tables_under(heading):
 
 
 @functools.lru_cache(maxsize=None)
-def documented():
+def documented() -> dict[str, list[Row]]:
     """The same tables as the document has them."""
-    tables = {}
+    tables: dict[str, list[Row]] = {}
     for name, (heading, which) in TABLES.items():
         rows = tables_under(heading)[which]
         plain = [[cell.replace("`", "") for cell in row] for row in rows]
-        tables[name] = [row[0] for row in plain] if name.endswith("_reason") else [(row[0], row[1]) for row in plain]
+        tables[name] = (
+            [row[0] for row in plain]
+            if name.endswith("_reason")
+            else [(row[0], row[1]) for row in plain]
+        )
     return tables
 
 
-def sentence(first, word):
+def sentences(table: str) -> dict[str, str]:
+    """The sentences of a table of the document, each with its word."""
+    return dict(cast("list[tuple[str, str]]", documented()[table]))
+
+
+def sentence(first: str, word: str) -> str:
     """The sentence of the document for a word of a line that begins with this word."""
-    tables = documented()
-    own = dict(tables["SOURCE" if first == "NEWSOURCE" else first])
-    return own.get(word) or dict(tables["SIGNALS"])[word]
+    own = sentences("SOURCE" if first == "NEWSOURCE" else first)
+    return own.get(word) or sentences("SIGNALS")[word]
 
 
-def certificate_among(words):
+def certificate_among(words: Sequence[str]) -> str:
     options = list(words[3:])
     return dict(zip(options[::2], options[1::2]))["--cert"]
 
 
-def complaint(words, line):
-    """The line that must stand on the standard error, where a command of these words writes this line."""
-    first, number, word = FAULT.match(line).groups()
+def complaint(words: Sequence[str], line: str) -> str:
+    """The line that must stand on the standard error, where a command of these words writes this
+    line.
+    """
+    found = FAULT.match(line)
+    assert found, line
+    first, number, word = found.groups()
     name = certificate_among(words) if first == "CERTIFICATE" else words[PLACES[first]]
     place = f"{name}:{number}" if number not in (None, "0") else name
     return f"{place}: {word}: {sentence(first, word)}\n"

@@ -1,4 +1,5 @@
-"""The limits of the tools are those of the program: `plextools.limits` beside the sources of its crates."""
+"""The limits of the tools are those of the program: `plextools.limits` beside the sources of its
+crates."""
 import pathlib
 import re
 
@@ -9,8 +10,8 @@ from plextools import limits
 
 CRATES = harness.ROOT / "crates"
 CONSTANT = re.compile(r"^pub const (\w+): \w+ = ([\d_]+);$", re.M)
-# What the crate plex_limits does not have: a name of the tools, a file of the program, and what stands there with the
-# number in its group.
+# What the crate plex_limits does not have: a name of the tools, a file of the program, and what
+# stands there with the number in its group.
 ELSEWHERE = [
     ("MOST_LETTERS", "plex_num/src/name.rt", r"ArrayVec<u8, (\d+)>"),
     ("MOST_PERIODIC_SIGNALS", "job_table/src/period.rt", r"pub const MOST_LINES: u64 = ([\d_]+);"),

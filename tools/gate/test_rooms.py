@@ -1,9 +1,9 @@
 """Which room of the tools may import what: docs/ARCHITECTURE.md, Tools, has the same in words.
 
-A room is a folder with Python files. Its files import modules of the rooms that stand beside it in `ROOMS`, and nothing
-else of the tools. The order of the product is limits, text, analysis, runs, show, commands; the product imports nothing
-of gate, measure and maintain, and a second account in gate/oracle nothing of the product but the reader of texts and
-the limits.
+A room is a folder with Python files. Its files import modules of the rooms that stand beside it in
+`ROOMS`, and nothing else of the tools. The order of the product is limits, text, analysis, runs,
+show, commands; the product imports nothing of gate, measure and maintain, and a second account in
+gate/oracle nothing of the product but the reader of texts and the limits.
 """
 import ast
 import importlib.util
@@ -117,7 +117,9 @@ def test_every_room_is_known() -> None:
 
 
 def test_the_product_alone_is_installed() -> None:
-    """What tools/install installs of the tools is of the product, but for what the product imports by `MORE`."""
+    """What tools/install installs of the tools is of the product, but for what the product imports
+    by `MORE`.
+    """
     loader = SourceFileLoader("install", str(TOOLS / "maintain" / "install"))
     spec = importlib.util.spec_from_loader("install", loader)
     assert spec

@@ -16,8 +16,9 @@ TYPED = (
     "tools/bin",
     "tools/maintain",
     "tools/measure",
-    "tools/gate/test_types.py",
+    "tools/gate",
 )
+APART = {"__pycache__", "cases"}  # what is no Python
 TOOLS = {"mypy": ("--strict",), "black": ("--check", "--quiet"), "flake8": ()}
 LONGEST = 600
 
@@ -31,9 +32,13 @@ def files() -> list[str]:
         found += [
             str(one.relative_to(ROOT))
             for one in some
-            if one.is_file() and "__pycache__" not in one.parts and one.suffix in ("", ".py")
+            if one.is_file() and one.suffix in ("", ".py") and not is_apart(one)
         ]
     return found
+
+
+def is_apart(path: pathlib.Path) -> bool:
+    return bool(APART & {*path.relative_to(ROOT).parts})
 
 
 def run(*words: str) -> "subprocess.CompletedProcess[str]":

@@ -1,4 +1,4 @@
-"""What a command takes of the processor and of memory. For `large_texts`.
+"""What a command takes of the processor and of memory. For `test_large_texts.py`.
 
 `measured(command, folder, most)` runs a command in a folder, in which its output is the file
 WRITTEN, and gives what it came to. A command that takes more seconds of the processor than the most

@@ -1,23 +1,27 @@
 """What plex-conflicts says of an exchange, told a second time, slowly and by hand.
 
-`conflicts(text, asked)` gives the text that it writes of an exchange text in bytes, of all entries, or of the two whose
-numbers are `asked`. It follows docs/FORMATS.md, All conflicts, and stands on `oracle.analysis`: an access is looked for
-at each statement of its entry, and each access of one entry is held beside each of another. Texts must break no rule,
-and are meant to be short.
+`conflicts(text, asked)` gives the text that it writes of an exchange text in bytes, of all entries,
+or of the two whose numbers are `asked`. It follows docs/FORMATS.md, All conflicts, and stands on
+`oracle.analysis`: an access is looked for at each statement of its entry, and each access of one
+entry is held beside each of another. Texts must break no rule, and are meant to be short.
 """
+from __future__ import annotations
+
+from typing import Any, Iterable, Iterator, Optional, Sequence
+
 from gate.oracle import analysis
-from gate.oracle.analysis import meet, text_of, value_key
+from gate.oracle.analysis import Access, Node, Summary, meet, text_of, value_key
 
 KINDS = ("variable", "field", "own", "seize", "free")
 MOST_TOLD = 64_000_000
 
 
-def accesses_of(summary):
+def accesses_of(summary: Summary) -> list[Access]:
     """The accesses of an entry, in the order of their lines."""
     return [(kind, *rest) for kind in KINDS for rest in summary.of_kind(kind)]
 
 
-def given_at(summary, node):
+def given_at(summary: Summary, node: Node) -> Iterator[int]:
     """The numbers of what a statement gives: of accesses, and behind them of levels."""
     exchange, accesses, here = summary.exchange, accesses_of(summary), summary.accesses_of(node)
     yield from (number for number, access in enumerate(accesses) if access in here)
@@ -25,7 +29,7 @@ def given_at(summary, node):
         yield len(accesses) + sorted(summary.levels).index(exchange.signal_of(node).level)
 
 
-def point_lines(summary):
+def point_lines(summary: Summary) -> list[str]:
     rows = sorted(
         (number, node.point, node.first.line)
         for node in summary.reached
@@ -37,7 +41,7 @@ def point_lines(summary):
     ]
 
 
-def clash(one, other):
+def clash(one: Access, other: Access) -> Optional[tuple[Any, ...]]:
     """What two accesses clash on, as it is put in order; None where they do not."""
     kind, *first = one
     other_kind, *later = other
@@ -55,8 +59,10 @@ def clash(one, other):
     return None
 
 
-def clash_rows(first, later):
-    """What clashes of two entries, each with the numbers of both sides; a level has that of the first alone."""
+def clash_rows(first: Summary, later: Summary) -> Iterator[tuple[Any, ...]]:
+    """What clashes of two entries, each with the numbers of both sides; a level has that of the
+    first alone.
+    """
     ones, others = accesses_of(first), accesses_of(later)
     for k, one in enumerate(ones):
         for number, other in enumerate(others):
@@ -67,7 +73,7 @@ def clash_rows(first, later):
             yield (3, level), k
 
 
-def clash_lines(first, later):
+def clash_lines(first: Summary, later: Summary) -> list[str]:
     pair = f"{first.facts.entry} {later.facts.entry}"
     return [
         f"CLASH {pair} {' '.join(map(str, numbers))}"
@@ -75,7 +81,7 @@ def clash_lines(first, later):
     ]
 
 
-def sections(summaries, asked):
+def sections(summaries: Sequence[Summary], asked: Optional[tuple[int, int]]) -> Iterator[str]:
     """The texts of the entries, and then those of the pairs."""
     count = len(summaries)
     pairs = [asked] if asked else [(i, j) for i in range(count) for j in range(count)]
@@ -87,7 +93,7 @@ def sections(summaries, asked):
         yield text_of(clash_lines(summaries[i], summaries[j]))
 
 
-def told(parts, most):
+def told(parts: Iterable[str], most: int) -> Iterator[str]:
     """The texts for which there is room, and the last line."""
     room = most
     for part in parts:
@@ -99,7 +105,7 @@ def told(parts, most):
     yield "END CONFLICTS\n"
 
 
-def conflicts(text, asked=None, most=MOST_TOLD):
+def conflicts(text: bytes, asked: Optional[tuple[int, int]] = None, most: int = MOST_TOLD) -> str:
     exchange = analysis.Exchange(text)
     summaries = [
         analysis.Summary(analysis.Facts(exchange, entry).close())

@@ -1,34 +1,32 @@
-#!/usr/bin/env python3
-"""sentences
+"""Texts that are no sentences of the language, and texts that are, as refusals.py has it.
 
-Runs the program on a table of texts that are no sentences of the language, and of texts that are, as refusals.py
-does it. Of those that are sentences some break a later rule, such as N6 of names, which must then be told. PLEX
-names another program to run. Ends with 1 where a text gets another answer or none.
+Of those that are sentences some break a later rule, such as N6 of names, which must then be told.
 """
-import pathlib
-import sys
+from __future__ import annotations
 
-TOOLS = pathlib.Path(__file__).resolve().parent.parent
-sys.path[:0] = [str(TOOLS), str(TOOLS / "python")]
-sys.dont_write_bytecode = True
-from gate import refusals  # noqa: E402
+import pathlib
+
+import pytest
+
+from gate import refusals
+from gate.checking import check, check_enough
 
 LEAST = 87
 
 
-def block(declarations="", items="", survey=""):
+def block(declarations: str = "", items: str = "", survey: str = "") -> str:
     return f"BLOCK K; DECLARE; {declarations} SURVEY; {survey} PROGRAM; {items} END BLOCK; "
 
 
-def declared(text):
+def declared(text: str) -> str:
     return block(text)
 
 
-def program(items):
+def program(items: str) -> str:
     return block("", items)
 
 
-def nested(count, items):
+def nested(count: int, items: str) -> str:
     return program("ON I FROM 0 UPTO 9 DO " * count + items + " NO;" * count)
 
 
@@ -63,8 +61,14 @@ TEXTS = [
     ("ENDED", "BLOCK K; DECLARE; SURVEY; PROGRAM; EXIT; !END BLOCK;@"),
     # declarations
     ("OK", declared("VARIABLE V WIDTH 8 INIT 1; TEMPORARY T; FILE E SIZE 1;")),
-    ("OK", declared("FORLOPP FILE F SIZE 2; FIELD G WIDTH 4; FIELD H WIDTH 1 INIT 1; FILE E SIZE 1;")),
-    ("OK", declared("VARIABLE V WIDTH 8 INIT 1 CLEAR; VARIABLE W WIDTH 8 CLEAR; VARIABLE X WIDTH 8;")),
+    (
+        "OK",
+        declared("FORLOPP FILE F SIZE 2; FIELD G WIDTH 4; FIELD H WIDTH 1 INIT 1; FILE E SIZE 1;"),
+    ),
+    (
+        "OK",
+        declared("VARIABLE V WIDTH 8 INIT 1 CLEAR; VARIABLE W WIDTH 8 CLEAR; VARIABLE X WIDTH 8;"),
+    ),
     ("UNEXPECTED", declared("VARIABLE V WIDTH 8 CLEAR @INIT 1;")),
     ("UNEXPECTED", declared("VARIABLE V WIDTH 8 CLEAR @CLEAR;")),
     ("UNEXPECTED", declared("VARIABLE V @CLEAR WIDTH 8;")),
@@ -84,7 +88,12 @@ TEXTS = [
     ("N6", program("V = REFERENCE K; F(T) = REFERENCE K; V = 1 + (REFERENCE K) * 2;")),
     ("N6", program("IF V = REFERENCE K GOTO L; L) EXIT;")),
     ("N10", program("SEND S WITH REFERENCE K, 1; RETURN S WITH REFERENCE K;")),
-    ("N6", program("CASE REFERENCE K IS OTHERWISE DO ESAC; ON T FROM REFERENCE K UPTO REFERENCE K DO NO;")),
+    (
+        "N6",
+        program(
+            "CASE REFERENCE K IS OTHERWISE DO ESAC; ON T FROM REFERENCE K UPTO REFERENCE K DO NO;"
+        ),
+    ),
     ("N6", program("FOR FIRST P IN F WHERE G = REFERENCE K GOTO L;")),
     ("UNEXPECTED", program("V = REFERENCE @(W);")),
     ("UNEXPECTED", program("V = REFERENCE @1;")),
@@ -108,7 +117,13 @@ TEXTS = [
     ("N6", program("SEIZE P IN F ELSE GOTO L; FREE P IN F;")),
     ("N10", program("SEND S REFERENCE R WITH 1, A NEW FORLOPP; RETRIEVE T WITH X; RETURN S;")),
     ("N10", program("TRANSFER S REFERENCE R; TRANSFER S;")),
-    ("N10", program("SEND S REFERENCE (V) WITH 1 NEW FORLOPP; SEND S REFERENCE (V); TRANSFER S REFERENCE (V);")),
+    (
+        "N10",
+        program(
+            "SEND S REFERENCE (V) WITH 1 NEW FORLOPP; SEND S REFERENCE (V); TRANSFER S REFERENCE "
+            "(V);"
+        ),
+    ),
     ("UNEXPECTED", program("SEND S NEW FORLOPP @WITH 1;")),
     ("UNEXPECTED", program("SEND S WITH 1 @REFERENCE R;")),
     ("UNEXPECTED", program("SEND S REFERENCE (@1);")),
@@ -127,5 +142,13 @@ TEXTS = [
     ("N6", program("IF A = 1 THEN " * 12 + "ELSE EXIT; " + "FI;" * 12)),
 ]
 
-if __name__ == "__main__":
-    sys.exit(refusals.run("sentences", TEXTS, LEAST))
+
+@pytest.mark.parametrize("refusal", refusals.table(TEXTS), ids=refusals.names(TEXTS))
+def test_refusal(plex: pathlib.Path, folder: pathlib.Path, refusal: refusals.Refusal) -> None:
+    """The program tells the rule that a text breaks, at its line."""
+    check(refusals.told_of(plex, folder, refusal))
+
+
+def test_all_texts_are_there() -> None:
+    """No text is lost."""
+    check_enough("texts", TEXTS, LEAST)

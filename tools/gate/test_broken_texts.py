@@ -1,21 +1,20 @@
-#!/usr/bin/env python3
-"""broken_texts
-
-Runs the program on a table of texts, each of which breaks a rule at one kind of place where it can be broken, as
-refusals.py does it. PLEX names another program to run. Ends with 1 where a text gets another answer or none.
+"""Texts each of which breaks a rule at one kind of place where it can be broken, as refusals.py has
+it.
 """
-import pathlib
-import sys
+from __future__ import annotations
 
-TOOLS = pathlib.Path(__file__).resolve().parent.parent
-sys.path[:0] = [str(TOOLS), str(TOOLS / "python")]
-sys.dont_write_bytecode = True
-from gate import refusals  # noqa: E402
+import pathlib
+
+import pytest
+
+from gate import refusals
+from gate.checking import check, check_enough
 
 LEAST = 169
 
 SIGNALS = (
-    "SIGNAL BU SINGLE BUFFERED A DATA 1; SIGNAL DI SINGLE DIRECT DATA 0; SIGNAL CO COMBINED DATA 1 ANSWER AN DATA 2; "
+    "SIGNAL BU SINGLE BUFFERED A DATA 1; SIGNAL DI SINGLE DIRECT DATA 0; SIGNAL CO COMBINED DATA "
+    "1 ANSWER AN DATA 2; "
     "SIGNAL OU OUTSIDE DATA 0; SIGNAL B0 SINGLE BUFFERED B DATA 0; "
 )
 NAMES = (
@@ -26,24 +25,29 @@ SURVEY = "RECEIVE BU; RECEIVE DI; RECEIVE CO; SEND BU; SEND DI; SEND CO; SEND OU
 ENTERS = "ENTER BU WITH T; ENTER DI; ENTER CO WITH T; "
 
 
-def block(declarations="", survey="", items="", name="K"):
+def block(declarations: str = "", survey: str = "", items: str = "", name: str = "K") -> str:
+    """A block with these declarations, this survey and this program."""
     return f"BLOCK {name}; DECLARE; {declarations} SURVEY; {survey} PROGRAM; {items} END BLOCK; "
 
 
-def program(items):
+def program(items: str) -> str:
+    """A block that has all names and signals, with this program."""
     return SIGNALS + block(NAMES, SURVEY, ENTERS + items)
 
 
-def asking(items):
+def asking(items: str) -> str:
+    """The same with this program alone."""
     return SIGNALS + block(NAMES, SURVEY, items)
 
 
-def each(piece, count):
+def each(piece: str, count: int) -> str:
+    """A piece with each number in turn."""
     return "".join(piece % number for number in range(count))
 
 
 SECOND = block("TEMPORARY T;", "RECEIVE BU;", "ENTER BU WITH T;", "K2")
-FIELDS, BUFFERED = each("FIELD F%d WIDTH 1; ", 15), each("SIGNAL S%d SINGLE BUFFERED B DATA 0; ", 257)
+FIELDS = each("FIELD F%d WIDTH 1; ", 15)
+BUFFERED = each("SIGNAL S%d SINGLE BUFFERED B DATA 0; ", 257)
 
 TEXTS = [
     ("N1", SIGNALS + "SIGNAL @BU OUTSIDE DATA 0;"),
@@ -133,46 +137,98 @@ TEXTS = [
     ("N12", program("@RETRIEVE Q WITH T;")),
     ("N12", program("@SEND CO WITH 1;")),
     ("N12", program("@SEND CO WITH 1; L) RETRIEVE AN WITH T, U;")),
-    ("N12", asking("ENTER BU WITH T; ENTER DI; @SEND CO WITH 1; ENTER CO WITH T; RETRIEVE AN WITH T, U;")),
+    (
+        "N12",
+        asking(
+            "ENTER BU WITH T; ENTER DI; @SEND CO WITH 1; ENTER CO WITH T; RETRIEVE AN WITH T, U;"
+        ),
+    ),
     ("N12", program("IF 1 = 1 THEN @SEND CO WITH 1; FI; RETRIEVE AN WITH T, U;")),
     ("N12", program("SEND CO WITH 1; RETRIEVE AN WITH T, U; @RETRIEVE AN WITH T, U;")),
-    ("N13", program("V = " + "+".join(["1"]*64) + "+@1;")),
-    ("N13", program("V = " + "+".join(["X(T)"]*64) + "+@V;")),
-    ("N13", program("ON T FROM " + "+".join(["1"]*40) + " UPTO " + "+".join(["V"]*24) + "+@T DO NO;")),
-    ("N13", program("IF " + " AND ".join(["V = 1"]*32) + " AND @V = 1 THEN FI;")),
-    ("N13", program("SEND BU WITH (" + "+".join(["1"]*64) + ")*@2;")),
+    ("N13", program("V = " + "+".join(["1"] * 64) + "+@1;")),
+    ("N13", program("V = " + "+".join(["X(T)"] * 64) + "+@V;")),
+    (
+        "N13",
+        program(
+            "ON T FROM " + "+".join(["1"] * 40) + " UPTO " + "+".join(["V"] * 24) + "+@T DO NO;"
+        ),
+    ),
+    ("N13", program("IF " + " AND ".join(["V = 1"] * 32) + " AND @V = 1 THEN FI;")),
+    ("N13", program("SEND BU WITH (" + "+".join(["1"] * 64) + ")*@2;")),
     ("N14", program("@SEND DI NEW FORLOPP;")),
     ("N14", program("@SEND OU NEW FORLOPP;")),
     ("N14", program("@SEND AN NEW FORLOPP;".replace("SEND AN", "SEND AN WITH 1, 2"))),
     ("N15", program("CASE V IS WHEN 1 DO WHEN 2 DO WHEN @01 DO OTHERWISE DO ESAC;")),
-    ("N15", program("CASE V IS WHEN 1 DO CASE V IS WHEN 1 DO WHEN @1 DO OTHERWISE DO ESAC; OTHERWISE DO ESAC;")),
+    (
+        "N15",
+        program(
+            "CASE V IS WHEN 1 DO CASE V IS WHEN 1 DO WHEN @1 DO OTHERWISE DO ESAC; OTHERWISE DO "
+            "ESAC;"
+        ),
+    ),
     ("N11", program("@SEND BU WITH Q, Q;")),
     ("N10", program("ENTER @AN WITH Q, T;")),
     ("N6", SIGNALS + block(NAMES, "", "ENTER BU WITH T;") + block("", "", "@Q = 1;", "K2")),
     ("NORECEIVER", SIGNALS + block(NAMES, SURVEY, ENTERS + "@SEND B0;")),
-    ("NORECEIVER", "SIGNAL DI SINGLE DIRECT DATA 0; " + block("", "", "IF 1 = 1 THEN @TRANSFER DI; FI;")),
+    (
+        "NORECEIVER",
+        "SIGNAL DI SINGLE DIRECT DATA 0; " + block("", "", "IF 1 = 1 THEN @TRANSFER DI; FI;"),
+    ),
     ("NEEDSREFERENCE", program("@SEND BU WITH 1;") + SECOND),
     ("NOTRECEIVED", SIGNALS + block(NAMES, SURVEY, ENTERS + "@SEND BU REFERENCE K9 WITH 1;")),
-    ("NOTRECEIVED", SIGNALS + block(NAMES, SURVEY, ENTERS + "@SEND BU REFERENCE K2 WITH 1;") + block("", "", "", "K2")),
+    (
+        "NOTRECEIVED",
+        SIGNALS
+        + block(NAMES, SURVEY, ENTERS + "@SEND BU REFERENCE K2 WITH 1;")
+        + block("", "", "", "K2"),
+    ),
     ("NOTINSURVEY", SIGNALS + block(NAMES, "RECEIVE BU;", "ENTER BU WITH T; @SEND BU WITH 1;")),
     ("NOTINSURVEY", SIGNALS + block(NAMES, "SEND BU;", "@ENTER BU WITH T;")),
     ("NOTINSURVEY", SIGNALS + block(NAMES, "", "@SEND OU;")),
     ("TWOENTERS", SIGNALS + block(NAMES, SURVEY, ENTERS + "EXIT; @ENTER DI;")),
     ("NOENTER", SIGNALS + block(NAMES, "@RECEIVE BU; RECEIVE BU;")),
     ("NOENTER", SIGNALS + block(NAMES, "@RECEIVE DI; SEND B0;", "SEND B0;")),
-    ("LIMIT", each("SIGNAL S%d SINGLE DIRECT DATA 0; ", 999) + "@SIGNAL SX COMBINED DATA 0 ANSWER SY DATA 0;"),
+    (
+        "LIMIT",
+        each("SIGNAL S%d SINGLE DIRECT DATA 0; ", 999)
+        + "@SIGNAL SX COMBINED DATA 0 ANSWER SY DATA 0;",
+    ),
     ("LIMIT", each(block(name="B%d"), 64) + "@BLOCK BX; DECLARE; SURVEY; PROGRAM; END BLOCK;"),
-    ("LIMIT", block("VARIABLE V WIDTH 8; FILE F SIZE 65535; " + FIELDS + "@FORLOPP FILE G SIZE 17000;")),
-    ("LIMIT", BUFFERED + block("", each("RECEIVE S%d; ", 257), each("ENTER S%d; ", 256) + "@ENTER S256;")),
-    ("LIMIT", block("VARIABLE V WIDTH 8;", "", "V = 1; "*20000)[:-len("END BLOCK; ")] + "@END BLOCK;"),
-    ("LIMIT", block("VARIABLE V WIDTH 8;", "", "V = 1; "*20000 + "@V = 2; ")),
+    (
+        "LIMIT",
+        block("VARIABLE V WIDTH 8; FILE F SIZE 65535; " + FIELDS + "@FORLOPP FILE G SIZE 17000;"),
+    ),
+    (
+        "LIMIT",
+        BUFFERED + block("", each("RECEIVE S%d; ", 257), each("ENTER S%d; ", 256) + "@ENTER S256;"),
+    ),
+    (
+        "LIMIT",
+        block("VARIABLE V WIDTH 8;", "", "V = 1; " * 20000)[: -len("END BLOCK; ")] + "@END BLOCK;",
+    ),
+    ("LIMIT", block("VARIABLE V WIDTH 8;", "", "V = 1; " * 20000 + "@V = 2; ")),
     ("OK", each("SIGNAL S%d SINGLE DIRECT DATA 0; ", 1000)),
-    ("OK", block("VARIABLE V WIDTH 8;", "", "V = 1; "*19999)),
+    ("OK", block("VARIABLE V WIDTH 8;", "", "V = 1; " * 19999)),
     ("OK", each(block(name="B%d"), 64)),
-    ("OK", program("SEND CO WITH 1; RETRIEVE AN WITH T, U; SEND OU; SEND BU WITH V NEW FORLOPP; TRANSFER DI;")),
-    ("OK", program("RETURN AN WITH 1, 2; V = " + "+".join(["X(T)"]*64) + ";")),
-    ("OK", program("CASE V IS WHEN 1 DO WHEN 2 DO OTHERWISE DO ESAC; CASE V IS WHEN 1 DO OTHERWISE DO ESAC;")),
-    ("OK", block(NAMES, "SEND OU; SEND OU;", "L) M) GOTO L;").replace("BLOCK", SIGNALS + "BLOCK", 1)),
+    (
+        "OK",
+        program(
+            "SEND CO WITH 1; RETRIEVE AN WITH T, U; SEND OU; SEND BU WITH V NEW FORLOPP; TRANSFER "
+            "DI;"
+        ),
+    ),
+    ("OK", program("RETURN AN WITH 1, 2; V = " + "+".join(["X(T)"] * 64) + ";")),
+    (
+        "OK",
+        program(
+            "CASE V IS WHEN 1 DO WHEN 2 DO OTHERWISE DO ESAC; CASE V IS WHEN 1 DO OTHERWISE DO "
+            "ESAC;"
+        ),
+    ),
+    (
+        "OK",
+        block(NAMES, "SEND OU; SEND OU;", "L) M) GOTO L;").replace("BLOCK", SIGNALS + "BLOCK", 1),
+    ),
     ("N17", program("V = REFERENCE @Q;")),
     ("N17", program("V = REFERENCE @V;")),
     ("N17", program("V = REFERENCE K + (1 + REFERENCE @BU);")),
@@ -182,7 +238,7 @@ TEXTS = [
     ("N17", program("RETURN AN WITH 1, REFERENCE @AN;")),
     ("N17", program("CASE REFERENCE @F IS OTHERWISE DO ESAC;")),
     ("N17", program("IF 1 = 1 THEN ELSE X(T) = REFERENCE @G; FI;")),
-    ("N13", program("V = " + "+".join(["REFERENCE K"]*64) + "+REFERENCE @K;")),
+    ("N13", program("V = " + "+".join(["REFERENCE K"] * 64) + "+REFERENCE @K;")),
     ("N6", program("SEND BU REFERENCE (@X) WITH 1;")),
     ("N6", program("SEND BU REFERENCE (@K) WITH 1;")),
     ("N6", program("SEND CO REFERENCE (@G) WITH 1; RETRIEVE AN WITH T, U;")),
@@ -195,7 +251,10 @@ TEXTS = [
     ("N12", program("@SEND CO REFERENCE (T) WITH 1;")),
     ("N14", program("@SEND DI REFERENCE (T) NEW FORLOPP;")),
     ("NORECEIVER", program("@SEND B0 REFERENCE (V);")),
-    ("NOTINSURVEY", SIGNALS + block(NAMES, "RECEIVE BU;", "ENTER BU WITH T; @SEND BU REFERENCE (V) WITH 1;")),
+    (
+        "NOTINSURVEY",
+        SIGNALS + block(NAMES, "RECEIVE BU;", "ENTER BU WITH T; @SEND BU REFERENCE (V) WITH 1;"),
+    ),
     ("NOTINSURVEY", SIGNALS + block(NAMES, "RECEIVE DI;", "ENTER DI; @TRANSFER DI REFERENCE (T);")),
     ("UNEXPECTED", block("VARIABLE @CLEAR WIDTH 8;")),
     ("UNEXPECTED", block("VARIABLE V WIDTH 8 CLEAR @INIT 1;")),
@@ -211,11 +270,36 @@ TEXTS = [
     ("UNEXPECTED", program("TRANSFER DI REFERENCE K @WITH 1;")),
     ("OK", block("VARIABLE V WIDTH 8 INIT 1 CLEAR; VARIABLE W WIDTH 32 CLEAR;")),
     ("OK", program("V = REFERENCE K2 * (REFERENCE K + 1);") + block(name="K2")),
-    ("OK", program("SEND BU REFERENCE (V) WITH 1; SEND CO REFERENCE (T) WITH 1; RETRIEVE AN WITH T, U;")),
+    (
+        "OK",
+        program(
+            "SEND BU REFERENCE (V) WITH 1; SEND CO REFERENCE (T) WITH 1; RETRIEVE AN WITH T, U;"
+        ),
+    ),
     ("OK", program("TRANSFER DI REFERENCE (V);")),
-    ("OK", program("SEND BU REFERENCE (V) WITH REFERENCE K; SEND BU REFERENCE K2 WITH 1;") + SECOND),
-    ("OK", program("V = " + "+".join(["REFERENCE K"]*64) + "; SEND BU REFERENCE (V) WITH " + "+".join(["1"]*64) + ";")),
+    (
+        "OK",
+        program("SEND BU REFERENCE (V) WITH REFERENCE K; SEND BU REFERENCE K2 WITH 1;") + SECOND,
+    ),
+    (
+        "OK",
+        program(
+            "V = "
+            + "+".join(["REFERENCE K"] * 64)
+            + "; SEND BU REFERENCE (V) WITH "
+            + "+".join(["1"] * 64)
+            + ";"
+        ),
+    ),
 ]
 
-if __name__ == "__main__":
-    sys.exit(refusals.run("broken texts", TEXTS, LEAST))
+
+@pytest.mark.parametrize("refusal", refusals.table(TEXTS), ids=refusals.names(TEXTS))
+def test_refusal(plex: pathlib.Path, folder: pathlib.Path, refusal: refusals.Refusal) -> None:
+    """The program tells the rule that a text breaks, at its line."""
+    check(refusals.told_of(plex, folder, refusal))
+
+
+def test_all_texts_are_there() -> None:
+    """No text is lost."""
+    check_enough("texts", TEXTS, LEAST)

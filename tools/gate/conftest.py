@@ -1,0 +1,221 @@
+"""Options, fixtures and sums of the tests of the gate."""
+from __future__ import annotations
+
+import os
+import pathlib
+import tempfile
+from collections import Counter, defaultdict
+from typing import Any, Iterator
+
+import pytest
+from _pytest.terminal import TerminalReporter
+
+from gate import harness
+from gate.checking import Share, Sums, Tally
+from plextools import programs
+
+SUMS: defaultdict[str, Sums] = defaultdict(Sums)
+SKIPPED: list[str] = []
+UNPROVED: set[str] = set()  # the programs that were taken though they are not proved
+OUTCOMES = ("passed", "failed", "error", "skipped")
+
+
+def several(word: str) -> list[int]:
+    """Numbers with commas between them."""
+    return [harness.count(number) for number in word.split(",")]
+
+
+def pytest_addoption(parser: pytest.Parser) -> None:
+    """The options of the checks by chance."""
+    group = parser.getgroup("plex")
+    group.addoption("--seed", help="the seed of cases made by chance (the date of the commit)")
+    group.addoption(
+        "--cases",
+        type=harness.count,
+        help="how many cases each check by chance makes (as many as the gate)",
+    )
+    group.addoption(
+        "--workers",
+        type=several,
+        default=[2, 8, 64],
+        metavar="N,N,..",
+        help="the workers of the runs of test_fuzz.py",
+    )
+    group.addoption(
+        "--keep",
+        type=pathlib.Path,
+        metavar="FOLDER",
+        help="where test_fuzz.py keeps cases that fail",
+    )
+    group.addoption(
+        "--forms",
+        type=harness.count,
+        default=20,
+        metavar="N",
+        help="how many exchanges of special forms test_compare_runs.py makes",
+    )
+    group.addoption(
+        "--whole",
+        action="store_true",
+        help="test_large_texts.py runs all its cases, in their full size",
+    )
+    group.addoption(
+        "--write",
+        action="store_true",
+        help="write anew what is compared: the texts of test_tool_examples.py, the figures of "
+        "test_large_texts.py, or the pictures of test_look_at_page.py",
+    )
+
+
+def pytest_configure(config: pytest.Config) -> None:
+    """Settles the seed before processes start, so that all make the same cases."""
+    config.addinivalue_line("markers", "counted(cases): has so many cases, which are summed up")
+    config.addinivalue_line(
+        "markers", "by_chance(gate): makes cases by chance, so many in the gate"
+    )
+    config.addinivalue_line(
+        "markers", "alone: measures time, so that no other test may run beside it"
+    )
+    if config.option.seed is None:
+        config.option.seed = harness.seed()
+
+
+def pytest_report_header(config: pytest.Config) -> str:
+    """The first lines tell the seed."""
+    return f"plex: seed {config.option.seed}"
+
+
+def cases_of(config: pytest.Config, gate: int) -> int:
+    """How many cases a check by chance makes."""
+    return int(config.option.cases or gate)
+
+
+def pytest_generate_tests(metafunc: pytest.Metafunc) -> None:
+    """One test for each case of a check by chance."""
+    mark = metafunc.definition.get_closest_marker("by_chance")
+    if "form_number" in metafunc.fixturenames:
+        forms = range(metafunc.config.option.forms)
+        metafunc.parametrize("form_number", forms, ids=[f"form{number}" for number in forms])
+    if mark:
+        numbers = range(cases_of(metafunc.config, mark.args[0]))
+        metafunc.parametrize("number", numbers, ids=[f"case{number}" for number in numbers])
+
+
+def found(program: programs.Program) -> pathlib.Path:
+    """A program; a test that asks for one that cannot be taken fails by what is wrong with it."""
+    try:
+        return harness.found(program)
+    except SystemExit as wrong:
+        pytest.fail(str(wrong), pytrace=False)
+
+
+@pytest.fixture(scope="session")
+def plex() -> pathlib.Path:
+    """The program, which the tools for users find too."""
+    path = found(harness.PLEX)
+    os.environ[harness.PLEX.variable] = str(path)
+    return path
+
+
+@pytest.fixture(scope="session")
+def merger() -> pathlib.Path:
+    """The program plex-merge."""
+    return found(harness.MERGER)
+
+
+@pytest.fixture(scope="session")
+def conflicts() -> pathlib.Path:
+    """The program plex-conflicts."""
+    return found(harness.CONFLICTS)
+
+
+@pytest.fixture(scope="session")
+def seed(pytestconfig: pytest.Config) -> str:
+    """The seed of cases made by chance."""
+    return str(pytestconfig.option.seed)
+
+
+@pytest.fixture
+def folder() -> Iterator[pathlib.Path]:
+    """A folder for the files of a case, which is removed behind it: some have many megabytes."""
+    with tempfile.TemporaryDirectory() as name:
+        yield pathlib.Path(name)
+
+
+@pytest.fixture
+def tally(request: pytest.FixtureRequest) -> Tally:
+    """Counts what the cases of a check come to."""
+    by_chance, counted = map(request.node.get_closest_marker, ("by_chance", "counted"))
+    cases = (
+        cases_of(request.config, by_chance.args[0]) if by_chance else request.config.option.forms
+    )
+    return Tally(request.node, counted.args[0] if counted else cases)
+
+
+def pytest_runtest_logreport(report: pytest.TestReport) -> None:
+    """Sums up what the cases count, in the process that starts the others."""
+    if report.skipped:
+        SKIPPED.append(report.nodeid)
+    for name, value in report.user_properties if report.when == "call" else ():
+        if name == "share":
+            share = Share(**value)  # type: ignore[arg-type]
+            SUMS[share.check].add(share)
+
+
+def wrong_at_the_end() -> Iterator[str]:
+    """What is wrong with all tests together."""
+    most = os.environ.get("MOST_LEFT_OUT")
+    if most is not None and len(SKIPPED) > int(most):
+        yield f"{len(SKIPPED)} tests are left out, and MOST_LEFT_OUT is {most}"
+    for name, sums in SUMS.items():
+        yield from (f"{name}: {told}" for told in sums.few())
+
+
+def is_worker(config: pytest.Config) -> bool:
+    """Whether this process runs tests for another one, which sums up."""
+    return hasattr(config, "workerinput")
+
+
+def pytest_sessionfinish(session: pytest.Session) -> None:
+    """Fails where the sums are too small, or too much is left out."""
+    unproved = list(map(str, harness.UNPROVED))
+    harness.UNPROVED_TOLD.append(True)
+    if is_worker(session.config):
+        session.config.workeroutput["unproved"] = unproved  # type: ignore[attr-defined]
+        return
+    UNPROVED.update(unproved)
+    if session.exitstatus == 0 and any(wrong_at_the_end()):
+        session.exitstatus = pytest.ExitCode.TESTS_FAILED
+
+
+@pytest.hookimpl(optionalhook=True)  # type: ignore[misc]
+def pytest_testnodedown(node: Any) -> None:
+    """Takes over what a process of pytest-xdist tells at its end."""
+    UNPROVED.update(getattr(node, "workeroutput", {}).get("unproved", ()))
+
+
+def by_file(reporter: TerminalReporter) -> dict[str, Counter[str]]:
+    """How many tests of each file came to which end."""
+    files: defaultdict[str, Counter[str]] = defaultdict(Counter)
+    for outcome in OUTCOMES:
+        for report in reporter.stats.get(outcome, ()):
+            files[report.nodeid.split("::")[0].rpartition("/")[2]][outcome] += 1
+    return dict(sorted(files.items()))
+
+
+def pytest_terminal_summary(terminalreporter: TerminalReporter) -> None:
+    """Tells the count of each check, the sums of those by chance, their seed, and what is wrong."""
+    files = by_file(terminalreporter)
+    if not files:
+        return
+    terminalreporter.section("checks")
+    for name, outcomes in files.items():
+        told = ", ".join(f"{number} {outcome}" for outcome, number in outcomes.items())
+        terminalreporter.write_line(f"{name}: {told}")
+    for name, sums in SUMS.items():
+        terminalreporter.write_line(f"{name}: {sums.shares} of {sums.of} cases; {sums.told()}")
+    terminalreporter.write_line(f"seed: {terminalreporter.config.option.seed}")
+    if UNPROVED:
+        terminalreporter.write_line(f"unproved: {', '.join(sorted(UNPROVED))}")
+    for line in wrong_at_the_end():
+        terminalreporter.write_line(line, red=True)

@@ -1,0 +1,219 @@
+"""What plex-why finds, beside `oracle.analysis`.
+
+The exchanges are those of tools/gate/cases/analysis, and others made by chance. Of each entry each
+line of its summary must be made by the statements that make it by oracle.analysis, and each fault
+stand at a statement that may fault by it. Of each pair the first conflict, or all tests, must be
+those of `plex analyse`. Where a value stops being one that came with the signal, the statement must
+make it one of itself, by the rules of oracle.analysis.
+"""
+from __future__ import annotations
+
+import pathlib
+import random
+from typing import Any, Iterator
+
+import pytest
+
+from gate import harness
+from gate.checking import Tally, check, check_enough
+from gate.makers import made_exchange
+from gate.oracle import analysis as oracle_analysis
+from plextools.analysis import why as why_lines
+
+GATE = 300
+CASES = harness.CASES / "analysis"
+NAMES = sorted(path.parent.name for path in CASES.glob("*/exchange"))
+# How many of each there must be, for each exchange that is made.
+LEAST_CASES = 65
+LEAST = {"lines": 15, "statements": 20, "faults": 15, "origins": 20, "conflicts": 10, "tests": 30}
+
+
+def told_accesses(exchange: Any, summary: Any, node: Any) -> Iterator[str]:
+    """The lines of a summary that a statement gives by oracle.analysis."""
+    names = {
+        "variable": exchange.variable_name,
+        "field": exchange.field_name,
+        "own": exchange.field_name,
+    }
+    for access in summary.accesses_of(node):
+        kind, *rest = access
+        if kind in ("seize", "free"):
+            yield f"{kind.upper()} {exchange.file_name(rest[0])}"
+        else:
+            word = {"variable": "VAR", "field": "FIELD", "own": "OWN"}[kind]
+            value = f" {oracle_analysis.told_value(rest[2])}" if kind == "field" else ""
+            yield f"{'WRITE' if rest[0] else 'READ'} {word} {names[kind](rest[1])}{value}"
+    if node.kind == "SEND" and exchange.signal_of(node).level:
+        yield f"SEND {exchange.signal_of(node).level}"
+
+
+def is_in_circle(summary: Any, point: int) -> bool:
+    """Whether a point that is reached leads back to itself."""
+    seen, left = set[int](), [point]
+    while left:
+        for to, _ in summary.facts.flows(summary.exchange.points[left.pop()]):
+            if to == point:
+                return True
+            if to is not None and to not in seen and summary.facts.reached(to):
+                seen.add(to)
+                left.append(to)
+    return False
+
+
+def makes_any(summary: Any, point: int) -> bool:
+    """Whether a statement gives ANY of itself, where no slot before it has that value."""
+    facts = oracle_analysis.Facts(summary.exchange, summary.facts.entry)
+    facts.values = {
+        place: values - {oracle_analysis.ANY} for place, values in summary.facts.values.items()
+    }
+    return any(
+        value == oracle_analysis.ANY
+        for _, gives in facts.flows(summary.exchange.points[point])
+        for _, _, value in gives
+    )
+
+
+class Comparison:
+    """Compares what is found of an exchange."""
+
+    def __init__(self) -> None:
+        self.counts, self.wrong = dict.fromkeys(LEAST, 0), list[str]()
+
+    def need(self, holds: object, told: str) -> None:
+        """Notes what does not hold."""
+        if not holds:
+            self.wrong.append(told)
+
+    def entry(self, made: Any, summary: Any, entry: Any) -> None:
+        """Each line with its statements, both ways, and each fault."""
+        wanted: dict[str, set[int]] = {}
+        for node in summary.reached:
+            for line in told_accesses(summary.exchange, summary, node):
+                wanted.setdefault(line, set()).add(node.point)
+        got = {line: set(points) for line, points in made.lines.items()}
+        self.need(
+            got == wanted,
+            f"entry {entry.number}: other statements than those of {sorted(wanted)[:3]}",
+        )
+        explained = set(entry.lines) - {"FAULT"}
+        self.need(
+            explained == set(made.lines), f"entry {entry.number}: not the lines of its summary"
+        )
+        self.counts["lines"] += len(explained)
+        self.counts["statements"] += sum(map(len, got.values()))
+        self.need(entry.fault == bool(made.faults), f"entry {entry.number}: FAULT is not explained")
+        for fault in made.faults:
+            self.counts["faults"] += 1
+            node = summary.exchange.points[fault.point]
+            may = {
+                "BUDGET": lambda: is_in_circle(summary, node.point),
+                "SENDS": summary.sends_much,
+            }.get(fault.fault, lambda: summary.faults(node))
+            self.need(
+                may(), f"entry {entry.number}: point {fault.point} has no fault {fault.fault}"
+            )
+        faulty = {node.point for node in summary.reached if summary.faults(node)}
+        self.need(
+            faulty <= {fault.point for fault in made.faults},
+            f"entry {entry.number}: a statement that may fault is missing",
+        )
+
+    def origins(self, made: Any, summary: Any) -> None:
+        """Each temporary that may be any number has statements that make it so."""
+        for (point, slot), values in made.facts.values.items():
+            if "ANY" in values and slot[0] == "T":
+                origins = made.origins(point, slot)
+                self.need(origins, f"entry {made.entry}: {slot} before {point} comes from nowhere")
+                for origin in origins[:3]:
+                    self.counts["origins"] += 1
+                    self.need(
+                        makes_any(summary, origin.point),
+                        f"entry {made.entry}: point {origin.point} makes no number of its own",
+                    )
+
+    def pairs(self, exchange: Any, slow: Any, summaries: list[Any]) -> None:
+        """The first conflict or all tests of each pair, and the statements for them."""
+        analysis = exchange.analysis
+        for i, first in enumerate(summaries):
+            for j, later in enumerate(summaries):
+                conflicts, told = analysis.conflicts(i, j), analysis.told.get((i, j), [])
+                if conflicts:
+                    got = [f"NEVER {conflicts[0].told}"]
+                    self.counts["conflicts"] += len(conflicts)
+                else:
+                    got = [f"IF {test.told}" for test in analysis.tests(i, j)]
+                    self.counts["tests"] += len(got)
+                self.need(got == told, f"pair {i} {j}: {got} and not {told}")
+                pair = why_lines.Pair(exchange, i, j)
+                for reason in analysis.reasons(i, j):
+                    first_side, later_side = pair.statements(reason)
+                    alone = reason.kind == "FORLOPP"
+                    self.need(
+                        first_side and (later_side or alone),
+                        f"pair {i} {j}: no statement for {reason.told}",
+                    )
+                    self.need(
+                        pair.cure(reason), f"pair {i} {j}: nothing helps against {reason.told}"
+                    )
+                if not conflicts:
+                    self.need(
+                        [test.told for test in analysis.tests(i, j)]
+                        == list(oracle_analysis.tests(slow, first, later)),
+                        f"pair {i} {j}: tests",
+                    )
+
+    def text(self, content: bytes, folder: pathlib.Path) -> None:
+        """All of an exchange text."""
+        place = folder / "E"
+        place.write_bytes(content)
+        exchange = why_lines.Exchange(str(place), keeps_facts=True)
+        exchange.look_at_all()
+        slow = oracle_analysis.Exchange(content)
+        summaries = [
+            oracle_analysis.Summary(oracle_analysis.Facts(slow, entry).close())
+            for entry in range(len(slow.entries))
+        ]
+        self.need(
+            len(exchange.made) == len(summaries) == len(exchange.analysis.entries),
+            "not all entries are there",
+        )
+        for number, summary in enumerate(summaries):
+            self.entry(exchange.made[number], summary, exchange.entry(number))
+            self.origins(exchange.made[number], summary)
+        self.pairs(exchange, slow, summaries)
+
+
+def compare(content: bytes, folder: pathlib.Path) -> Comparison:
+    """What came of an exchange, in which nothing may differ."""
+    comparison = Comparison()
+    comparison.text(content, folder)
+    check(*comparison.wrong)
+    return comparison
+
+
+@pytest.fixture
+def counts(pytestconfig: pytest.Config, tally: Tally) -> Tally:
+    """The counts of both kinds of exchanges, which are summed up together."""
+    tally.cases = len(NAMES) + (pytestconfig.option.cases or GATE)
+    return tally
+
+
+@pytest.mark.parametrize("name", NAMES)
+def test_case(plex: pathlib.Path, folder: pathlib.Path, counts: Tally, name: str) -> None:
+    """An exchange of the analyses by hand."""
+    content = (CASES / name / "exchange").read_bytes()
+    counts.add("compared why", compare(content, folder).counts)
+
+
+@pytest.mark.by_chance(GATE)
+def test_by_chance(
+    plex: pathlib.Path, folder: pathlib.Path, seed: str, counts: Tally, number: int
+) -> None:
+    """An exchange made by chance."""
+    exchange = made_exchange.made_case(random.Random(f"{seed}.{number}")).exchange
+    counts.add("compared why", compare(exchange, folder).counts, LEAST)
+
+
+def test_all_cases_are_there() -> None:
+    """No case is lost."""
+    check_enough("cases", NAMES, LEAST_CASES)

@@ -1,0 +1,378 @@
+"""Pages of plex-page in Chromium, without a window, as a reader sees them.
+
+At two widths, light and dark, a test clicks a pair, an entry and a bar, goes by the keyboard, and
+reads what is shown then, which must be what plex-why and plex-load say. A page must be readable
+without scripts, ask for no other file, and show names and texts as they are, whatever they have in
+them. One of 256 entries and some 19,000 statements must be there within 2 seconds of processor
+time, in one of three tries, or within as much more as this machine is slower than another one
+(measured.py), and have 20 MB at most. With `--write` the pictures of docs/pictures are taken.
+CHROMIUM names another browser; where there is none, all this is left out.
+"""
+from __future__ import annotations
+
+import pathlib
+import shutil
+import subprocess
+import tempfile
+from typing import Iterator, Optional, Sequence
+
+import pytest
+
+from gate import browser
+from gate.checking import EXAMPLES, ROOT, TOOLS, Tally, check, leave_out
+from gate.makers import wide_exchange
+from measure import measured
+
+pytestmark = pytest.mark.alone
+
+GUIDE = EXAMPLES / "guide" / "which_change"
+PICTURES = ROOT / "docs" / "pictures"
+Size = tuple[int, int, bool]
+SIZES: Sequence[Size] = ((1400, 900, False), (1400, 900, True), (420, 800, False), (420, 800, True))
+SECONDS, BYTES, TRIES = 2.0, 20_000_000, 3
+LEAST, TESTS = 136, 9
+STRANGE_NAME = "a <b> & \"c' .plex"
+STRANGE = b"""! </script><script>document.title = 'taken'</script> <img src=x onerror="alert(1)"> \xff\xfe & &amp;
+SIGNAL TICK SINGLE BUFFERED B DATA 0;
+BLOCK K; DECLARE; VARIABLE N WIDTH 32; SURVEY; RECEIVE TICK; PROGRAM;
+ENTER TICK; N = N + 1; EXIT; ! <i>here</i>
+END BLOCK;
+"""  # noqa: E501
+TOLD = "document.getElementById('told').innerText"
+LINES = "Array.from(document.querySelectorAll('{}')).map((e) => Number(e.id.slice(1)))"
+LIT = LINES.format("#lines .first, #lines .later, #lines .both")
+
+
+class Look:
+    """Looks at pages in a folder with a browser."""
+
+    def __init__(
+        self, window: browser.Browser, folder: pathlib.Path, tally: Optional[Tally] = None
+    ) -> None:
+        self.window, self.folder, self.tally = window, folder, tally
+        self.seen, self.wrong = 0, list[str]()
+
+    def done(self) -> None:
+        """Counts what was looked at, and tells what is wrong."""
+        if self.tally:
+            self.tally.add("looks at pages", {"looks": self.seen}, {"looks": LEAST / TESTS})
+        check(*self.wrong)
+
+    def need(self, holds: object, told: str) -> None:
+        """Counts what is looked at, and notes what does not hold."""
+        self.seen += 1
+        if not holds:
+            self.wrong.append(told)
+
+    def shows(self, words: Sequence[str], told: str) -> None:
+        """The page must show these words."""
+        text = " ".join(self.window.value(TOLD).split())
+        for word in words:
+            self.need(
+                " ".join(word.split()) in text,
+                f"{told}: it does not show {word!r}, but {text[:300]!r}",
+            )
+
+    def page(self, exchange: pathlib.Path, signals: Optional[pathlib.Path], name: str) -> str:
+        """Makes a page and gives its address."""
+        place = self.folder / name
+        words: list[str | pathlib.Path] = [
+            TOOLS / "bin" / "plex-page",
+            exchange,
+            *([signals] if signals else []),
+            "-o",
+            place,
+        ]
+        done = subprocess.run(
+            words,
+            stdin=subprocess.DEVNULL,
+            stdout=subprocess.PIPE,
+            stderr=subprocess.PIPE,
+            timeout=300,
+        )
+        self.need(
+            (done.returncode, done.stdout, done.stderr) == (0, b"", b""),
+            f"plex-page: {done.returncode}, {done.stderr[-300:]!r}",
+        )
+        return place.as_uri()
+
+    def at_a_size(self, address: str, size: Size) -> None:
+        """A reader with a window of a size."""
+        width, height, is_dark = size
+        self.window.size(width, height, is_dark)
+        self.window.open(address)
+        self.need(
+            self.window.value("document.documentElement.scrollWidth <= window.innerWidth"),
+            f"{size}: the page is wider than the window",
+        )
+        papers = self.window.value(
+            "[getComputedStyle(document.body).backgroundColor,"
+            " getComputedStyle(document.body).color]"
+        )
+        self.need(
+            (sum(numbers(papers[0])) < sum(numbers(papers[1]))) == is_dark, f"{size}: {papers}"
+        )
+        self.need(
+            "Choose a pair" in self.window.value(TOLD), f"{size}: no word of what can be chosen"
+        )
+        self.pair()
+        self.bar()
+        self.entry()
+        self.keys()
+
+    def pair(self) -> None:
+        """A click at a pair."""
+        self.window.click("#table tbody tr:nth-child(3) td:nth-of-type(3)")
+        why = subprocess.run(
+            [TOOLS / "bin" / "plex-why", "exchange.plex", "2", "2"],
+            cwd=GUIDE,
+            stdout=subprocess.PIPE,
+            check=True,
+        ).stdout.decode()
+        lines = [line for line in why.split("\n") if "exchange.plex:" in line]
+        told = [line.split("exchange.plex:")[1] for line in lines] + [
+            why.split("what helps: ")[1].strip()
+        ]
+        self.shows(
+            ["NEVER VARIABLE FEES.TOTAL", "first 2 BILL FEES", "later 2 BILL FEES", *told],
+            "pair 2 2",
+        )
+        wanted = sorted({int(line.split("exchange.plex:")[1].split(":")[0]) for line in lines})
+        self.need(
+            self.window.value(LIT) == wanted,
+            f"pair 2 2: {self.window.value(LIT)} are lit, and not {wanted}",
+        )
+        self.need(self.window.value("location.hash") == "#pair=2,2", "pair 2 2: its address")
+
+    def bar(self) -> None:
+        """Clicks at a bar and at a time of waiting."""
+        self.window.click('[data-bar="9"]')
+        self.shows(
+            [
+                "Job 10: BILL FEES",
+                "values 0",
+                "forlopp 10",
+                "10005 statements",
+                "came with line 11",
+                "PAIR 1 2 NEVER VARIABLE FEES.RATE",
+            ],
+            "bar 9",
+        )
+        self.window.click("[data-wait]:nth-last-of-type(1)")
+        self.shows(["The window stood still"], "a time of waiting")
+
+    def entry(self) -> None:
+        """A click at an entry."""
+        self.window.click('[data-entry="1"]')
+        self.shows(["Entry 1: PRICE FEES, level B", "WRITE VAR FEES.RATE"], "entry 1")
+        reach = self.window.value(LINES.format("#lines .reach"))
+        self.need(reach == [19, 20, 21], f"entry 1: the lines {reach} are lit")
+
+    def keys(self) -> None:
+        """From the first place of the table two to the right and one down, chosen, and let go."""
+        self.window.value("document.querySelector('#table td').focus()")
+        for key in ("ArrowRight", "ArrowRight", "ArrowDown", "Enter"):
+            self.window.key(key, 13 if key == "Enter" else 0)
+        self.shows(["Pair 1 2: never together", "RATE = N;"], "keys")
+        self.window.key("Escape", 27)
+        self.need(
+            "Choose a pair" in self.window.value(TOLD) and not self.window.value(LIT),
+            "keys: Escape does not let go",
+        )
+        self.window.value("document.querySelector('[data-bar]').focus()")
+        for key in ("ArrowRight", " "):
+            self.window.key(key, 32 if key == " " else 0)
+        self.shows(["Job 2: CALL FEES"], "keys: the second bar")
+
+    def by_address(self, address: str) -> None:
+        """Addresses with a choice."""
+        self.window.open(address + "#pair=1,2")
+        self.shows(["Pair 1 2: never together"], "an address of a pair")
+        self.window.open(address + "#pair=99,2")
+        self.shows(["Choose a pair"], "an address of no pair")
+
+    def without_scripts(self, address: str) -> None:
+        """A reader whose browser runs no scripts."""
+        self.window.open(address, scripts=False)
+        text = self.window.value("document.body.textContent")
+        for word in (
+            "Pairs of entries",
+            "never together: a variable",
+            "NEVER VARIABLE FEES.TOTAL",
+            "TOTAL = TOTAL + S;",
+            "worker 4",
+            "2 BILL FEES",
+        ):
+            self.need(word in text, f"without scripts: no {word!r}")
+        self.need(
+            self.window.value("document.getElementById('told').hidden"),
+            "without scripts: it asks for a choice",
+        )
+
+    def stands_alone(self, name: str) -> None:
+        """The page asks for no other file."""
+        text = (self.folder / name).read_text()
+        for word in ("http:", "https:", "<link", "src=", "@import", "url("):
+            self.need(word not in text, f"the page has {word}")
+
+    def strange(self) -> None:
+        """A name and a text with all that a page may take for its own."""
+        place = self.folder / STRANGE_NAME
+        place.write_bytes(STRANGE)
+        address = self.page(place, None, "strange.html")
+        self.window.size(1400, 900)
+        self.window.open(address)
+        self.need(
+            self.window.value("document.title") == STRANGE_NAME,
+            f"the title is {self.window.value('document.title')!r}",
+        )
+        self.need(
+            self.window.value("document.querySelector('h1').innerText") == STRANGE_NAME,
+            "the heading is not the name",
+        )
+        first = STRANGE.split(b"\n")[0].decode("utf-8", "replace")
+        self.need(
+            self.window.value("document.getElementById('L1').textContent") == first,
+            "the first line is not as it is",
+        )
+        self.need(
+            self.window.value(
+                "document.querySelectorAll('#lines div div > *, img, main script').length"
+            )
+            == 0,
+            "the text has become a part of the page",
+        )
+        self.window.click("#table td")
+        self.shows(["NEVER VARIABLE K.N"], "a strange text")
+
+    def wide(self) -> None:
+        """A page of a large exchange."""
+        for name, content in zip(("wide.plex", "wide.txt"), wide_exchange.made()):
+            (self.folder / name).write_bytes(content)
+        address = self.page(self.folder / "wide.plex", self.folder / "wide.txt", "wide.html")
+        size = (self.folder / "wide.html").stat().st_size
+        self.need(size <= BYTES, f"the page of a large exchange has {size} bytes")
+        times: list[float] = []
+        for _ in range(TRIES):
+            times.append(self.window.open(address))
+            most = SECONDS * measured.pace()
+            if times[-1] <= most:
+                break
+        self.need(
+            times[-1] <= most,
+            f"the page of a large exchange opens in {min(times):.2f} and not {most:.2f} s",
+        )
+        self.window.click("#table tbody tr:nth-child(6) td:nth-of-type(5)")
+        self.shows(["Pair 5 4: never together", "NEVER VARIABLE B1."], "a pair of a large exchange")
+        self.window.value(
+            "document.querySelector('#table tbody tr:nth-child(250)').scrollIntoView()"
+        )
+        count = "document.querySelectorAll('#table tr:nth-child(250) td').length"
+        later = f"requestAnimationFrame(() => setTimeout(() => done({count}), 100))"
+        made = f"new Promise((done) => {later})"
+        self.need(self.window.value(made) == 256, "a row far below does not get its places")
+        self.window.click("#table tbody tr:nth-child(250) td:nth-of-type(248)")
+        self.shows(["Pair 249 247:"], "a pair far below")
+        self.window.click('[data-entry="7"]')
+        self.shows(["Entry 7: S7 B1"], "an entry of a large exchange")
+        print(f"{size / 1e6:.1f} MB, {min(times):.2f} s")
+
+
+def numbers(colour: str) -> list[int]:
+    """The parts of a colour."""
+    return [int(word) for word in colour[4:-1].split(",")[:3]]
+
+
+@pytest.fixture(scope="module")
+def window() -> Iterator[browser.Browser]:
+    """One browser for all tests."""
+    if not browser.find():
+        leave_out("there is no Chromium")
+    with browser.Browser() as opened:
+        yield opened
+
+
+@pytest.fixture(scope="module")
+def room(plex: pathlib.Path) -> Iterator[pathlib.Path]:
+    """A folder with the texts of the guide, and their page, page.html."""
+    with tempfile.TemporaryDirectory() as name:
+        for file in ("exchange.plex", "signals.txt"):
+            shutil.copyfile(GUIDE / file, pathlib.Path(name, file))
+        yield pathlib.Path(name)
+
+
+@pytest.fixture
+def look(window: browser.Browser, room: pathlib.Path, tally: Tally) -> Look:
+    """Looks at pages."""
+    return Look(window, room, tally)
+
+
+@pytest.fixture
+def address(look: Look) -> str:
+    """The address of the page of the guide."""
+    return look.page(look.folder / "exchange.plex", look.folder / "signals.txt", "page.html")
+
+
+@pytest.mark.parametrize("size", SIZES, ids=["wide", "wide, dark", "narrow", "narrow, dark"])
+@pytest.mark.counted(TESTS)
+def test_at_a_size(look: Look, address: str, size: Size) -> None:
+    """A window of a size."""
+    look.at_a_size(address, size)
+    look.done()
+
+
+@pytest.mark.counted(TESTS)
+def test_by_address(look: Look, address: str) -> None:
+    """Addresses with a choice."""
+    look.by_address(address)
+    look.done()
+
+
+@pytest.mark.counted(TESTS)
+def test_without_scripts(look: Look, address: str) -> None:
+    """A browser that runs no scripts."""
+    look.without_scripts(address)
+    look.done()
+
+
+@pytest.mark.counted(TESTS)
+def test_stands_alone(look: Look, address: str) -> None:
+    """A page that asks for no other file."""
+    look.stands_alone("page.html")
+    look.done()
+
+
+@pytest.mark.counted(TESTS)
+def test_strange(look: Look) -> None:
+    """A name and a text with all that a page may take for its own."""
+    look.strange()
+    look.done()
+
+
+@pytest.mark.counted(TESTS)
+def test_wide(look: Look) -> None:
+    """A page of a large exchange."""
+    look.wide()
+    look.done()
+
+
+def test_pictures(window: browser.Browser, room: pathlib.Path, pytestconfig: pytest.Config) -> None:
+    """The documents have pictures of a page with a pair that is chosen, and of its time line;
+    `--write` takes them.
+    """
+    if pytestconfig.option.write:
+        take_pictures(window, room)
+    for name in ("page_pair.png", "page_time.png"):
+        assert (PICTURES / name).is_file()
+
+
+def take_pictures(window: browser.Browser, folder: pathlib.Path) -> None:
+    """Takes the pictures."""
+    address = Look(window, folder).page(GUIDE / "exchange.plex", GUIDE / "signals.txt", "page.html")
+    window.size(1400, 1000)
+    window.open(address + "#pair=2,2")
+    window.picture(PICTURES / "page_pair.png")
+    window.size(1400, 760, True)
+    window.open(address + "#bar=10")
+    window.value("document.getElementById('time').scrollIntoView()")
+    window.picture(PICTURES / "page_time.png")
