@@ -37,9 +37,8 @@ def pytest_addoption(parser: pytest.Parser) -> None:
     group.addoption(
         "--workers",
         type=several,
-        default=[2, 8, 64],
         metavar="N,N,..",
-        help="the workers of the runs of test_fuzz.py",
+        help="the workers of the runs of test_fuzz.py (three from 2 to 64, others for each case)",
     )
     group.addoption(
         "--keep",

@@ -39,7 +39,7 @@ class Asker(Protocol):
 
 
 COMMANDS = ("timed", "trace", "change")
-MANY = (2, 8, 64)
+MANY = range(2, 65)
 
 
 def compared(shown: str, answer: Answer, wanted: Answer) -> list[str]:

@@ -278,16 +278,18 @@ def count(word: str) -> int:
 
 
 def seed() -> str:
-    """The seed of cases made by chance, a word: the date of the commit in seconds, and 1 where
-    there is no commit.
+    """The seed of cases made by chance, a word: the date of the commit in seconds, whoever owns
+    the sources, and 1 where there is no commit.
     """
-    words = ["git", "-C", str(ROOT), "log", "-1", "--format=%ct"]
+    words = ["git", "-c", f"safe.directory={ROOT}", "-C", str(ROOT), "log", "-1", "--format=%ct"]
     try:
         told = subprocess.run(
             words, stdout=subprocess.PIPE, stderr=subprocess.DEVNULL, timeout=60, check=False
         ).stdout
     except (OSError, subprocess.TimeoutExpired):
         told = b""
+    if not told.strip() and (ROOT / ".git").exists():
+        print("git tells no commit, so what is made by chance has the seed 1", file=sys.stderr)
     return told.decode().strip() or "1"
 
 

@@ -2,9 +2,9 @@
 
 Each folder of tools/gate/cases/analysis has an exchange with the analysis that must be written of
 it: worked out by hand from docs/ANALYSIS.md, for each kind of statement, each fault, each conflict
-and each test. Analyses and certificates of texts made by chance are compared with
-`oracle.analysis`. And each fact in turn is taken out of the certificate of examples/certificate:
-`run` must tell that this one is missing.
+and each test. Analyses and certificates of texts made by chance, and of 12 of 32 to 64 entries, are
+compared with `oracle.analysis`. And each fact in turn is taken out of the certificate of
+examples/certificate: `run` must tell that this one is missing.
 """
 from __future__ import annotations
 
@@ -16,7 +16,7 @@ import pytest
 
 from gate import harness
 from gate.checking import EXAMPLES, check, check_enough
-from gate.makers import made_text
+from gate.makers import made_text, wide_text
 from gate.oracle import analysis as oracle_analysis
 
 CASES = harness.CASES / "analysis"
@@ -24,7 +24,7 @@ NAMES = sorted(path.parent.name for path in CASES.glob("*/exchange"))
 CERTIFIED = (EXAMPLES / "certificate" / "exchange.plex").read_bytes()
 EXCHANGE = oracle_analysis.Exchange(CERTIFIED)
 FACTS = oracle_analysis.least_facts(EXCHANGE)
-LEAST_CASES, LEAST_FACTS = 66, 48
+LEAST_CASES, LEAST_FACTS, WIDE = 66, 48, 12
 NO_JOBS = "JOBS 0\nEND DONE"
 
 
@@ -50,12 +50,22 @@ def differences(plex: pathlib.Path, text: bytes, folder: pathlib.Path) -> Iterat
             yield f"{word}: {told}"
 
 
+def compare(plex: pathlib.Path, text: bytes, folder: pathlib.Path) -> None:
+    """Fails where the analysis or the certificate of a text differs."""
+    told = list(differences(plex, text, folder))
+    check(*told, text.decode() if told else None)
+
+
 @pytest.mark.by_chance(60)
 def test_by_chance(plex: pathlib.Path, folder: pathlib.Path, seed: str, number: int) -> None:
     """The analysis and the certificate of a text are those of the second account."""
-    text = made_text.right_text(random.Random(f"{seed}.{number}"))
-    told = list(differences(plex, text, folder))
-    check(*told, text.decode() if told else None)
+    compare(plex, made_text.right_text(random.Random(f"{seed}.{number}")), folder)
+
+
+@pytest.mark.parametrize("number", range(WIDE))
+def test_wide(plex: pathlib.Path, folder: pathlib.Path, seed: str, number: int) -> None:
+    """The same of a text of 32 to 64 entries."""
+    compare(plex, wide_text.wide_text(random.Random(f"wide {seed}.{number}")), folder)
 
 
 @pytest.mark.parametrize("place", range(len(FACTS) + 1))

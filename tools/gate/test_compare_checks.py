@@ -8,9 +8,12 @@
   without faults.
 - On signal files, tables and filters made by chance, most of them with faults: the first one is the
   program's.
+- On changes of an exchange made by chance: all lines of `--change`, and what `plex change` refuses,
+  as made_changes.py says it.
 
-What plex-check tells of the rows of check_rows.py and of the folders below examples/ that have a
-file `check` is compared line by line, and the list of keywords in docs/GUIDE.md is looked at.
+What plex-check tells of the rows of check_rows.py and warning_rows.py, and of the folders below
+examples/ that have a file `check`, is compared line by line, and the list of keywords in
+docs/GUIDE.md is looked at.
 """
 from __future__ import annotations
 
@@ -22,7 +25,7 @@ from typing import Iterator, NamedTuple, Optional, Sequence
 
 import pytest
 
-from gate import check_rows, document_texts, harness
+from gate import check_rows, document_texts, harness, made_changes, warning_rows
 from gate.checking import EXAMPLES, ROOT, TOOLS, Tally, check, check_enough, read_words
 from gate.makers import made_text, put_faults
 from gate.test_broken_texts import TEXTS as BROKEN_TEXTS
@@ -38,8 +41,8 @@ REFUSED = (2, 3, 11, 13)
 APART = 3
 # How many cases of each table there must be, and for each text and file of lines that is to be made
 # by chance: how many cases, and how many faults put in.
-LEAST_TABLES, LEAST_ROWS, LEAST_USES = 762, 47, 18
-TEXTS, TEXT_FAULTS, LINE_FAULTS = 1.8, 2, 0.7
+LEAST_TABLES, LEAST_ROWS, LEAST_USES = 762, 66, 18
+TEXTS, TEXT_FAULTS, LINE_FAULTS, CHANGED = 1.8, 2, 0.7, 3
 USES = [
     ("", 3),
     ("no_such_file", 3),
@@ -423,6 +426,17 @@ def test_text_for_lines(runner: Runner) -> None:
     assert runner.program(EXCHANGE) is None
 
 
+# changes made by chance
+
+
+@pytest.mark.by_chance(CHANGED * GATE)
+def test_made_change(runner: Runner, seed: str, number: int) -> None:
+    """All lines of `--change`, and the refusal of `plex change`."""
+    pair = made_changes.made(random.Random(f"changes {seed}.{number}"))
+    told = made_changes.differences(runner.plex, pair, runner.folder)
+    check(told, f"{pair.old}\n{pair.new}" if told else None)
+
+
 # rows
 
 ROWS = list(check_rows.rows())
@@ -437,6 +451,12 @@ def test_row(plex: pathlib.Path, folder: pathlib.Path, place: int) -> None:
     done = run([CHECK, *options, *files], folder)
     assert (done.returncode, done.stderr) == (status, b"")
     assert done.stdout.decode().splitlines() == lines
+
+
+@pytest.mark.parametrize("row", warning_rows.ROWS, ids=lambda row: str(row.name))
+def test_warning_row(folder: pathlib.Path, row: warning_rows.Row) -> None:
+    """What is odd in a text is told."""
+    check(warning_rows.wrong(row, folder))
 
 
 @pytest.mark.parametrize(
@@ -457,7 +477,8 @@ def test_keywords() -> None:
 
 def test_all_rows_are_there() -> None:
     """No row, no example and no careless use is lost."""
-    check_enough("rows", len(ROWS) + len(CHECKED) + 1, LEAST_ROWS)
+    rows = len(ROWS) + len(warning_rows.ROWS) + len(CHECKED) + 1
+    check_enough("rows", rows, LEAST_ROWS)
     check_enough("careless uses", len(USES) + 1, LEAST_USES)
 
 

@@ -12,7 +12,8 @@
   the system does not allow that, it is left out
 - orders: the jobs come in the order of the run for each number of workers, and the load by
   `plex trace` has the same jobs
-- figures: the example
+- figures: the example, and the one of load_examples.py, which also looks at loads that are told by
+  a trace
 """
 from __future__ import annotations
 
@@ -27,7 +28,7 @@ from typing import Any, Iterator, NamedTuple
 
 import pytest
 
-from gate import harness
+from gate import harness, load_examples
 from gate.checking import ROOT, Tally, check, check_enough, leave_out
 from gate.makers import made_exchange
 from gate.oracle import analysis as oracle_analysis
@@ -43,7 +44,7 @@ CORE = ROOT / "crates" / "core_tests" / "src"
 # A run of so many jobs begins before the program knows whether its jobs are short; then each job
 # may be issued beside others.
 FEW_JOBS, PATIENCE, TWO_LINES = 60, 100_000, 3
-LEAST_CASES, LEAST_FIGURES = 18, 10
+LEAST_CASES, LEAST_FIGURES = 18, 17
 # How many of each there must be for each exchange; so many of the exchanges must be compared.
 LEAST = {"verdicts": 15, "threads": 3, "together": 1, "orders": 3}
 LEAST_SHARE = 0.6
@@ -292,7 +293,10 @@ class Comparison:
                 "orders",
                 f"with {workers} workers",
             )
-        traced = self.load(exchange, (self.folder / "S").read_bytes(), load.limit, patience=0)
+        patience = load_examples.half(load)
+        traced = self.load(exchange, (self.folder / "S").read_bytes(), load.limit, patience)
+        for told in load_examples.of_trace(load, traced, patience, [*self.seizes()]):
+            self.need(False, "orders", told)
         same = [
             [
                 (job.entry, job.values, job.forlopp, job.fault, list(job.sent), job.line)
@@ -305,6 +309,13 @@ class Comparison:
             "orders",
             "the trace has other jobs",
         )
+
+    def seizes(self) -> Iterator[set[str]]:
+        """The files of which each entry may seize records, by oracle.analysis."""
+        slow = oracle_analysis.Exchange((self.folder / "E").read_bytes())
+        for entry in range(len(slow.entries)):
+            summary = oracle_analysis.Summary(oracle_analysis.Facts(slow, entry).close())
+            yield {slow.file_name(number) for (number,) in summary.of_kind("seize")}
 
     def threads(self, exchange: Any, case: Any, chance: random.Random) -> None:
         """The program starts no thread where no two jobs stand in the window of the play at once,
@@ -392,6 +403,14 @@ class Comparison:
             f"the blocker is {worst[0]['reason']}",
         )
 
+    def second_example(self) -> None:
+        """The figures of the example of load_examples.py."""
+        exchange = self.exchange(load_examples.TEXT.encode())
+        load = self.load(exchange, load_examples.LINES.encode())
+        figures: Any = load_report.figures(exchange, load, (1, 2, 4, 64), 4)
+        for name, got, wanted in load_examples.compared(figures):
+            self.need(got == wanted, "figures", f"{name}: {got} and not {wanted}")
+
 
 def begin_together(load: Any, rules: Any) -> bool:
     """Whether the first two jobs come with lines, and the second one may follow the first."""
@@ -459,6 +478,13 @@ def test_all_cases_of_the_crate_are_there() -> None:
 def test_example(comparison: Comparison) -> None:
     """The figures of the example are those by hand."""
     comparison.example()
+    check(*comparison.wrong)
+    check_enough("figures", comparison.counts["figures"], LEAST_FIGURES)
+
+
+def test_second_example(comparison: Comparison) -> None:
+    """So are those of the second one."""
+    comparison.second_example()
     check(*comparison.wrong)
     check_enough("figures", comparison.counts["figures"], LEAST_FIGURES)
 

@@ -4,7 +4,7 @@ docs/FORMATS.md.
 Each exchange with its signal file is made by made_exchange from the seed; some are made on purpose,
 one to meet each fault, event and ending. What the program writes, and its status, are compared:
 
-- single, run: with four workers, beside oracle.machine
+- single, run: with 2 to 64 workers, others for each, beside oracle.machine
 - certified: the same run with the certificate of its exchange, so that its first jobs may run at
   once
 - timed: with a table made by chance, beside oracle.runs
@@ -88,6 +88,7 @@ class Case:
         self.filter, self.chance = "".join(lines).encode(), chance
         files = {"E": case.exchange, "S": case.signals, "X": self.other}
         harness.write_files(folder, {**files, "T": self.table, "Q": self.filter})
+        self.workers = ["--workers", chance.randint(2, 64)]
 
     def wrong(self, words: Sequence[Any], report: bytes, status: int) -> Optional[str]:
         """What is wrong with a run."""
@@ -104,10 +105,11 @@ class Case:
         certify = harness.answer(self.plex, ["certify", "E"], self.folder)
         harness.write_files(self.folder, {"C": certify.wrote})
         usual = ["E", "S"]
+        run = ["run", *usual, *self.workers]
         return {
             "single": lambda: self.wrong(["single", *usual], report, status),
-            "run": lambda: self.wrong(["run", *usual], report, status),
-            "certified": lambda: self.wrong(["run", *usual, "--cert", "C"], report, status),
+            "run": lambda: self.wrong(run, report, status),
+            "certified": lambda: self.wrong([*run, "--cert", "C"], report, status),
             "timed": self.timed,
             "trace": self.trace,
             "change": lambda: self.change(report),

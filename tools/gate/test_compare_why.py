@@ -4,7 +4,8 @@ The exchanges are those of tools/gate/cases/analysis, and others made by chance.
 line of its summary must be made by the statements that make it by oracle.analysis, and each fault
 stand at a statement that may fault by it. Of each pair the first conflict, or all tests, must be
 those of `plex analyse`. Where a value stops being one that came with the signal, the statement must
-make it one of itself, by the rules of oracle.analysis.
+make it one of itself, by the rules of oracle.analysis. What is printed of each pair must be what
+`oracle.why` tells: its reasons, statements, what they do, and what helps.
 """
 from __future__ import annotations
 
@@ -14,7 +15,7 @@ from typing import Any, Iterator
 
 import pytest
 
-from gate import harness
+from gate import harness, why_text
 from gate.checking import Tally, check, check_enough
 from gate.makers import made_exchange
 from gate.oracle import analysis as oracle_analysis
@@ -181,6 +182,10 @@ class Comparison:
             self.entry(exchange.made[number], summary, exchange.entry(number))
             self.origins(exchange.made[number], summary)
         self.pairs(exchange, slow, summaries)
+        for told in why_text.differences(exchange, content, slow, summaries):
+            self.need(False, told)
+        for told in why_text.differences(exchange, content, slow, summaries):
+            self.need(False, told)
 
 
 def compare(content: bytes, folder: pathlib.Path) -> Comparison:

@@ -62,11 +62,13 @@ def runs_of(case: pathlib.Path) -> list[Run]:
 
 
 def certified(plex: pathlib.Path, case: pathlib.Path, folder: pathlib.Path) -> list[Run]:
-    """The run with the certificate of the exchange, unless it has none, or the words of the case
-    name one.
+    """The run with the certificate of the exchange, unless its text is refused, or the words of the
+    case name one.
     """
+    if "--cert" in optional(case / "args", "") or runs_of(case) is not USUAL:
+        return []
     made = harness.answer(plex, ["certify", "exchange"], case)
-    if made.status != 0 or "--cert" in optional(case / "args", "") or runs_of(case) is not USUAL:
+    if made.status != 0 and made.wrote == (case / "report").read_bytes():
         return []
     harness.write_files(folder, {"certificate": made.wrote})
     return [Run("run", FILES, ("--cert", str(folder / "certificate")))]

@@ -1,12 +1,12 @@
 """Exchanges made by chance: runs with many workers, and the further commands, beside `single`.
 
 Each case is an exchange with a signal file, as made_exchange makes it from the seed. It is run once
-by `single` and then by `run` with one worker, and with 2, 8 and 64, or as many as `--workers` says,
-and its own certificate, so that its first jobs may run at once. Each fourth one is run without a
-certificate too, by the same workers but the first, with a long loop in each job, so that its runs
-go over to several at once. What they write and their status must be the same, byte for byte. Each
-case is also run by one of `timed`, `trace` and `change` in turn, and compared as further_runs says
-it. The files of a case that fails are kept in a folder that it names.
+by `single` and then by `run` with one worker, and with three numbers of them from 2 to 64, others
+for each case, or as many as `--workers` says, and its own certificate, so that its first jobs may
+run at once. Each second one is run with long loops in its jobs too, without a certificate and with
+one, so that its runs go over to several at once. What they write and their status must be the same,
+byte for byte. Each case is also run by one of `timed`, `trace` and `change` in turn, and compared
+as further_runs says it. The files of a case that fails are kept in a folder that it names.
 """
 from __future__ import annotations
 
@@ -24,7 +24,8 @@ from gate.checking import Tally, check
 from gate.further_runs import Answer
 from gate.makers import made_exchange
 
-GATE, LONG_ONES = 200, 4
+GATE, LONG_ONES = 200, 2
+WORKERS = (range(2, 9), range(9, 33), range(33, 65))  # one of each is drawn for each case
 ENDINGS = {0: b"END DONE\n", 4: b"END RESTART\n", 5: b"END LIMIT\n"}
 REPORT = re.compile(rb"(.*\n)?JOBS \d+\n(.*\n)?END [A-Z]+\n", re.S)
 EVENTS = ("OUT", "RELEASE", "LOST", "RESTART")
@@ -95,10 +96,16 @@ class Fuzzer:
     def of_long_jobs(self, case: Any) -> Iterator[str]:
         """What is wrong with the runs of the same jobs, each with a long loop."""
         (self.place / "long_jobs").write_bytes(made_exchange.with_long_jobs(case.exchange))
+        certificate = self.place / "long_certificate"
+        certificate.write_bytes(self.answer(["certify", self.place / "long_jobs"])[1])
         wanted = self.single("long_jobs", case.limit)
-        for workers in self.workers[1:]:
-            shown = f"run --workers {workers}, jobs that are long"
-            got = self.run("long_jobs", case.limit, "--workers", workers)
+        runs: list[tuple[int, list[Any]]] = [
+            (self.workers[0], ["--cert", certificate]),
+            (self.workers[-1], []),
+        ]
+        for workers, more in runs:
+            shown = f"run --workers {workers}, jobs that are long{', certified' if more else ''}"
+            got = self.run("long_jobs", case.limit, "--workers", workers, *more)
             yield from further_runs.compared(shown, got, wanted)
 
     def keep(self, kept: pathlib.Path, limit: int) -> str:
@@ -125,6 +132,12 @@ def counts_of(report: bytes, statements: Mapping[str, int], further: str) -> Cou
     return counts
 
 
+def drawn_workers(seed: str, number: int) -> list[int]:
+    """The numbers of workers of a case."""
+    chance = random.Random(f"{seed}.{number}.workers")
+    return [chance.choice(some) for some in WORKERS]
+
+
 @pytest.mark.by_chance(GATE)
 def test_fuzz(
     plex: pathlib.Path,
@@ -138,7 +151,8 @@ def test_fuzz(
     """All runs of a case write the same."""
     case = made_exchange.made_case(random.Random(f"{seed}.{number}"))
     harness.write_files(folder, {"exchange": case.exchange, "signals": case.signals})
-    fuzzer = Fuzzer(Programs(plex, merger), pytestconfig.option.workers, folder)
+    workers = pytestconfig.option.workers or drawn_workers(seed, number)
+    fuzzer = Fuzzer(Programs(plex, merger), workers, folder)
     wanted = fuzzer.single("exchange", case.limit)
     further = further_runs.COMMANDS[number % len(further_runs.COMMANDS)]
     if is_report(wanted):

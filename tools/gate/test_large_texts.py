@@ -13,22 +13,27 @@ each of these runs has a bound: two seconds, and 64 megabytes beside 60 times th
 written. Those that are known to be above it stand in known_costs.txt with their figures, and fail
 where they get worse; `--write` measures them all, and writes that file.
 
+In the gate each run has a figure of its own too, in case_costs.txt, and fails where it takes more
+than twice that time, or one and a half times its memory, or sleeps; `--write` measures them all.
+
 The gate runs some cases of four megabytes, and the products in smaller sizes, which takes less than
 two minutes of the processor. With `--whole` all are run in full size, which takes half an hour, as
 some runs of products are known to take minutes.
 """
 from __future__ import annotations
 
+import functools
 import pathlib
 import tempfile
-from typing import Any, Iterator, NamedTuple, Optional, Sequence
+from typing import Any, Callable, Iterator, NamedTuple, Optional, Sequence
 
 import pytest
 
-from gate import harness
+from gate import costs, harness, proved
 from gate.checking import check, check_enough
 from gate.makers import large_cases, product_texts
 from measure import measured
+from measure.measured import Measure
 from plextools.limits import MOST_BYTES
 
 pytestmark = pytest.mark.alone
@@ -86,12 +91,26 @@ class Machine:
     figures.
     """
 
-    def __init__(self, plex: pathlib.Path, folder: pathlib.Path) -> None:
+    def __init__(self, plex: pathlib.Path, folder: pathlib.Path, known: costs.Costs) -> None:
         self.plex, self.folder, self.pace = plex, folder, measured.pace()
+        self.costs, self.now, self.worse_runs = known, costs.Machine(), 0
 
-    def measured(self, words: Sequence[str], most: float) -> Any:
+    def measured(self, words: Sequence[str], most: float) -> Measure:
         """What a run took, and its status."""
         return measured.measured([self.plex, *words], self.folder, most * self.pace)
+
+    def worse(self, name: str, run: Callable[[], Measure], came: Measure) -> Optional[str]:
+        """What is worse than the figure of a run, however often it is made; once where many are
+        worse.
+        """
+        told = self.costs.worse(name, came, self.now.now())
+        for _ in range(costs.TRIES - 1 if told and self.worse_runs < costs.MANY else 0):
+            self.now.renew()
+            told = self.costs.worse(name, run(), self.now.now())
+            if not told:
+                break
+        self.worse_runs += told is not None
+        return told
 
     def written(self) -> pathlib.Path:
         """What the last run wrote."""
@@ -99,10 +118,12 @@ class Machine:
 
 
 @pytest.fixture(scope="module")
-def machine(plex: pathlib.Path) -> Iterator[Machine]:
+def machine(plex: pathlib.Path, pytestconfig: pytest.Config) -> Iterator[Machine]:
     """What measures, with one folder for all."""
+    is_whole = pytestconfig.option.whole
+    known = costs.Costs(None) if is_whole else costs.known(proved.is_proved(plex))
     with tempfile.TemporaryDirectory() as name:
-        yield Machine(plex, pathlib.Path(name))
+        yield Machine(plex, pathlib.Path(name), known)
 
 
 def large(is_whole: bool) -> dict[str, Any]:
@@ -134,7 +155,7 @@ def pytest_generate_tests(metafunc: pytest.Metafunc) -> None:
 class Came(NamedTuple):
     """What a large file came to: its measure, the seconds of `wc`, and the bytes of its files."""
 
-    measure: Any
+    measure: Measure
     base: float
     total: int
 
@@ -175,6 +196,7 @@ def test_large(machine: Machine, pytestconfig: pytest.Config, large_case: Any) -
         times = growth(machine, large_case, size, came.seconds)
         print(f"{times:.1f} times the time of a quarter")
         check(f"NOT LINEAR: {times:.1f} times the time of a quarter" if times > LINEAR else None)
+    check(machine.worse(large_case.name, lambda: run(machine, large_case, size).measure, came))
 
 
 # products
@@ -230,7 +252,7 @@ class Bound:
 class Ran(NamedTuple):
     """What a run came to, what is wrong with it, and how much it wrote."""
 
-    measure: Any
+    measure: Measure
     wrong: Optional[str]
     wrote: int
 
@@ -328,6 +350,8 @@ def test_product(runs: Runs, way: str) -> None:
         if not ran.wrong and not Bound(runs.files, None).broken(ran.measure, ran.wrote, near):
             print("and is within its bound now")
     check(ran.wrong)
+    name, most = f"{way}, {runs.product.name}", bound.seconds(1) + 1
+    check(runs.machine.worse(name, lambda: runs.run(way, most).measure, ran.measure))
 
 
 def figures(machine: Machine) -> Iterator[str]:
@@ -350,6 +374,31 @@ def test_known_costs(machine: Machine, pytestconfig: pytest.Config) -> None:
     if pytestconfig.option.write:
         KNOWN.write_text("\n".join([*HEAD.split("\n"), *figures(machine)]) + "\n")
     check(*unknown_runs())
+
+
+def figures_of_all(machine: Machine) -> Iterator[tuple[str, costs.Figure]]:
+    """The name and the figure of each run of the gate, from what it takes now."""
+    for case in large(False).values():
+        case_run = functools.partial(run, machine, case, min(case.large, IN_GATE))
+        yield case.name, costs.least(lambda: case_run().measure, costs.TURNS)
+    for product in product_texts.PRODUCTS:
+        runs = Runs(machine, product, "gate")
+        for way in ways_of(product):
+            way_run = functools.partial(runs.run, way, MOST_KNOWN)
+            yield f"{way}, {product.name}", costs.least(lambda: way_run().measure, costs.TURNS)
+
+
+def test_case_costs(machine: Machine, plex: pathlib.Path, pytestconfig: pytest.Config) -> None:
+    """Each figure of case_costs.txt is of a run of the gate; `--write` makes them anew."""
+    is_proved = proved.is_proved(plex)
+    if pytestconfig.option.write:
+        costs.write(dict(figures_of_all(machine)), is_proved)
+    names = [case.name for case in large(False).values()]
+    names += [
+        f"{way}, {product.name}" for product in product_texts.PRODUCTS for way in ways_of(product)
+    ]
+    unknown = costs.known(is_proved).unknown(names)
+    check(*(f"{costs.COSTS.name}: {name}: there is no such run" for name in unknown))
 
 
 @pytest.mark.parametrize("size", SIZES)

@@ -7,6 +7,8 @@ them. One of 256 entries and some 19,000 statements must be there within 2 secon
 time, in one of three tries, or within as much more as this machine is slower than another one
 (measured.py), and have 20 MB at most. With `--write` the pictures of docs/pictures are taken.
 CHROMIUM names another browser; where there is none, all this is left out.
+
+The data and the boxes of some pages are read back without a browser, as page_text.py says it.
 """
 from __future__ import annotations
 
@@ -18,7 +20,7 @@ from typing import Iterator, Optional, Sequence
 
 import pytest
 
-from gate import browser
+from gate import browser, page_text
 from gate.checking import EXAMPLES, ROOT, TOOLS, Tally, check, leave_out
 from gate.makers import wide_exchange
 from measure import measured
@@ -41,6 +43,29 @@ END BLOCK;
 TOLD = "document.getElementById('told').innerText"
 LINES = "Array.from(document.querySelectorAll('{}')).map((e) => Number(e.id.slice(1)))"
 LIT = LINES.format("#lines .first, #lines .later, #lines .both")
+
+
+def wrong_page(
+    place: pathlib.Path, exchange: pathlib.Path, signals: Optional[pathlib.Path], *more: str
+) -> Optional[str]:
+    """Makes a page, and tells what is wrong with how that ended."""
+    words: list[str | pathlib.Path] = [
+        TOOLS / "bin" / "plex-page",
+        exchange,
+        *([signals] if signals else []),
+        "-o",
+        place,
+        *more,
+    ]
+    done = subprocess.run(
+        words,
+        stdin=subprocess.DEVNULL,
+        stdout=subprocess.PIPE,
+        stderr=subprocess.PIPE,
+        timeout=300,
+    )
+    is_right = (done.returncode, done.stdout, done.stderr) == (0, b"", b"")
+    return None if is_right else f"plex-page: {done.returncode}, {done.stderr[-300:]!r}"
 
 
 class Look:
@@ -76,24 +101,8 @@ class Look:
     def page(self, exchange: pathlib.Path, signals: Optional[pathlib.Path], name: str) -> str:
         """Makes a page and gives its address."""
         place = self.folder / name
-        words: list[str | pathlib.Path] = [
-            TOOLS / "bin" / "plex-page",
-            exchange,
-            *([signals] if signals else []),
-            "-o",
-            place,
-        ]
-        done = subprocess.run(
-            words,
-            stdin=subprocess.DEVNULL,
-            stdout=subprocess.PIPE,
-            stderr=subprocess.PIPE,
-            timeout=300,
-        )
-        self.need(
-            (done.returncode, done.stdout, done.stderr) == (0, b"", b""),
-            f"plex-page: {done.returncode}, {done.stderr[-300:]!r}",
-        )
+        told = wrong_page(place, exchange, signals)
+        self.need(told is None, str(told))
         return place.as_uri()
 
     def at_a_size(self, address: str, size: Size) -> None:
@@ -354,6 +363,24 @@ def test_wide(look: Look) -> None:
     """A page of a large exchange."""
     look.wide()
     look.done()
+
+
+def compare_page(folder: pathlib.Path, case: page_text.Case) -> None:
+    """Makes a page of the first jobs of a run, and reads it back."""
+    page = folder / "page.html"
+    check(wrong_page(page, *case, "--jobs", str(page_text.JOBS)))
+    check(*page_text.read_back(page, *case))
+
+
+def test_read_back(plex: pathlib.Path, folder: pathlib.Path) -> None:
+    """The page of the guide has what the exchange and its run have."""
+    compare_page(folder, page_text.Case(GUIDE / "exchange.plex", GUIDE / "signals.txt"))
+
+
+@pytest.mark.by_chance(page_text.MADE)
+def test_read_back_made(plex: pathlib.Path, folder: pathlib.Path, seed: str, number: int) -> None:
+    """So has one of an exchange made by chance."""
+    compare_page(folder, page_text.made_case(folder, seed, number))
 
 
 def test_pictures(window: browser.Browser, room: pathlib.Path, pytestconfig: pytest.Config) -> None:

@@ -1,9 +1,9 @@
 """What a long run tells of its progress on the standard error.
 
-Exchanges run for some seconds with the variable PLEX_PROGRESS set: each second comes one line of
-jobs done and jobs a second, over the one before, which is cleared before the report; the jobs never
-fall. Where the variable is empty, in a short run, and with `trace`, nothing stands there. On a
-terminal the launcher sets it; that is tried without PLEX alone.
+Exchanges run for some seconds, by the pace of the program, with the variable PLEX_PROGRESS set:
+each second comes one line of jobs done and jobs a second, over the one before, which is cleared
+before the report; the jobs never fall. Where the variable is empty, in a short run, and with
+`trace`, nothing stands there. On a terminal the launcher sets it; that is tried without PLEX alone.
 """
 from __future__ import annotations
 
@@ -20,14 +20,15 @@ from typing import Iterator, NamedTuple, Sequence
 
 import pytest
 
-from gate import harness
+from gate import harness, paced_runs
 from gate.checking import check
 
 pytestmark = pytest.mark.alone
 
 LAUNCHER = harness.PLEX.launcher
 LONGEST = 300
-JOBS = 2_000_000
+SECONDS = 5  # of each run, by the pace of the program
+ALL, FEW = (400_000, 9_000_000), 100_000  # the jobs of a run at least and at most
 LINE = re.compile(rb"\rplex: (\d+) jobs done, (\d+) jobs a second\x1b\[K")
 CLEARED = b"\r\x1b[K"
 TICKER = """SIGNAL TICK SINGLE BUFFERED B DATA 1;
@@ -42,10 +43,7 @@ IF T > 0 THEN SEND TICK WITH T - 1; FI;
 EXIT;
 END BLOCK;
 """
-FILES = {"E": TICKER, "S": f"AFTER 0 TICK COUNTER {JOBS} NONE\n", "T": "", "Q": ""}
-REPORT = f"JOBS {JOBS + 1}\nVAR COUNTER.N {JOBS + 1}\nEND DONE\n"
-FEWER = JOBS // 4
-FRONT = f"JOBS {FEWER}\nVAR COUNTER.N {FEWER}\nEND LIMIT\n"
+LINE_OF_JOBS = "AFTER 0 TICK COUNTER {} NONE\n"
 DONE, CUT = 0, 5
 
 
@@ -65,27 +63,59 @@ class Silent(NamedTuple):
     status: int
 
 
-TOLD = [
-    Told(["timed", "E", "S", "T"], REPORT, DONE),
-    Told(
-        ["change", "E", "S", "E", str(JOBS // 2), "--workers", "1"],
-        f"CHANGE job {JOBS // 2}\n{REPORT}",
-        DONE,
-    ),
-    Told(["single", "E", "S", "--jobs", str(FEWER)], FRONT, CUT),
-]
-SILENT = [
-    Silent(["run", "E", "S", "--workers", "1"], "", DONE),
-    Silent(["run", "E", "S", "--jobs", "100"], "1", CUT),
-    Silent(["trace", "E", "S", "Q", "--jobs", str(FEWER)], "1", CUT),
-]
+class Pace(NamedTuple):
+    """How many jobs `run` does in some seconds, and `single`, which does fewer."""
+
+    jobs: int
+    fewer: int
+
+    def files(self) -> dict[str, str]:
+        """The exchange with a line for all jobs, and a table and a filter of no line."""
+        return {"E": TICKER, "S": LINE_OF_JOBS.format(self.jobs), "T": "", "Q": ""}
+
+    def told(self) -> dict[str, Told]:
+        """The runs that tell how far they are, by their command."""
+        jobs, half, fewer = self.jobs + 1, self.jobs // 2, self.fewer
+        report = f"JOBS {jobs}\nVAR COUNTER.N {jobs}\nEND DONE\n"
+        front = f"JOBS {fewer}\nVAR COUNTER.N {fewer}\nEND LIMIT\n"
+        change = ["change", "E", "S", "E", str(half), "--workers", "1"]
+        return {
+            "timed": Told(["timed", "E", "S", "T"], report, DONE),
+            "change": Told(change, f"CHANGE job {half}\n{report}", DONE),
+            "single": Told(["single", "E", "S", "--jobs", str(fewer)], front, CUT),
+        }
+
+    def silent(self) -> dict[str, Silent]:
+        """The runs that tell nothing."""
+        trace = ["trace", "E", "S", "Q", "--jobs", str(self.fewer)]
+        return {
+            "run that is not asked": Silent(["run", "E", "S", "--workers", "1"], "", DONE),
+            "short run": Silent(["run", "E", "S", "--jobs", "100"], "1", CUT),
+            "trace": Silent(trace, "1", CUT),
+        }
+
+
+UNPACED = Pace(0, 0)
+
+
+@pytest.fixture(scope="module")
+def pace() -> Pace:
+    """The pace of the program."""
+    program = harness.find_launcher(harness.PLEX)
+    with tempfile.TemporaryDirectory() as name:
+        folder = pathlib.Path(name)
+        harness.write_files(folder, {"E": TICKER, "S": LINE_OF_JOBS.format(2**32 - 1)})
+        words: list[str | pathlib.Path] = [program, "run", "E", "S", "--workers", "1"]
+        jobs = paced_runs.jobs_in(SECONDS, words, folder, *ALL)
+        single: list[str | pathlib.Path] = [program, "single", "E", "S"]
+        return Pace(jobs, paced_runs.jobs_in(SECONDS, single, folder, FEW, jobs // 2))
 
 
 def run(
-    folder: pathlib.Path, words: Sequence[str], progress: str
+    pace: Pace, folder: pathlib.Path, words: Sequence[str], progress: str
 ) -> subprocess.CompletedProcess[bytes]:
     """A run as it ended, with the variable set to this."""
-    harness.write_files(folder, FILES)
+    harness.write_files(folder, pace.files())
     more = [] if "--jobs" in words else ["--jobs", "10000000"]
     try:
         return subprocess.run(
@@ -102,46 +132,49 @@ def run(
         pytest.fail("no answer in time", pytrace=False)
 
 
-def lines_wrong(error: bytes) -> str | None:
+def lines_wrong(error: bytes, most: int) -> str | None:
     """What is wrong with the lines of a run of some seconds."""
     jobs = [int(found[1]) for found in LINE.finditer(error)]
     if LINE.sub(b"", error) != CLEARED:
         return f"beside its lines it has {LINE.sub(b'', error)[:100]!r}"
-    if not jobs or jobs != sorted(jobs) or jobs[-1] > JOBS + 1:
+    if not jobs or jobs != sorted(jobs) or jobs[-1] > most:
         return f"the jobs are {jobs}"
     return None
 
 
 class Run(NamedTuple):
-    """A run that tells how far it is, as it ended, and what it must come to."""
+    """A run that tells how far it is, what it must come to, as it ended, and its jobs at most."""
 
     told: Told
     done: subprocess.CompletedProcess[bytes]
+    most: int
 
 
-@pytest.fixture(scope="module", params=TOLD, ids=[told.words[0] for told in TOLD])
-def run_told(request: pytest.FixtureRequest) -> Iterator[Run]:
+@pytest.fixture(scope="module", params=list(UNPACED.told()))
+def run_told(pace: Pace, request: pytest.FixtureRequest) -> Iterator[Run]:
     """A run of some seconds, of which two tests look at what it wrote."""
+    told = pace.told()[request.param]
     with tempfile.TemporaryDirectory() as folder:
-        yield Run(request.param, run(pathlib.Path(folder), request.param.words, "1"))
+        yield Run(told, run(pace, pathlib.Path(folder), told.words, "1"), pace.jobs + 1)
 
 
 def test_report(run_told: Run) -> None:
     """A run of some seconds has its report."""
-    told, done = run_told
+    told, done, _ = run_told
     is_right = (done.returncode, done.stdout.decode()) == (told.status, told.report)
     check(None if is_right else f"status {done.returncode}, it wrote {done.stdout[:100]!r}")
 
 
 def test_lines(run_told: Run) -> None:
     """It tells how far it is."""
-    check(lines_wrong(run_told.done.stderr))
+    check(lines_wrong(run_told.done.stderr, run_told.most))
 
 
-@pytest.mark.parametrize("silent", SILENT, ids=[silent.words[0] for silent in SILENT])
-def test_silent(folder: pathlib.Path, silent: Silent) -> None:
+@pytest.mark.parametrize("name", UNPACED.silent())
+def test_silent(pace: Pace, folder: pathlib.Path, name: str) -> None:
     """A run that is not asked to tell, is short, or writes a trace tells nothing."""
-    done = run(folder, silent.words, silent.progress)
+    silent = pace.silent()[name]
+    done = run(pace, folder, silent.words, silent.progress)
     is_right = (done.returncode, done.stderr) == (silent.status, b"")
     check(None if is_right else f"status {done.returncode}, it tells {done.stderr[:100]!r}")
 
@@ -175,8 +208,7 @@ def terminal_wrong(status: int, given: bytes) -> str | None:
 # No launcher runs a program that PLEX names.
 if harness.PLEX.variable not in os.environ:
 
-    def test_terminal(folder: pathlib.Path) -> None:
+    def test_terminal(pace: Pace, folder: pathlib.Path) -> None:
         """The launcher asks for the lines on a terminal."""
-        harness.find_launcher(harness.PLEX)
-        harness.write_files(folder, FILES)
+        harness.write_files(folder, pace.files())
         check(terminal_wrong(*on_terminal(folder, ["run", "E", "S"])))

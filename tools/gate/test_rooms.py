@@ -38,7 +38,9 @@ ROOMS = {
     "gate/oracle": KNOWS_TEXTS | {"gate.oracle"},
     "gate/makers": KNOWS_TEXTS | {"gate.makers"},
     "gate": PRODUCT
-    | {"gate", "gate.oracle", "gate.makers", "measure.measured", "measure.count_threads"},
+    | {"gate", "gate.oracle", "gate.makers", "measure.measured", "measure.count_threads"}
+    | {"gate.planted"},
+    "gate/planted": BASE | {"gate.harness", "gate.planted"},
     "measure": BASE | {"gate.harness", "gate.makers", "measure"},
     "maintain": BASE | {"gate.harness", "maintain", "measure.count_threads"},
 }

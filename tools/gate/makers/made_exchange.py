@@ -303,9 +303,12 @@ def changed_block(block: Block, chance: random.Random) -> None:
 
 
 def with_long_jobs(exchange: bytes) -> bytes:
-    """The same exchange with a loop of 3,000 turns behind each ENTER, so that all jobs are long."""
+    """The same exchange with a loop of 4,000 turns behind each ENTER, so that all jobs are long
+    enough for a thread of their own, and one of 500 at each label, so that some words are met late.
+    """
     text = exchange.replace(b"DECLARE;", b"DECLARE; TEMPORARY SPUN;")
-    return re.sub(rb"^(ENTER [^;]*;)", rb"\1\nON SPUN FROM 1 UPTO 3000 DO NO;", text, flags=re.M)
+    text = re.sub(rb"^(ENTER [^;]*;)", rb"\1\nON SPUN FROM 1 UPTO 4000 DO NO;", text, flags=re.M)
+    return re.sub(rb"^(\w+\))", rb"\1\nON SPUN FROM 1 UPTO 500 DO NO;", text, flags=re.M)
 
 
 def made_other(case: Case, chance: random.Random, lacks: Optional[str] = None) -> bytes:

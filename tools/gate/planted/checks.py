@@ -1,0 +1,48 @@
+"""The checks that must tell planted faults, each with the command that runs it."""
+from typing import Dict, Tuple
+
+TESTS = (
+    "analyses",
+    "broken_texts",
+    "check_editors",
+    "compare_checks",
+    "compare_conflicts",
+    "compare_load",
+    "compare_runs",
+    "compare_steps",
+    "compare_texts",
+    "compare_why",
+    "conformance",
+    "examples",
+    "fuzz",
+    "hostile",
+    "large_texts",
+    "look_at_page",
+    "plex_test",
+    "progress_line",
+    "rules",
+    "sentences",
+    "sentences_table",
+    "tool_examples",
+)
+PYTEST = ("pytest-3", "-q", "-x", "-p", "no:cacheprovider")
+
+
+def file_of(name: str) -> str:
+    """The file of a test."""
+    return f"tools/gate/test_{name}.py"
+
+
+PICTURES = ("tools/maintain/pictures", "--check")
+CHECKS: Dict[str, Tuple[str, ...]] = {
+    **{name: (*PYTEST, file_of(name)) for name in TESTS},
+    "pictures": PICTURES,
+}
+
+
+def called(name: str) -> str:
+    """How a check is called in a table: by its file, or by its command."""
+    if name in TESTS:
+        return file_of(name).rpartition("/")[2]
+    command, *words = CHECKS[name]
+    return " ".join([command.rpartition("/")[2], *words])

@@ -1,0 +1,299 @@
+"""The files of the tools that are altered, each with the check that must tell it."""
+from typing import List
+
+from gate.planted.planted import Edit
+
+CHANGE = "tools/python/plextools/text/change.py"
+CHECK = "tools/python/plextools/commands/check.py"
+WARNINGS = "tools/python/plextools/text/warnings.py"
+WHY = "tools/python/plextools/analysis/why.py"
+FACTS = "tools/python/plextools/analysis/entry_facts.py"
+REPORT = "tools/python/plextools/runs/report.py"
+PLAY = "tools/python/plextools/runs/play.py"
+JOBS = "tools/python/plextools/runs/jobs.py"
+MACHINE = "tools/python/plextools/runs/machine.py"
+PAGE_DATA = "tools/python/plextools/show/page_data.py"
+CASE_RUNS = "tools/python/plextools/runs/case_runs.py"
+PAIR_GRAPH = "tools/python/plextools/show/pair_graph.py"
+PAIR_TABLE = "tools/python/plextools/show/pair_table.py"
+PAGE_HTML = "tools/python/plextools/show/page_html.py"
+
+
+def check(name: str, told: str, file: str, old: str, new: str) -> Edit:
+    words = ("-k", "made_change") if file == CHANGE else ("-k", "warning_row")
+    return Edit(name, "plex-check", told, "compare_checks", file, old, new, words)
+
+
+def why(name: str, told: str, file: str, old: str, new: str) -> Edit:
+    return Edit(name, "plex-why", told, "compare_why", file, old, new, ("--cases", "40"))
+
+
+def load(name: str, told: str, file: str, old: str, new: str) -> Edit:
+    return Edit(name, "plex-load", told, "compare_load", file, old, new, ("--cases", "20"))
+
+
+def page(name: str, told: str, file: str, old: str, new: str) -> Edit:
+    return Edit(name, "plex-page", told, "look_at_page", file, old, new, ("-k", "read_back"))
+
+
+OF_CHECK = [
+    check(
+        "equal_sizes_refused",
+        "`--change` refuses a FORLOPP FILE of the same size",
+        CHANGE,
+        "elif known(new.size) < known(file.size):",
+        "elif known(new.size) <= known(file.size):",
+    ),
+    check(
+        "other_count_taken",
+        "`--change` takes an entry with another count of DATA",
+        CHANGE,
+        "elif (signal.level, signal.count) != (other.level, other.count):",
+        "elif signal.level != other.level:",
+    ),
+    check(
+        "moved_upward_only",
+        "`--change` tells MOVED of blocks that move down alone",
+        CHANGE,
+        "if old and new and old.number != new.number:",
+        "if old and new and old.number > new.number:",
+    ),
+    check(
+        "dropped_block_untold",
+        "`--change` does not tell of a block that is dropped",
+        CHANGE,
+        'if any(one.kind in ("variable", "field") for one in block.names.values()):',
+        "if not block.names:",
+    ),
+    check(
+        "narrowed_untold",
+        "`--change` does not tell of a WIDTH that is one smaller",
+        CHANGE,
+        "if width < known(one.width):",
+        "if width < known(one.width) - 1:",
+    ),
+    check(
+        "kept_uncounted",
+        "`--change` counts what is dropped as kept",
+        CHANGE,
+        'kept = {"variable": 0, "field": 0}',
+        'kept = {"variable": 1, "field": 0}',
+    ),
+    check(
+        "stays_untold",
+        "`--change` does not tell of an INIT that has become 0",
+        CHANGE,
+        "if was != now and was < 2 ** known(new.width):",
+        "if now and was != now and was < 2 ** known(new.width):",
+    ),
+    check(
+        "answer_untold",
+        "an answer that nobody returns is not told",
+        WARNINGS,
+        'if (\n                signal.kind == "COMBINED"',
+        'if (\n                signal.kind == "NONE"',
+    ),
+    check(
+        "most_one_more",
+        "`--most` tells one more warning",
+        WARNINGS,
+        "if count <= self.most:",
+        "if count <= self.most + 1:",
+    ),
+    check(
+        "runs_on_untold",
+        "RUNSON is not told",
+        WARNINGS,
+        "if self.entry and not frame.ended:",
+        "if self.entry and frame.ended:",
+    ),
+]
+
+OF_WHY = [
+    why(
+        "cure_of_another_level",
+        "the cure names the level of the first entry",
+        WHY,
+        'return f"send {sent} at level {self.later.level} or lower"',
+        'return f"send {sent} at level {self.first.level} or lower"',
+    ),
+    why(
+        "range_is_divide_in_why",
+        "RANGE is told as DIVIDE",
+        FACTS,
+        'yield "RANGE"',
+        'yield "DIVIDE"',
+    ),
+    why(
+        "line_of_seize",
+        "the lines of SEIZE and FREE are one larger",
+        WHY,
+        "return self.doing(side, lines, lambda _, does: "
+        'f"{does} a record of {short(side.name)}")',
+        "return [told._replace(line=told.line + 1) for told in self.doing(side, lines, "
+        'lambda _, does: f"{does} a record of {short(side.name)}")]',
+    ),
+    why(
+        "stored_is_computed",
+        "stored and computed change places",
+        FACTS,
+        'return [] if part.kind == "block" else [Origin(node.point, "stored")]',
+        'return [] if part.kind == "block" else [Origin(node.point, "computed")]',
+    ),
+    why(
+        "two_tests",
+        "a pair has two tests at most",
+        WHY,
+        "    reasons = exchange.analysis.reasons(i, j) if reasons is None else reasons\n",
+        "    reasons = exchange.analysis.reasons(i, j) if reasons is None else reasons\n"
+        "    reasons = [one for one in reasons if one.is_conflict] or list(reasons)[:2]\n",
+    ),
+    why(
+        "reads_of_both",
+        "reads are told where the other job reads alone",
+        WHY,
+        'Side(self.i, "variable", reason.name, reads=later),',
+        'Side(self.i, "variable", reason.name, reads=True),',
+    ),
+]
+
+OF_LOAD = [
+    load(
+        "pays_in_one_pair",
+        "a change pays in one pair alone",
+        REPORT,
+        "keys_of(i, j, reason)[1],",
+        "keys_of(i, j, reason)[0],",
+    ),
+    load(
+        "chain_without_forlopps",
+        "the longest chain leaves forlopps out",
+        JOBS,
+        "number for number in (job.sender, last.get(job.forlopp)) if number is not None",
+        "number for number in (job.sender, None) if number is not None",
+    ),
+    load(
+        "lengths_of_a_trace",
+        "the lengths of a trace are doubled",
+        JOBS,
+        "job.held, job.length = tuple(sorted(held)), self.lengths[job.entry]",
+        "job.held, job.length = tuple(sorted(held)), 2 * self.lengths[job.entry]",
+    ),
+    load(
+        "jobs_of_a_trace_hold_nothing",
+        "the jobs of a trace hold nothing",
+        JOBS,
+        "job.held, job.length = tuple(sorted(held)), self.lengths[job.entry]",
+        "job.held, job.length = (), self.lengths[job.entry]",
+    ),
+    load(
+        "window_one_wider",
+        "the window has room for one more",
+        PLAY,
+        "        if size >= self.workers:\n            return FULL\n",
+        "        if size > self.workers:\n            return FULL\n",
+    ),
+    load(
+        "forlopps_follow",
+        "jobs of one forlopp may follow each other",
+        PLAY,
+        "if first.forlopp and first.forlopp == later.forlopp:",
+        "if first.forlopp and first.forlopp != later.forlopp and False:",
+    ),
+]
+
+OF_PAGE = [
+    page(
+        "other_sender",
+        "a job is told to be sent by the one before",
+        PAGE_DATA,
+        '"sender": None if job.sender is None else place.get(job.sender),',
+        '"sender": None if job.sender is None else place.get(job.sender - 1),',
+    ),
+    page(
+        "other_reach",
+        "the lines that an entry reaches are those without the first",
+        PAGE_DATA,
+        '"reach": ranges(self.lines_of(made.reached)),',
+        '"reach": ranges(self.lines_of(made.reached)[1:]),',
+    ),
+    page(
+        "letters_of_tests",
+        "a wait for a test has the letter of its kind",
+        PAGE_DATA,
+        'return reason.reason.kind[0] if reason.reason.is_conflict else "?"',
+        "return reason.reason.kind[0]",
+    ),
+    page(
+        "entries_cut",
+        "the last entry is missing",
+        PAGE_DATA,
+        "entries = [parts.entry(entry) for entry in exchange.analysis.entries]",
+        "entries = [parts.entry(entry) for entry in exchange.analysis.entries[:-1]]",
+    ),
+    page(
+        "waits_one_later",
+        "a wait begins one statement later",
+        PAGE_DATA,
+        '        "from": wait.begin,\n',
+        '        "from": wait.begin + 1,\n',
+    ),
+]
+
+OF_PAGE += [
+    page(
+        "narrow_bars",
+        "bars are one point narrower",
+        PAGE_HTML,
+        "max(2.0, scale * (end - begin) - 1)",
+        "max(2.0, scale * (end - begin) - 2)",
+    ),
+    page(
+        "reached_by_another",
+        "lines are told to be reached by the next entry",
+        PAGE_HTML,
+        "found.setdefault(line, []).append(number)",
+        "found.setdefault(line, []).append(number + 1)",
+    ),
+]
+
+OF_OTHERS = [
+    Edit(
+        "other_report_taken",
+        "plex-test",
+        "a report that differs in its last byte passes",
+        "plex_test",
+        CASE_RUNS,
+        "elif report != answer.wrote:",
+        "elif report[:-1] != answer.wrote[:-1]:",
+    ),
+    Edit(
+        "status_not_looked_at",
+        "plex-test",
+        "another status passes",
+        "plex_test",
+        CASE_RUNS,
+        "if answer.status != status:",
+        "if answer.status > status:",
+    ),
+    Edit(
+        "arrows_one_way",
+        "pairs_dot",
+        "a verdict of both orders is drawn as two arrows",
+        "pictures",
+        PAIR_GRAPH,
+        "if not both or first < later:",
+        "if True:",
+    ),
+    Edit(
+        "other_letter",
+        "pairs_table",
+        "the letter of a test is another",
+        "pictures",
+        PAIR_TABLE,
+        '"?"',
+        '"!"',
+    ),
+]
+
+EDITS: List[Edit] = [*OF_CHECK, *OF_WHY, *OF_LOAD, *OF_PAGE, *OF_OTHERS]
