@@ -124,8 +124,10 @@ def merger() -> pathlib.Path:
 
 @pytest.fixture(scope="session")
 def conflicts() -> pathlib.Path:
-    """The program plex-conflicts."""
-    return found(harness.CONFLICTS)
+    """The program plex-conflicts, which the tools for users find too."""
+    path = found(harness.CONFLICTS)
+    os.environ[harness.CONFLICTS.variable] = str(path)
+    return path
 
 
 @pytest.fixture(scope="session")

@@ -84,12 +84,34 @@ def of_entries(data: Any, facts: Facts) -> Iterator[str]:
         yield f"{len(data['entries'])} entries and not {len(facts.summaries)}"
         return
     for number, (entry, lines) in enumerate(zip(data["entries"], facts.lines)):
-        told = [data["words"][word] for word, _ in entry["lines"]]
+        told = [data["words"][word] for word, _ in data["kinds"][entry["kind"]]["lines"]]
         head = f"ENTRY {number} {entry['name']} LEVEL {entry['level']}"
         if [head, *told] != lines:
             yield f"entry {number}: {[head, *told]} and not {lines}"
         if expanded(entry["reach"]) != facts.reach(number):
             yield f"entry {number} reaches {expanded(entry['reach'])} and not {facts.reach(number)}"
+
+
+def reasons_of(data: Any, i: int, j: int) -> List[List[int]]:
+    """The reasons of a pair: whether each is a conflict, its words, both sides and what helps."""
+    place = data["rows"][data["pairs"][i]][j]
+    parts = data["lists"][place] if place >= 0 else []
+    return [parts[begin : begin + 5] for begin in range(0, len(parts), 5)]
+
+
+def of_names(first: Any, later: Any) -> Dict[str, str]:
+    """What stands in a page for the names of the entries of a pair."""
+    return {
+        "{first}": first["name"],
+        "{first signal}": first["signal"],
+        "{later}": later["name"],
+        "{later signal}": later["signal"],
+    }
+
+
+def named(words: str, names: Dict[str, str]) -> str:
+    """Words with the names of the entries."""
+    return re.sub(r"\{[a-z ]*\}", lambda found: names[found[0]], words)
 
 
 def of_pairs(page: str, data: Any, facts: Facts) -> Iterator[str]:
@@ -99,10 +121,11 @@ def of_pairs(page: str, data: Any, facts: Facts) -> Iterator[str]:
     wanted = [facts.letter(i, j) for i in range(count) for j in range(count)]
     if letters != wanted:
         yield f"the letters of the table are {''.join(letters)} and not {''.join(wanted)}"
-    for i, row in enumerate(data["pairs"]):
-        parts = [row[place : place + 6] for place in range(0, len(row), 6)]
+    for i in range(count):
         for j in range(count):
-            told = [(words[one[2]], words[one[5]]) for one in parts if one[0] == j]
+            names = of_names(data["entries"][i], data["entries"][j])
+            parts = reasons_of(data, i, j)
+            told = [(words[one[1]], named(words[one[4]], names)) for one in parts]
             reasons = oracle_why.told(facts.exchange, facts.summaries, i, j)
             if told != [(reason.words, reason.cure) for reason in reasons]:
                 yield f"pair {i} {j}: {told} and not {[reason.words for reason in reasons]}"
@@ -238,5 +261,5 @@ def read_back(page: pathlib.Path, exchange: pathlib.Path, signals: pathlib.Path)
     """What is wrong with the page of an exchange and its first jobs."""
     told = Exchange(str(exchange))
     load = jobs_of(told, str(signals), JOBS)
-    made = play(load, Rules(told.analysis), WORKERS, keep_bars=True)
+    made = play(load, Rules(told.conflicts), WORKERS, keep_bars=True)
     return list(differences(page.read_text(), exchange.read_bytes(), made))

@@ -212,7 +212,7 @@ class Comparison:
     def follows(self, row: Follows) -> None:
         """Whether a job may follow another one."""
         exchange, jobs = self.begun(row.text, row.lines)
-        got = load_play.Rules(exchange.analysis).refusal(jobs[row.first], jobs[row.later]) is None
+        got = load_play.Rules(exchange.conflicts).refusal(jobs[row.first], jobs[row.later]) is None
         self.need(got == row.wanted, "cases", f"job {row.later} follows job {row.first}: {got}")
 
     def follows_holder(self, row: FollowsHolder) -> None:
@@ -222,13 +222,13 @@ class Comparison:
             f"{block.name.text}.{name}" for block in exchange.text.blocks for name in block.files
         ]
         jobs[2].held = (names[row.file],)
-        got = load_play.Rules(exchange.analysis).refusal(jobs[2], jobs[0]) is None
+        got = load_play.Rules(exchange.conflicts).refusal(jobs[2], jobs[0]) is None
         self.need(got == row.wanted, "cases", f"the call follows the holder: {got}")
 
     def issues(self, row: Issues) -> None:
         """Which list of jobs may be issued."""
         exchange = self.exchange(row.text.encode())
-        rules = load_play.Rules(exchange.analysis)
+        rules = load_play.Rules(exchange.conflicts)
         player = load_play.Player(
             self.load(exchange, row.lines.encode()), rules, row.workers, False
         )
@@ -261,7 +261,7 @@ class Comparison:
             oracle_analysis.Summary(oracle_analysis.Facts(slow, entry).close())
             for entry in range(len(slow.entries))
         ]
-        rules = load_play.Rules(exchange.analysis)
+        rules = load_play.Rules(exchange.conflicts)
         known: dict[tuple[int, int], tuple[Any, list[str]]] = {}
         pairs = list(itertools.permutations(load.ran[:60], 2))
         for first, later in chance.sample(pairs, min(60, len(pairs))):
@@ -282,7 +282,7 @@ class Comparison:
     def orders(self, exchange: Any, load: Any) -> None:
         """The order of the jobs, for each number of workers."""
         for workers in (1, 2, 3, 8, 64):
-            made = load_play.play(load, load_play.Rules(exchange.analysis), workers)
+            made = load_play.play(load, load_play.Rules(exchange.conflicts), workers)
             is_so = (
                 made.order == load.ran
                 and made.time >= max((job.length for job in load.ran), default=0)
@@ -335,7 +335,7 @@ class Comparison:
         ]
         for _ in range(TWO_LINES if len(fitting) > 1 else 0):
             loads.append((b"\n".join(chance.sample(fitting, 2)) + b"\n", 2, True))
-        rules = load_play.Rules(exchange.analysis)
+        rules = load_play.Rules(exchange.conflicts)
         (self.folder / "C").write_bytes(
             harness.answer(os.environ["PLEX"], ["certify", "E"], self.folder)[1]
         )
@@ -444,7 +444,7 @@ def passes(conflict: Any, tests: list[str], first: Any, later: Any) -> bool:
 
 
 @pytest.fixture
-def comparison(plex: pathlib.Path, folder: pathlib.Path) -> Comparison:
+def comparison(plex: pathlib.Path, conflicts: pathlib.Path, folder: pathlib.Path) -> Comparison:
     """Compares loads in a folder."""
     return Comparison(folder)
 

@@ -5,12 +5,18 @@ line of its summary must be made by the statements that make it by oracle.analys
 stand at a statement that may fault by it. Of each pair the first conflict, or all tests, must be
 those of `plex analyse`. Where a value stops being one that came with the signal, the statement must
 make it one of itself, by the rules of oracle.analysis. What is printed of each pair must be what
-`oracle.why` tells: its reasons, statements, what they do, and what helps.
+`oracle.why` tells: its reasons, statements, what they do, and what helps. The tests of a pair that
+is never run together, which plex-load takes where its conflicts are left out, must be those of
+oracle.analysis too, and `plex-why --json` must say what the lines of plex-why do. A pair of each
+exchange is asked for alone, as pairs are where a text of all pairs has no room, and has the same
+told of it.
 """
 from __future__ import annotations
 
+import json
 import pathlib
 import random
+import re
 from typing import Any, Iterator
 
 import pytest
@@ -19,10 +25,15 @@ from gate import harness, why_text
 from gate.checking import Tally, check, check_enough
 from gate.makers import made_exchange
 from gate.oracle import analysis as oracle_analysis
+from plextools import tables
+from plextools.analysis import conflicts as all_conflicts
 from plextools.analysis import why as why_lines
+from plextools.show import pair_json
 
 GATE = 300
 CASES = harness.CASES / "analysis"
+EVERYTHING = 10**9
+HEADS = re.compile(r"^(  (first|later), [A-Z0-9]+ [A-Z0-9]+:|also: )")
 NAMES = sorted(path.parent.name for path in CASES.glob("*/exchange"))
 # How many of each there must be, for each exchange that is made.
 LEAST_CASES = 65
@@ -85,23 +96,25 @@ class Comparison:
         if not holds:
             self.wrong.append(told)
 
-    def entry(self, made: Any, summary: Any, entry: Any) -> None:
-        """Each line with its statements, both ways, and each fault."""
+    def statements(self, exchange: Any, summary: Any, entry: Any) -> None:
+        """Each line with its statements, both ways."""
         wanted: dict[str, set[int]] = {}
         for node in summary.reached:
             for line in told_accesses(summary.exchange, summary, node):
                 wanted.setdefault(line, set()).add(node.point)
-        got = {line: set(points) for line, points in made.lines.items()}
+        got = {
+            line: {point for point, _ in exchange.conflicts.statements(entry.number, number)}
+            for number, line in enumerate(entry.numbered)
+        }
         self.need(
             got == wanted,
             f"entry {entry.number}: other statements than those of {sorted(wanted)[:3]}",
         )
-        explained = set(entry.lines) - {"FAULT"}
-        self.need(
-            explained == set(made.lines), f"entry {entry.number}: not the lines of its summary"
-        )
-        self.counts["lines"] += len(explained)
+        self.counts["lines"] += len(got)
         self.counts["statements"] += sum(map(len, got.values()))
+
+    def faults(self, made: Any, summary: Any, entry: Any) -> None:
+        """Each fault stands at a statement that may fault by it, and none is missing."""
         self.need(entry.fault == bool(made.faults), f"entry {entry.number}: FAULT is not explained")
         for fault in made.faults:
             self.counts["faults"] += 1
@@ -134,34 +147,68 @@ class Comparison:
 
     def pairs(self, exchange: Any, slow: Any, summaries: list[Any]) -> None:
         """The first conflict or all tests of each pair, and the statements for them."""
-        analysis = exchange.analysis
         for i, first in enumerate(summaries):
             for j, later in enumerate(summaries):
-                conflicts, told = analysis.conflicts(i, j), analysis.told.get((i, j), [])
-                if conflicts:
-                    got = [f"NEVER {conflicts[0].told}"]
-                    self.counts["conflicts"] += len(conflicts)
-                else:
-                    got = [f"IF {test.told}" for test in analysis.tests(i, j)]
-                    self.counts["tests"] += len(got)
-                self.need(got == told, f"pair {i} {j}: {got} and not {told}")
-                pair = why_lines.Pair(exchange, i, j)
-                for reason in analysis.reasons(i, j):
-                    first_side, later_side = pair.statements(reason)
-                    alone = reason.kind == "FORLOPP"
-                    self.need(
-                        first_side and (later_side or alone),
-                        f"pair {i} {j}: no statement for {reason.told}",
-                    )
-                    self.need(
-                        pair.cure(reason), f"pair {i} {j}: nothing helps against {reason.told}"
-                    )
-                if not conflicts:
-                    self.need(
-                        [test.told for test in analysis.tests(i, j)]
-                        == list(oracle_analysis.tests(slow, first, later)),
-                        f"pair {i} {j}: tests",
-                    )
+                self.verdict(exchange, i, j)
+                tests = [test.told for test in exchange.conflicts.tests(i, j)]
+                self.need(
+                    tests == list(oracle_analysis.tests(slow, first, later)),
+                    f"pair {i} {j}: tests",
+                )
+                self.reasons(exchange, i, j)
+                self.need(
+                    as_lines(exchange, i, j) == as_objects(exchange, i, j),
+                    f"pair {i} {j}: --json",
+                )
+
+    def verdict(self, exchange: Any, i: int, j: int) -> None:
+        """The first conflict or all tests of a pair."""
+        conflicts = exchange.conflicts.conflicts(i, j)
+        told = exchange.analysis.told.get((i, j), [])
+        if conflicts:
+            got = [f"NEVER {conflicts[0].told}"]
+            self.counts["conflicts"] += len(conflicts)
+            self.need(
+                exchange.conflicts.first(i, j).told == conflicts[0].told,
+                f"pair {i} {j}: the first",
+            )
+        else:
+            got = [f"IF {test.told}" for test in exchange.conflicts.tests(i, j)]
+            self.counts["tests"] += len(got)
+        self.need(got == told, f"pair {i} {j}: {got} and not {told}")
+
+    def reasons(self, exchange: Any, i: int, j: int) -> None:
+        """The statements for the reasons of a pair, and what helps."""
+        pair = why_lines.Pair(exchange, i, j)
+        for reason in exchange.conflicts.reasons(i, j):
+            first_side, later_side = pair.statements(reason)
+            alone = reason.kind == "FORLOPP"
+            self.need(
+                first_side and (later_side or alone),
+                f"pair {i} {j}: no statement for {reason.told}",
+            )
+            self.need(pair.cure(reason), f"pair {i} {j}: nothing helps against {reason.told}")
+
+    def asked_alone(self, exchange: Any) -> None:
+        """A pair for which a text of all pairs has no room is asked for alone, and has the same
+        told of it.
+        """
+        pairs = [pair for pair in exchange.analysis.told if exchange.analysis.is_never(*pair)]
+        without = all_conflicts.Conflicts(exchange.text.name)
+        without.of_entries, without.of_pairs = {}, {}
+        for pair in pairs[:1]:
+            self.need(not without.is_at_hand(*pair), f"pair {pair}: it is at hand")
+            whole, alone = (
+                [vars(one) for one in some.conflicts(*pair)]
+                for some in (exchange.conflicts, without)
+            )
+            self.need(whole == alone, f"pair {pair}: other conflicts where it is asked for alone")
+            for number in range(len(exchange.entry(pair[0]).numbered)):
+                got = without.statements(pair[0], number)
+                self.need(
+                    got == exchange.conflicts.statements(pair[0], number),
+                    f"entry {pair[0]}: other statements where it is asked for alone",
+                )
 
     def text(self, content: bytes, folder: pathlib.Path) -> None:
         """All of an exchange text."""
@@ -179,13 +226,34 @@ class Comparison:
             "not all entries are there",
         )
         for number, summary in enumerate(summaries):
-            self.entry(exchange.made[number], summary, exchange.entry(number))
+            self.statements(exchange, summary, exchange.entry(number))
+            self.faults(exchange.made[number], summary, exchange.entry(number))
             self.origins(exchange.made[number], summary)
         self.pairs(exchange, slow, summaries)
         for told in why_text.differences(exchange, content, slow, summaries):
             self.need(False, told)
-        for told in why_text.differences(exchange, content, slow, summaries):
-            self.need(False, told)
+        self.asked_alone(exchange)
+
+
+def as_lines(exchange: Any, i: int, j: int) -> list[str]:
+    """What plex-why tells of a pair, without heads and spaces between columns."""
+    told = why_lines.told(exchange, i, j, EVERYTHING)
+    return [" ".join(HEADS.sub("", line).split()) for line in told]
+
+
+def as_objects(exchange: Any, i: int, j: int) -> list[str]:
+    """The same of what --json writes."""
+    pair = json.loads(tables.as_json(pair_json.of_pair(exchange, i, j)))
+    name, lines = exchange.text.name, list[str]()
+    for reason in pair["reasons"]:
+        head = "" if lines else f"PAIR {i} {j} {pair['verdict']} "
+        lines.append(head + reason["reason"])
+        for told in reason["first"] + reason["later"]:
+            lines.append(f"{name}:{told['line']}: {told['text']} {told['does']}")
+        lines.append(f"what helps: {reason['helps']}")
+    if not lines:
+        lines.append(f"PAIR {i} {j} always together, unless they are of one forlopp")
+    return [" ".join(line.split()) for line in lines]
 
 
 def compare(content: bytes, folder: pathlib.Path) -> Comparison:
@@ -196,6 +264,11 @@ def compare(content: bytes, folder: pathlib.Path) -> Comparison:
     return comparison
 
 
+@pytest.fixture(autouse=True)
+def programs(plex: pathlib.Path, conflicts: pathlib.Path) -> None:
+    """The programs that plex-why takes."""
+
+
 @pytest.fixture
 def counts(pytestconfig: pytest.Config, tally: Tally) -> Tally:
     """The counts of both kinds of exchanges, which are summed up together."""
@@ -204,16 +277,14 @@ def counts(pytestconfig: pytest.Config, tally: Tally) -> Tally:
 
 
 @pytest.mark.parametrize("name", NAMES)
-def test_case(plex: pathlib.Path, folder: pathlib.Path, counts: Tally, name: str) -> None:
+def test_case(folder: pathlib.Path, counts: Tally, name: str) -> None:
     """An exchange of the analyses by hand."""
     content = (CASES / name / "exchange").read_bytes()
     counts.add("compared why", compare(content, folder).counts)
 
 
 @pytest.mark.by_chance(GATE)
-def test_by_chance(
-    plex: pathlib.Path, folder: pathlib.Path, seed: str, counts: Tally, number: int
-) -> None:
+def test_by_chance(folder: pathlib.Path, seed: str, counts: Tally, number: int) -> None:
     """An exchange made by chance."""
     exchange = made_exchange.made_case(random.Random(f"{seed}.{number}")).exchange
     counts.add("compared why", compare(exchange, folder).counts, LEAST)

@@ -1,4 +1,4 @@
-"""Time and memory of large files, and of right texts whose cost may be the product of two numbers.
+"""Time and memory of large files, and of texts that are dear for the programs or for the tools.
 
 A large file (large_cases.py) is of one kind. Told is what was wrong, the time of the processor,
 that time beside the one that `wc -l` takes for the same files, and the memory beside the size of
@@ -6,12 +6,15 @@ all files. Each is run with a quarter of its size too. A case fails where an ans
 wanted one, where the memory is over 60 times the files, and where four times the size take more
 than eight times the time, however often both are measured (5 times).
 
-Each product (product_texts.py) is run by `single`, by `run` with 1, 4 and 64 workers and with its
-certificate, by `analyse` and by `certify`; and with a certificate that has more facts, where a
-product tells of one. All its reports must be the same, but for what such a certificate lacks, and
-each of these runs has a bound: two seconds, and 64 megabytes beside 60 times the files and what is
-written. Those that are known to be above it stand in known_costs.txt with their figures, and fail
-where they get worse; `--write` measures them all, and writes that file.
+Each product (product_texts.py) is a right text whose cost may be the product of two numbers. It is
+run by `single`, by `run` with 1, 4 and 64 workers and with its certificate, by `analyse` and by
+`certify`; and with a certificate that has more facts, where a product tells of one. All its reports
+must be the same, but for what such a certificate lacks, and each of these runs has a bound: two
+seconds, and 64 megabytes beside 60 times the files and what is written. Those that are known to be
+above it stand in known_costs.txt with their figures, and fail where they get worse; `--write`
+measures them all, and writes that file.
+
+The tools for users have texts of their own (tool_cases.py), each with a bound.
 
 In the gate each run has a figure of its own too, in case_costs.txt, and fails where it takes more
 than twice that time, or one and a half times its memory, or sleeps; `--write` measures them all.
@@ -30,8 +33,8 @@ from typing import Any, Callable, Iterator, NamedTuple, Optional, Sequence
 import pytest
 
 from gate import costs, harness, proved
-from gate.checking import check, check_enough
-from gate.makers import large_cases, product_texts
+from gate.checking import TOOLS, check, check_enough
+from gate.makers import large_cases, product_texts, tool_cases
 from measure import measured
 from measure.measured import Measure
 from plextools.limits import MOST_BYTES
@@ -40,7 +43,7 @@ pytestmark = pytest.mark.alone
 
 KNOWN = pathlib.Path(__file__).resolve().parent / "known_costs.txt"
 SIZES = ("gate", "whole")
-LEAST = {"gate": 178, "whole": 257}
+LEAST = {"gate": 196, "whole": 275}
 
 # large files
 
@@ -354,6 +357,38 @@ def test_product(runs: Runs, way: str) -> None:
     check(runs.machine.worse(name, lambda: runs.run(way, most).measure, ran.measure))
 
 
+# tools for users
+
+
+def broken_by_tool(case: tool_cases.ToolCase, came: Any, wrote: int, pace: float) -> Optional[str]:
+    """What is wrong with a run of a tool, or None."""
+    if came.status is None or came.seconds > case.seconds * pace:
+        return f"over {case.seconds * pace:.1f} s"
+    if came.status != case.status:
+        return f"status {came.status} and not {case.status}"
+    return f"wrote over {case.written:,} bytes" if wrote > case.written else None
+
+
+@pytest.mark.parametrize("case", tool_cases.CASES, ids=[case.name for case in tool_cases.CASES])
+def test_tool(machine: Machine, conflicts: pathlib.Path, case: tool_cases.ToolCase) -> None:
+    """A tool keeps its bounds; one that is over them is run once more, at the pace of then."""
+    harness.write_files(machine.folder, case.files())
+    words = [TOOLS / "bin" / case.words[0], *case.words[1:]]
+    for _ in range(2):
+        came = measured.measured(words, machine.folder, case.seconds * machine.pace * 2)
+        if came.status is not None and came.seconds <= case.seconds * machine.pace:
+            break
+        machine.pace = max(machine.pace, measured.pace())
+    page = [machine.folder / tool_cases.PAGE] if tool_cases.PAGE in case.words else []
+    files = [machine.written(), *page]
+    wrote = sum(path.stat().st_size for path in files if path.exists())
+    print(f"{came.seconds:.2f} s, {came.memory / MEGABYTE:.0f} megabytes, {wrote:,} bytes")
+    check(broken_by_tool(case, came, wrote, machine.pace))
+
+
+# all of them
+
+
 def figures(machine: Machine) -> Iterator[str]:
     """The rows of known_costs.txt, from what each run takes now."""
     for size in SIZES:
@@ -405,4 +440,4 @@ def test_case_costs(machine: Machine, plex: pathlib.Path, pytestconfig: pytest.C
 def test_all_cases_are_there(size: str) -> None:
     """No large file and no run of a product is lost."""
     runs = sum(len(ways_of(product)) for product in product_texts.PRODUCTS)
-    check_enough("cases", len(large(size == "whole")) + runs, LEAST[size])
+    check_enough("cases", len(large(size == "whole")) + runs + len(tool_cases.CASES), LEAST[size])

@@ -5,7 +5,9 @@ reads what is shown then, which must be what plex-why and plex-load say. A page 
 without scripts, ask for no other file, and show names and texts as they are, whatever they have in
 them. One of 256 entries and some 19,000 statements must be there within 2 seconds of processor
 time, in one of three tries, or within as much more as this machine is slower than another one
-(measured.py), and have 20 MB at most. With `--write` the pictures of docs/pictures are taken.
+(measured.py), and have 20 MB at most. One of 128 entries that use the same 100 variables, whose
+pairs have 100 conflicts each, must have 1 MB at most. Of a pair with more than 100 conflicts the
+others are drawn when they are asked for. With `--write` the pictures of docs/pictures are taken.
 CHROMIUM names another browser; where there is none, all this is left out.
 
 The data and the boxes of some pages are read back without a browser, as page_text.py says it.
@@ -20,9 +22,9 @@ from typing import Iterator, Optional, Sequence
 
 import pytest
 
-from gate import browser, page_text
+from gate import browser, harness, page_text
 from gate.checking import EXAMPLES, ROOT, TOOLS, Tally, check, leave_out
-from gate.makers import wide_exchange
+from gate.makers import tool_cases, wide_exchange
 from measure import measured
 
 pytestmark = pytest.mark.alone
@@ -32,7 +34,10 @@ PICTURES = ROOT / "docs" / "pictures"
 Size = tuple[int, int, bool]
 SIZES: Sequence[Size] = ((1400, 900, False), (1400, 900, True), (420, 800, False), (420, 800, True))
 SECONDS, BYTES, TRIES = 2.0, 20_000_000, 3
-LEAST, TESTS = 136, 9
+# So many entries that use so many variables, the bytes of their page, and how many reasons of a
+# pair are drawn at once.
+COMMON, COMMON_BYTES, MANY, AT_ONCE = (128, 100), 1_000_000, (2, 150), 100
+LEAST, TESTS = 146, 10
 STRANGE_NAME = "a <b> & \"c' .plex"
 STRANGE = b"""! </script><script>document.title = 'taken'</script> <img src=x onerror="alert(1)"> \xff\xfe & &amp;
 SIGNAL TICK SINGLE BUFFERED B DATA 0;
@@ -286,6 +291,46 @@ class Look:
         self.shows(["Entry 7: S7 B1"], "an entry of a large exchange")
         print(f"{size / 1e6:.1f} MB, {min(times):.2f} s")
 
+    def common(self, name: str, entries: int, variables: int) -> str:
+        """The address of a page of entries that use the same variables."""
+        (self.folder / name).mkdir()
+        harness.write_files(self.folder / name, tool_cases.common_variables(entries, variables))
+        return self.page(self.folder / name / "E", None, f"{name}.html")
+
+    def small(self) -> None:
+        """Many pairs with many conflicts, each of which stands in the page once."""
+        self.common("common", *COMMON)
+        size = (self.folder / "common.html").stat().st_size
+        self.need(
+            size <= COMMON_BYTES,
+            f"the page of {COMMON[0]} entries that use {COMMON[1]} variables has {size} bytes",
+        )
+
+    def many_conflicts(self) -> None:
+        """A pair with many conflicts, of which the first ones are drawn at first."""
+        self.window.open(self.common("many", *MANY))
+        drawn = "document.querySelectorAll('#told h3').length"
+        last = f"NEVER VARIABLE K.V{MANY[1] - 1}"
+        self.window.click("#table tbody tr:nth-child(1) td:nth-of-type(2)")
+        self.shows(
+            [
+                "Pair 0 1: never together",
+                f"NEVER VARIABLE K.V{AT_ONCE - 1}",
+                f"{MANY[1] - AT_ONCE} more",
+            ],
+            "many conflicts",
+        )
+        self.need(
+            self.window.value(drawn) == AT_ONCE,
+            f"{self.window.value(drawn)} conflicts are drawn at first",
+        )
+        self.window.value("document.querySelector('#told button.more').click()")
+        self.shows([last, f"a field of a file for V{MANY[1] - 1}"], "the other conflicts")
+        self.need(
+            self.window.value(drawn) == MANY[1],
+            f"{self.window.value(drawn)} conflicts are drawn at last",
+        )
+
 
 def numbers(colour: str) -> list[int]:
     """The parts of a colour."""
@@ -302,7 +347,7 @@ def window() -> Iterator[browser.Browser]:
 
 
 @pytest.fixture(scope="module")
-def room(plex: pathlib.Path) -> Iterator[pathlib.Path]:
+def room(plex: pathlib.Path, conflicts: pathlib.Path) -> Iterator[pathlib.Path]:
     """A folder with the texts of the guide, and their page, page.html."""
     with tempfile.TemporaryDirectory() as name:
         for file in ("exchange.plex", "signals.txt"):
@@ -355,6 +400,14 @@ def test_stands_alone(look: Look, address: str) -> None:
 def test_strange(look: Look) -> None:
     """A name and a text with all that a page may take for its own."""
     look.strange()
+    look.done()
+
+
+@pytest.mark.counted(TESTS)
+def test_many_conflicts(look: Look) -> None:
+    """Pages of pairs with many conflicts."""
+    look.small()
+    look.many_conflicts()
     look.done()
 
 

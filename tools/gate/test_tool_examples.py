@@ -1,12 +1,12 @@
-"""The examples of plex-why, plex-load and plex-page, and wrong words for these tools.
+"""The examples of plex-chart, plex-why, plex-load and plex-page, and wrong words for the last 3.
 
 Each file NAME.words below examples/ has the words of a run, one a line, the tool first, and
 NAME.txt what it must write, from that folder; `--write` writes the texts anew. Each command of
 docs/GUIDE.md and README.md that begins with one of these tools must be the words of an example.
 
-Then the tools get wrong words, files that are missing, no text, or refused by plex, and a reader
-who does not read on. Each time they must write one clear message, and end with the status 2, or
-with that of plex where plex refuses a text.
+Then plex-why, plex-load and plex-page get wrong words, files that are missing, no text, or refused
+by plex, and a reader who does not read on. Each time they must write one clear message, and end
+with the status 2, or with that of plex where plex refuses a text.
 """
 from __future__ import annotations
 
@@ -22,8 +22,8 @@ from gate import harness
 from gate.checking import EXAMPLES, ROOT, TOOLS, check, check_enough, read_words
 
 PRINTED = [ROOT / "README.md", ROOT / "docs" / "GUIDE.md"]
-COMMANDS = re.compile(r"^```\n((?:plex-(?:why|load|page) .*\n)+)```$", re.M)
-LEAST, LEAST_WRONG, LONGEST = 4, 52, harness.WHILE
+COMMANDS = re.compile(r"^```\n((?:plex-(?:chart|why|load|page) .*\n)+)```$", re.M)
+LEAST, LEAST_WRONG, LONGEST = 8, 56, harness.WHILE
 GOOD = EXAMPLES / "guide" / "bills" / "exchange.plex"
 LINES = EXAMPLES / "guide" / "bills" / "signals.txt"
 REFUSED = EXAMPLES / "guide" / "first_refusal" / "exchange.plex"
@@ -35,6 +35,11 @@ TOLD = [
     for document in PRINTED
     for command in "".join(COMMANDS.findall(document.read_text())).splitlines()
 ]
+
+
+@pytest.fixture(autouse=True)
+def programs(plex: pathlib.Path, conflicts: pathlib.Path) -> None:
+    """The programs that the tools take."""
 
 
 def run(
@@ -54,7 +59,7 @@ def run(
 
 
 @pytest.mark.parametrize("path", WORDS, ids=NAMES)
-def test_example(plex: pathlib.Path, pytestconfig: pytest.Config, path: pathlib.Path) -> None:
+def test_example(pytestconfig: pytest.Config, path: pathlib.Path) -> None:
     """An example writes its text."""
     done, told = run(read_words(path), path.parent), path.with_suffix(".txt")
     if pytestconfig.option.write:
@@ -127,6 +132,8 @@ def wrong_for_one() -> Iterator[Wrong]:
     """Words that are wrong for one tool."""
     yield Wrong(["plex-why", GOOD, "0", "2"], 2, "there is no entry 2; they are 0 to 1")
     yield Wrong(["plex-why", GOOD, "0"], 2, "a pair is two numbers")
+    large = "9" * 20
+    yield Wrong(["plex-why", GOOD, "0", large], 2, f"there is no entry {large}; they are")
     none = "there is no entry CALL FEES; there are CALL DESK, BILL DESK"
     yield Wrong(["plex-why", GOOD, "CALL", "DESK", "CALL", "FEES"], 2, none)
     yield Wrong(["plex-why", "@empty", "0", "0"], 2, "there is no entry 0; the text has none")
@@ -157,7 +164,7 @@ def is_complaint(message: str, told: str) -> bool:
 
 
 @pytest.mark.parametrize("wrong", ALL_WRONG, ids=[named(wrong.words) for wrong in ALL_WRONG])
-def test_wrong_words(plex: pathlib.Path, folder: pathlib.Path, wrong: Wrong) -> None:
+def test_wrong_words(folder: pathlib.Path, wrong: Wrong) -> None:
     """A tool writes one clear message, and no page."""
     words = placed(wrong.words, Folder(folder).place)
     done = run(words, folder)
@@ -180,27 +187,33 @@ EMPTY = {
     "plex-load": ["nothing", "nothing"],
     "plex-page": ["nothing", "nothing", "-o", "empty page"],
 }
-NO_PLEX = ["/no/such/program", "/bin/true", "/bin/false"]
+NO_PROGRAM = ["/no/such/program", "/bin/true", "/bin/false"]
+OF_TOOLS: dict[str, list[Any]] = {
+    "PLEX_CONFLICTS": ["plex-why", GOOD],
+    "PLEX": ["plex-load", GOOD, LINES],
+}
 READ = [f"plex-why {GOOD}", f"plex-load {GOOD} {LINES}", f"plex-load --json {GOOD} {LINES}"]
 
 
 @pytest.mark.parametrize("tool", EMPTY)
-def test_empty_texts(plex: pathlib.Path, folder: pathlib.Path, tool: str) -> None:
+def test_empty_texts(folder: pathlib.Path, tool: str) -> None:
     """An empty text is one."""
     (folder / "nothing").write_bytes(b"")
     done = run([tool, *EMPTY[tool]], folder)
     assert (done.returncode, done.stderr) == (0, b"")
 
 
-@pytest.mark.parametrize("program", NO_PLEX)
-def test_no_plex(folder: pathlib.Path, program: str) -> None:
-    """Another program in the place of plex is told in one message."""
-    done = run(["plex-why", GOOD], folder, env={**os.environ, "PLEX": program})
-    assert done.returncode == 2 and done.stderr.startswith(b"plex-why: ")
+@pytest.mark.parametrize("variable", OF_TOOLS)
+@pytest.mark.parametrize("program", NO_PROGRAM)
+def test_no_program(folder: pathlib.Path, program: str, variable: str) -> None:
+    """Another program in the place of one that a tool takes is told in one message."""
+    words = OF_TOOLS[variable]
+    done = run(words, folder, env={**os.environ, variable: program})
+    assert done.returncode == 2 and done.stderr.startswith(f"{words[0]}: ".encode())
 
 
 @pytest.mark.parametrize("words", READ, ids=["why", "load", "load --json"])
-def test_reader_who_goes(plex: pathlib.Path, words: str) -> None:
+def test_reader_who_goes(words: str) -> None:
     """A reader who does not read on is no fault."""
     done = subprocess.run(
         ["sh", "-c", f"{TOOLS}/bin/{words} | true"],
@@ -215,5 +228,5 @@ def test_reader_who_goes(plex: pathlib.Path, words: str) -> None:
 def test_all_examples_are_there() -> None:
     """No example and no wrong word is lost."""
     check_enough("examples", WORDS, LEAST)
-    careless = len(ALL_WRONG) + len(EMPTY) + len(NO_PLEX) + len(READ)
+    careless = len(ALL_WRONG) + len(EMPTY) + len(NO_PROGRAM) * len(OF_TOOLS) + len(READ)
     check_enough("wrong or careless words", careless, LEAST_WRONG)

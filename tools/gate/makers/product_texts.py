@@ -267,6 +267,24 @@ class MoreFacts:
         return b"".join(NUMBER % (point, number) for number in range(self.count(size)))
 
 
+def moved(count: int, entries: int) -> str:
+    """So many assignments of one of twenty temporaries to the one before, which many entries
+    reach.
+    """
+    signals, survey, enters = many_entries(entries, "U")
+    declared = "TEMPORARY U;\n" + each("TEMPORARY T{};\n", 20)
+    moves = "".join(f"T{number % 20} = T{(number + 1) % 20};\n" for number in range(count))
+    return signals + block(declared, survey, enters + "T0 = U;\n" + moves + "EXIT;")
+
+
+def seized(count: int, entries: int) -> str:
+    """So many SEIZEs, each with a use of its record and a FREE, which many entries reach."""
+    signals, survey, enters = many_entries(entries, "T")
+    declared = "TEMPORARY T; FORLOPP FILE F SIZE 16; FIELD X WIDTH 8;"
+    seizes = "SEIZE T IN F ELSE GOTO L; X(T) = 1; FREE T IN F;\n" * count
+    return signals + block(declared, survey, enters + seizes + "L) EXIT;")
+
+
 class Product:
     """A text of a size, two sizes, one for the gate and one near the limits, the signal lines of a
     size, and what is added to its certificate, if anything is.
@@ -372,6 +390,18 @@ PRODUCTS = [
         "reads of many records", lambda size: reads_of_many(size, CONSTANTS), (750, 3000), one_call
     ),
     Product("RETURNs as many as RETRIEVEs", lambda size: returns(size, 20), (1250, 5000), one_call),
+    Product(
+        "temporaries that many entries move",
+        lambda size: moved(size, 64),
+        (1000, 5000),
+        lambda size: calls(100),
+    ),
+    Product(
+        "records that many entries seize",
+        lambda size: seized(size, 32),
+        (640, 2000),
+        lambda size: calls(100),
+    ),
     Product("facts at a CASE", exits, (2500, 10000), once, more=many_at(b"FACT 0 2 T0 CONST 1\n")),
     Product("facts where a CASE leads to", exits, (400, 750), once, more=at_choices(0)),
     Product(

@@ -128,10 +128,9 @@ OF_WHY = [
         "line_of_seize",
         "the lines of SEIZE and FREE are one larger",
         WHY,
-        "return self.doing(side, lines, lambda _, does: "
-        'f"{does} a record of {short(side.name)}")',
-        "return [told._replace(line=told.line + 1) for told in self.doing(side, lines, "
-        'lambda _, does: f"{does} a record of {short(side.name)}")]',
+        "return Told(point, node.line, self.text.head(node), does)",
+        'line = node.line + does.startswith(("seizes", "frees"))\n'
+        "        return Told(point, line, self.text.head(node), does)",
     ),
     why(
         "stored_is_computed",
@@ -144,16 +143,16 @@ OF_WHY = [
         "two_tests",
         "a pair has two tests at most",
         WHY,
-        "    reasons = exchange.analysis.reasons(i, j) if reasons is None else reasons\n",
-        "    reasons = exchange.analysis.reasons(i, j) if reasons is None else reasons\n"
+        "    reasons = exchange.conflicts.reasons(i, j) if reasons is None else reasons\n",
+        "    reasons = exchange.conflicts.reasons(i, j) if reasons is None else reasons\n"
         "    reasons = [one for one in reasons if one.is_conflict] or list(reasons)[:2]\n",
     ),
     why(
         "reads_of_both",
         "reads are told where the other job reads alone",
         WHY,
-        'Side(self.i, "variable", reason.name, reads=later),',
-        'Side(self.i, "variable", reason.name, reads=True),',
+        '    lines = [f"READ {access}"] * reads + [f"WRITE {access}"]\n',
+        '    lines = [f"READ {access}", f"WRITE {access}"]\n',
     ),
 ]
 
@@ -190,8 +189,8 @@ OF_LOAD = [
         "window_one_wider",
         "the window has room for one more",
         PLAY,
-        "        if size >= self.workers:\n            return FULL\n",
-        "        if size > self.workers:\n            return FULL\n",
+        "        if begun - self.ended >= self.workers:\n            return FULL\n",
+        "        if begun - self.ended > self.workers:\n            return FULL\n",
     ),
     load(
         "forlopps_follow",
@@ -214,8 +213,8 @@ OF_PAGE = [
         "other_reach",
         "the lines that an entry reaches are those without the first",
         PAGE_DATA,
-        '"reach": ranges(self.lines_of(made.reached)),',
-        '"reach": ranges(self.lines_of(made.reached)[1:]),',
+        '"reach": ranges(self.lines_of(self.exchange.made[entry.number].reached)),',
+        '"reach": ranges(self.lines_of(self.exchange.made[entry.number].reached)[1:]),',
     ),
     page(
         "letters_of_tests",

@@ -15,7 +15,7 @@ import shutil
 import subprocess
 import sys
 import threading
-from typing import Callable, Iterator, NamedTuple, NoReturn, Sequence
+from typing import Callable, Iterator, NamedTuple, NoReturn, Sequence, Tuple
 
 from plextools import VERSION, tables
 
@@ -26,14 +26,15 @@ LONGEST = 600
 
 
 class Program(NamedTuple):
-    """A program of plex: its name, the option by which tools take another one, and an example of it
-    with the file of its words.
+    """A program of plex: its name, the option by which tools take another one, an example of it
+    with the file of its words, and the tools of users that need it.
     """
 
     name: str
     option: str
     example: str
     words: str
+    needed_by: Tuple[str, ...]
 
     @property
     def crate(self) -> str:
@@ -73,10 +74,11 @@ class Program(NamedTuple):
         return self.launcher
 
 
+OF_PAIRS = ("plex-why", "plex-load", "plex-page")
 PROGRAMS = (
-    Program("plex", "--program", "three_ticks", "words"),
-    Program("plex-merge", "--merger", "merged_ticks", "merge"),
-    Program("plex-conflicts", "--conflicts", "all_conflicts", "conflicts"),
+    Program("plex", "--program", "three_ticks", "words", (*OF_PAIRS, "plex-test")),
+    Program("plex-merge", "--merger", "merged_ticks", "merge", ("plex-test",)),
+    Program("plex-conflicts", "--conflicts", "all_conflicts", "conflicts", OF_PAIRS),
 )
 BY_NAME = {program.name: program for program in PROGRAMS}
 
@@ -117,7 +119,8 @@ def program(name: str = "plex") -> str:
             return path
     if named:
         raise Wrong(f"there is no program {name} at {named}")
-    raise Wrong(f"the program {name} is not there; ./{name} builds it")
+    needs = f"; {', '.join(one.needed_by)} need it, and ./{name} builds it"
+    raise Wrong(f"the program {name} is not there{needs}")
 
 
 @functools.lru_cache(maxsize=None)
@@ -152,39 +155,45 @@ def bytes_of(name: str) -> bytes:
         raise Wrong(f"the file {tables.quoted(str(name))} could not be read: {told}") from wrong
 
 
-def ended(returncode: int, words: Sequence[str], wrote: bytes) -> None:
-    """The program has ended: with a status other than 0 it has refused something, or something went
-    wrong.
+def called(of: str, words: Sequence[str]) -> str:
+    """A call as messages name it: plex with its command, another program by its name."""
+    return f"{of} {words[0]}" if of == "plex" else of
+
+
+def ended(returncode: int, call: str, wrote: bytes, accepted: Sequence[int] = (0,)) -> None:
+    """The program has ended: with a status that is not accepted it has refused something, or
+    something went wrong.
     """
-    if returncode == 0:
+    if returncode in accepted:
         return
     told = wrote.decode("utf-8", "replace").strip().split("\n")[0]
     if returncode > 0 and told:
         raise Wrong(told, returncode, refused=True)
     if returncode == 6:
-        raise Wrong("a file could not be read by plex", 6)
-    raise Wrong(f"plex {words[0]} ended with the status {returncode}")
+        raise Wrong(f"a file could not be read by {call.split(' ')[0]}", 6)
+    raise Wrong(f"{call} ended with the status {returncode}")
 
 
-def late(words: Sequence[str]) -> Wrong:
-    return Wrong(f"plex {words[0]} did not end within {LONGEST} seconds")
+def late(call: str) -> Wrong:
+    return Wrong(f"{call} did not end within {LONGEST} seconds")
 
 
-def answer(words: Sequence[str], accepted: Sequence[int] = (0,)) -> bytes:
-    """What plex writes, in bytes, with one of the accepted statuses."""
+def answer(words: Sequence[str], accepted: Sequence[int] = (0,), of: str = "plex") -> bytes:
+    """What a program writes, in bytes, with one of the accepted statuses."""
     try:
         done = subprocess.run(
-            [program(), *words], stdin=subprocess.DEVNULL, stdout=subprocess.PIPE, timeout=LONGEST
+            [program(of), *words], stdin=subprocess.DEVNULL, stdout=subprocess.PIPE, timeout=LONGEST
         )
     except subprocess.TimeoutExpired as wrong:
-        raise late(words) from wrong
-    if done.returncode not in accepted:
-        ended(done.returncode, words, done.stdout)
+        raise late(called(of, words)) from wrong
+    ended(done.returncode, called(of, words), done.stdout, accepted)
     return done.stdout
 
 
-def lines_of(words: Sequence[str]) -> Iterator[bytes]:
-    """The lines that plex writes, in bytes and without their ends, as they come."""
+def lines_of(words: Sequence[str], accepted: Sequence[int] = (0,)) -> Iterator[bytes]:
+    """The lines that plex writes, in bytes and without their ends, as they come; at the end its
+    status must be one of the accepted ones.
+    """
     with subprocess.Popen(
         [program(), *words], stdin=subprocess.DEVNULL, stdout=subprocess.PIPE
     ) as process:
@@ -197,10 +206,10 @@ def lines_of(words: Sequence[str]) -> Iterator[bytes]:
                 yield line[:-1]
             process.wait()
             if not timer.is_alive():
-                raise late(words)
+                raise late(called("plex", words))
         finally:
             timer.cancel()
-        ended(process.returncode, words, first)
+        ended(process.returncode, called("plex", words), first, accepted)
 
 
 class Words(argparse.ArgumentParser):

@@ -1,1 +1,1 @@
-"""What `plex analyse` and `plex certify` write, and which statements of a text it comes from."""
+"""What `plex analyse`, `plex-conflicts` and `plex certify` write, and why jobs are kept apart."""

@@ -1,10 +1,9 @@
-"""The facts of `plex certify`, entry by entry, and which statements give each line of an entry's
-summary.
+"""The facts of `plex certify`, entry by entry, and what of them `plex-conflicts` does not tell.
 
 `facts_of(lines, wanted)` reads a certificate as it comes and gives the `Facts` of each wanted
-entry. `Made(text, facts)` finds the statements of each line of the summary, the statements that may
-fault, and where a value stops being one that came with the signal. All this follows from the facts,
-the statements and the rules of docs/ANALYSIS.md; no fact is worked out.
+entry. `Made(text, facts)` has the statements that are reached, finds those that may fault, and
+where a value stops being one that came with the signal. All this follows from the facts, the
+statements and the rules of docs/ANALYSIS.md; no fact is worked out.
 """
 from collections import deque
 from typing import Dict, Iterable, Iterator, List, NamedTuple, Optional, Sequence, Set, Union
@@ -100,18 +99,12 @@ def may_be(value: str, number: int) -> bool:
 
 
 class Made:
-    """Of one entry: `lines`, which are the statements of each line of its summary by their points,
-    and `faults`.
-    """
+    """Of one entry: the points that are `reached`, and the `faults`."""
 
     def __init__(self, text: Text, facts: Facts) -> None:
         self.text, self.entry = text, facts.entry
         self.known: Optional[Facts] = facts
         self.reached = sorted(facts.reached)
-        self.lines: Dict[str, List[int]] = {}
-        for point in self.reached:
-            for line in self.lines_of(text.points[point]):
-                self.lines.setdefault(line, []).append(point)
         self.ways: Optional[Dict[int, List[int]]] = None
         self.faults = self.all_faults()
 
@@ -130,21 +123,6 @@ class Made:
 
     def is_temporary(self, node: Node, name: str) -> bool:
         return name in self.text.block_of(node).temporaries
-
-    def lines_of(self, node: Node) -> Iterator[str]:
-        """The lines of the summary that a statement gives."""
-        for use in self.text.uses(node):
-            if use.does.endswith("FIELD"):
-                values = (
-                    [ANY]
-                    if use.pointer is None
-                    else self.facts.of(node.point, self.slot(node, use.pointer))
-                )
-                yield from (f"{use.does} {use.name} {value}" for value in values)
-            else:
-                yield f"{use.does} {use.name}"
-        if node.kind == "SEND" and self.text.signals[node.signal.text].level:
-            yield f"SEND {self.text.signals[node.signal.text].level}"
 
     # faults
 

@@ -1,8 +1,8 @@
 """Tells why two jobs are kept apart: each conflict or test with the statements that make it, and
 what helps.
 
-`Exchange(name)` asks plex about an exchange text. `told(exchange, i, j)` gives the lines for a pair
-of its entries.
+`Exchange(name)` asks the programs about an exchange text. `told(exchange, i, j)` gives the lines
+for a pair of its entries.
 """
 from typing import (
     Callable,
@@ -18,16 +18,10 @@ from typing import (
 )
 
 from plextools import programs
+from plextools.analysis import conflicts
 from plextools.analysis.entry_facts import Made, facts_of
-from plextools.analysis.lines import (
-    ANY,
-    Entry,
-    NoAnalysis,
-    Numbers,
-    Reason,
-    Shared,
-    read,
-)
+from plextools.analysis.lines import ANY, Entry
+from plextools.analysis.reasons import Numbers, Reason, selectors_of
 from plextools.tables import quoted
 from plextools.text.statements import Text
 
@@ -63,15 +57,13 @@ class Side(NamedTuple):
     """What one of two jobs has to do with a reason: an entry, and which of its statements. Equal
     sides have the same statements.
 
-    `what` is a key of `SIDES`, `name` a name or a line of a summary, `value` the selector of a
-    field. Whether what is only read counts too is told by `reads`. `parts` are sides of fields.
+    `what` is a key of `SIDES`, and `numbers` are those of lines of the entry's summary that are
+    about one thing. `parts` are sides of fields.
     """
 
     entry: int
     what: str
-    name: str = ""
-    value: str = ""
-    reads: bool = True
+    numbers: Tuple[int, ...] = ()
     parts: Tuple["Side", ...] = ()
 
 
@@ -108,49 +100,64 @@ def and_words(some: Iterable[str]) -> str:
     return " and ".join(words) if len(words) < 3 else ", ".join(words[:-1]) + f" and {words[-1]}"
 
 
+def object_words(line: str) -> str:
+    """What an access of a summary is about."""
+    does, *rest = line.split(" ", 3)
+    if does in ("SEIZE", "FREE"):
+        return f"a record of {short(rest[0])}"
+    return f"{short(rest[1])} {record_words(rest[2])}" if rest[0] == "FIELD" else short(rest[1])
+
+
 class Exchange:
-    """An exchange text with its analysis, and what those of its entries that were looked at are
-    made of.
+    """An exchange text with its conflicts, those of two entries alone where these are `asked` for,
+    and what those of its entries that were looked at are made of.
     """
 
-    def __init__(self, name: str, keeps_facts: bool = False) -> None:
-        content = programs.bytes_of(name)
-        lines = list(programs.lines_of(["analyse", name]))
-        self.text, self.keeps_facts = Text(name, content), keeps_facts
+    def __init__(
+        self, name: str, asked: Optional[conflicts.Pair] = None, keeps_facts: bool = False
+    ) -> None:
+        self.content = programs.bytes_of(name)
+        self.conflicts = conflicts.Conflicts(name, asked)
+        self.analysis = self.conflicts.analysis
+        self.text, self.keeps_facts = Text(name, self.content), keeps_facts
+        self.place = {declared: place for place, declared in enumerate(self.text.names)}
         self.made: Dict[int, Made] = {}
         self.unknown: Dict[Unknown, str] = {}
         self.sides: Dict[Side, List[Told]] = {}
-        try:
-            self.analysis = read(lines, self.text.names)
-        except NoAnalysis as wrong:
-            raise programs.Wrong(
-                f"what {programs.program()} writes is no analysis: {wrong}"
-            ) from wrong
 
     def entry(self, number: int) -> Entry:
         return self.analysis.entries[number]
 
     def look_at(self, entries: Iterable[int]) -> None:
-        """Finds what these entries are made of, where that is not known. Their facts are let go
-        then, as they may be many.
+        """Finds what these entries are made of, where that is not known and is to be told: which
+        statements may fault, and why records are not known.
         """
+        self.look_at_facts(
+            number
+            for number in entries
+            if self.entry(number).fault or self.entry(number).has_unknown
+        )
+
+    def look_at_all(self) -> None:
+        """Finds it of all entries, with the statements that their jobs reach."""
+        self.look_at_facts(range(len(self.analysis.entries)))
+
+    def look_at_facts(self, entries: Iterable[int]) -> None:
+        """Reads the facts of entries, and lets them go, as they may be many."""
         new = set(entries) - self.made.keys()
         if not new:
             return
         lines = programs.lines_of(["certify", self.text.name])
         for facts in facts_of(lines, len(self.analysis.entries), new):
             made = self.made[facts.entry] = Made(self.text, facts)
-            for line, points in made.lines.items():
+            for number, line in enumerate(self.entry(facts.entry).numbered):
                 if line.endswith(f" {ANY}"):
-                    for point in points:
-                        name = line.split(" ")[2]
+                    name = line.split(" ")[2]
+                    for point, _ in self.conflicts.statements(facts.entry, number):
                         why = self.why_unknown(made, point, name)
                         self.unknown[Unknown(facts.entry, point, name)] = why
             if not self.keeps_facts:
                 made.let_go()
-
-    def look_at_all(self) -> None:
-        self.look_at(range(len(self.analysis.entries)))
 
     # why a record is not known
 
@@ -199,51 +206,42 @@ class Exchange:
         node = self.text.points[point]
         return Told(point, node.line, self.text.head(node), does)
 
-    def points_of(self, side: Side, line: str) -> Sequence[int]:
-        """The statements that give a line of the summary of an entry."""
-        return self.made[side.entry].lines.get(line, ())
-
-    def doing(
-        self, side: Side, lines: Iterable[str], words: Callable[[int, str], str]
-    ) -> List[Told]:
-        """The statements that give any of these lines of a summary, each with the words for what it
-        does.
-        """
+    def side_accesses(self, side: Side) -> List[Told]:
+        """The statements that give any of these accesses, each with the words for what it does."""
+        lines = self.entry(side.entry).numbered
         does: Dict[int, List[str]] = {}
-        for line in lines:
-            for point in self.points_of(side, line):
-                does.setdefault(point, []).append(DOES[line.split(" ")[0]])
+        for number in side.numbers:
+            for point, _ in self.conflicts.statements(side.entry, number):
+                does.setdefault(point, []).append(DOES[lines[number].split(" ")[0]])
+        line = lines[side.numbers[0]]
+        about = object_words(line)
         return [
-            self.statement(point, words(point, and_words(does[point]))) for point in sorted(does)
+            self.statement(
+                point, f"{and_words(does[point])} {about}{self.reason_unknown(side, line, point)}"
+            )
+            for point in sorted(does)
         ]
 
-    def side_variable(self, side: Side) -> List[Told]:
-        lines = [f"READ VAR {side.name}"] * side.reads + [f"WRITE VAR {side.name}"]
-        return self.doing(side, lines, lambda _, does: f"{does} {short(side.name)}")
-
-    def side_field(self, side: Side) -> List[Told]:
-        def words(point: int, does: str) -> str:
-            told = f"{does} {short(side.name)} {record_words(side.value)}"
-            if side.value != ANY:
-                return told
-            return f"{told}: {self.unknown[Unknown(side.entry, point, side.name)]}"
-
-        field = f"FIELD {side.name} {side.value}"
-        return self.doing(side, [f"READ {field}"] * side.reads + [f"WRITE {field}"], words)
+    def reason_unknown(self, side: Side, line: str, point: int) -> str:
+        """Why a record is not known, where a line of a summary is about such a one."""
+        if not line.endswith(f" {ANY}"):
+            return ""
+        return f": {self.unknown[Unknown(side.entry, point, line.split(' ')[2])]}"
 
     def side_fields(self, side: Side) -> List[Told]:
         found = [told for one in side.parts for told in self.statements(one)]
         return sorted(found, key=lambda told: told.point or 0)
 
-    def side_file(self, side: Side) -> List[Told]:
-        lines = [f"SEIZE {side.name}"] + [f"FREE {side.name}"] * side.reads
-        return self.doing(side, lines, lambda _, does: f"{does} a record of {short(side.name)}")
-
     def side_sends(self, side: Side) -> List[Told]:
+        level = self.entry(side.entry).numbered[side.numbers[0]].split(" ")[1]
         return [
-            self.statement(point, f"sends {self.sent_at(point)} to level {side.name}")
-            for point in self.points_of(side, f"SEND {side.name}")
+            self.statement(point, f"sends {self.sent_at(point)} to level {level}")
+            for point, _ in self.conflicts.statements(side.entry, side.numbers[0])
         ]
+
+    def sends(self, entry: int, number: int) -> List[str]:
+        """The signals that the statements of a line SEND send."""
+        return [self.sent_at(point) for point, _ in self.conflicts.statements(entry, number)]
 
     def sent_at(self, point: int) -> str:
         """The signal that a SEND sends."""
@@ -266,23 +264,20 @@ class Exchange:
 
     def side_line(self, side: Side) -> List[Told]:
         """The statements of a line of an entry's summary, with why a record is not known."""
-
-        def why(point: int) -> str:
-            if not side.name.endswith(ANY):
-                return ""
-            return self.unknown.get(Unknown(side.entry, point, side.name.split(" ")[-2]), "")
-
-        return [self.statement(point, why(point)) for point in self.points_of(side, side.name)]
+        number = side.numbers[0]
+        line = self.entry(side.entry).numbered[number]
+        return [
+            self.statement(point, self.reason_unknown(side, line, point)[len(": ") :])
+            for point, _ in self.conflicts.statements(side.entry, number)
+        ]
 
     def side_none(self, _: Side) -> List[Told]:
         return []
 
 
 SIDES: Dict[str, Callable[[Exchange, Side], List[Told]]] = {
-    "variable": Exchange.side_variable,
-    "field": Exchange.side_field,
+    "accesses": Exchange.side_accesses,
     "fields": Exchange.side_fields,
-    "file": Exchange.side_file,
     "sends": Exchange.side_sends,
     "level": Exchange.side_level,
     "faults": Exchange.side_faults,
@@ -291,12 +286,27 @@ SIDES: Dict[str, Callable[[Exchange, Side], List[Told]]] = {
 }
 
 
-class Pair:
-    """A pair of entries, with what is told of each of its reasons."""
+class Named(NamedTuple):
+    """How an entry is named where it is told what helps: with its block, and by its signal."""
 
-    def __init__(self, exchange: Exchange, i: int, j: int) -> None:
+    entry: str
+    signal: str
+
+
+class Pair:
+    """A pair of entries, with what is told of each of its reasons. What helps is told with `names`,
+    or else with those of the entries.
+    """
+
+    def __init__(
+        self, exchange: Exchange, i: int, j: int, names: Optional[Tuple[Named, Named]] = None
+    ) -> None:
         self.exchange, self.i, self.j = exchange, i, j
         self.first, self.later = exchange.entry(i), exchange.entry(j)
+        self.named = names or (
+            Named(self.first.name, self.first.signal),
+            Named(self.later.name, self.later.signal),
+        )
 
     def sides(self, reason: Reason) -> Sides:
         """The side of the first and that of the later job in a conflict or a test."""
@@ -305,49 +315,36 @@ class Pair:
     def statements(self, reason: Reason) -> List[List[Told]]:
         return [self.exchange.statements(side) for side in self.sides(reason)]
 
-    def sides_variable(self, reason: Reason) -> Sides:
-        first, later = (entry.variables[reason.name] for entry in (self.first, self.later))
-        return Sides(
-            Side(self.i, "variable", reason.name, reads=later),
-            Side(self.j, "variable", reason.name, reads=first),
-        )
-
-    def sides_field(self, reason: Reason) -> Sides:
-        first, later = chosen(reason.selectors)
-        return self.field(Shared(reason.name, first, later))
-
-    def field(self, shared: Shared) -> Sides:
-        """A job's reads count where the other job writes, and its writes always."""
-        name, first, later = shared
-        writes_first, writes_later = self.first.fields[name][first], self.later.fields[name][later]
-        return Sides(
-            Side(self.i, "field", name, first, writes_later),
-            Side(self.j, "field", name, later, writes_first),
-        )
-
-    def sides_seize(self, reason: Reason) -> Sides:
-        return Sides(
-            self.file(reason, self.first, self.later), self.file(reason, self.later, self.first)
-        )
-
-    def file(self, reason: Reason, entry: Entry, other: Entry) -> Side:
-        return Side(entry.number, "file", reason.name, reads=reason.name in other.seizes)
+    def sides_accesses(self, reason: Reason) -> Sides:
+        return Sides(Side(self.i, "accesses", reason.first), Side(self.j, "accesses", reason.later))
 
     def sides_level(self, reason: Reason) -> Sides:
-        return Sides(Side(self.i, "sends", reason.name), Side(self.j, "level"))
+        return Sides(Side(self.i, "sends", reason.first), Side(self.j, "level"))
 
     def sides_differ(self, reason: Reason) -> Sides:
-        pairs = [self.field(shared) for shared in reason.shared]
+        """The fields that a test of values is about: used with its selectors, and written by one of
+        the two. A job's reads count where the other job writes, and its writes always.
+        """
+        one, other = selectors_of(reason)
+        first, later = self.first.fields, self.later.fields
+        parts: Tuple[List[Side], List[Side]] = ([], [])
+        for name in sorted(first.keys() & later.keys(), key=self.exchange.place.__getitem__):
+            if one in first[name] and other in later[name]:
+                writes, writes_too = first[name][one], later[name][other]
+                if writes or writes_too:
+                    parts[0].append(field_side(self.first, f"FIELD {name} {one}", writes_too))
+                    parts[1].append(field_side(self.later, f"FIELD {name} {other}", writes))
         return Sides(
-            Side(self.i, "fields", parts=tuple(pair.first for pair in pairs)),
-            Side(self.j, "fields", parts=tuple(pair.later for pair in pairs)),
+            Side(self.i, "fields", parts=tuple(parts[0])),
+            Side(self.j, "fields", parts=tuple(parts[1])),
         )
 
     def sides_forlopp(self, _: Reason) -> Sides:
         return Sides(Side(self.i, "faults"), NOBODY)
 
     def sides_holds_no(self, reason: Reason) -> Sides:
-        return Sides(Side(self.i, "faults"), Side(self.j, "file", reason.name, reads=False))
+        seizes = self.later.number_of[f"SEIZE {reason.name}"]
+        return Sides(Side(self.i, "faults"), Side(self.j, "accesses", (seizes,)))
 
     # what helps
 
@@ -361,46 +358,45 @@ class Pair:
 
     def cure_field(self, reason: Reason) -> str:
         selectors, name = chosen(reason.selectors), short(reason.name)
-        named = [entry for entry, value in zip((self.first, self.later), selectors) if value == ANY]
-        if named:
+        unknown = [named for named, value in zip(self.named, selectors) if value == ANY]
+        if unknown:
             whose = "only in the record whose number came with"
             return and_words(
-                f"let {entry.name} use {name} {whose} {entry.signal}" for entry in named
+                f"let {named.entry} use {name} {whose} {named.signal}" for named in unknown
             )
         number = selectors.first.split(" ")[1]
         return f"let the two use other records of {name} than number {number}"
 
     def cure_seize(self, reason: Reason) -> str:
-        first, later, name = self.first, self.later, short(reason.name)
+        (first, later), name = self.named, short(reason.name)
         if self.i == self.j:
             whose = f"whose record number comes with {first.signal}"
             return f"a plain FILE in the place of {name}, {whose}"
-        return f"a file of its own for what {first.name} or {later.name} takes of {name}"
+        return f"a file of its own for what {first.entry} or {later.entry} takes of {name}"
 
     def cure_level(self, reason: Reason) -> str:
-        points = self.exchange.made[self.i].lines.get(f"SEND {reason.name}", ())
-        sent = and_words(self.exchange.sent_at(point) for point in points)
+        sent = and_words(self.exchange.sends(self.i, reason.first[0]))
         return f"send {sent} at level {self.later.level} or lower"
 
     def cure_differ(self, reason: Reason) -> str:
-        (one, other), first, later = chosen(reason.numbers), self.first.signal, self.later.signal
+        (one, other), (first, later) = chosen(reason.numbers), self.named
         if self.i == self.j and one == other:
-            return f"let value {one} of two {first} differ"
-        return f"let value {one} of {first} differ from value {other} of {later}"
+            return f"let value {one} of two {first.signal} differ"
+        return f"let value {one} of {first.signal} differ from value {other} of {later.signal}"
 
     def cure_first_not(self, reason: Reason) -> str:
-        return be_another(self.first, chosen(reason.numbers))
+        return be_another(self.named[0], chosen(reason.numbers))
 
     def cure_later_not(self, reason: Reason) -> str:
-        return be_another(self.later, chosen(reason.numbers))
+        return be_another(self.named[1], chosen(reason.numbers))
 
     def cure_forlopp(self, _: Reason) -> str:
         begun = "by NEW and not NONE in the signal file, or by a SEND of a job that is in one"
-        return f"let {self.first.signal} begin in a forlopp: {begun}"
+        return f"let {self.named[0].signal} begin in a forlopp: {begun}"
 
     def cure_holds_no(self, reason: Reason) -> str:
         held = f"hold no record of {short(reason.name)} when it begins"
-        return f"let {self.first.name} {held}, or let it not fault"
+        return f"let {self.named[0].entry} {held}, or let it not fault"
 
 
 class OfPair(NamedTuple):
@@ -411,9 +407,9 @@ class OfPair(NamedTuple):
 
 
 OF_PAIRS = {
-    "VARIABLE": OfPair(Pair.sides_variable, Pair.cure_variable),
-    "FIELD": OfPair(Pair.sides_field, Pair.cure_field),
-    "SEIZE": OfPair(Pair.sides_seize, Pair.cure_seize),
+    "VARIABLE": OfPair(Pair.sides_accesses, Pair.cure_variable),
+    "FIELD": OfPair(Pair.sides_accesses, Pair.cure_field),
+    "SEIZE": OfPair(Pair.sides_accesses, Pair.cure_seize),
     "LEVEL": OfPair(Pair.sides_level, Pair.cure_level),
     "DIFFER": OfPair(Pair.sides_differ, Pair.cure_differ),
     "FIRST NOT": OfPair(Pair.sides_differ, Pair.cure_first_not),
@@ -423,8 +419,15 @@ OF_PAIRS = {
 }
 
 
-def be_another(entry: Entry, numbers: Numbers) -> str:
-    return f"let value {numbers.one} of {entry.signal} be another number than {numbers.other}"
+def field_side(entry: Entry, access: str, reads: bool) -> Side:
+    """The side of a job that uses a field; what is only read counts where `reads` says so."""
+    lines = [f"READ {access}"] * reads + [f"WRITE {access}"]
+    numbers = tuple(entry.number_of[line] for line in lines if line in entry.number_of)
+    return Side(entry.number, "accesses", numbers)
+
+
+def be_another(named: Named, numbers: Numbers) -> str:
+    return f"let value {numbers.one} of {named.signal} be another number than {numbers.other}"
 
 
 def chosen(part: Optional[Some]) -> Some:
@@ -462,7 +465,7 @@ def told(
     """The lines for a pair: each conflict, or each test, with its statements and what helps."""
     exchange.look_at({i, j})
     pair, name = Pair(exchange, i, j), quoted(exchange.text.name)
-    reasons = exchange.analysis.reasons(i, j) if reasons is None else reasons
+    reasons = exchange.conflicts.reasons(i, j) if reasons is None else reasons
     if not reasons:
         yield f"PAIR {i} {j} always together, unless they are of one forlopp"
         return

@@ -20,16 +20,21 @@ def refuse_inputs(name: str, inputs: Sequence[str]) -> None:
 
 
 def write(name: str, parts: Iterable[str]) -> None:
+    """Writes a file of text, as `write_bytes` does."""
+    write_bytes(name, (part.encode() for part in parts))
+
+
+def write_bytes(name: str, parts: Iterable[bytes]) -> None:
     """Writes a file beside its place first, so that none is left half written. What is no plain
     file, as a pipe, is written as it is.
     """
     try:
         place = pathlib.Path(os.path.realpath(name))
         if place.exists() and not place.is_file() and not place.is_dir():
-            with open(place, "w", encoding="utf-8") as file:
+            with open(place, "wb") as file:
                 file.writelines(parts)
         else:
-            files.replace(place, (part.encode() for part in parts))
+            files.replace(place, parts)
     except (OSError, ValueError) as wrong:
         told = getattr(wrong, "strerror", None) or wrong
         raise Wrong(f"{quoted(name)} could not be written: {told}") from wrong

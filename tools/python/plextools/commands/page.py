@@ -30,12 +30,12 @@ def main() -> int:
     given = words.parse_args()
     inputs = [name for name in (given.exchange, given.signals) if name]
     outputs.refuse_inputs(given.page, inputs)
-    content, exchange = programs.bytes_of(given.exchange), why.Exchange(given.exchange)
+    exchange = why.Exchange(given.exchange)
     figures = made = None
     if given.signals:
         load = jobs.jobs_of(exchange, given.signals, given.jobs)
         figures = report.figures(exchange, load, USUAL, given.workers)
-        made = play.play(load, play.Rules(exchange.analysis), given.workers, keep_bars=True)
+        made = play.play(load, play.Rules(exchange.conflicts), given.workers, keep_bars=True)
     title = " with ".join(tables.quoted(os.path.basename(name)) for name in inputs)
-    outputs.write(given.page, page_html.Page(exchange, title, figures, made).parts(content))
+    outputs.write(given.page, page_html.Page(exchange, title, figures, made).parts())
     return 0

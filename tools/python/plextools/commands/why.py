@@ -1,25 +1,39 @@
-"""plex-why [--all] E [I J | SIGNAL BLOCK SIGNAL BLOCK]
+"""plex-why [--all] [--json] E [I J | SIGNAL BLOCK SIGNAL BLOCK]
 
 Tells why jobs of two entries of the exchange text E are kept apart, with the statements that make
 it so: for the entries I and J, by their numbers in the analysis or by the names of signal and
 block, or else for all pairs that never run together. The first entry is that of the job that comes
-first. --all lists all statements, and not the first few of each kind.
+first. --all lists all statements, and not the first few of each kind. --json writes a list of
+objects for a program, one a line and a pair, with all statements. plex-conflicts has to be there.
 """
+from typing import Iterable, Iterator, List, Optional, Sequence
 
-from typing import List, Sequence, Tuple
-
-from plextools import programs, tables
+from plextools import limits, programs, tables
 from plextools.analysis import why
+from plextools.analysis.conflicts import Pair
 from plextools.analysis.lines import Analysis
+from plextools.show import pair_json
 
 EVERYTHING = 10**9
+
+
+def is_entry(word: str) -> bool:
+    """Whether a word may be the number of an entry."""
+    return word.isascii() and word.isdigit() and len(word) < 10 and int(word) < limits.MOST_ENTRIES
+
+
+def asked(words: List[str]) -> Optional[Pair]:
+    """The pair that two numbers name, about which alone the program is asked."""
+    if len(words) == 2 and all(map(is_entry, words)):
+        return int(words[0]), int(words[1])
+    return None
 
 
 def entry_of(analysis: Analysis, words: List[str]) -> int:
     """The number of the entry that a number or two names tell."""
     count = len(analysis.entries)
     if len(words) == 1:
-        if words[0].isascii() and words[0].isdigit() and int(words[0]) < count:
+        if is_entry(words[0]) and int(words[0]) < count:
             return int(words[0])
         there = f"they are 0 to {count - 1}"
     else:
@@ -32,29 +46,47 @@ def entry_of(analysis: Analysis, words: List[str]) -> int:
     raise programs.Wrong(f"there is no entry {named}; {there if count else 'the text has none'}")
 
 
-def pairs_of(analysis: Analysis, words: List[str]) -> Sequence[Tuple[int, int]]:
+def pairs_of(analysis: Analysis, words: List[str]) -> Sequence[Pair]:
     """The pairs to tell of: the one that the words name, or all that never run together."""
     if words:
         half = len(words) // 2
         return [(entry_of(analysis, words[:half]), entry_of(analysis, words[half:]))]
-    return [pair for pair, told in analysis.told.items() if told[0].startswith("NEVER ")]
+    return [pair for pair in analysis.told if analysis.is_never(*pair)]
+
+
+def as_text(exchange: why.Exchange, pairs: Iterable[Pair], shown: int) -> Iterator[str]:
+    """The lines for these pairs, for a reader."""
+    none = "no two jobs are kept apart for good"
+    for i, j in pairs:
+        none = ""
+        yield from why.told(exchange, i, j, shown)
+    if none:
+        yield none
+
+
+def as_json(exchange: why.Exchange, pairs: Sequence[Pair]) -> Iterator[str]:
+    """The same for a program: a list with an object for each pair, on a line of its own."""
+    yield "["
+    for place, (i, j) in enumerate(pairs, 1):
+        told = tables.as_json(pair_json.of_pair(exchange, i, j), is_short=True)
+        yield told + ("," if place < len(pairs) else "")
+    yield "]"
 
 
 def main() -> int:
     """Runs the command."""
     words = programs.Words(__doc__)
     words.add_argument("--all", action="store_true")
+    words.add_argument("--json", action="store_true")
     words.add_argument("exchange")
     words.add_argument("pair", nargs="*", default=[])
     given = words.parse_args()
     if len(given.pair) not in (0, 2, 4):
         words.error("a pair is two numbers of entries, or SIGNAL BLOCK SIGNAL BLOCK")
-    exchange = why.Exchange(given.exchange)
+    exchange = why.Exchange(given.exchange, asked(given.pair))
     pairs = pairs_of(exchange.analysis, given.pair)
     exchange.look_at({entry for pair in pairs for entry in pair})
-    for i, j in pairs:
-        for line in why.told(exchange, i, j, EVERYTHING if given.all else why.SHOWN):
-            print(line)
-    if not pairs:
-        print("no two jobs are kept apart for good")
+    shown = EVERYTHING if given.all else why.SHOWN
+    for line in as_json(exchange, pairs) if given.json else as_text(exchange, pairs, shown):
+        print(line)
     return 0

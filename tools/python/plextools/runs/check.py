@@ -2,8 +2,8 @@
 
 `compared(machine, wrote)` goes on with a run and gives its jobs, while it looks whether each of
 them, with what it sent and how it ended, and at the end the report, are what `plex trace` wrote of
-all jobs. `compare_report(machine, wrote)` looks at the report alone. Both raise `Different` at the
-first line that differs.
+all jobs. `compare_report(machine, wrote)` looks at the report alone. Both take the lines of plex
+without their ends, and raise `Different` at the first line that differs.
 """
 from typing import Iterable, Iterator, List
 
@@ -50,9 +50,7 @@ def compared(machine: Machine, wrote: Iterable[bytes]) -> Iterator[Job]:
         for line in told_job(machine, job):
             compare_line(line, next(lines, b""), f"job {job.place}")
         yield job
-    for line in machine.report().splitlines():
-        compare_line(line, next(lines, b""), "the report")
-    compare_line(b"", next(lines, b""), "the report")
+    compare_report(machine, lines)
 
 
 def compare_line(own: bytes, line: bytes, where: str) -> None:
@@ -60,14 +58,14 @@ def compare_line(own: bytes, line: bytes, where: str) -> None:
         raise Different(f"{where}: {shown(own)} and not {shown(line)}, which plex writes")
 
 
-def compare_report(machine: Machine, wrote: bytes) -> None:
-    """Compares the report of a run that is over with what `plex run` wrote."""
-    own = machine.report()
-    if own != wrote:
-        lines, others = own.splitlines() + [b""], wrote.splitlines() + [b""]
-        for line, other in zip(lines, others):
-            compare_line(line, other, "the report")
-        raise Different("the report has other lines than plex writes")
+def compare_report(machine: Machine, wrote: Iterable[bytes]) -> None:
+    """Compares the report of a run that is over with the lines of the one that plex wrote."""
+    lines = iter(wrote)
+    for line in machine.report_lines():
+        compare_line(line, next(lines, b""), "the report")
+    more = next(lines, None)
+    if more is not None:
+        raise Different(f"the report ends, and not with {shown(more)}, which plex writes")
 
 
 def refused(different: Different) -> Exception:

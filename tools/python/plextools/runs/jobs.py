@@ -11,7 +11,7 @@ import os
 import tempfile
 from typing import Dict, Iterator, List, Optional, Sequence, Set
 
-from plextools import progress
+from plextools import programs, progress
 from plextools.analysis.why import Exchange
 from plextools.programs import answer, bytes_of
 from plextools.runs import check
@@ -44,6 +44,7 @@ class Load:
         self.jobs, self.ran, self.lines, self.ending, self.limit = jobs, ran, lines, ending, limit
         self.is_traced = is_traced
         self.statements = sum(job.length for job in ran)
+        self.entries = sorted({job.entry for job in jobs})
 
     def chain(self) -> List[Job]:
         """The jobs of the longest chain: each was sent by the one before it, or came after it in
@@ -109,7 +110,7 @@ class Tracer(Recorder):
         lines: Sequence[Line],
         limit: int,
         trace: Iterator[List[str]],
-        seizes: List[Set[str]],
+        seizes: Sequence[Sequence[str]],
         lengths: List[int],
     ) -> None:
         super().__init__(program, lines, limit, None)
@@ -182,7 +183,7 @@ def jobs_of(exchange: Exchange, signals_name: str, limit: int, patience: int = P
         return traced(exchange, program, lines, signals_name, machine)
     words = ["run", name, signals_name, "--workers", "1", "--jobs", str(limit)]
     try:
-        check.compare_report(machine, answer(words, ENDINGS))
+        check.compare_report(machine, programs.lines_of(words, ENDINGS))
     except check.Different as different:
         raise check.refused(different) from different
     return machine.load(False)

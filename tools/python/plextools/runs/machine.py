@@ -27,10 +27,11 @@ class Job:
 
     `number` tells when it began to wait, from 0, and `place` which job of the run it is, from 1; it
     is 0 where it never ran. It came with a `line` of the signal file, or was sent by the job
-    `sender`, by its number. `length` is how many statements it counted, `held` has the names of the
-    files of which it held a record as it began, `sent` the numbers of the jobs that came of it,
-    `outbox` all that it sent. `fault` is the word of its fault and `point` the statement of it. Its
-    forlopp was released then, or the exchange restarted where it was in none.
+    `sender`, by its number, whose place is `by`; that is 0 where no job sent it. `length` is how
+    many statements it counted, `held` has the names of the files of which it held a record as it
+    began, `sent` the numbers of the jobs that came of it, `outbox` all that it sent. `fault` is the
+    word of its fault and `point` the statement of it. Its forlopp was released then, or the
+    exchange restarted where it was in none.
     """
 
     __slots__ = (
@@ -41,6 +42,7 @@ class Job:
         "forlopp",
         "line",
         "sender",
+        "by",
         "place",
         "length",
         "held",
@@ -67,7 +69,7 @@ class Job:
             values,
             forlopp,
         )
-        self.line, self.sender, self.place, self.length = line, sender, 0, 0
+        self.line, self.sender, self.by, self.place, self.length = line, sender, 0, 0, 0
         self.held: Tuple[str, ...] = ()
         self.sent: Sequence[int] = ()
         self.outbox: Sequence[Sent] = ()
@@ -194,6 +196,7 @@ class Machine:
         """A job joins the list of its level."""
         level = self.levels[entry]
         job = Job(self.came, entry, level, values, forlopp, line, sender)
+        job.by = 0 if sender is None else self.ended
         self.came += 1
         self.waits += 1
         self.waits_of[forlopp] = self.waits_of.get(forlopp, 0) + 1
@@ -408,13 +411,14 @@ class Machine:
 
     def report(self) -> bytes:
         """The report of the run so far, which is that of plex at its end."""
-        lines = [
-            *map(self.told_event, self.events),
-            f"JOBS {self.ended}",
-            *self.stored(),
-            f"END {self.ending}",
-        ]
-        return "".join(line + "\n" for line in lines).encode("ascii")
+        return b"".join(line + b"\n" for line in self.report_lines())
+
+    def report_lines(self) -> Iterator[bytes]:
+        """The lines of the report without their ends, one after the other."""
+        yield from (self.told_event(event).encode("ascii") for event in self.events)
+        yield b"JOBS %d" % self.ended
+        yield from (line.encode("ascii") for line in self.stored())
+        yield b"END %s" % self.ending.encode("ascii")
 
     def told_event(self, event: Event) -> str:
         """An event as a report has it."""

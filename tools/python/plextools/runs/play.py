@@ -22,14 +22,14 @@ from typing import (
     Union,
 )
 
-from plextools.analysis.lines import Analysis, Numbers, Reason
+from plextools.analysis.conflicts import Conflicts
+from plextools.analysis.reasons import Numbers, Reason
 from plextools.runs.jobs import Load
 from plextools.runs.machine import Job
 
 LEVELS = "ABCD"
 FULL, LINE, SENDER, END, SAME = "full", "line", "sender", "end", "SAME"
 BETWEEN = 5000
-FEW = 2  # so many jobs of a window are looked at one by one, without a look at their entries first
 NEVER = float("inf")
 
 Holds = Callable[[Job, Job], bool]
@@ -66,12 +66,14 @@ class Blocked(NamedTuple):
 Waited = Union[str, Blocked]  # what a job waits for: FULL, LINE, SENDER, END, or a pair
 
 
-class Issued(NamedTuple):
-    """A job of the window: when it ends, and the row in which its bar is drawn."""
+class Held(NamedTuple):
+    """A job that waits for one of the window, by its place among those that have begun: until that
+    one retires.
+    """
 
     job: Job
-    end: int
-    row: int
+    place: int
+    reason: Blocked
 
 
 class Bar(NamedTuple):
@@ -94,22 +96,34 @@ class Wait(NamedTuple):
     job: Optional[Job]
 
 
+class Against(NamedTuple):
+    """The entries whose jobs are in the way of a later one, or are where a test fails, as bits."""
+
+    conflicting: int
+    tested: int
+
+
 class Rules:
     """Which job may follow which. Reasons whose keys are in `without` do not count."""
 
-    def __init__(self, analysis: Analysis, without: FrozenSet[Key] = frozenset()) -> None:
-        self.analysis, self.without = analysis, without
+    def __init__(self, conflicts: Conflicts, without: FrozenSet[Key] = frozenset()) -> None:
+        self.conflicts, self.without = conflicts, without
         self.known: Dict[Tuple[int, int], OfPair] = {}
 
     def pair(self, i: int, j: int) -> OfPair:
         """The verdict on two entries."""
         key = i, j
         if key not in self.known:
-            conflicts = self.counting(i, j, self.analysis.conflicts(i, j))
-            tests = [] if conflicts else self.counting(i, j, self.analysis.tests(i, j))
-            found = [Test(test, holding(test)) for test in tests]
-            self.known[key] = OfPair(conflicts[0] if conflicts else None, found)
+            conflict = self.conflict(i, j)
+            tests = [] if conflict else self.counting(i, j, self.conflicts.tests(i, j))
+            self.known[key] = OfPair(conflict, [Test(test, holding(test)) for test in tests])
         return self.known[key]
+
+    def conflict(self, i: int, j: int) -> Optional[Reason]:
+        """The first conflict of two entries that counts."""
+        if not self.without:
+            return self.conflicts.first(i, j)
+        return next(iter(self.counting(i, j, self.conflicts.conflicts(i, j))), None)
 
     def counting(self, i: int, j: int, reasons: List[Reason]) -> List[Reason]:
         if not self.without:
@@ -132,17 +146,16 @@ class Rules:
                 return test
         return None
 
-    def refuses_none(self, entry: int, others: Iterable[Job], later: Job) -> bool:
-        """Whether a job may follow all of these jobs of an entry, which are of other forlopps."""
-        conflict, tests = self.known.get((entry, later.entry)) or self.pair(entry, later.entry)
-        if conflict:
-            return False
-        if tests:
-            for first in others:
-                for _, holds in tests:
-                    if not holds(first, later):
-                        return False
-        return True
+    def against(self, later: int, entries: Iterable[int]) -> "Against":
+        """Which of these entries are in the way of a job of another one, each as a bit."""
+        conflicting = tested = 0
+        for entry in entries:
+            conflict, tests = self.known.get((entry, later)) or self.pair(entry, later)
+            if conflict:
+                conflicting |= 1 << entry
+            elif tests:
+                tested |= 1 << entry
+        return Against(conflicting, tested)
 
 
 def holding(test: Reason) -> Holds:
@@ -211,8 +224,8 @@ class Play:
 
 
 class Player:
-    """A play: the jobs that wait, and those of the window, the oldest first, each with its end and
-    its row.
+    """A play: the jobs that wait, and those of the window, which are the jobs that have begun, in
+    their order, from the one behind all that have ended.
     """
 
     def __init__(
@@ -224,16 +237,18 @@ class Player:
         # Jobs of these forlopps have left the lists of those that wait; they are taken out when
         # they are seen.
         self.dead: Set[int] = set()
-        self.window: Deque[Issued] = deque()
-        # The jobs of the window by their entries, the oldest first, and their forlopps.
-        self.entries: Dict[int, List[Job]] = {}
+        self.made = Play(workers)
+        self.begun, self.ended, self.line = self.made.order, 0, 0
+        # Of the window: when each job ends, how many jobs each entry has, the entries that have
+        # some as bits, and the forlopps.
+        self.ends: Deque[int] = deque()
+        self.counts, self.present = [0] * len(rules.conflicts.analysis.entries), 0
         self.forlopps: Set[int] = set()
-        self.rows, self.ended, self.line, self.made = (
-            list(range(workers - 1, -1, -1)),
-            0,
-            0,
-            Play(workers),
-        )
+        self.known: Dict[int, Against] = {}
+        self.held: Optional[Held] = None
+        # The rows in which no bar is drawn now, and those of the jobs of the window.
+        self.free_rows = list(range(workers - 1, -1, -1))
+        self.rows: Deque[int] = deque()
         # After how many jobs the next line came in the single run, and after how many it was due.
         self.came, self.due = self.next_line()
 
@@ -265,82 +280,96 @@ class Player:
         """What the next job comes with, where nobody waits: a line of the signal file, or a job of
         the window; END where none comes.
         """
-        begun = len(self.made.order)
+        begun = len(self.begun)
         if begun >= len(self.load.ran):
             return END
         return SENDER if self.load.ran[begun].line is None else LINE
 
     def refusal(self, job: Optional[Job]) -> Optional[Waited]:
         """Why the next job is not issued now: None where it is."""
-        size = len(self.window)
-        if size >= self.workers:
+        begun = len(self.begun)
+        if begun - self.ended >= self.workers:
             return FULL
-        if self.ended + size >= self.load.limit:
+        if begun >= self.load.limit:
             return END
         if job is None:
             return self.what_comes()
-        if self.due <= self.ended + size:
+        if self.due <= begun:
             return LINE
-        if size > FEW and not self.is_refused(job):
-            return None
-        return self.refusal_in_window(job)
+        held = self.held
+        if held and held.job is job and held.place >= self.ended:
+            return held.reason
+        return self.refusal_in_window(job) if self.is_refused(job) else None
 
     def is_refused(self, job: Job) -> bool:
         """Whether a job of the window keeps the next one back."""
         if job.forlopp in self.forlopps:
             return True
-        refuses_none = self.rules.refuses_none
-        for entry, others in self.entries.items():
-            if not refuses_none(entry, others, job):
-                return True
+        entry = job.entry
+        against = self.known.get(entry)
+        if against is None:
+            against = self.known[entry] = self.rules.against(entry, self.load.entries)
+        if against.conflicting & self.present:
+            return True
+        return bool(against.tested & self.present) and self.fails_test(job)
+
+    def fails_test(self, job: Job) -> bool:
+        """Whether a test fails of a job of the window and the next one, where none conflicts."""
+        entry, known = job.entry, self.rules.known
+        for first in self.begun[self.ended :]:
+            for _, holds in known[first.entry, entry].tests:
+                if not holds(first, job):
+                    return True
         return False
 
-    def refusal_in_window(self, job: Job) -> Optional[Waited]:
+    def refusal_in_window(self, job: Job) -> Blocked:
         """Why the youngest of those jobs of the window that keep the next one back does so."""
-        for older, _, _ in reversed(self.window):
-            reason = self.rules.refusal(older, job)
-            if isinstance(reason, str):
-                return Blocked(older.entry, job.entry, reason, None)
-            if reason:
-                return Blocked(older.entry, job.entry, reason.told, reason)
-        return None
+        place = len(self.begun) - 1
+        while self.rules.refusal(self.begun[place], job) is None:
+            place -= 1
+        older = self.begun[place]
+        reason = self.rules.refusal(older, job)
+        if isinstance(reason, Reason):
+            blocked = Blocked(older.entry, job.entry, reason.told, reason)
+        else:
+            blocked = Blocked(older.entry, job.entry, SAME, None)
+        self.held = Held(job, place, blocked)
+        return blocked
 
     def issue(self, job: Job) -> None:
-        made, window, entry, length = self.made, self.window, job.entry, job.length
+        made, entry = self.made, job.entry
         self.waiting[job.level].popleft()
-        end = made.time + length
-        row = self.rows.pop()
-        window.append(Issued(job, end, row))
-        if entry in self.entries:
-            self.entries[entry].append(job)
-        else:
-            self.entries[entry] = [job]
+        self.held = None
+        self.begun.append(job)
+        self.ends.append(made.time + job.length)
+        self.counts[entry] += 1
+        self.present |= 1 << entry
         if job.forlopp:
             self.forlopps.add(job.forlopp)
-        made.busy += length
-        if len(window) > made.widest:
-            made.widest = len(window)
-        made.order.append(job)
+        if len(self.ends) > made.widest:
+            made.widest = len(self.ends)
         if self.keep_bars:
-            made.bars.append(Bar(job, row, made.time, end))
+            self.rows.append(self.free_rows.pop())
+            made.bars.append(Bar(job, self.rows[-1], made.time, self.ends[-1]))
 
     def retire(self) -> None:
         """The oldest job of the window retires."""
-        job, _, row = self.window.popleft()
-        self.rows.append(row)
+        job = self.begun[self.ended]
         self.ended += 1
-        others = self.entries[job.entry]
-        if len(others) > 1:
-            del others[0]
-        else:
-            del self.entries[job.entry]
+        self.ends.popleft()
+        if self.keep_bars:
+            self.free_rows.append(self.rows.popleft())
+        entry = job.entry
+        self.counts[entry] -= 1
+        if not self.counts[entry]:
+            self.present ^= 1 << entry
         self.forlopps.discard(job.forlopp)
         if job.sent:
             for sent in self.load.jobs[job.sent[0] : job.sent[-1] + 1]:
                 self.waiting[sent.level].append(sent)
         if job.fault:
             self.end_forlopps(job.forlopp)
-        if not self.window:
+        if not self.ends:
             self.arrive()
         if self.tell and self.ended % BETWEEN == 0:
             self.tell(self.workers, self.ended)
@@ -356,35 +385,50 @@ class Player:
     def go_on(self, reason: Waited, job: Optional[Job]) -> None:
         """Time goes on until the oldest job has ended, for this reason."""
         made = self.made
-        passed = self.window[0][1] - made.time
+        passed = self.ends[0] - made.time
         if passed > 0:
             made.waited[reason] += passed
             if self.keep_bars and reason != FULL:
                 made.waits.append(Wait(made.time, made.time + passed, reason, job))
-            made.standing += passed * len(self.window)
+            made.standing += passed * len(self.ends)
             made.time += passed
         self.retire()
 
     def run(self) -> Play:
         self.arrive()
         while True:
-            if len(self.window) >= self.workers:
+            if len(self.ends) >= self.workers:
                 self.go_on(FULL, None)
                 continue
             job = self.next_job()
             reason = self.refusal(job)
             if reason is None and job is not None:
                 self.issue(job)
-            elif reason is not None and self.window:
+            elif reason is not None and self.ends:
                 self.go_on(reason, job)
             else:
+                self.made.busy = sum(one.length for one in self.begun)
                 return self.made
 
 
 def play(
     load: Load, rules: Rules, workers: int, keep_bars: bool = False, tell: Optional[Tell] = None
 ) -> Play:
+    if workers == 1 and not keep_bars:
+        return one_by_one(load)
     return Player(load, rules, workers, keep_bars, tell).run()
+
+
+def one_by_one(load: Load) -> Play:
+    """The play with one worker: whatever the rules are, a job begins when the one before it has
+    retired.
+    """
+    made = Play(1)
+    made.order, made.widest = list(load.ran), min(1, len(load.ran))
+    made.time = made.busy = made.standing = load.statements
+    if made.time:
+        made.waited[FULL] = made.time
+    return made
 
 
 def plays(

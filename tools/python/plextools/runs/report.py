@@ -8,7 +8,7 @@ import itertools
 from typing import Dict, FrozenSet, Iterator, List, Optional, Sequence, Set, Tuple, TypedDict, Union
 
 from plextools.analysis import why as why_lines
-from plextools.analysis.lines import Reason
+from plextools.analysis.reasons import Reason
 from plextools.runs.jobs import Load
 from plextools.runs.play import END, FULL, LINE, SAME, SENDER
 from plextools.runs.play import Blocked, Key, OfPair, Play, Rules, Tell, keys_of, play, plays
@@ -118,7 +118,7 @@ def figures(
     tell: Optional[Tell] = None,
 ) -> Figures:
     """The figures of a load for these counts of workers."""
-    made = plays(load, Rules(exchange.analysis), [*counts, chosen], tell)
+    made = plays(load, Rules(exchange.conflicts), [*counts, chosen], tell)
     chain = sum(job.length for job in load.chain())
     return {
         "jobs": len(load.ran),
@@ -168,8 +168,8 @@ class Blockers:
         self, exchange: why_lines.Exchange, load: Load, made: Play, tell: Optional[Tell] = None
     ) -> None:
         self.exchange, self.load, self.made, self.tell = exchange, load, made, tell
-        self.rules = Rules(exchange.analysis)
-        self.entries = sorted({job.entry for job in load.jobs})
+        self.rules = Rules(exchange.conflicts)
+        self.entries = load.entries
         self.known: Dict[Union[Key, FrozenSet[Change]], float] = {frozenset(): made.speed}
 
     def told(self) -> Blocks:
@@ -182,7 +182,7 @@ class Blockers:
 
     def without(self, key: Key) -> float:
         """The speed-up of the load without the reasons of a key."""
-        rules = Rules(self.exchange.analysis, frozenset([key]))
+        rules = Rules(self.exchange.conflicts, frozenset([key]))
         changes = self.changed(key, rules)
         if changes not in self.known:
             made = play(self.load, rules, self.made.workers, tell=self.tell)
@@ -215,7 +215,7 @@ class Blockers:
                 row["speed_up_without_it"] = self.without((i, j, reason.told))
                 others = [
                     other.told
-                    for other in self.exchange.analysis.reasons(i, j)
+                    for other in self.exchange.conflicts.reasons(i, j)
                     if reason.is_conflict and other.told != reason.told
                 ]
                 if others:
@@ -415,6 +415,6 @@ def why(exchange: why_lines.Exchange, row: PairBlocks) -> Iterator[str]:
         yield f"PAIR {i} {j}: jobs of one forlopp never run together"
         return
     reason = next(
-        reason for reason in exchange.analysis.reasons(i, j) if row["reason"].endswith(reason.told)
+        reason for reason in exchange.conflicts.reasons(i, j) if row["reason"].endswith(reason.told)
     )
     yield from why_lines.told(exchange, i, j, 1, [reason])

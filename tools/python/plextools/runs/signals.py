@@ -8,6 +8,8 @@ from plextools.text.statements import Text
 
 NONE, NEW = -1, 0
 
+Meant = Tuple[int, Tuple[int, ...], int]  # of a line: its entry, its values and its forlopp
+
 
 class Line(NamedTuple):
     """A line of a signal file: its number, after how many jobs it is due, its entry, its values,
@@ -21,10 +23,12 @@ class Line(NamedTuple):
     origin: int
 
 
-def words_in(content: bytes) -> Iterator[Tuple[int, List[bytes]]]:
-    """The words of each line that is not skipped, with its number."""
+def words_in(content: bytes, most: int = -1) -> Iterator[Tuple[int, List[bytes]]]:
+    """The words of each line that is not skipped, with its number; behind so many words the rest of
+    the line is one.
+    """
     for number, line in enumerate(content.split(b"\n"), 1):
-        words = line.split()
+        words = line.split(None, most)
         if words and line[:1] != b"!":
             yield number, words
 
@@ -41,16 +45,26 @@ def entries_of(text: Text) -> Dict[Tuple[bytes, bytes], int]:
 
 
 def lines_of(text: Text, content: bytes) -> List[Line]:
-    """The lines of a signal file."""
+    """The lines of a signal file. What stands behind the count is read once where it stands in many
+    lines.
+    """
     entries, lines = entries_of(text), []
-    for number, words in words_in(content):
-        if words[-1] == b"NEW" or words[-1] == b"NONE":
-            origin, end = (NEW if words[-1] == b"NEW" else NONE), -1
-        else:
-            origin, end = int(words[-1]), -2
-        values = tuple(map(int, words[4:end])) if len(words) > 4 - end else ()
-        lines.append(Line(number, int(words[1]), entries[words[2], words[3]], values, origin))
+    known: Dict[bytes, Meant] = {}
+    for number, (_, after, rest) in words_in(content, 2):
+        meant = known.get(rest)
+        if meant is None:
+            meant = known[rest] = meant_by(rest.split(), entries)
+        lines.append(Line(number, int(after), *meant))
     return lines
+
+
+def meant_by(words: List[bytes], entries: Dict[Tuple[bytes, bytes], int]) -> Meant:
+    """What a line means behind its count."""
+    if words[-1] == b"NEW" or words[-1] == b"NONE":
+        origin, end = (NEW if words[-1] == b"NEW" else NONE), -1
+    else:
+        origin, end = int(words[-1]), -2
+    return entries[words[0], words[1]], tuple(map(int, words[2:end])), origin
 
 
 def periods_of(text: Text, content: bytes) -> Iterator[Line]:

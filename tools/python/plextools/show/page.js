@@ -4,6 +4,7 @@
 (function () {
   const data = JSON.parse(document.getElementById("data").textContent);
   const words = data.words;
+  const drawnAtOnce = 100;
   const panel = document.getElementById("told");
   const table = document.getElementById("table");
   let lit = [];
@@ -70,9 +71,14 @@
 
   // lists of statements
 
-  function statements(side, kind) {
+  // The statements of an entry's side, by its place among those of the kind of entry.
+  function sideOf(entry, side) {
+    return data.sides[data.entries[entry].sides[side]];
+  }
+
+  function statements(entry, side, kind) {
     const list = make("ul", "");
-    const [listed, more] = data.sides[side];
+    const [listed, more] = sideOf(entry, side);
     for (const [number, head, does] of listed) {
       if (kind) light(number, kind);
       const told = words[does] ? " " + words[does] : "";
@@ -89,13 +95,20 @@
 
   // pairs
 
+  // The reasons of a pair, which those of the same kinds of entries have too, with the names of these two.
   function reasonsOf(i, j) {
-    const row = data.pairs[i];
+    const list = data.lists[data.rows[data.pairs[i]][j]] || [];
     const found = [];
-    for (let k = 0; k < row.length; k += 6) {
-      if (row[k] === j) found.push(row.slice(k + 1, k + 6));
-    }
+    for (let k = 0; k < list.length; k += 5) found.push(list.slice(k, k + 5));
     return found;
+  }
+
+  function helps(cure, i, j) {
+    const [first, later] = [data.entries[i], data.entries[j]];
+    const names = {
+      "first": first.name, "first signal": first.signal, "later": later.name, "later signal": later.signal,
+    };
+    return words[cure].replace(/\{([a-z ]+)\}/g, (whole, name) => names[name]);
   }
 
   const kinds = {"?": "Q", ".": "P"};
@@ -132,18 +145,37 @@
     for (const run of table.querySelectorAll("td.run")) watcher.observe(run.parentNode);
   }
 
+  function tellReason(i, j, [never, told, first, later, cure]) {
+    const parts = [make("h3", "", (never ? "NEVER " : "IF ") + words[told])];
+    parts.push(make("span", "role first", "first"), statements(i, first, "first"));
+    if (sideOf(j, later)[0].length) parts.push(make("span", "role later", "later"), statements(j, later, "later"));
+    parts.push(make("p", "", make("b", "", "What helps: "), helps(cure, i, j)));
+    return parts;
+  }
+
+  // The first reasons of a pair, and a button that draws the next ones.
+  function drawReasons(place, i, j, reasons) {
+    for (const reason of reasons.slice(0, drawnAtOnce)) place.append(...tellReason(i, j, reason));
+    const rest = reasons.slice(drawnAtOnce);
+    if (!rest.length) return;
+    const more = make("button", "more", rest.length + " more");
+    more.type = "button";
+    more.addEventListener("click", () => {
+      more.remove();
+      drawReasons(place, i, j, rest);
+    });
+    place.append(more);
+  }
+
   function tellPair(i, j) {
     const reasons = reasonsOf(i, j);
     const tested = reasons.length && reasons[0][0] ? "never together" : "together where its tests hold";
     const verdict = reasons.length ? tested : "always together";
     const parts = [make("h2", "", "Pair " + i + " " + j + ": " + verdict), role("first", i), role("later", j)];
     if (!reasons.length) parts.push(make("p", "", "Unless the two are of one forlopp."));
-    for (const [never, told, first, later, cure] of reasons) {
-      parts.push(make("h3", "", (never ? "NEVER " : "IF ") + words[told]));
-      parts.push(make("span", "role first", "first"), statements(first, "first"));
-      if (data.sides[later][0].length) parts.push(make("span", "role later", "later"), statements(later, "later"));
-      parts.push(make("p", "", make("b", "", "What helps: "), words[cure]));
-    }
+    const told = make("div", "");
+    parts.push(told);
+    drawReasons(told, i, j, reasons);
     parts.push(make("p", "", choice("pair=" + j + "," + i, "the other order: " + j + " first, " + i + " later")));
     mark(cellOf(i, j));
     return parts;
@@ -158,8 +190,8 @@
     let reached = 0;
     for (let k = 0; k < entry.reach.length; k += 2) reached += entry.reach[k + 1] - entry.reach[k] + 1;
     parts.push(make("p", "", "Its jobs reach " + reached + " lines, which are lit up. They may do:"));
-    for (const [told, side] of entry.lines) {
-      const part = make("details", "", make("summary", "", make("code", "", words[told])), statements(side, null));
+    for (const [told, side] of data.kinds[entry.kind].lines) {
+      const part = make("details", "", make("summary", "", make("code", "", words[told])), statements(i, side, null));
       parts.push(part);
     }
     parts.push(make("p", "", "Beside itself: ", choice("pair=" + i + "," + i, "pair " + i + " " + i), "."));

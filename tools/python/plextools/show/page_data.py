@@ -1,30 +1,60 @@
-"""What the script of a page needs to tell of a pair, an entry or a job, as plain data with few
-words twice.
+"""What the script of a page needs to tell of a pair, an entry or a job, as plain data in which
+nothing stands twice.
 
-`of_exchange(exchange)` has `words`, in which each text stands once; `sides`, each a list of
-statements, as the line, the text and what it does, the latter two as places in `words`, and how
-many are left out; `pairs`, for each entry as the first the reasons of each later one; and
-`entries`. `of_play(made)` has the bars and the waits of a play.
+`of_exchange(exchange)` has `words`, in which each text stands once, and `sides`, each a list of
+statements: the line, the text and what it does, the latter two as places in `words`, and how many
+are left out. Entries whose lines are the same are of one kind: a kind has its lines, and a list of
+reasons is that of all pairs of two kinds. `rows` has for each later entry the place of its list,
+and `pairs` for each first entry the place of its row. Lines and reasons name a side by its place
+among those of a kind, for which each entry has `sides` of its own. `of_play(made)` has the bars and
+the waits of a play.
 """
-from typing import Dict, Generic, Iterable, List, Optional, TypedDict, TypeVar, Union
+from typing import (
+    Dict,
+    Generic,
+    Hashable,
+    Iterable,
+    List,
+    NamedTuple,
+    Optional,
+    Tuple,
+    TypedDict,
+    TypeVar,
+    Union,
+)
 
 from plextools.analysis.lines import Entry
-from plextools.analysis.why import Exchange, Pair, Side, verdict_words
+from plextools.analysis.why import NOBODY, Exchange, Named, Pair, Side, verdict_words
 from plextools.runs.play import SAME, Bar, Play, Wait, Waited
 
 MOST_STATEMENTS, MOST_BARS = 60, 2000
+# So many pairs are asked for alone where plex-conflicts has no room for all. Of the others the page
+# has the first conflict, and this in the place of what helps.
+MOST_ASKED, ELSEWHERE = 100, "plex-why tells all conflicts of this pair, with their statements"
 
 
-Thing = TypeVar("Thing")
+# What stands for the names of the entries of a pair in what helps, where the script puts them.
+FIRST, LATER = Named("{first}", "{first signal}"), Named("{later}", "{later signal}")
+NONE = -1
+
+Thing = TypeVar("Thing", bound=Hashable)
 OfSide = List[Union[List[List[int]], int]]  # the statements, and how many are left out
 
 
+class OfKind(TypedDict):
+    """The lines of the entries of a kind, each as a word with its side."""
+
+    lines: List[List[int]]
+
+
 class OfEntry(TypedDict):
-    """An entry: its lines, each as a word with its side, and the lines of the text it reaches."""
+    """An entry: its kind, its sides by their places in the kind, and the lines that it reaches."""
 
     name: str
+    signal: str
     level: str
-    lines: List[List[int]]
+    kind: int
+    sides: List[int]
     reach: List[int]
 
 
@@ -72,7 +102,10 @@ class OfPlay(TypedDict):
 class OfExchange(TypedDict):
     """All that the script of a page needs."""
 
-    pairs: List[List[int]]
+    pairs: List[int]
+    rows: List[List[int]]
+    lists: List[List[int]]
+    kinds: List[OfKind]
     entries: List[OfEntry]
     sides: List[OfSide]
     words: List[str]
@@ -89,63 +122,117 @@ class Numbers(Generic[Thing]):
         return self.known.setdefault(thing, len(self.known))
 
 
+class Kind:
+    """Entries whose lines are the same, and send the same signals by them: the first of them, and
+    the sides that are told of it, which each entry of the kind has too.
+    """
+
+    def __init__(self, entry: Entry) -> None:
+        self.entry = entry
+        self.sides: Numbers[Side] = Numbers()
+        self.lines: List[List[int]] = []
+
+
+class Kinds(NamedTuple):
+    """What the reasons of a pair hang on: the kinds of both entries, and whether these are one."""
+
+    first: int
+    later: int
+    is_one: bool
+
+
 class Parts:
-    """The words and the sides of an exchange."""
+    """The words, the sides, the kinds and the reasons of an exchange."""
 
     def __init__(self, exchange: Exchange) -> None:
-        self.exchange = exchange
+        self.exchange, self.analysis = exchange, exchange.analysis
         self.words: Numbers[str] = Numbers()
-        self.sides: Numbers[Side] = Numbers()
+        self.sides: Numbers[Tuple[Tuple[int, ...], ...]] = Numbers()
+        self.lists: List[List[int]] = []
+        self.asked = 0
+        self.list_of: Dict[Kinds, int] = {}
+        self.kinds: List[Kind] = []
+        numbers: Numbers[Tuple[int, Tuple[str, ...]]] = Numbers()
+        self.kind_of = [numbers.of(self.alike(entry)) for entry in self.analysis.entries]
+        for entry, kind in zip(self.analysis.entries, self.kind_of):
+            if kind == len(self.kinds):
+                self.kinds.append(Kind(entry))
+                self.kinds[kind].lines = [
+                    [self.words.of(line), self.kinds[kind].sides.of(access(entry, line))]
+                    for line in entry.lines
+                ]
+
+    def alike(self, entry: Entry) -> Tuple[int, Tuple[str, ...]]:
+        """What is the same of the entries of a kind."""
+        sent = tuple(
+            signal
+            for line, number in entry.number_of.items()
+            if line.startswith("SEND ")
+            for signal in self.exchange.sends(entry.number, number)
+        )
+        return self.exchange.conflicts.classes[entry.number], sent
+
+    def row(self, i: int) -> Tuple[int, ...]:
+        """The places of the lists of reasons of an entry as the first, for each later one."""
+        told, first = self.analysis.told, self.kind_of[i]
+        return tuple(
+            self.list(i, j, Kinds(first, later, i == j)) if (i, j) in told else NONE
+            for j, later in enumerate(self.kind_of)
+        )
+
+    def list(self, i: int, j: int, kinds: Kinds) -> int:
+        """The place of the list of the reasons of a pair."""
+        if kinds not in self.list_of:
+            self.list_of[kinds] = len(self.lists)
+            self.lists.append(self.reasons(Pair(self.exchange, i, j, names_of(i, j)), kinds))
+        return self.list_of[kinds]
+
+    def reasons(self, pair: Pair, kinds: Kinds) -> List[int]:
+        """The reasons of a pair: the kind of each, the reason, both sides and what helps, one after
+        the other.
+        """
+        found: List[int] = []
+        if not self.exchange.conflicts.is_at_hand(pair.i, pair.j):
+            self.asked += 1
+            if self.asked > MOST_ASKED:
+                return self.first_alone(pair, kinds)
+        for reason in self.exchange.conflicts.reasons(pair.i, pair.j):
+            first, later = pair.sides(reason)
+            found += [
+                int(reason.is_conflict),
+                self.words.of(reason.told),
+                self.kinds[kinds.first].sides.of(moved(first, self.kinds[kinds.first].entry)),
+                self.kinds[kinds.later].sides.of(moved(later, self.kinds[kinds.later].entry)),
+                self.words.of(pair.cure(reason)),
+            ]
+        return found
+
+    def first_alone(self, pair: Pair, kinds: Kinds) -> List[int]:
+        """The first conflict of a pair, as the analysis tells it, without statements."""
+        reason = self.exchange.conflicts.first(pair.i, pair.j)
+        assert reason
+        nobody = (self.kinds[kind].sides.of(NOBODY) for kind in (kinds.first, kinds.later))
+        return [1, self.words.of(reason.told), *nobody, self.words.of(ELSEWHERE)]
 
     def side(self, side: Side) -> int:
-        return self.sides.of(side)
-
-    def told_side(self, side: Side) -> OfSide:
+        """The place of the statements of a side."""
         statements = self.exchange.statements(side)
         listed = [
-            [told.line, self.words.of(told.head), self.words.of(told.does)]
+            (told.line, self.words.of(told.head), self.words.of(told.does))
             for told in statements[:MOST_STATEMENTS]
         ]
-        return [listed, len(statements) - len(listed)]
-
-    def row(self, i: int) -> List[int]:
-        """The reasons of an entry as the first with each later one: later, kind, reason, both sides
-        and what helps, one after the other.
-        """
-        row: List[int] = []
-        analysis = self.exchange.analysis
-        for j in range(len(analysis.entries)):
-            if (i, j) not in analysis.told:
-                continue
-            pair = Pair(self.exchange, i, j)
-            for reason in analysis.reasons(i, j):
-                first, later = pair.sides(reason)
-                row += [
-                    j,
-                    int(reason.is_conflict),
-                    self.words.of(reason.told),
-                    self.side(first),
-                    self.side(later),
-                    self.words.of(pair.cure(reason)),
-                ]
-        return row
+        return self.sides.of((*listed, (len(statements) - len(listed),)))
 
     def entry(self, entry: Entry) -> OfEntry:
-        made = self.exchange.made[entry.number]
-        lines = [[self.words.of(line), self.side(self.access(entry, line))] for line in entry.lines]
+        kind = self.kind_of[entry.number]
         return {
             "name": entry.name,
+            "signal": entry.signal,
             "level": entry.level,
-            "lines": lines,
-            "reach": ranges(self.lines_of(made.reached)),
+            "kind": kind,
+            "sides": [self.side(moved(side, entry)) for side in self.kinds[kind].sides.known],
+            "reach": ranges(self.lines_of(self.exchange.made[entry.number].reached)),
         }
-
-    def access(self, entry: Entry, line: str) -> Side:
-        """The side that has the statements of a line of a summary."""
-        words = line.split(" ", 3)
-        if words[0] == "FAULT":
-            return Side(entry.number, "faults")
-        return Side(entry.number, "line", line)
 
     def lines_of(self, points: Iterable[int]) -> List[int]:
         return sorted({self.exchange.text.points[point].line for point in points})
@@ -162,14 +249,41 @@ def ranges(numbers: Iterable[int]) -> List[int]:
     return found
 
 
+def access(entry: Entry, line: str) -> Side:
+    """The side that has the statements of a line of a summary."""
+    if line == "FAULT":
+        return Side(entry.number, "faults")
+    return Side(entry.number, "line", (entry.number_of[line],))
+
+
+def moved(side: Side, entry: Entry) -> Side:
+    """The same side of another entry of the kind."""
+    if side == NOBODY or side.entry == entry.number:
+        return side
+    parts = tuple(moved(part, entry) for part in side.parts)
+    return side._replace(entry=entry.number, parts=parts)
+
+
+def names_of(i: int, j: int) -> Tuple[Named, Named]:
+    """What stands for the names of the two entries of a pair."""
+    return FIRST, FIRST if i == j else LATER
+
+
 def of_exchange(exchange: Exchange) -> OfExchange:
     exchange.look_at_all()
-    parts = Parts(exchange)
-    pairs = [parts.row(entry.number) for entry in exchange.analysis.entries]
+    parts, rows = Parts(exchange), Numbers[Tuple[int, ...]]()
+    pairs = [rows.of(parts.row(entry.number)) for entry in exchange.analysis.entries]
     entries = [parts.entry(entry) for entry in exchange.analysis.entries]
-    sides = [parts.told_side(side) for side in list(parts.sides.known)]
-    words = list(parts.words.known)
-    return {"pairs": pairs, "entries": entries, "sides": sides, "words": words, "play": None}
+    return {
+        "pairs": pairs,
+        "rows": [list(row) for row in rows.known],
+        "lists": parts.lists,
+        "kinds": [{"lines": kind.lines} for kind in parts.kinds],
+        "entries": entries,
+        "sides": [[[list(one) for one in some], left] for *some, (left,) in parts.sides.known],
+        "words": list(parts.words.known),
+        "play": None,
+    }
 
 
 def reason_words(reason: Waited) -> str:

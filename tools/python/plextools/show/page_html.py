@@ -119,8 +119,8 @@ class Page:
         self.data = page_data.of_exchange(exchange)
         self.data["play"] = page_data.of_play(made) if made else None
 
-    def parts(self, content: bytes) -> Iterator[str]:
-        """The page in parts; `content` is the exchange text in bytes."""
+    def parts(self) -> Iterator[str]:
+        """The page in parts."""
         style, script = ((HERE / name).read_text() for name in ("page.css", "page.js"))
         yield HEAD.substitute(
             title=escaped(self.title), style=style, counts=self.counts(), links=self.links()
@@ -131,7 +131,7 @@ class Page:
         if self.data["play"]:
             yield from self.time_line(self.data["play"])
         yield from self.entries()
-        yield from self.lines(content)
+        yield from self.lines()
         told = tables.as_json(self.data, is_short=True).replace("<", "\\u003c")
         yield END.substitute(data=told, script=script)
 
@@ -314,9 +314,9 @@ class Page:
             for line, numbers in found.items()
         }
 
-    def lines(self, content: bytes) -> Iterator[str]:
+    def lines(self) -> Iterator[str]:
         yield TEXT.substitute(name=escaped(tables.quoted(os.path.basename(self.text.name))))
-        reached, lines = self.reached_by(), content.split(b"\n")
+        reached, lines = self.reached_by(), self.exchange.content.split(b"\n")
         lines = lines[:-1] if lines[-1] == b"" else lines
         kept: Sequence[int] = range(1, len(lines) + 1)
         if len(lines) > MOST_LINES:

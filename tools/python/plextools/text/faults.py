@@ -194,6 +194,23 @@ class Declared:
 class Block:
     """What is kept of a block: its names, its survey, and where it sends and enters."""
 
+    __slots__ = (
+        "number",
+        "name",
+        "place",
+        "names",
+        "labels",
+        "receives",
+        "sends",
+        "survey_twice",
+        "gotos",
+        "enters",
+        "sent",
+        "links",
+        "temporaries",
+        "used",
+    )
+
     def __init__(self, number: int, name: Optional[str], place: int) -> None:
         self.number, self.name, self.place = number, name, place
         self.names: Dict[str, Declared] = {}

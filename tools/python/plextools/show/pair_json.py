@@ -1,0 +1,87 @@
+"""What `plex-why --json` writes of a pair: its entries, and each conflict or test with the
+statements of both jobs and what helps. docs/FORMATS.md, Pairs as JSON, has the members.
+"""
+from typing import List, Optional, Sequence, TypedDict
+
+from plextools.analysis.lines import Entry
+from plextools.analysis.reasons import Reason
+from plextools.analysis.why import Exchange, Pair, Told
+
+
+class OfEntry(TypedDict):
+    """An entry of a pair."""
+
+    entry: int
+    signal: str
+    block: str
+    level: str
+
+
+class OfStatement(TypedDict):
+    """A statement of a job, or the declaration of its signal, which is no point."""
+
+    point: Optional[int]
+    line: int
+    text: str
+    does: str
+
+
+class OfReason(TypedDict):
+    """A conflict or a test, the statements of both jobs, and what helps."""
+
+    reason: str
+    first: List[OfStatement]
+    later: List[OfStatement]
+    helps: str
+
+
+class OfPair(TypedDict):
+    """A pair, with its verdict: NEVER, IF or ALWAYS."""
+
+    first: OfEntry
+    later: OfEntry
+    verdict: str
+    reasons: List[OfReason]
+
+
+def of_pair(exchange: Exchange, i: int, j: int) -> OfPair:
+    exchange.look_at({i, j})
+    pair, reasons = Pair(exchange, i, j), exchange.conflicts.reasons(i, j)
+    return {
+        "first": of_entry(pair.first),
+        "later": of_entry(pair.later),
+        "verdict": verdict_of(reasons),
+        "reasons": [of_reason(pair, reason) for reason in reasons],
+    }
+
+
+def verdict_of(reasons: Sequence[Reason]) -> str:
+    if not reasons:
+        return "ALWAYS"
+    return "NEVER" if reasons[0].is_conflict else "IF"
+
+
+def of_entry(entry: Entry) -> OfEntry:
+    return {
+        "entry": entry.number,
+        "signal": entry.signal,
+        "block": entry.block,
+        "level": entry.level,
+    }
+
+
+def of_reason(pair: Pair, reason: Reason) -> OfReason:
+    first, later = pair.statements(reason)
+    return {
+        "reason": reason.told,
+        "first": of_statements(first),
+        "later": of_statements(later),
+        "helps": pair.cure(reason),
+    }
+
+
+def of_statements(statements: Sequence[Told]) -> List[OfStatement]:
+    return [
+        {"point": told.point, "line": told.line, "text": told.head, "does": told.does}
+        for told in statements
+    ]
