@@ -14,7 +14,7 @@
   "The faults of exchange texts."
   :group 'tools)
 
-(defcustom plex-check-command "plex-check"
+(defcustom plex-check-command "plex-check --short"
   "The command that tells the faults of an exchange text."
   :type 'string)
 

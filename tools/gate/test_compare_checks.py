@@ -41,7 +41,7 @@ REFUSED = (2, 3, 11, 13)
 APART = 3
 # How many cases of each table there must be, and for each text and file of lines that is to be made
 # by chance: how many cases, and how many faults put in.
-LEAST_TABLES, LEAST_ROWS, LEAST_USES = 762, 66, 18
+LEAST_TABLES, LEAST_ROWS, LEAST_USES = 762, 70, 32
 TEXTS, TEXT_FAULTS, LINE_FAULTS, CHANGED = 1.8, 2, 0.7, 3
 USES = [
     ("", 3),
@@ -61,6 +61,20 @@ USES = [
     ("/dev/null", 0),
     ("/dev/null /dev/null /dev/null /dev/null", 0),
     ("-- /dev/null", 0),
+    ("--long E", 2),
+    ("--long E many many many", 2),
+    ("--color=always --long many", 2),
+    ("--long /dev/null", 0),
+    ("--json E", 2),
+    ("--sarif E", 2),
+    ("--json --sarif E", 3),
+    ("--color E", 3),
+    ("--color=green E", 3),
+    ("--explain N6", 0),
+    ("--explain", 3),
+    ("--explain FLAW", 3),
+    ("--explain N6 E", 3),
+    ("--werror E", 2),
 ]
 DECLARING = (
     "SIGNAL",

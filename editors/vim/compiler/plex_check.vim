@@ -10,5 +10,5 @@ if exists(":CompilerSet") != 2
   command -nargs=* CompilerSet setlocal <args>
 endif
 
-CompilerSet makeprg=plex-check\ %:S\ $*
+CompilerSet makeprg=plex-check\ --short\ %:S\ $*
 CompilerSet errorformat=%f:%l:%c:\ %m

@@ -1,9 +1,10 @@
-"""What is said of a fault of the grammar: what stands there, what was wanted, and what is probably
-wrong.
+"""What is said of a fault of the grammar: what stands there, what was wanted, what is probably
+wrong, and which edits would cure it.
 """
 import difflib
-from typing import TYPE_CHECKING, Iterable, List, NamedTuple, Optional, Sequence
+from typing import TYPE_CHECKING, Iterable, List, NamedTuple, Optional, Sequence, Tuple
 
+from plextools.text.finding import Edit
 from plextools.text.grammar import Node, Stop
 from plextools.text.tokens import KEYWORDS, RELATIONS, TOKEN, Lines, shown
 
@@ -64,36 +65,68 @@ class Misfit(NamedTuple):
     frame: Optional["Frame"] = None
 
 
-def sentence(reader: "Reader", place: int, misfit: Misfit) -> str:
+class Hint(NamedTuple):
+    """What is probably wrong: a sentence; where that begins which has no end; and what would cure
+    it.
+    """
+
+    sentence: str
+    begun: Optional[int] = None
+    edits: Tuple[Edit, ...] = ()
+
+
+class Said(NamedTuple):
+    """What is said of a fault: a sentence, and the hint that it ends in."""
+
+    sentence: str
+    hint: Optional[Hint] = None
+
+
+def said(reader: "Reader", place: int, misfit: Misfit) -> Said:
     wanted = any_of(misfit.wanted)
     if misfit.rule == "TOODEEP":
-        return f"this goes too deep: {wanted} are allowed"
+        return Said(f"this goes too deep: {wanted} are allowed")
     found = TOKEN.match(reader.source.clean, place)
     word = shown(found[0]) if found else ""
     stands = f"found {word}, wanted {wanted}" if found else f"the text ends, wanted {wanted}"
     why = why_not(reader, place, word, misfit)
-    return f"{stands}: {why}" if why else stands
+    return Said(f"{stands}: {why.sentence}", why) if why else Said(stands)
 
 
-def why_not(reader: "Reader", place: int, word: str, misfit: Misfit) -> Optional[str]:
+def why_not(reader: "Reader", place: int, word: str, misfit: Misfit) -> Optional[Hint]:
     """What is probably wrong, or None."""
     lines, node, frame = reader.source.lines, misfit.node, misfit.frame
     comment = swallowing(reader, place)
     if comment is not None:
-        return f"the != of line {lines.line(comment)} begins a comment; write <>"
+        told = f"the != of line {lines.line(comment)} begins a comment; write <>"
+        return Hint(told, comment, (Edit(comment, comment + 2, "<>"),))
     if misfit.stop is not None and node is not None:
         return of_phrase(reader, word, node, misfit.shift, misfit.stop)
     if node is not None and node.kind == "label" and frame is not None and frame.node is not None:
-        return f"a label stands in no other statement, and {told_frame(frame, lines)} is open"
+        told = f"a label stands in no other statement, and {told_frame(frame, lines)} is open"
+        return Hint(told, frame.place)
     if len(reader.frames) > 1 and reader.section == "running":
-        return of_list(reader, word, lines)
+        return of_list(reader, word, lines, place)
     if word in OPENERS and reader.section == "running":
-        return f"no {OPENERS[word]} is open here"
-    return of_section(reader, word, lines)
+        return Hint(f"no {OPENERS[word]} is open here")
+    return of_section(reader, word, lines, place)
 
 
 def told_frame(frame: "Frame", lines: Lines) -> str:
     return f"the {NAMED[frame.state]} of line {lines.line(frame.place)}"
+
+
+def line_before(reader: "Reader", place: int, line: str, as_of: Optional[int] = None) -> Edit:
+    """A line that is put in before the one of a place, as deep as the line of another place; within
+    a line, only its words are put in.
+    """
+    text, lines = reader.source.text, reader.source.lines
+    start = lines.start(place)
+    if text[start:place].strip(" \t"):
+        return Edit(place, place, f"{line} " if place < len(text) else f"\n{line}\n")
+    deep = start if as_of is None else lines.start(as_of)
+    blanks = text[deep : deep + 200]
+    return Edit(start, start, f"{blanks[: len(blanks) - len(blanks.lstrip(' '))]}{line}\n")
 
 
 def swallowing(reader: "Reader", place: int) -> Optional[int]:
@@ -110,103 +143,160 @@ def swallowing(reader: "Reader", place: int) -> Optional[int]:
     )
 
 
-def of_list(reader: "Reader", word: str, lines: Lines) -> Optional[str]:
+def of_list(reader: "Reader", word: str, lines: Lines, place: int) -> Optional[Hint]:
     """A list of statements goes on in a way that it cannot."""
     frame = reader.frames[-1]
     if frame.state == "CASE" or word == "ESAC" and frame.state == "WHEN":
         missing = "WHEN" if frame.state == "CASE" and word != "ESAC" else "OTHERWISE"
-        return f"{told_frame(frame, lines)} has no {missing}"
+        edits = (line_before(reader, place, "OTHERWISE DO", place),) if word == "ESAC" else ()
+        return Hint(f"{told_frame(frame, lines)} has no {missing}", frame.place, edits)
     if (
         word in ("ENTER", "END", "BLOCK", "")
         or OPENERS.get(word, NAMED[frame.state]) != NAMED[frame.state]
     ):
-        open_ones = [told_frame(one, lines) for one in reversed(reader.frames[1:])]
-        others = f" (open as well: {', '.join(open_ones[1:5])})" if len(open_ones) > 1 else ""
-        return f"{open_ones[0]} has no {CLOSERS[frame.state]}{others}"
+        return of_open_lists(reader, word, lines, place)
     if word == "ELSE":
-        return f"{told_frame(frame, lines)} has an ELSE already"
+        return Hint(f"{told_frame(frame, lines)} has an ELSE already", frame.place)
     if word == "WHEN":
-        return f"OTHERWISE is the last part of {told_frame(frame, lines)}"
-    return KEYWORD_SAID.format(word) if word in KEYWORDS else None
+        told = f"OTHERWISE is the last part of {told_frame(frame, lines)}"
+        return Hint(told, frame.place)
+    return Hint(KEYWORD_SAID.format(word)) if word in KEYWORDS else None
+
+
+def of_open_lists(reader: "Reader", word: str, lines: Lines, place: int) -> Hint:
+    """A statement that holds others has no end where all of them must have ended."""
+    frames = reader.frames[:0:-1]
+    frame, open_ones = frames[0], [told_frame(one, lines) for one in frames]
+    others = f" (open as well: {', '.join(open_ones[1:5])})" if len(open_ones) > 1 else ""
+    told = f"{open_ones[0]} has no {CLOSERS[frame.state]}{others}"
+    ends = [] if word not in ("ENTER", "END", "BLOCK", "") else frames
+    ends = ends or frames[:1]
+    if any(one.state in ("CASE", "WHEN") for one in ends):
+        return Hint(told, frame.place)
+    line = " ".join(f"{CLOSERS[one.state]};" for one in ends)
+    return Hint(told, frame.place, (line_before(reader, place, line, ends[-1].place),))
 
 
 KEYWORD_SAID = "no statement begins with {}"
 
 
-def of_section(reader: "Reader", word: str, lines: Lines) -> Optional[str]:
+def of_section(reader: "Reader", word: str, lines: Lines, at: int) -> Optional[Hint]:
     """A part of a text is missing, or stands elsewhere."""
     section = reader.section
     if section == "top":
         if word == "SIGNAL":
-            return "signals stand before the first block"
+            return Hint("signals stand before the first block")
         if word == "DECLARE":
-            return "the first line of a block is missing, as BLOCK K;"
+            told = "the first line of a block is missing, as BLOCK K;"
+            return Hint(told, None, (line_before(reader, at, "BLOCK K;"),))
         return (
-            "behind END BLOCK; another block may follow, and nothing else"
+            Hint("behind END BLOCK; another block may follow, and nothing else")
             if reader.has_blocks
             else None
         )
     place: Optional[int] = getattr(reader, "block_place", None)
     begun = "the block" if place is None else f"the block of line {lines.line(place)}"
     if word in ("BLOCK", "") and section != "begun":
-        return f"{begun} has no END BLOCK;"
+        edits = missing_line(reader, at, "END BLOCK;") if section == "running" else ()
+        return Hint(f"{begun} has no END BLOCK;", place, edits)
     if section == "begun":
-        return f"{begun} has no DECLARE;"
+        return Hint(f"{begun} has no DECLARE;", place, missing_line(reader, at, "DECLARE;"))
     if word == "FIELD":
-        return "a FIELD stands directly behind its FILE"
+        return Hint("a FIELD stands directly behind its FILE")
     if section == "declared" and word in ("RECEIVE", "SEND", "PROGRAM", "ENTER"):
-        return f"{begun} has no SURVEY;"
+        is_survey = word in ("RECEIVE", "SEND", "PROGRAM")
+        edits = missing_line(reader, at, "SURVEY;") if is_survey else ()
+        return Hint(f"{begun} has no SURVEY;", place, edits)
     if section == "surveyed":
         if word in ("VARIABLE", "TEMPORARY", "FILE", "FORLOPP"):
-            return "declarations stand between DECLARE; and SURVEY;"
-        return f"{begun} has no PROGRAM;"
+            return Hint("declarations stand between DECLARE; and SURVEY;")
+        return Hint(f"{begun} has no PROGRAM;", place, missing_line(reader, at, "PROGRAM;"))
     if word in ("VARIABLE", "TEMPORARY", "FILE", "FORLOPP"):
-        return "declarations stand between DECLARE; and SURVEY;"
+        return Hint("declarations stand between DECLARE; and SURVEY;")
     if word == "RECEIVE":
-        return "lines of the survey stand between SURVEY; and PROGRAM;"
+        return Hint("lines of the survey stand between SURVEY; and PROGRAM;")
     if word == "SIGNAL":
-        return "signals stand before the first block"
+        return Hint("signals stand before the first block")
     if word == ";":
-        return "there is no empty statement"
+        return Hint("there is no empty statement", None, (Edit(at, at + 1, ""),))
     meant = near(word, KEYWORDS) if word.isalpha() and word not in KEYWORDS else None
     if meant:
-        return f"{word} is no keyword; {meant} is"
-    return KEYWORD_SAID.format(word) if word in KEYWORDS else None
+        return Hint(f"{word} is no keyword; {meant} is", None, (Edit(at, at + len(word), meant),))
+    return Hint(KEYWORD_SAID.format(word)) if word in KEYWORDS else None
 
 
-def of_phrase(reader: "Reader", word: str, node: Node, shift: int, stop: Stop) -> Optional[str]:
+def missing_line(reader: "Reader", place: int, line: str) -> Tuple[Edit, ...]:
+    return (line_before(reader, place, line),)
+
+
+def of_phrase(reader: "Reader", word: str, node: Node, shift: int, stop: Stop) -> Optional[Hint]:
     """A phrase goes on in a way that it cannot."""
-    first, lines = node.first, reader.source.lines
+    first, lines, words = node.first, reader.source.lines, node.first.piece.words
+    place, begun = first.piece.place(stop.index) + shift, first.place + shift
     if stop.wants_name() and word in KEYWORDS:
-        return f"{word} is a keyword, and no name"
-    before = first.piece.words[stop.index - 1] if stop.index else ""
+        return Hint(f"{word} is a keyword, and no name")
+    before = words[stop.index - 1] if stop.index else ""
     if word in (">", "<") and before == "=" or word == "=" and before in ("=", ">", "<"):
-        return (
-            f"write {word}="
-            if before == "=" and word != "="
-            else "a relation is one of " + " ".join(RELATIONS)
-        )
+        return of_relation(word, before, first.piece.place(stop.index - 1) + shift, place)
     if word == "-" and stop.wanted[0].startswith("a number,"):
-        return "a minus sign stands between two operands: write 0 - 1 for -1"
+        told = "a minus sign stands between two operands: write 0 - 1 for -1"
+        return Hint(told, None, (Edit(place, place, "0 "),))
     if word in RELATIONS and stop.wanted[0] == ")":
-        return "a condition has no brackets around it"
+        return Hint("a condition has no brackets around it", None, unbracketed(node, shift, stop))
     if stop.wanted == ["the name of a temporary"] and word.isdigit():
-        return "a pointer is a temporary: put the number into one before"
+        return Hint("a pointer is a temporary: put the number into one before")
     if stop.wanted[0] == "=" and len(stop.wanted) == 3:
         meant = near(first.text, KEYWORDS)
-        return f"{shown(first.text)} is no keyword; {meant} is" if meant else None
+        if not meant:
+            return None
+        edit = Edit(begun, begun + len(first.text), meant)
+        return Hint(f"{shown(first.text)} is no keyword; {meant} is", None, (edit,))
     if first.text == "SEIZE" and stop.wanted[0] in ("ELSE", "GOTO"):
-        return "SEIZE ends in ELSE GOTO and a label, for when no record is free"
+        return Hint("SEIZE ends in ELSE GOTO and a label, for when no record is free")
     if stop.wanted == ["THEN", "GOTO"]:
-        return f"the IF of line {lines.line(first.place + shift)} has neither"
+        then = () if word in ("", ";", ")") else (Edit(place, place, "THEN "),)
+        return Hint(f"the IF of line {lines.line(begun)} has neither", begun, then)
     noun = NOUNS.get(first.text, "statement")
     if stop.complete:
         if word in LATE:
-            return LATE[word]
+            return Hint(LATE[word])
         if noun == "statement" and reader.section == "surveyed":
             noun = "line of the survey"
-        return f"the {noun} of line {lines.line(first.place + shift)} has no end"
+        end = first.piece.place(stop.index - 1) + shift + len(before)
+        return Hint(f"the {noun} of line {lines.line(begun)} has no end", begun, ends_at(end))
     if not word:
-        return f"the {noun} of line {lines.line(first.place + shift)} is not whole"
+        return Hint(f"the {noun} of line {lines.line(begun)} is not whole", begun)
     meant = near(word, [one for one in stop.wanted if one in KEYWORDS])
-    return f"{word} is no keyword; {meant} is" if meant and word not in KEYWORDS else None
+    if not meant or word in KEYWORDS:
+        return None
+    return Hint(f"{word} is no keyword; {meant} is", None, (Edit(place, place + len(word), meant),))
+
+
+def ends_at(place: int) -> Tuple[Edit, ...]:
+    return (Edit(place, place, ";"),)
+
+
+def of_relation(word: str, before: str, start: int, place: int) -> Hint:
+    """A relation of two marks that is none."""
+    meant = "=" if word == before else f"{word}=" if before == "=" else f"{before}="
+    edits = (Edit(start, place + 1, meant),)
+    if before == "=" and word != "=":
+        return Hint(f"write {meant}", None, edits)
+    return Hint("a relation is one of " + " ".join(RELATIONS), None, edits)
+
+
+def unbracketed(node: Node, shift: int, stop: Stop) -> Tuple[Edit, ...]:
+    """A condition without the bracket that is open at a word, nor the one that closes it."""
+    words, piece, at = node.first.piece.words, node.first.piece, stop.index - 1
+    closed = 0
+    while at > node.first.index and (closed or words[at] != "("):
+        closed += (words[at] == ")") - (words[at] == "(")
+        at -= 1
+    end, opened = stop.index, 0
+    while end < len(words) and (opened or words[end] != ")"):
+        opened += (words[end] == "(") - (words[end] == ")")
+        end += 1
+    if words[at] != "(" or end >= len(words):
+        return ()
+    places = [piece.place(place) + shift for place in (at, end)]
+    return tuple(Edit(place, place + 1, "") for place in places)

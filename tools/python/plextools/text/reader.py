@@ -5,6 +5,7 @@ A `Reader` looks only at how a text is spelled, and goes on behind each fault. W
 hands to methods that begin with `found`, for others to look at: `Tree` in tree.py keeps all of it,
 and faults.py compares it with the rules. A piece of a program that stood there before, letter by
 letter, is not read a second time: its phrases are found in `memo`, and stand `shift` bytes later.
+Nor is a line that each block has, as DECLARE and END BLOCK.
 """
 import re
 from typing import Callable, Dict, List, NamedTuple, Optional, Set, Union
@@ -22,6 +23,13 @@ STATEMENTS = frozenset(STARTS)
 OF_PROGRAM = frozenset(STARTS + INNER + ["ENTER"])
 BEGINS = re.compile(r"(?<![A-Z0-9])(?:SIGNAL|BLOCK|DECLARE)(?![A-Z0-9])")
 FOLLOWS = re.compile(r"[ \t\r\n]*([A-Z][A-Z0-9]*)[ \t\r\n]*(.?)", re.S)
+# The lines that each block has and that have no names: where they stand, and what begins there.
+BARE = {
+    "DECLARE": (BEGUN, DECLARED),
+    "SURVEY": (DECLARED, SURVEYED),
+    "PROGRAM": (SURVEYED, RUNNING),
+}
+LONGEST_BARE, LAST_LINE = 100, "END BLOCK"
 WANTED = {
     TOP: ["BLOCK"],
     BEGUN: ["DECLARE"],
@@ -113,6 +121,7 @@ class Reader(Phrases):
         self.points, self.has_blocks = 0, False
         self.last_declared: Optional[Node] = None
         self.grammar: List[Told] = []
+        self.hints: Dict[int, hints.Hint] = {}
         self.seen, self.most = {fault.place for fault in source.faults}, source.most
         self.points_over: Optional[int] = None
         self.is_lost = False
@@ -165,8 +174,10 @@ class Reader(Phrases):
         self.seen.add(place)
         rule = "ENDED" if place >= len(self.source.text) else misfit.rule
         if len(self.grammar) < self.most:
-            sentence = hints.sentence(self, place, misfit)
+            sentence, hint = hints.said(self, place, misfit)
             self.grammar.append(Told(place, rule, sentence))
+            if hint:
+                self.hints[place] = hint
 
     def tell_stop(self, node: Node, shift: int) -> None:
         stop = node.stop
@@ -181,15 +192,16 @@ class Reader(Phrases):
 
     def read(self) -> None:
         clean, at = self.source.clean, 0
+        size = len(clean)
         while not self.is_full():
             end = clean.find(";", at)
             if end < 0:
-                end = len(clean)
+                end = size
             if self.section is RUNNING and self.keeps_pieces:
                 self.known_piece(clean, at, end)
-            else:
+            elif end - at > LONGEST_BARE or end == size or not self.is_bare(clean[at:end].strip()):
                 self.new_piece(at, end)
-            if end == len(clean):
+            if end == size:
                 break
             at = end + 1
             if self.is_lost:
@@ -197,8 +209,21 @@ class Reader(Phrases):
                 at = found.start() if found else len(clean)
         self.finish_text()
 
+    def is_bare(self, line: str) -> bool:
+        """Whether a piece is a line without names that stands where it belongs. Then what it begins
+        has begun.
+        """
+        stands, begins = BARE.get(line, (None, None))
+        if self.section is not stands or begins is None:
+            return False
+        if begins is RUNNING:
+            self.begin_program()
+        else:
+            self.section = begins
+        return True
+
     def known_piece(self, clean: str, at: int, end: int) -> None:
-        key = clean[at:end].strip()
+        key = clean[at:end].lstrip()
         known = self.memo.get(key)
         if known is None:
             self.new_piece(at, end, key)
@@ -237,7 +262,7 @@ class Reader(Phrases):
             self.handle(node, 0)
         if (
             key
-            and self.section is RUNNING
+            and (self.section is RUNNING or key == LAST_LINE)
             and end < len(self.source.clean)
             and len(found) < MOST_IN_PIECE
         ):
@@ -370,7 +395,10 @@ class Reader(Phrases):
     def begin_program(self) -> None:
         self.section = RUNNING
         self.frames = [Frame(None, 0, "list")]
+        last_line = self.memo.get(LAST_LINE)
         self.memo.clear()
+        if last_line is not None:
+            self.memo[LAST_LINE] = last_line
         self.found_program()
 
     def elsewhere(self, node: Node) -> None:
