@@ -383,7 +383,7 @@ TEXTS: list[tuple[dict[str, str], int, list[str]]] = [
     # a comment that swallows a statement
     (
         {"program": "! the first ! NOW = 1;\nNOW = 2; ! NOW = 3;\n! NOW = 4;"},
-        1,
+        0,
         [
             "E:14:1: SWALLOWED: the comment goes on to the end of its line, and NOW = 1; is a "
             "part of it",
@@ -400,7 +400,7 @@ TEXTS: list[tuple[dict[str, str], int, list[str]]] = [
             "survey": "SEND RING;",
             "program": "L) EXIT;",
         },
-        1,
+        0,
         [
             "E:6:67: UNUSED: no statement uses the variable V",
             "E:6:88: UNUSED: no statement uses the temporary W",
@@ -412,7 +412,7 @@ TEXTS: list[tuple[dict[str, str], int, list[str]]] = [
     # a name that is nearly a keyword
     (
         {"declared": "VARIABLE SURVYE WIDTH 8;", "program": "SURVYE = 1; EXIT;"},
-        1,
+        0,
         [
             "E:6:67: KEYWORD: SURVYE is a name here; SURVEY is the keyword",
         ],
@@ -526,6 +526,25 @@ SHOW FAULTS ALL
             "FAULTS may stand here",
         ],
     ),
+    (
+        "Q",
+        """\
+SHOW SIGNAL SETUP
+SHOW SIGNAL GO
+SHOW BLOCK DESK SIGNAL ASK FROM 3
+SHOW SIGNAL TOLD FORLOPP 1
+SHOW SIGNAL RING
+SHOW FORLOPP 0
+""",
+        0,
+        [
+            "Q:2:13: NOJOB: GO is a direct signal: no job starts by it",
+            "Q:3:24: NOJOB: ASK is a combined signal: no job starts by it",
+            "Q:4:13: NOJOB: TOLD is an answer: no job starts by it",
+            "Q:4:26: NOJOB: no job is in forlopp 1: the signal lines begin 0 forlopps",
+            "Q:5:13: NOJOB: RING is an outside signal: no job starts by it",
+        ],
+    ),
 ]
 
 # Two exchange texts, the status, and the lines that are told of the change of the first to the
@@ -556,7 +575,7 @@ ENTER SETUP WITH T; NUMBER(T) = NOW; FRESH1 = 1; WHO = 0; EXIT;
 ENTER CLOSE;
 END BLOCK;
 """,  # noqa: E501
-        1,
+        0,
         [
             "NEW:5:19: NARROWED: variable NOW of block DESK: WIDTH 8 becomes 4, values over 15 "
             "become 2",
@@ -623,7 +642,15 @@ def text_with(declared: str = "", survey: str = "", program: str = "EXIT;") -> s
 
 
 def rows() -> Iterator[Row]:
-    """All rows."""
+    """All rows; where there are warnings alone, also with --werror, by which the status is 1."""
+    for row in plain_rows():
+        yield row
+        if row.lines and not row.status:
+            yield row._replace(options=["--werror", *row.options], status=1)
+
+
+def plain_rows() -> Iterator[Row]:
+    """The rows without --werror."""
     for parts, status, lines in TEXTS:
         yield Row({"E": text_with(**parts)}, [], status, lines)
     for name, content, status, lines in LINES:

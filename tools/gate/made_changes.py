@@ -488,7 +488,7 @@ def differences(plex: Path, pair: Pair, folder: Path) -> Optional[str]:
     here = os.getcwd()
     os.chdir(folder)
     try:
-        words = ["--no", ",".join(warnings.WARNINGS), "--change", "OLD", "NEW"]
+        words = ["--werror", "--no", ",".join(warnings.WARNINGS), "--change", "OLD", "NEW"]
         report = check.checked(words)
     finally:
         os.chdir(here)

@@ -164,7 +164,7 @@ def told(row: Row, folder: pathlib.Path) -> Tuple[int, List[str], str]:
     os.chdir(folder)
     try:
         with contextlib.redirect_stderr(left_out):
-            report = check.checked([*row.words, *files])
+            report = check.checked(["--werror", *row.words, *files])
     finally:
         os.chdir(here)
     return report.status, [line.rstrip("\n") for line in report.lines], left_out.getvalue()

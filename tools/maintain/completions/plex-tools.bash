@@ -1,5 +1,5 @@
-# Completion of the words of plex-why, plex-load, plex-page and plex-test in bash. Source this file,
-# or put it into a folder of bash-completion under the name of each tool.
+# Completion of the words of plex-chart, plex-why, plex-load, plex-page and plex-test in bash. Source
+# this file, or put it into a folder of bash-completion under the name of each tool.
 
 # The file names that begin with the word.
 _plex_tools_files() {
@@ -33,14 +33,38 @@ _plex_test() {
     esac
 }
 
+# plex-chart takes a range of jobs for --jobs.
+_plex_chart() {
+    case $2 in
+        --around)
+            _plex_tools_words "$1" 'FAULT POINTER RANGE DIVIDE NOTOWN NOFORLOPP CHAIN BADEND' \
+                'DEPTH SENDS BUDGET'
+            ;;
+        --color) _plex_tools_words "$1" always auto never ;;
+        --most | --context | --width) _plex_tools_words "$1" 10 100 1000 ;;
+        --limit) _plex_tools_words "$1" 1000 1000000 10000000 ;;
+        --jobs | --forlopp | --block | --signal) ;;
+        *)
+            if [[ $1 == -* ]]; then
+                _plex_tools_words "$1" '--jobs --forlopp --block --signal --around --context' \
+                    '--most --limit --values --lines --ascii --svg --mermaid --msc -o --width' \
+                    '--color --help --version'
+            else
+                _plex_tools_files "$1"
+            fi
+            ;;
+    esac
+}
+
 _plex_tools() {
     local word=${COMP_WORDS[COMP_CWORD]} before=${COMP_WORDS[COMP_CWORD-1]} options
     COMPREPLY=()
     case ${COMP_WORDS[0]##*/} in
-        plex-why) options='--all --help' ;;
+        plex-why) options='--all --json --help' ;;
         plex-load) options='--workers --jobs --json --help' ;;
         plex-page) options='-o --workers --jobs --help' ;;
         plex-test) _plex_test "$word" "$before"; return ;;
+        plex-chart) _plex_chart "$word" "$before"; return ;;
     esac
     case $before in
         --workers) _plex_tools_words "$word" 1 2 4 8 16 32 64 ;;
@@ -55,4 +79,4 @@ _plex_tools() {
     esac
 }
 
-complete -F _plex_tools plex-why plex-load plex-page plex-test
+complete -F _plex_tools plex-chart plex-why plex-load plex-page plex-test

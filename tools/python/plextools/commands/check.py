@@ -1,38 +1,69 @@
-"""plex-check [OPTION ...] E [S [T [Q]]] | plex-check [OPTION ...] --change E E2
+"""plex-check [OPTION ...] E [S [T [Q]]] | plex-check [OPTION ...] --change E E2 |
+plex-check --explain WORD
 
 Tells all that is wrong in an exchange text E, and what is odd in it; also in a signal file S, in a
 table of periodic signals T and in a filter Q for it. A third file whose first line begins with SHOW
 is a filter. With --change it tells what a change of E to E2 keeps, drops, narrows and begins anew,
-and why it is refused. Each line has the form FILE:LINE:COLUMN: WORD: sentence.
+and why it is refused. On a terminal each fault comes with the line of the text, the places that
+matter and the cure; else each one is a line of the form FILE:LINE:COLUMN: WORD: sentence.
 
 Options:
-  --no WORD    leaves the warnings or notes of this word out; WORD,WORD leaves several out
-  --most N     tells at most N faults or warnings of each word in a file; 1000 without it
-  --help       writes this text, and all words that --no takes
-  --version    writes the version
+  --explain WORD  tells what a word means, with a wrong and a right example
+  --long          writes the form of a terminal, wherever the output goes
+  --short         writes a line for each fault, also on a terminal
+  --json          writes a record of JSON for each fault, each on a line
+  --sarif         writes a document of SARIF 2.1.0
+  --color WHEN    has colours in the long form: always, never, or auto, which is on a terminal
+                  where NO_COLOR is not set
+  --werror        ends with 1 where there are warnings and no faults
+  --no WORD       leaves the warnings or notes of this word out; WORD,WORD leaves several out
+  --most N        tells at most N faults or warnings of each word in a file; 1000 without it
+  --help          writes this text, and all words that --no takes
+  --version       writes the version
 
-The status is 0 where nothing is wrong or odd, 1 with warnings alone, 2 with faults, and 3 where a
-file cannot be read or the words are wrong. The words of faults are those of plex, and the first
-fault is the one that plex tells.
+The status is 0 where nothing is wrong, 1 where there are warnings alone and --werror asks for it,
+2 with faults, and 3 where a file cannot be read or the words are wrong. The words of faults are
+those of plex, and the first fault is the one that plex tells.
 """
 import argparse
 import gc
 import os
+import shutil
 import sys
-from typing import List, Mapping, NoReturn, Optional, Sequence, Set
+from enum import Enum
+from typing import Iterator, List, Mapping, NoReturn, Optional, Sequence, Set
 
 from plextools import VERSION
 from plextools.limits import MOST_BYTES
+from plextools.show.long_form import LongForm, Style
+from plextools.show.records import Records
 from plextools.tables import printed, quoted
-from plextools.text import change
-from plextools.text import signal_files
+from plextools.text import change, signal_files
+from plextools.text.explanations import explanations, titles
+from plextools.text.finding import Finding, Severity, Source
+from plextools.text.findings import NO_ADVICE, by_cause, of_change, of_exchange, of_lines
+from plextools.text.hints import near
+from plextools.text.retelling import retold
+from plextools.text.signal_files import LineFile
 from plextools.text.tokens import Lines, Text
 from plextools.text.warnings import WARNINGS, Oddities
 
 FINE, ODD, WRONG, UNREADABLE = 0, 1, 2, 3
-MOST = 1000
-USAGE = "plex-check [--no WORD] [--most N] E [S [T [Q]]] | plex-check --change E E2"
+MOST, WIDTH = 1000, 80
+USAGE = (
+    "plex-check [OPTION ...] E [S [T [Q]]] | plex-check [OPTION ...] --change E E2"
+    " | plex-check --explain WORD"
+)
 TO_SWITCH_OFF = {**WARNINGS, **change.CHANGES, **change.NOTES}
+
+
+class Form(Enum):
+    """How findings are written."""
+
+    SHORT = "short"
+    LONG = "long"
+    JSON = "json"
+    SARIF = "sarif"
 
 
 class Unusable(Exception):
@@ -69,7 +100,11 @@ class Words(argparse.Namespace):
     files: List[str]
     no: List[Set[str]]
     most: int
+    color: str
+    written: Optional[Form]
+    explain: Optional[str]
     change: bool
+    werror: bool
     help: bool
     version: bool
 
@@ -78,19 +113,50 @@ class Words(argparse.Namespace):
         """All words that are left out."""
         return set().union(*self.no)
 
+    @property
+    def form(self) -> Form:
+        """The form that is asked for, or else the one that suits the output. Emacs runs a command
+        whose lines it reads on a terminal too, and says so.
+        """
+        is_read = "compile" in os.environ.get("INSIDE_EMACS", "")
+        return self.written or (Form.LONG if sys.stdout.isatty() and not is_read else Form.SHORT)
+
+    @property
+    def has_colours(self) -> bool:
+        if self.color != "auto":
+            return self.color == "always"
+        is_wanted = not os.environ.get("NO_COLOR") and os.environ.get("TERM") != "dumb"
+        return is_wanted and sys.stdout.isatty()
+
+    @property
+    def width(self) -> int:
+        """How many columns lines may have."""
+        return shutil.get_terminal_size().columns if sys.stdout.isatty() else WIDTH
+
+    @property
+    def needs_files(self) -> bool:
+        return not self.help and not self.version and self.explain is None
+
 
 def read_words(words: Sequence[str]) -> Words:
     """The words of the command; raises `Unusable` where they are wrong."""
     parser = Parser("plex-check", USAGE, add_help=False, allow_abbrev=False)
+    forms = parser.add_mutually_exclusive_group()
+    for form in Form:
+        forms.add_argument(f"--{form.value}", dest="written", action="store_const", const=form)
+    parser.add_argument("--color", choices=("always", "never", "auto"), default="auto")
+    parser.add_argument("--explain")
     parser.add_argument("--no", type=switched_off, action="append", default=[])
     parser.add_argument("--most", type=number, default=MOST)
-    parser.add_argument("--change", action="store_true")
+    for flag in ("--change", "--werror", "--version"):
+        parser.add_argument(flag, action="store_true")
     parser.add_argument("--help", "-h", action="store_true")
-    parser.add_argument("--version", action="store_true")
     parser.add_argument("files", nargs="*")
     given = Words()
     parser.parse_intermixed_args(words, given)
-    if not given.help and not given.version:
+    if given.explain is not None and given.files:
+        parser.error("--explain takes one word, and no file")
+    if given.needs_files:
         if given.change and len(given.files) != 2:
             parser.error("--change takes two exchange texts")
         if not 1 <= len(given.files) <= 4:
@@ -109,27 +175,21 @@ def bytes_of(name: str) -> bytes:
 
 
 class Report:
-    """The lines that are written, and whether there are faults and warnings among them."""
+    """What is told, and whether there are faults and warnings among it."""
 
     def __init__(self, words: Words) -> None:
-        self.most, self.switched_off = words.most, words.switched_off
-        self.lines: List[str] = []
-        self.status = FINE
+        self.words, self.switched_off = words, words.switched_off
+        self.sources: List[Source] = []
+        self.findings: List[Finding] = []
+        self.told: List[str] = []
 
-    def add(
-        self,
-        name: str,
-        lines: Optional[Lines],
-        place: int,
-        word: str,
-        sentence: str,
-        status: int,
-    ) -> None:
-        if word in self.switched_off:
-            return
-        self.status = max(self.status, status)
-        where = f"{lines.line(place)}:{lines.column(place)}" if lines else "0:0"
-        self.lines.append(f"{quoted(name)}:{where}: {word}: {sentence}\n")
+    def add_source(self, name: str, text: str, lines: Lines) -> int:
+        """One more file; gives its number."""
+        self.sources.append(Source(name, text, lines))
+        return len(self.sources) - 1
+
+    def add(self, findings: Sequence[Finding]) -> None:
+        self.findings += [one for one in findings if one.word not in self.switched_off]
 
     def add_left_out(self, name: str, counts: Mapping[str, int]) -> None:
         for word, count in sorted(counts.items()):
@@ -137,33 +197,71 @@ class Report:
                 left = f"{count:,} more of {word} are not told; --most N tells more"
                 print(f"plex-check: {quoted(name)}: {left}", file=sys.stderr)
 
+    @property
+    def status(self) -> int:
+        worst = {finding.severity for finding in self.findings}
+        if Severity.ERROR in worst:
+            return WRONG
+        return ODD if Severity.WARNING in worst and self.words.werror else FINE
+
+    @property
+    def lines(self) -> List[str]:
+        """What is written, line by line, with their ends."""
+        return self.told or [f"{line}\n" for line in self.lines_of_form()]
+
+    def lines_of_form(self) -> Iterator[str]:
+        form = self.words.form
+        if form is Form.SHORT:
+            yield from map(self.short, self.findings)
+            return
+        findings = by_cause(self.findings)
+        if form is Form.LONG:
+            style = Style(self.words.width, self.words.has_colours)
+            yield from LongForm(self.sources, style).lines(findings)
+        elif form is Form.JSON:
+            yield from Records(self.sources, titles()).lines(findings)
+        else:
+            yield Records(self.sources, titles()).sarif(findings, self.status)
+
+    def short(self, finding: Finding) -> str:
+        """A finding on one line."""
+        name, _, lines = self.sources[finding.file]
+        place = finding.place
+        where = "0:0" if place is None else f"{lines.line(place)}:{lines.column(place)}"
+        return f"{quoted(name)}:{where}: {finding.word}: {finding.sentence}"
+
     def write(self) -> None:
-        for start in range(0, len(self.lines), 1000):
-            sys.stdout.buffer.write(os.fsencode("".join(self.lines[start : start + 1000])))
+        lines = self.lines
+        for start in range(0, len(lines), 1000):
+            sys.stdout.buffer.write(os.fsencode("".join(lines[start : start + 1000])))
         sys.stdout.buffer.flush()
+
+
+def too_large(file: int) -> Finding:
+    """What is said of an exchange text that is not looked at."""
+    sentence = f"the text has more than {MOST_BYTES:,} bytes: cut comments and blanks"
+    return Finding(file, None, "TOOLARGE", Severity.ERROR, sentence, NO_ADVICE)
 
 
 def check_exchange(report: Report, name: str, data: bytes) -> Optional[Oddities]:
     """What was found in an exchange text, or None where it is too large to be looked at."""
     if len(data) > MOST_BYTES:
-        sentence = f"the text has more than {MOST_BYTES:,} bytes: cut comments and blanks"
-        report.add(name, None, 0, "TOOLARGE", sentence, WRONG)
+        report.add([too_large(report.add_source(name, "", Lines("")))])
         return None
-    checker = Oddities(Text(data, report.most))
-    lines = checker.source.lines
-    for _, place, _, rule, sentence in checker.check():
-        report.add(name, lines, place, rule, sentence, WRONG)
-    for place, word, sentence in checker.oddities():
-        report.add(name, lines, place, word, sentence, ODD)
+    checker = Oddities(Text(data, report.words.most))
+    file = report.add_source(name, checker.source.text, checker.source.lines)
+    faults, odd = checker.check(), checker.oddities()
+    is_long = report.words.form is not Form.SHORT
+    found = of_exchange(file, checker, faults, odd, is_long)
+    report.add(retold(checker.source.text, report.words.most, file, found) if is_long else found)
     report.add_left_out(name, {**checker.left_out(), **checker.odd_left_out()})
     return checker
 
 
-def check_lines(report: Report, name: str, file: signal_files.LineFile) -> None:
-    for _, _, place, rule, sentence in file.check():
-        report.add(name, None if file.is_too_large else file.lines, place, rule, sentence, WRONG)
-    for place, word, sentence in file.odd:
-        report.add(name, file.lines, place, word, sentence, ODD)
+def check_lines(report: Report, name: str, file: LineFile) -> None:
+    file.check()
+    number = report.add_source(name, file.text, file.lines)
+    report.add(of_lines(number, file, report.words.form is not Form.SHORT))
     report.add_left_out(name, file.left_out())
 
 
@@ -171,34 +269,43 @@ def check_files(report: Report, names: Sequence[str], datas: Sequence[bytes]) ->
     checker = check_exchange(report, names[0], datas[0])
     if checker is None:
         return
-    others = list(zip(names, datas))[1:]
+    others, most = list(zip(names, datas))[1:], report.words.most
     signals = 0
     for place, (name, data) in enumerate(others):
-        file: signal_files.LineFile
+        file: LineFile
         if place == 0:
-            file = signal_files.Signals(data, checker, report.most)
+            file = lines = signal_files.Signals(data, checker, most)
         elif place == 2 or len(others) == 2 and signal_files.begins_with_show(data):
-            file = signal_files.Filter(data, checker, report.most)
+            forlopps = signal_files.forlopps_of(lines) if place == 1 else None
+            file = signal_files.Filter(data, checker, most, forlopps)
         else:
-            file = signal_files.Table(data, checker, report.most, signals)
+            file = signal_files.Table(data, checker, most, signals)
         check_lines(report, name, file)
         signals = getattr(file, "lines_of_signals", signals)
 
 
 def check_change(report: Report, names: Sequence[str], datas: Sequence[bytes]) -> None:
-    checkers = [check_exchange(report, name, data) for name, data in zip(names, datas)]
-    old, new = checkers
+    old, new = [check_exchange(report, name, data) for name, data in zip(names, datas)]
     if report.status == WRONG or old is None or new is None:
         return
-    sources = old.source, new.source
-    for text, place, word, sentence in change.Change(old, new).compare():
-        status = WRONG if word in change.REFUSALS else FINE if word in change.NOTES else ODD
-        report.add(names[text], sources[text].lines, place, word, sentence, status)
+    texts = [source.text for source in report.sources]
+    report.add(of_change(change.Change(old, new).compare(), texts))
 
 
 def help_text() -> str:
-    words = "".join(f"  {word:<12} {what}\n" for word, what in TO_SWITCH_OFF.items())
+    words = "".join(f"  {word:<15} {what}\n" for word, what in TO_SWITCH_OFF.items())
     return f"{__doc__}\nWords that --no takes:\n{words}"
+
+
+def explained(word: str) -> List[str]:
+    """What is told of a word, as lines with their ends."""
+    known = explanations()
+    found = known.get(word.upper())
+    if not found:
+        meant = near(word.upper(), known)
+        words = f"; {meant} is one" if meant else f"; the words are {', '.join(known)}"
+        raise Unusable(f"no word {quoted(word)} is told of a file{words}")
+    return [f"{line}\n" for line in found.lines()]
 
 
 def checked(words: Sequence[str]) -> Report:
@@ -206,9 +313,11 @@ def checked(words: Sequence[str]) -> Report:
     given = read_words(words)
     report = Report(given)
     if given.help:
-        report.lines.append(help_text())
+        report.told = [help_text()]
     elif given.version:
-        report.lines.append(f"plex-check {VERSION}\n")
+        report.told = [f"plex-check {VERSION}\n"]
+    elif given.explain is not None:
+        report.told = explained(given.explain)
     else:
         datas = [bytes_of(name) for name in given.files]
         (check_change if given.change else check_files)(report, given.files, datas)

@@ -1,5 +1,5 @@
 """All faults of signal files, of tables of periodic signals and of filters, and what is odd in a
-signal file.
+signal file or a filter.
 
 Each of these is read line by line, as docs/FORMATS.md says, against what a Checker has found in the
 exchange text. Of each faulty line all is told that can be told, in the order in which the program
@@ -8,7 +8,7 @@ the rule and a sentence.
 """
 import re
 from itertools import islice
-from typing import Dict, List, Mapping, NamedTuple, Optional, Sequence, Union
+from typing import Dict, Iterable, List, Mapping, NamedTuple, Optional, Sequence, Union
 
 from plextools.limits import MOST_BYTES, MOST_PERIODIC_SIGNALS, NUMBERS
 from plextools.text.faults import Block, Checker, Sentence, Signal, counted
@@ -16,6 +16,7 @@ from plextools.text.hints import any_of, near
 from plextools.text.tokens import KEYWORDS, Lines, Told, shown, value_of
 
 WORD = re.compile(r"[^ \t]+")
+NEW_FORLOPP = re.compile(r"\bNEW\s+FORLOPP\b")
 LINE_RULES = [
     "BADLINE",
     "UNKNOWNSIGNAL",
@@ -32,6 +33,7 @@ KINDS = {
     "COMBINED": "a combined signal",
     "OUTSIDE": "an outside signal",
 }
+WITHOUT_JOBS = {**KINDS, "ANSWER": "an answer"}
 SKIPPED, IN_FORLOPP, IN_NONE, BY_AS, BROKEN = range(5)
 NO_AS = "a period ends in NEW or NONE, and in no AS"
 PARTS = ["BLOCK", "SIGNAL", "FORLOPP", "FROM", "UPTO", "FAULTS"]
@@ -370,9 +372,15 @@ class Table(LineFile):
 
 
 class Filter(LineFile):
-    """A filter of jobs."""
+    """A filter of jobs. No forlopp has a number above `forlopps`, where that is known."""
 
     rules = SHOW_RULES
+
+    def __init__(
+        self, data: bytes, exchange: Checker, most: int, forlopps: Optional[int] = None
+    ) -> None:
+        super().__init__(data, exchange, most)
+        self.forlopps = forlopps
 
     def take_line(self, words: List[str]) -> None:
         if words[0] != "SHOW":
@@ -428,9 +436,40 @@ class Filter(LineFile):
                 has_room = self.has_room(part)
                 sentence = self.unknown(name, part.lower(), list(known)) if has_room else ""
                 self.tell(shows[part], f"UNKNOWN{part}", sentence)
+        for part, place in shows.items():
+            told = self.without_jobs(part, words[place])
+            if told and len(self.odd) < self.most:
+                self.odd.append(Told(self.word_place(place), "NOJOB", told))
+
+    def without_jobs(self, part: str, word: str) -> Optional[str]:
+        """Why there is no job of a signal, a block or a forlopp."""
+        if part == "SIGNAL" and word in self.exchange.signals:
+            what = WITHOUT_JOBS.get(self.exchange.signals[word].kind or "")
+            if what:
+                return f"{word} is {what}: no job starts by it"
+        if part == "BLOCK" and word in self.exchange.block_names:
+            known = (self.exchange.signals.get(name) for name in self.enters(word))
+            if not any(signal is None or signal.kind in ("BUFFERED", None) for signal in known):
+                return f"no job starts in block {word}: it enters no single buffered signal"
+        if part == "FORLOPP" and self.forlopps is not None and int(word) > self.forlopps:
+            begun = counted(self.forlopps, "forlopp")
+            return f"no job is in forlopp {word}: the signal lines begin {begun}"
+        return None
+
+    def enters(self, block: str) -> Iterable[str]:
+        """The signals that a block enters."""
+        return self.exchange.block_names[block].enters
 
     def has_room(self, part: str) -> bool:
         return self.counts.get(f"UNKNOWN{part}", 0) < self.most
+
+
+def forlopps_of(signals: Signals) -> Optional[int]:
+    """How many forlopps a run has, where its jobs begin none."""
+    is_known = BROKEN not in signals.kinds
+    if not is_known or NEW_FORLOPP.search(signals.exchange.source.clean):
+        return None
+    return signals.kinds.count(IN_FORLOPP)
 
 
 def begins_with_show(data: bytes) -> bool:

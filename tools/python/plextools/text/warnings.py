@@ -2,7 +2,7 @@
 off, and a sentence.
 """
 import re
-from typing import Dict, List, NamedTuple, Optional, Set
+from typing import Dict, Iterator, List, NamedTuple, Optional, Set
 
 from plextools.text.faults import Block, Checker, Declared, Sentence
 from plextools.text.hints import near
@@ -17,6 +17,7 @@ WARNINGS = {
     "NOFREE": "records of a file are seized, and no FREE gives one back",
     "KEYWORD": "a name is a keyword but for a letter",
     "ODDAS": "AS names a line that ends in AS itself",
+    "NOJOB": "a filter names a signal, a block or a forlopp of which there is no job",
 }
 LONG_KEYWORDS = [word for word in KEYWORDS if len(word) > 5]
 IN_COMMENT = re.compile(r"(?<![A-Za-z0-9_])[A-Z][A-Z0-9]*")
@@ -73,8 +74,18 @@ def is_phrase(text: str) -> bool:
     )
 
 
+def without_a_letter(word: str) -> Iterator[str]:
+    """A word without each of its letters."""
+    return (word[:place] + word[place + 1 :] for place in range(len(word)))
+
+
+SHORTENED = frozenset(short for word in LONG_KEYWORDS for short in without_a_letter(word))
+
+
 def is_near_keyword(name: str) -> Optional[str]:
     if len(name) < 5 or name in KEYWORDS:
+        return None
+    if name not in SHORTENED and SHORTENED.isdisjoint(without_a_letter(name)):
         return None
     meant = near(name, [word for word in LONG_KEYWORDS if len(name) in (len(word), len(word) - 1)])
     return meant if meant and differ_once(name, meant) else None
@@ -83,7 +94,7 @@ def is_near_keyword(name: str) -> Optional[str]:
 def differ_once(name: str, word: str) -> bool:
     """Whether one letter was changed or left out, or two neighbours were swapped."""
     if len(name) < len(word):
-        return any(word[:place] + word[place + 1 :] == name for place in range(len(word)))
+        return name in without_a_letter(word)
     places = [place for place in range(len(word)) if word[place] != name[place]]
     if len(places) == 1:
         return True
