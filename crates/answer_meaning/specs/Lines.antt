@@ -4,7 +4,7 @@ use Rattle.exchange_model.specs.declared.exchange.Exchange.{Exchange}
 use Rattle.signal_file.specs.declared.line.Line.{Line}
 use Rattle.signal_file.specs.Lines.{signal_lines}
 use Rattle.source_meaning.specs.Valid.{LinesFit}
-use Rattle.retire_order.specs.Lines.{coming_of}
+use Rattle.run_books.specs.Lines.{coming_of}
 
 -- the lines of a signal file fit the exchange, and are few
 pub record AreRead (x : Exchange) (lines : List Line) : Type 0 where

@@ -5,9 +5,9 @@ use Rattle.exchange_model.specs.declared.exchange.Exchange.{Exchange}
 use Rattle.signal_file.specs.declared.line.Line.{Line}
 use Rattle.source_meaning.specs.SingleRun.{Ending, Finished, Limited, Restarted, end_state, ending_at, opening}
 use Rattle.source_meaning.specs.State.{State}
-use Rattle.retire_order.specs.Accounts.{with_words}
-use Rattle.retire_order.specs.Events.{ending_of as told_ending}
-use Rattle.retire_order.specs.Lines.{coming_of}
+use Rattle.run_books.specs.Accounts.{with_words}
+use Rattle.run_books.specs.Events.{ending_of as told_ending}
+use Rattle.run_books.specs.Lines.{coming_of}
 use Rattle.exchange_run.specs.declared.turns.Ended.{Ended}
 use Rattle.report_text.specs.Report.{report_text}
 use Rattle.answer_meaning.specs.Certificates.{IsJudged}

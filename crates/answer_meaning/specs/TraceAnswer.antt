@@ -4,7 +4,7 @@ use Rattle.plex_io.specs.Files.{Files}
 use Rattle.exchange_model.specs.declared.exchange.Exchange.{Exchange}
 use Rattle.signal_file.specs.declared.line.Line.{Line}
 use Rattle.source_meaning.specs.SingleRun.{opening}
-use Rattle.retire_order.specs.Lines.{coming_of}
+use Rattle.run_books.specs.Lines.{coming_of}
 use Rattle.signal_trace.specs.declared.fault.FilterRule.TheVariants.{TooLarge}
 use Rattle.signal_trace.specs.declared.show.Show.{Show}
 use Rattle.signal_trace.specs.Filter.{breach, filter_of}

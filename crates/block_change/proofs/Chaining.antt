@@ -18,7 +18,7 @@ use Rattle.job_types.specs.declared.chain.Held.{Held}
 use Rattle.job_types.specs.Forlopps.{ChainMap, chain_at, is_dead, with_chain}
 use Rattle.job_types.proofs.ChainMaps.{get-with_chain}
 use Rattle.forlopp_chain.specs.Chains.{Forlopps, IsSound, NoneEmpty}
-use Rattle.retire_order.proofs.Parted.{not_equal}
+use Rattle.run_books.proofs.Parted.{not_equal}
 use Rattle.block_change.specs.Carried.{carried_chain, carried_chains}
 
 -- ## Keys

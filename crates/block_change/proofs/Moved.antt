@@ -12,10 +12,10 @@ use Rattle.signal_file.specs.declared.line.Line.{Line}
 use Rattle.job_types.specs.declared.chain.Held.{Held}
 use Rattle.job_types.specs.Forlopps.{ChainMap, all_records}
 use Rattle.forlopp_chain.specs.Chains.{AreBelow}
-use Rattle.retire_order.specs.Accounts.{with_words}
-use Rattle.retire_order.specs.Lines.{arrived_of, coming_of, found_in}
-use Rattle.retire_order.specs.Parts.{AreParts, account_of}
-use Rattle.retire_order.specs.declared.parts.BookParts.{BookParts}
+use Rattle.run_books.specs.Accounts.{with_words}
+use Rattle.run_books.specs.Lines.{arrived_of, coming_of, found_in}
+use Rattle.run_books.specs.Parts.{AreParts, account_of}
+use Rattle.run_books.specs.declared.parts.BookParts.{BookParts}
 use Rattle.source_meaning.specs.State.{Arrived, State}
 use Rattle.source_meaning.specs.Valid.{IsRecord, IsValid}
 use Rattle.source_meaning.proofs.Maps.{all_records_fit}

@@ -30,10 +30,10 @@ use Rattle.job_types.specs.Chain.{holds, is_record}
 use Rattle.job_types.specs.Forlopps.{all_records, chain_at}
 use Rattle.plex_num.specs.declared.level.Level.{Level}
 use Rattle.plex_num.specs.declared.level.Level.TheVariants.{A, B, C, D}
-use Rattle.retire_order.specs.Accounts.{with_words}
-use Rattle.retire_order.specs.Parts.{AreAlike, AreParts, account_of}
-use Rattle.retire_order.specs.declared.parts.BookParts.{BookParts}
-use Rattle.retire_order.proofs.Parted.{alike, silent}
+use Rattle.run_books.specs.Accounts.{with_words}
+use Rattle.run_books.specs.Parts.{AreAlike, AreParts, account_of}
+use Rattle.run_books.specs.declared.parts.BookParts.{BookParts}
+use Rattle.run_books.proofs.Parted.{alike, silent}
 use Rattle.source_meaning.specs.Config.{files_of}
 use Rattle.source_meaning.specs.State.{Arrived, Coming, State}
 use Rattle.source_meaning.specs.Valid.{HoldsRecord, IsRecord, IsValid, LinesFit, WaitsAt}

@@ -19,9 +19,9 @@ use Rattle.job_types.specs.Forlopps.{ChainMap, all_records}
 use Rattle.job_types.specs.Waiting.{Waiting}
 use Rattle.source_meaning.specs.State.{Arrived, Coming, State}
 use Rattle.source_meaning.specs.Valid.{IsValid}
-use Rattle.retire_order.specs.declared.parts.BookParts.{BookParts}
-use Rattle.retire_order.specs.Accounts.{with_words}
-use Rattle.retire_order.specs.Parts.{AreParts, account_of}
+use Rattle.run_books.specs.declared.parts.BookParts.{BookParts}
+use Rattle.run_books.specs.Accounts.{with_words}
+use Rattle.run_books.specs.Parts.{AreParts, account_of}
 use Rattle.block_change.specs.Renamed.{waiting_with}
 use Rattle.block_change.specs.Same.{cell_variable, same_cell, same_entry, same_file}
 

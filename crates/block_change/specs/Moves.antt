@@ -1,7 +1,7 @@
 -- What of the parts of books is carried over, and how.
 use Rattle.std.specs.Prelude.{◌≡◌, [], map}
 use Rattle.exchange_model.specs.declared.exchange.Exchange.{Exchange}
-use Rattle.retire_order.specs.declared.parts.BookParts.{BookParts}
+use Rattle.run_books.specs.declared.parts.BookParts.{BookParts}
 use Rattle.block_change.specs.Carried.{carried_chains, carried_waiting, new_entries}
 use Rattle.block_change.specs.Renamed.{line_with}
 

@@ -12,7 +12,7 @@ use crate::same::Named;
 use crate::words::all_words;
 use exchange_model::Exchange;
 use plex_num::{Memory, Seq};
-use retire_order::{BookParts, EventLog};
+use run_books::{BookParts, EventLog};
 use std::alloc::Global;
 use store_layout::Layout;
 

@@ -2,9 +2,9 @@
 ghost use Rattle.std.specs.Prelude.{◌≡◌, ◌↔◌, ℕ, List, [], None, Some};
 ghost use Rattle.exchange_model.specs.declared.exchange.Exchange.{Exchange};
 ghost use Rattle.exchange_model.specs.Kept.{IsExchange};
-ghost use Rattle.retire_order.specs.Accounts.{with_words};
-ghost use Rattle.retire_order.specs.Parts.{AreAlike, AreParts, account_of};
-ghost use Rattle.retire_order.specs.declared.parts.BookParts.{BookParts};
+ghost use Rattle.run_books.specs.Accounts.{with_words};
+ghost use Rattle.run_books.specs.Parts.{AreAlike, AreParts, account_of};
+ghost use Rattle.run_books.specs.declared.parts.BookParts.{BookParts};
 ghost use Rattle.source_meaning.specs.State.{State};
 ghost use Rattle.source_meaning.specs.Valid.{IsValid};
 ghost use Rattle.block_change.specs.Carried.{IsCarried};

@@ -4,7 +4,7 @@ use Rattle.plex_limits.specs.declared.limits.TheConstants.{MOST_BYTES}
 use Rattle.exchange_model.specs.declared.exchange.Exchange.{Exchange}
 use Rattle.signal_file.specs.declared.line.Line.{Line}
 use Rattle.signal_file.specs.Lines.{signal_lines}
-use Rattle.retire_order.proofs.Fitting.{signal_lines_few}
+use Rattle.run_books.proofs.Fitting.{signal_lines_few}
 use Rattle.job_table.specs.declared.period.Period.{Period}
 use Rattle.job_table.specs.Merged.{all_lines, by_count, line_count, merged, number_in}
 use Rattle.job_table.specs.Table.{table_periods}
@@ -17,7 +17,7 @@ use Rattle.std.specs.Result.{result_ok}
 use Rattle.std.proofs.lemmas.Option.{none-some, same_Some}
 use Rattle.plex_io.specs.Files.{Files}
 use Rattle.source_meaning.specs.Valid.{LinesFit}
-use Rattle.retire_order.specs.Lines.{coming_of}
+use Rattle.run_books.specs.Lines.{coming_of}
 use Rattle.job_table.specs.Fit.{AreNumberedFrom}
 use Rattle.job_table.specs.Writing.{written_out}
 use Rattle.job_table.proofs.Again.{written_read}

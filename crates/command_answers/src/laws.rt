@@ -7,7 +7,7 @@ ghost use Rattle.exchange_model.specs.declared.exchange.Exchange.{Exchange};
 ghost use Rattle.signal_file.specs.declared.line.Line.{Line};
 ghost use Rattle.signal_file.specs.Lines.{signal_lines};
 ghost use Rattle.source_meaning.specs.Valid.{LinesFit};
-ghost use Rattle.retire_order.specs.Lines.{coming_of};
+ghost use Rattle.run_books.specs.Lines.{coming_of};
 ghost use Rattle.job_table.specs.Fit.{AreNumberedFrom};
 ghost use Rattle.job_table.specs.Writing.{written_out};
 ghost use Rattle.answer_meaning.specs.Given.{exchange_at, lines_at};

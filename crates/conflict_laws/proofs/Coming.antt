@@ -6,8 +6,8 @@ use Rattle.plex_num.proofs.Lists.{some_at}
 use Rattle.plex_num.proofs.Members.{first_is, later_is}
 use Rattle.exchange_model.specs.declared.exchange.Exchange.{Exchange}
 use Rattle.entry_summary.specs.declared.summary.Summary.{Summary}
-use Rattle.analysis_comes.proofs.Pairing.{analysis}
-use Rattle.analysis_comes.proofs.Summaries.{all_summaries}
+use Rattle.analysis_existence.proofs.Pairing.{analysis}
+use Rattle.analysis_existence.proofs.Summaries.{all_summaries}
 use Rattle.conflicts_meaning.specs.declared.rows.EntryPair.{EntryPair}
 use Rattle.conflicts_meaning.specs.declared.rows.Section.{Section}
 use Rattle.conflicts_meaning.specs.declared.rows.Section.TheVariants.{Entry, Pair}

@@ -21,7 +21,7 @@ use Rattle.entry_summary.specs.contracts.summary.AccessOrd.TheImpl.Laws as acces
 use Rattle.entry_summary.specs.Accesses.{IsAccess}
 use Rattle.entry_summary.specs.Orders.{access_order, level_number}
 use Rattle.entry_summary.specs.Summaries.{MaySendTo}
-use Rattle.analysis_comes.proofs.Accessing.{accesses, levels}
+use Rattle.analysis_existence.proofs.Accessing.{accesses, levels}
 use Rattle.conflicts_meaning.specs.declared.rows.GivenAt.{GivenAt}
 use Rattle.conflicts_meaning.specs.contracts.rows.GivenAtOrd.TheImpl.Laws as given_laws
 use Rattle.conflicts_meaning.specs.Points.{AreGiven, GivesAccess, IsAccessRow, IsGiven, IsLevelRow, SendsFrom, given_order}

@@ -21,7 +21,7 @@ use Rattle.source_meaning.specs.Traces.{touched_word, trace_of}
 use Rattle.source_meaning.specs.Valid.{IsValid}
 use Rattle.source_meaning.proofs.Retiring.{start_fits}
 use Rattle.source_meaning.proofs.Touching.{touches_inside}
-use Rattle.retire_order.specs.Accounts.{Account, upcoming, with_words}
+use Rattle.run_books.specs.Accounts.{Account, upcoming, with_words}
 use Rattle.machine_meaning.specs.Faithful.{MayMake, started}
 use Rattle.machine_meaning.specs.Private.{Private}
 use Rattle.exchange_run.specs.Runs.{MayRun}

@@ -22,9 +22,9 @@ use Rattle.source_meaning.specs.SingleRun.{after}
 use Rattle.source_meaning.specs.State.{Coming}
 use Rattle.source_meaning.specs.Valid.{IsValid, LinesFit}
 use Rattle.flow_points.specs.Orders.{fact_order}
-use Rattle.retire_order.specs.Accounts.{Account, opened, with_words}
-use Rattle.retire_order.specs.Lines.{coming_of}
-use Rattle.retire_order.proofs.Fitting.{signal_lines_few, signal_lines_fit}
+use Rattle.run_books.specs.Accounts.{Account, opened, with_words}
+use Rattle.run_books.specs.Lines.{coming_of}
+use Rattle.run_books.proofs.Fitting.{signal_lines_few, signal_lines_fit}
 use Rattle.exchange_run.specs.Runs.{RunStands}
 use Rattle.exchange_run.proofs.Opened.{begins_valid as opens_valid, nobody_runs}
 use Rattle.exchange_run.proofs.Turning.{stands_begin, stands_valid}

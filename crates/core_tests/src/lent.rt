@@ -2,7 +2,7 @@
 ghost use Rattle.std.specs.Prelude.{◌≡◌, ◌<◌, ◌^◌, [], ◌∷◌, length, map, IfOk};
 ghost use Rattle.exchange_run.specs.Runs.{MayRun};
 ghost use Rattle.machine_meaning.specs.Faithful.{Faithful};
-ghost use Rattle.retire_order.specs.Lines.{coming_of};
+ghost use Rattle.run_books.specs.Lines.{coming_of};
 ghost use Rattle.source_meaning.specs.Valid.{LinesFit};
 
 use crate::given::{NotMade, books_of, exchange_of, lines_of};

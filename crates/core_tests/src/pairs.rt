@@ -6,7 +6,7 @@ use exchange_model::Exchange;
 use interference_check::may_follow;
 use job_types::{Chain, Held, JobStart};
 use plex_num::{Memory, Seq};
-use retire_order::Books;
+use run_books::Books;
 use std::alloc::Global;
 use std::test::Fail;
 

@@ -13,7 +13,7 @@ use Rattle.exchange_model.specs.declared.exchange.Exchange.{Exchange}
 use Rattle.source_meaning.specs.Arrivals.{arrivals, arrivals_of, arrives, comes, forlopp_for, is_due}
 use Rattle.source_meaning.specs.Retirement.{all_delivered, delivered, delivered_to, keeps_chain, retires, with_outcome, with_sends}
 use Rattle.source_meaning.specs.State.{Coming, State, has_stopped}
-use Rattle.retire_order.proofs.Arriving.{noted}
+use Rattle.run_books.proofs.Arriving.{noted}
 
 delivered_ended : (to : SendTo) (f : ℕ) (vs : List ℕ) (s : State) → (delivered_to to f vs s).ended ≡ s.ended
 delivered_ended (Outside signal) f vs s = refl

@@ -7,7 +7,7 @@ use Rattle.source_meaning.specs.SingleRun.{opening}
 use Rattle.source_meaning.specs.State.{Coming}
 use Rattle.source_meaning.specs.Valid.{IsValid, LinesFit}
 use Rattle.source_meaning.proofs.Opening.{opening_valid}
-use Rattle.retire_order.specs.Accounts.{Account, opened, with_words}
+use Rattle.run_books.specs.Accounts.{Account, opened, with_words}
 use Rattle.exchange_run.specs.Runs.{MayGoOn}
 
 pub nobody_runs : (lines : List Coming) (limit : ℕ) (b : Account) → b ≡ opened lines limit → b.running ≡ 0

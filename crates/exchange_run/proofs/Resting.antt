@@ -13,8 +13,8 @@ use Rattle.source_meaning.specs.State.{State, has_stopped}
 use Rattle.source_meaning.specs.Valid.{IsValid}
 use Rattle.order_laws.proofs.Arriving.{arrivals_idle, arrivals_settle, arrivals_stopped}
 use Rattle.job_types.specs.declared.outcome.JobDone.{JobDone}
-use Rattle.retire_order.specs.Accounts.{Account}
-use Rattle.retire_order.specs.Events.{ending_of}
+use Rattle.run_books.specs.Accounts.{Account}
+use Rattle.run_books.specs.Events.{ending_of}
 use Rattle.exchange_run.specs.declared.turns.Ended.{Ended}
 use Rattle.exchange_run.specs.declared.turns.Standing.{Standing}
 use Rattle.exchange_run.specs.Comes.{IsOnTheWay}

@@ -20,15 +20,15 @@ use Rattle.source_meaning.specs.State.{State, has_stopped}
 use Rattle.source_meaning.specs.Valid.{IsValid, MayBe}
 use Rattle.source_meaning.proofs.Agreeing.{job_length}
 use Rattle.source_meaning.proofs.Retiring.{after_valid, start_fits}
-use Rattle.retire_order.specs.Accounts.{Account, after_start, upcoming, with_words}
+use Rattle.run_books.specs.Accounts.{Account, after_start, upcoming, with_words}
 use Rattle.job_types.specs.declared.touch.Touch.{Touch}
-use Rattle.retire_order.specs.Retired.{HasRetired, retired_world}
-use Rattle.retire_order.specs.Stores.{MayStore}
-use Rattle.retire_order.specs.Events.{ending_of}
-use Rattle.retire_order.specs.declared.event.Ending.{Ending as EndOf}
+use Rattle.run_books.specs.Retired.{HasRetired, retired_world}
+use Rattle.run_books.specs.Stores.{MayStore}
+use Rattle.run_books.specs.Events.{ending_of}
+use Rattle.run_books.specs.declared.event.Ending.{Ending as EndOf}
 use Rattle.exchange_run.specs.Runs.{HasTurn, IsEndOf, IsTurn, MayRun, RunStands, left_by, told_next, told_of, words_after}
-use Rattle.retire_order.proofs.Arriving.{arrivals_with}
-use Rattle.retire_order.proofs.Cells.{may_store, retired_inside}
+use Rattle.run_books.proofs.Arriving.{arrivals_with}
+use Rattle.run_books.proofs.Cells.{may_store, retired_inside}
 use Rattle.exchange_run.proofs.Counting.{arrivals_ended, retired_ended}
 use Rattle.exchange_run.proofs.Ending.{before_end, ends_at}
 

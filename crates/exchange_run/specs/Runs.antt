@@ -10,8 +10,8 @@ use Rattle.source_meaning.specs.SingleRun.{after, end_state, ending_at, next_sta
 use Rattle.source_meaning.specs.SingleRun as single
 use Rattle.source_meaning.specs.State.{State}
 use Rattle.source_meaning.specs.Valid.{IsValid, IsFitting}
-use Rattle.retire_order.specs.Accounts.{Account, with_words}
-use Rattle.retire_order.specs.Events.{ending_of}
+use Rattle.run_books.specs.Accounts.{Account, with_words}
+use Rattle.run_books.specs.Events.{ending_of}
 use Rattle.exchange_run.specs.declared.turns.Ended.{Ended}
 use Rattle.exchange_run.specs.declared.turns.Standing.{Standing}
 

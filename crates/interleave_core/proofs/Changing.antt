@@ -12,12 +12,12 @@ use Rattle.machine_code.specs.Listed.{is_word_of}
 use Rattle.exchange_model.specs.declared.exchange.Exchange.{Exchange}
 use Rattle.source_meaning.specs.Retirement.{retires}
 use Rattle.source_meaning.specs.State.{State}
-use Rattle.retire_order.specs.Accounts.{Account, upcoming, with_words}
-use Rattle.retire_order.specs.Retired.{retired_world}
-use Rattle.retire_order.specs.Stores.{MayStore}
+use Rattle.run_books.specs.Accounts.{Account, upcoming, with_words}
+use Rattle.run_books.specs.Retired.{retired_world}
+use Rattle.run_books.specs.Stores.{MayStore}
 use Rattle.machine_meaning.specs.Private.{Private}
 use Rattle.machine_meaning.specs.Machine.{stepped}
-use Rattle.retire_order.proofs.Arriving.{arrivals_with}
+use Rattle.run_books.proofs.Arriving.{arrivals_with}
 use Rattle.checked.specs.Kept.{KeptSummaries}
 use Rattle.interleave_core.specs.declared.event.CoreEvent.{CoreEvent}
 use Rattle.interleave_core.specs.declared.event.CoreEvent.TheVariants.{Issue, Step, Retire}

@@ -6,7 +6,7 @@ use Rattle.std.specs.Prelude.{IsTrue}
 use Rattle.std.specs.List.{AllByRecursion}
 use Rattle.job_types.specs.declared.job.JobStart.{JobStart}
 use Rattle.plex_num.proofs.Lists.{all_append, all_at}
-use Rattle.retire_order.specs.Accounts.{Account, next_count, upcoming}
+use Rattle.run_books.specs.Accounts.{Account, next_count, upcoming}
 use Rattle.pair_tests.specs.Pairs.{Passes}
 use Rattle.checked.specs.Kept.{KeptSummaries}
 use Rattle.interference_check.specs.Pairs.{OfPair}

@@ -22,7 +22,7 @@ use Rattle.source_meaning.specs.Traces.{IsTouched}
 use Rattle.source_meaning.specs.Valid.{IsValid}
 use Rattle.source_meaning.proofs.Agreeing.{stored_alike}
 use Rattle.source_meaning.proofs.Retiring.{turn_valid}
-use Rattle.retire_order.specs.Accounts.{next_count}
+use Rattle.run_books.specs.Accounts.{next_count}
 use Rattle.machine_meaning.specs.Faithful.{Faithful, started}
 use Rattle.machine_meaning.specs.Machine.{Machine, stepped}
 use Rattle.checked.specs.Kept.{KeptSummaries}

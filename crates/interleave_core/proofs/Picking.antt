@@ -9,7 +9,7 @@ use Rattle.job_types.specs.declared.job.JobStart.{JobStart}
 use Rattle.job_types.specs.Waiting.{pick}
 use Rattle.source_meaning.specs.SingleRun.{next_start, start_of}
 use Rattle.source_meaning.specs.State.{State, chain_in, has_stopped}
-use Rattle.retire_order.specs.Accounts.{Account, upcoming, with_words}
+use Rattle.run_books.specs.Accounts.{Account, upcoming, with_words}
 
 chain_with : (s : State) (w : List ℕ) (n : ℕ) → chain_in (with_words s w) n ≡ chain_in s n
 chain_with s w zero = refl

@@ -13,10 +13,10 @@ use Rattle.source_meaning.specs.Job.{job}
 use Rattle.source_meaning.specs.State.{State}
 use Rattle.source_meaning.specs.Valid.{IsFitting}
 use Rattle.source_meaning.proofs.States.{IsLater, may_later}
-use Rattle.retire_order.specs.Accounts.{with_words}
-use Rattle.retire_order.specs.Retired.{retired_world}
-use Rattle.retire_order.specs.Stores.{MayStore}
-use Rattle.retire_order.proofs.Cells.{may_store, retired_inside}
+use Rattle.run_books.specs.Accounts.{with_words}
+use Rattle.run_books.specs.Retired.{retired_world}
+use Rattle.run_books.specs.Stores.{MayStore}
+use Rattle.run_books.proofs.Cells.{may_store, retired_inside}
 use Rattle.machine_meaning.specs.Faithful.{Faithful}
 use Rattle.machine_meaning.specs.Steps.{MayStep}
 use Rattle.checked.specs.Kept.{KeptSummaries}

@@ -5,7 +5,7 @@ use Rattle.job_types.specs.declared.job.JobStart.{JobStart}
 use Rattle.machine_code.specs.Coded.{Code}
 use Rattle.exchange_model.specs.declared.exchange.Exchange.{Exchange}
 use Rattle.source_meaning.specs.SingleRun.{next_start}
-use Rattle.retire_order.specs.Accounts.{next_count}
+use Rattle.run_books.specs.Accounts.{next_count}
 use Rattle.pair_tests.specs.Pairs.{Passes}
 use Rattle.checked.specs.Kept.{KeptSummaries}
 use Rattle.interference_check.specs.Pairs.{OfPair}

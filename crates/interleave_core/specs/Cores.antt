@@ -11,7 +11,7 @@ use Rattle.source_meaning.specs.State.{State}
 use Rattle.source_meaning.specs.Arrivals.{arrivals}
 use Rattle.source_meaning.specs.Retirement.{retires}
 use Rattle.source_meaning.specs.SingleRun.{begun}
-use Rattle.retire_order.specs.Accounts.{Account, with_words}
+use Rattle.run_books.specs.Accounts.{Account, with_words}
 use Rattle.machine_meaning.specs.Machine.{stepped}
 use Rattle.machine_meaning.specs.Faithful.{started}
 use Rattle.interleave_core.specs.declared.window.WindowJob.{WindowJob}

@@ -12,7 +12,7 @@ use Rattle.source_meaning.specs.Traces.{IsTouched, LeavesAlone}
 use Rattle.machine_meaning.specs.Faithful.{started}
 use Rattle.machine_meaning.specs.Machine.{Machine}
 use Rattle.run_laws.specs.Alone.{alone}
-use Rattle.retire_order.specs.Accounts.{Account, with_words}
+use Rattle.run_books.specs.Accounts.{Account, with_words}
 use Rattle.interleave_core.specs.declared.event.CoreEvent.{CoreEvent}
 use Rattle.interleave_core.specs.declared.window.CoreState.{CoreState}
 use Rattle.interleave_core.specs.declared.window.WindowJob.{WindowJob}

@@ -8,7 +8,7 @@ use Rattle.machine_code.specs.Listed.{is_word_of}
 use Rattle.exchange_model.specs.declared.exchange.Exchange.{Exchange}
 use Rattle.source_meaning.specs.Retirement.{retires}
 use Rattle.source_meaning.specs.SingleRun.{next_start}
-use Rattle.retire_order.specs.Accounts.{with_words}
+use Rattle.run_books.specs.Accounts.{with_words}
 use Rattle.machine_meaning.specs.Machine.{stepped}
 use Rattle.machine_meaning.specs.Steps.{MayStep}
 use Rattle.interleave_core.specs.declared.event.CoreEvent.{CoreEvent}

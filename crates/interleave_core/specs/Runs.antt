@@ -2,7 +2,7 @@
 use Rattle.std.specs.Prelude.{◌≡◌, ℕ, List, [], ◌∷◌, take, slice_get, Some}
 use Rattle.machine_code.specs.Coded.{Code}
 use Rattle.exchange_model.specs.declared.exchange.Exchange.{Exchange}
-use Rattle.retire_order.specs.Accounts.{Account}
+use Rattle.run_books.specs.Accounts.{Account}
 use Rattle.checked.specs.Kept.{KeptSummaries}
 use Rattle.interleave_core.specs.declared.event.CoreEvent.{CoreEvent}
 use Rattle.interleave_core.specs.declared.event.CoreFault.{CoreFault}

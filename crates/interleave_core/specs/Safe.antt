@@ -12,9 +12,9 @@ use Rattle.exchange_model.specs.declared.exchange.Exchange.{Exchange}
 use Rattle.source_meaning.specs.SingleRun.{next_start}
 use Rattle.source_meaning.specs.State.{State}
 use Rattle.source_meaning.specs.Valid.{MayBe}
-use Rattle.retire_order.specs.Accounts.{with_words}
-use Rattle.retire_order.specs.Retired.{retired_world}
-use Rattle.retire_order.specs.Stores.{MayStore}
+use Rattle.run_books.specs.Accounts.{with_words}
+use Rattle.run_books.specs.Retired.{retired_world}
+use Rattle.run_books.specs.Stores.{MayStore}
 use Rattle.machine_meaning.specs.Steps.{MayStep}
 use Rattle.checked.specs.Kept.{KeptSummaries}
 use Rattle.interleave_core.specs.declared.event.CoreEvent.{CoreEvent}

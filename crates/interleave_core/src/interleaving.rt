@@ -3,7 +3,7 @@ ghost use Rattle.std.specs.Prelude.{◌≡◌, MatchResult};
 ghost use Rattle.store_layout.specs.Laid.{IsLayout};
 ghost use Rattle.source_meaning.specs.Arrivals.{arrivals};
 ghost use Rattle.source_meaning.specs.Valid.{IsValid};
-ghost use Rattle.retire_order.specs.Accounts.{with_words};
+ghost use Rattle.run_books.specs.Accounts.{with_words};
 ghost use Rattle.machine_meaning.specs.Faithful.{Faithful};
 ghost use Rattle.checked.specs.Kept.{IsChecked};
 ghost use Rattle.interleave_core.specs.Follows.{Interleaves};
@@ -16,7 +16,7 @@ use checked::Checked;
 use exchange_model::Exchange;
 use machine_code::Code;
 use plex_num::Seq;
-use retire_order::Books;
+use run_books::Books;
 use std::alloc::Global;
 use store_layout::Layout;
 

@@ -1,7 +1,7 @@
 // Events are made.
 ghost use Rattle.std.specs.Prelude.{◌≡◌, ◌+◌, ◌<◌, ◌^◌, ◌∷◌, ◌++◌, [], ℕ, List, length, slice_get, Some, IfOk, OnOk};
 ghost use Rattle.job_types.specs.declared.job.JobStart.{JobStart as StartType};
-ghost use Rattle.retire_order.specs.Accounts.{upcoming};
+ghost use Rattle.run_books.specs.Accounts.{upcoming};
 ghost use Rattle.store_layout.specs.Laid.{IsLayout};
 ghost use Rattle.checked.specs.Kept.{KeptSummaries};
 ghost use Rattle.interleave_core.specs.declared.window.WindowJob.{WindowJob as JobType};
@@ -20,7 +20,7 @@ use job_run::JobRun;
 use machine_code::Code;
 use machine_step::step;
 use plex_num::{Memory, Seq};
-use retire_order::{Books, let_arrive};
+use run_books::{Books, let_arrive};
 use store_layout::Layout;
 
 /// Makes an event where it is allowed, and tells whether it was.

@@ -5,7 +5,7 @@ ghost use Rattle.interleave_core.specs.Cores.{core_of, opened_core, running_core
 use job_run::JobRun;
 use job_types::JobStart;
 use plex_num::Seq;
-use retire_order::Books;
+use run_books::Books;
 use std::alloc::Global;
 
 /// A job that was issued and has not retired: what it started with, and how far it has come.

@@ -31,11 +31,11 @@ use Rattle.signal_file.proofs.Tests.{AllHold}
 use Rattle.exchange_model.specs.Names.{names_of_blocks, names_of_signals}
 use Rattle.source_meaning.specs.State.{Coming}
 use Rattle.source_meaning.specs.Valid.{HasOrigin, LinesFit, NamesEarlier, entry_count}
-use Rattle.retire_order.specs.Lines.{coming_of, origin_of}
+use Rattle.run_books.specs.Lines.{coming_of, origin_of}
 use Rattle.job_table.specs.Fit.{AreNumberedFrom, HasWords, IsPlainWord}
 use Rattle.job_table.specs.Writing.{ending_words, line_words, value_words, written_out}
 use Rattle.exchange_model.specs.Names.{name_of_block, name_of_entry, name_of_signal}
-use Rattle.retire_order.proofs.Fitting.{counts_more, before_is}
+use Rattle.run_books.proofs.Fitting.{counts_more, before_is}
 use Rattle.job_table.proofs.Entries.{HasNames, IsBuffered, entry_named, name_found}
 use Rattle.job_table.proofs.Fit.{giver_gives, lines_of_coming}
 use Rattle.job_table.proofs.Words.{AllAbove, AreSmall, HasSmall, NoEnds, decimal_plain, line_first, low_all, plain_after, tail_is, tail_read, tail_words, word_first}

@@ -15,8 +15,8 @@ use Rattle.signal_file.specs.Lines.{signal_lines}
 use Rattle.signal_file.specs.Rules.{gives}
 use Rattle.source_meaning.specs.State.{Coming}
 use Rattle.source_meaning.specs.Valid.{HasOrigin, IsWord, LineFits, LinesFit, NamesEarlier, entry_count}
-use Rattle.retire_order.specs.Lines.{coming_of, origin_of}
-use Rattle.retire_order.proofs.Fitting.{all_coming, got_coming, signal_lines_fit}
+use Rattle.run_books.specs.Lines.{coming_of, origin_of}
+use Rattle.run_books.proofs.Fitting.{all_coming, got_coming, signal_lines_fit}
 use Rattle.job_table.specs.declared.period.Period.{Period}
 use Rattle.job_table.specs.Fit.{AreNumberedFrom, Rises}
 use Rattle.job_table.specs.Merged.{all_lines, by_count, has_number, line_at, lines_of, merged, number_in, numbered_from, placed_in, renamed, renumbered}

@@ -10,7 +10,7 @@ use Rattle.signal_file.specs.declared.line.Line.{Line}
 use Rattle.signal_file.specs.Form.{Closing, closing, with}
 use Rattle.text_lines.specs.Words.{words}
 use Rattle.source_meaning.specs.Valid.{IsWord, entry_count}
-use Rattle.retire_order.proofs.Fitting.{closing_words, entry_there, went}
+use Rattle.run_books.proofs.Fitting.{closing_words, entry_there, went}
 use Rattle.job_table.specs.declared.meaning.Before.{Before}
 use Rattle.job_table.specs.declared.period.Period.{Period}
 use Rattle.job_table.specs.Form.{Numbered, Saying, fresh_of, numbered, said_in, signal_in}

@@ -7,7 +7,7 @@ ghost use Rattle.exchange_model.specs.Kept.{IsExchange};
 ghost use Rattle.signal_file.specs.declared.line.Line.{Line};
 ghost use Rattle.signal_file.specs.Lines.{signal_lines};
 ghost use Rattle.source_meaning.specs.Valid.{LinesFit};
-ghost use Rattle.retire_order.specs.Lines.{coming_of};
+ghost use Rattle.run_books.specs.Lines.{coming_of};
 ghost use Rattle.job_table.specs.declared.period.Period.{Period};
 ghost use Rattle.job_table.specs.declared.fault.TableFault.{TableFault};
 ghost use Rattle.job_table.specs.Fit.{AreNumberedFrom, HasWords, IsNamed, Rises, StandOnce};

@@ -5,7 +5,7 @@ use Rattle.plex_limits.specs.declared.limits.TheConstants.{MOST_BYTES}
 use Rattle.exchange_model.specs.declared.exchange.Exchange.{Exchange}
 use Rattle.signal_file.specs.declared.line.Line.{Line}
 use Rattle.signal_file.specs.Lines.{signal_lines}
-use Rattle.retire_order.proofs.Fitting.{signal_lines_few, signal_lines_fit}
+use Rattle.run_books.proofs.Fitting.{signal_lines_few, signal_lines_fit}
 use Rattle.job_table.specs.declared.fault.TableFault.{TableFault}
 use Rattle.job_table.specs.declared.period.Period.{Period}
 use Rattle.job_table.specs.Merged.{all_lines, by_count, line_count, merged, number_in}

@@ -1,8 +1,8 @@
 -- Names and operands, and the instruction that is written with them.
 use Rattle.std.proofs.Common.{◌≡◌, ◌≢◌, ℕ, ◌<◌, List, [], ◌∷◌, Option, Some, None, Result, Ok, Err, Bool, true, false, codes, refl, sym, ◌∙◌, inl, inr}
 use Rattle.std.proofs.lemmas.Bool.{true≢false}
-use Rattle.case_table.specs.Names.{operation_names}
-use Rattle.case_table.specs.Rows.{place_of}
+use Rattle.name_tables.specs.Names.{operation_names}
+use Rattle.name_tables.specs.Rows.{place_of}
 use Rattle.machine_code.specs.declared.op.Op.{Op}
 use Rattle.listing.specs.declared.fault.LineFault.{LineFault}
 use Rattle.listing.specs.declared.fault.LineFault.TheVariants.{Form, Operand}

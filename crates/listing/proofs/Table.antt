@@ -4,9 +4,9 @@ use Rattle.std.specs.List.{range_with_len}
 use Rattle.std.proofs.lemmas.List.{get_or-map}
 use Rattle.std.proofs.lemmas.Option.{slice_get_past}
 use Rattle.std.proofs.lemmas.List.FromFn.{get_or-range_with_len}
-use Rattle.case_table.proofs.Places.{found_has_name}
-use Rattle.case_table.specs.Names.{operation_names}
-use Rattle.case_table.specs.Rows.{place_of}
+use Rattle.name_tables.proofs.Places.{found_has_name}
+use Rattle.name_tables.specs.Names.{operation_names}
+use Rattle.name_tables.specs.Rows.{place_of}
 use Rattle.machine_code.specs.declared.op.Op.{Op}
 use Rattle.machine_code.specs.declared.op.Op.TheVariants.{Stmt, Ldi, Ldt, Stt, Lde, Lda, Add, Sub, Mul, Div, Rem, Eq, Ne, Lt, Le, Gt, Ge, And, Or, Jmp, Jz, Ldw, Stw, Ckw, Ckp, Own, Ldx, Stx, Ckf, Chn, Unc, Arg, Snd, Dir, Call, Ret, Trf, End}
 use Rattle.machine_code.specs.Operands.{OpFits}

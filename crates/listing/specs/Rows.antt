@@ -1,6 +1,6 @@
 -- The rows of the table of instructions, by their places.
 use Rattle.std.specs.Prelude.{◌≡◌, ◌≢◌, ℕ, List, [], ◌∷◌, length, map, slice_get, Option, Some, None, Result, Ok, Err, unwrap_or}
-use Rattle.case_table.specs.Names.{operation_names}
+use Rattle.name_tables.specs.Names.{operation_names}
 use Rattle.machine_code.specs.declared.op.Op.{Op}
 use Rattle.machine_code.specs.Operands.{OpFits, IsRegister, IsLocal, IsValuePlace, IsNumber, IsLevel, IsSendingWay, IsWidth}
 use Rattle.machine_code.specs.declared.op.Op.TheVariants.{Stmt, Ldi, Ldt, Stt, Lde, Lda, Add, Sub, Mul, Div, Rem, Eq, Ne, Lt, Le, Gt, Ge, And, Or, Jmp, Jz, Ldw, Stw, Ckw, Ckp, Own, Ldx, Stx, Ckf, Chn, Unc, Arg, Snd, Dir, Call, Ret, Trf, End}

@@ -1,16 +1,16 @@
 // Code as text.
 ghost use Rattle.std.specs.Prelude.{◌≡◌, ◌++◌, ◌<◌, ◌^◌, All, IfOk, OnOk, length, map};
 ghost use Rattle.std.specs.List.{flat_map};
-ghost use Rattle.case_table.specs.Names.{operation_names};
-ghost use Rattle.case_table.specs.Rows.{names_of};
+ghost use Rattle.name_tables.specs.Names.{operation_names};
+ghost use Rattle.name_tables.specs.Rows.{names_of};
 ghost use Rattle.machine_code.specs.Operands.{IsNumber, OpFits};
 ghost use Rattle.listing.specs.Listing.{IsListing, code_text, entry_line, entry_lines, op_line};
 ghost use Rattle.text_lines.specs.Lines.{ended};
 
 use crate::print_line::add_line;
 use crate::rows::add_row_of;
-use case_table::{Row, operations};
 use machine_code::{Code, Op};
+use name_tables::{Row, operations};
 use plex_num::{Memory, Seq};
 use std::alloc::Global;
 

@@ -2,13 +2,13 @@
 ghost use Rattle.std.specs.Prelude.{◌≡◌, ◌++◌, OnOk, map};
 ghost use Rattle.std.specs.Fmt.{decimal};
 ghost use Rattle.std.specs.List.{flat_map};
-ghost use Rattle.case_table.specs.Names.{operation_names};
-ghost use Rattle.case_table.specs.Rows.{names_of};
+ghost use Rattle.name_tables.specs.Names.{operation_names};
+ghost use Rattle.name_tables.specs.Rows.{names_of};
 ghost use Rattle.listing.specs.Listing.{spaced, spoken};
 ghost use Rattle.listing.specs.Rows.{name_at, row_line};
 ghost use Rattle.text_lines.specs.Lines.{ended};
 
-use case_table::{Row, name_of};
+use name_tables::{Row, name_of};
 use plex_num::{Memory, Seq, print_number};
 
 /// Appends a line with the name at a place of the table.

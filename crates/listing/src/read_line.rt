@@ -1,7 +1,7 @@
 // One line between the first and the last, from its text.
 ghost use Rattle.std.specs.Prelude.{◌≡◌, ◌≢◌, ◌<◌, ◌^◌, Bool};
-ghost use Rattle.case_table.specs.Names.{operation_names};
-ghost use Rattle.case_table.specs.Rows.{names_of};
+ghost use Rattle.name_tables.specs.Names.{operation_names};
+ghost use Rattle.name_tables.specs.Rows.{names_of};
 ghost use Rattle.listing.specs.Listing.{last_line};
 ghost use Rattle.listing.specs.Statements.{ReadsAddress, ReadsNamed, ReadsParts, ReadsStatement};
 
@@ -9,8 +9,8 @@ use crate::fault::LineFault;
 use crate::parts::{name_and_words, operands};
 use crate::rows::op_at;
 use crate::statement::Statement;
-use case_table::{Row, find};
 use machine_code::Op;
+use name_tables::{Row, find};
 
 /// What a line that is not the last says behind so many entries. Another entry may stand there only if no instruction does yet.
 pub fn statement(

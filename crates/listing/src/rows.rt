@@ -1,7 +1,7 @@
 // The instructions, row by row of their table, as they are read and printed.
 ghost use Rattle.std.specs.Prelude.{◌≡◌, ◌<◌, ◌++◌, OnOk};
-ghost use Rattle.case_table.specs.Names.{operation_names};
-ghost use Rattle.case_table.specs.Rows.{names_of};
+ghost use Rattle.name_tables.specs.Names.{operation_names};
+ghost use Rattle.name_tables.specs.Rows.{names_of};
 ghost use Rattle.listing.specs.Instructions.{written};
 ghost use Rattle.listing.specs.Rows.{ReadsRow, row, row_line};
 
@@ -12,8 +12,8 @@ use crate::operands::{
     store_indexed,
 };
 use crate::print_line::add_row;
-use case_table::Row;
 use machine_code::Op;
+use name_tables::Row;
 use plex_num::{Memory, Seq};
 
 /// Hands to a macro each row: its place in the table, its instruction, and how its operands are read, in their order.

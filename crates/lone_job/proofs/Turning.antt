@@ -14,9 +14,9 @@ use Rattle.source_meaning.specs.SingleRun.{turn}
 use Rattle.source_meaning.specs.Valid.{MayBe}
 use Rattle.machine_meaning.specs.Faithful.{Faithful}
 use Rattle.machine_meaning.specs.Private.{Private}
-use Rattle.retire_order.specs.Accounts.{Account, after_start, upcoming, with_words}
-use Rattle.retire_order.specs.Retired.{retired_world}
-use Rattle.retire_order.specs.Stores.{MayStore}
+use Rattle.run_books.specs.Accounts.{Account, after_start, upcoming, with_words}
+use Rattle.run_books.specs.Retired.{retired_world}
+use Rattle.run_books.specs.Stores.{MayStore}
 use Rattle.exchange_run.specs.Runs.{MayRun, left_by, words_after}
 use Rattle.run_engines.proofs.Starting.{entry_within}
 use Rattle.exchange_run.proofs.Turning.{goes_on, may_be, may_retire, may_run, some_start, turn_more, upcoming_is}

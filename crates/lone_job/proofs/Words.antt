@@ -20,7 +20,7 @@ use Rattle.source_meaning.specs.Traces.{AreOfCells}
 use Rattle.source_meaning.proofs.Touching.{touches_inside}
 use Rattle.machine_meaning.specs.Faithful.{Begins, ComesToEnd, ComesToMeaning, MayMake, started}
 use Rattle.machine_meaning.specs.Private.{Private}
-use Rattle.retire_order.specs.Stores.{MayStore}
+use Rattle.run_books.specs.Stores.{MayStore}
 use Rattle.run_engines.specs.Machines.{Leaves}
 use Rattle.exchange_run.specs.Runs.{MayRun}
 use Rattle.run_engines.proofs.Starting.{leaves}

@@ -12,8 +12,8 @@ use Rattle.source_meaning.specs.State.{State}
 use Rattle.machine_meaning.specs.Faithful.{Ends, begun, started}
 use Rattle.machine_meaning.specs.Machine.{Machine}
 use Rattle.machine_meaning.specs.Private.{Private}
-use Rattle.retire_order.specs.Accounts.{Account, after_start, upcoming, with_words}
-use Rattle.retire_order.specs.Retired.{HasRetired}
+use Rattle.run_books.specs.Accounts.{Account, after_start, upcoming, with_words}
+use Rattle.run_books.specs.Retired.{HasRetired}
 use Rattle.run_engines.specs.Machines.{Leaves}
 use Rattle.exchange_run.specs.Runs.{HasTurn, IsTurn, left_by, words_after}
 use Rattle.shared_store.specs.declared.view.Top.{Top}

@@ -2,8 +2,8 @@
 ghost use Rattle.std.specs.Prelude.{◌≡◌, ◌+◌, ◌<◌, ◌^◌, [], IfOk, IfErr, OnOk};
 ghost use Rattle.store_layout.specs.Laid.{IsLayout};
 ghost use Rattle.source_meaning.specs.Valid.{MayBe};
-ghost use Rattle.retire_order.specs.Retired.{retired_trace};
-ghost use Rattle.retire_order.specs.Stores.{MayStore};
+ghost use Rattle.run_books.specs.Retired.{retired_trace};
+ghost use Rattle.run_books.specs.Stores.{MayStore};
 ghost use Rattle.job_runner.specs.Seen.{free_to_write};
 ghost use Rattle.exchange_run.specs.Runs.{MayRun};
 ghost use Rattle.machine_meaning.specs.Faithful.{Faithful, started};
@@ -19,7 +19,7 @@ use machine_code::Code;
 use plex_io::{Gate, Moment};
 use plex_num::Memory;
 use register_machine::run_to_end;
-use retire_order::{Books, let_arrive};
+use run_books::{Books, let_arrive};
 use run_engines::length_of;
 use shared_store::{RootSeat, SharedStore};
 

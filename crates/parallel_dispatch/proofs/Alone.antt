@@ -15,7 +15,7 @@ use Rattle.order_laws.specs.Keeps.{NoLineBefore}
 use Rattle.order_laws.proofs.Following.{ahead_none}
 use Rattle.order_laws.proofs.Wording.{over}
 use Rattle.machine_meaning.specs.Faithful.{Ends, Faithful, begun, started}
-use Rattle.retire_order.specs.Accounts.{Account, after_start, with_words}
+use Rattle.run_books.specs.Accounts.{Account, after_start, with_words}
 use Rattle.exchange_run.proofs.Turning.{goes_on, turn_ended, turn_starts}
 use Rattle.interleave_core.specs.Runs.{setting}
 use Rattle.shared_store.specs.declared.view.Lent.{Lent}

@@ -7,7 +7,7 @@ use Rattle.job_types.specs.declared.job.JobStart.{JobStart}
 use Rattle.source_meaning.specs.State.{Coming}
 use Rattle.checked.specs.Kept.{KeptSummaries}
 use Rattle.order_laws.specs.Keeps.{NoLineBefore}
-use Rattle.retire_order.specs.Accounts.{Account, next_count, upcoming}
+use Rattle.run_books.specs.Accounts.{Account, next_count, upcoming}
 use Rattle.shared_store.specs.declared.view.Lent.{Lent}
 use Rattle.parallel_dispatch.specs.Flying.{starts_of}
 use Rattle.parallel_dispatch.specs.Moves.{MayFly, MayIssue, MayRunAlone}

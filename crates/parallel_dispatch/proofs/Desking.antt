@@ -12,8 +12,8 @@ use Rattle.source_meaning.specs.Valid.{IsValid}
 use Rattle.checked.specs.Kept.{KeptSummaries}
 use Rattle.order_laws.specs.Keeps.{NoLineBefore}
 use Rattle.exchange_model.specs.Cells.{cell_count}
-use Rattle.retire_order.specs.Accounts.{Account, upcoming}
-use Rattle.retire_order.specs.Events.{ending_of}
+use Rattle.run_books.specs.Accounts.{Account, upcoming}
+use Rattle.run_books.specs.Events.{ending_of}
 use Rattle.shared_store.specs.Loans.{unlent}
 use Rattle.interleave_core.specs.declared.event.CoreEvent.{CoreEvent}
 use Rattle.interleave_core.specs.Runs.{setting}

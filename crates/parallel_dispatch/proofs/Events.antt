@@ -15,7 +15,7 @@ use Rattle.machine_meaning.specs.Machine.{Machine}
 use Rattle.checked.specs.Kept.{KeptSummaries}
 use Rattle.order_laws.specs.Keeps.{NoLineBefore}
 use Rattle.order_laws.proofs.Wording.{arrivals_over}
-use Rattle.retire_order.specs.Accounts.{Account, after_start, next_count, upcoming, with_words}
+use Rattle.run_books.specs.Accounts.{Account, after_start, next_count, upcoming, with_words}
 use Rattle.interleave_core.specs.declared.event.CoreEvent.TheVariants.{Issue}
 use Rattle.interleave_core.specs.declared.window.WindowJob.{WindowJob}
 use Rattle.interleave_core.specs.Allowed.{CanIssue, IsBefore, MayFollow}

@@ -25,7 +25,7 @@ use Rattle.order_laws.proofs.Following.{ahead_issue}
 use Rattle.order_laws.proofs.Moving.{window_fits}
 use Rattle.order_laws.proofs.Starting.{next_over}
 use Rattle.permit_laws.specs.Permitted.{ArePermitted}
-use Rattle.retire_order.specs.Accounts.{Account, after_start, upcoming, with_words}
+use Rattle.run_books.specs.Accounts.{Account, after_start, upcoming, with_words}
 use Rattle.shared_store.specs.declared.view.Lent.{Lent}
 use Rattle.shared_store.specs.declared.view.Top.{Top}
 use Rattle.shared_store.specs.Loans.{FitsBeside, Has, lender, lent}

@@ -4,7 +4,7 @@ use Rattle.machine_code.specs.Coded.{Code}
 use Rattle.exchange_model.specs.declared.exchange.Exchange.{Exchange}
 use Rattle.checked.specs.Kept.{KeptSummaries}
 use Rattle.machine_meaning.specs.Private.{Private}
-use Rattle.retire_order.specs.Accounts.{Account}
+use Rattle.run_books.specs.Accounts.{Account}
 use Rattle.shared_store.specs.declared.view.Lent.{Lent}
 use Rattle.shared_store.specs.Loans.{Has, taken_back}
 use Rattle.shared_store.specs.Seats.{JobView, RootView, StoreId}

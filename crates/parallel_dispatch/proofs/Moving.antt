@@ -19,9 +19,9 @@ use Rattle.checked.specs.Kept.{IsChecked, KeptSummaries}
 use Rattle.order_laws.specs.Windows.{done_by}
 use Rattle.machine_meaning.specs.Faithful.{started}
 use Rattle.machine_meaning.specs.Private.{Private}
-use Rattle.retire_order.specs.Accounts.{Account, after_start, upcoming, with_words}
-use Rattle.retire_order.specs.Retired.{HasRetired, retired_world}
-use Rattle.retire_order.specs.Stores.{MayStore}
+use Rattle.run_books.specs.Accounts.{Account, after_start, upcoming, with_words}
+use Rattle.run_books.specs.Retired.{HasRetired, retired_world}
+use Rattle.run_books.specs.Stores.{MayStore}
 use Rattle.shared_store.specs.declared.view.Lent.{Lent}
 use Rattle.shared_store.specs.declared.view.Top.{Top}
 use Rattle.shared_store.specs.Loans.{FitsBeside, borrower, lender, lent, taken_back}

@@ -21,7 +21,7 @@ use Rattle.run_laws.specs.Alone.{on_words}
 use Rattle.run_laws.proofs.Going.{end_framed}
 use Rattle.checked.specs.Kept.{IsChecked, KeptSummaries}
 use Rattle.order_laws.proofs.Following.{ahead_none}
-use Rattle.retire_order.specs.Accounts.{Account, with_words}
+use Rattle.run_books.specs.Accounts.{Account, with_words}
 use Rattle.exchange_run.specs.declared.turns.Standing.{Standing}
 use Rattle.exchange_run.specs.Comes.{IsOnTheWay}
 use Rattle.exchange_run.specs.Runs.{RunsTo}

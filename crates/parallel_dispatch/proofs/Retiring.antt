@@ -28,10 +28,10 @@ use Rattle.order_laws.proofs.Keeping.{end_keeps}
 use Rattle.order_laws.proofs.Moving.{window_first, window_fits, window_next}
 use Rattle.order_laws.proofs.Starting.{goes_on}
 use Rattle.order_laws.proofs.Wording.{arrivals_over}
-use Rattle.retire_order.specs.Accounts.{Account, with_words}
-use Rattle.retire_order.specs.Retired.{retired_world}
-use Rattle.retire_order.specs.Stores.{MayStore}
-use Rattle.retire_order.proofs.Cells.{may_store, retired_inside}
+use Rattle.run_books.specs.Accounts.{Account, with_words}
+use Rattle.run_books.specs.Retired.{retired_world}
+use Rattle.run_books.specs.Stores.{MayStore}
+use Rattle.run_books.proofs.Cells.{may_store, retired_inside}
 use Rattle.machine_meaning.specs.Faithful.{started}
 use Rattle.machine_meaning.specs.Private.{Private}
 use Rattle.run_laws.specs.Alone.{on_words}

@@ -27,7 +27,7 @@ use Rattle.checked.specs.Kept.{IsChecked, KeptSummaries}
 use Rattle.order_laws.specs.Keeps.{NoneDue}
 use Rattle.order_laws.proofs.Arriving.{arrivals_keep, arrivals_settle}
 use Rattle.order_laws.proofs.Wording.{arrivals_over}
-use Rattle.retire_order.specs.Accounts.{Account, upcoming, with_words}
+use Rattle.run_books.specs.Accounts.{Account, upcoming, with_words}
 use Rattle.exchange_run.proofs.Turning.{goes_on, some_start, upcoming_is}
 use Rattle.shared_store.specs.declared.view.Lent.{Lent}
 use Rattle.shared_store.specs.declared.view.Top.{Top}

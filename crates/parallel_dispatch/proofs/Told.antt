@@ -39,7 +39,7 @@ use Rattle.pair_laws.proofs.Retiring.{chains_left}
 use Rattle.pair_laws.proofs.Staying.{reads_stay, writes_stay}
 use Rattle.pair_laws.proofs.Storing.{retired_store, retirement_apart}
 use Rattle.pair_laws.proofs.Touching.{first_alone, no_store_append, touched_read}
-use Rattle.retire_order.specs.Retired.{outcome_world, retired_world}
+use Rattle.run_books.specs.Retired.{outcome_world, retired_world}
 use Rattle.shared_store.specs.declared.view.Lent.{Lent}
 use Rattle.parallel_dispatch.specs.Flying.{IsLent}
 use Rattle.parallel_dispatch.specs.Told.{AreTrue, IsSummaryOf, PassBy}

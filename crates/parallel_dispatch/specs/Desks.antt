@@ -8,9 +8,9 @@ use Rattle.exchange_model.specs.declared.exchange.Exchange.{Exchange}
 use Rattle.source_meaning.specs.SingleRun.{ending_at}
 use Rattle.source_meaning.specs.State.{State}
 use Rattle.checked.specs.Kept.{KeptSummaries}
-use Rattle.retire_order.specs.declared.event.Ending.{Ending}
-use Rattle.retire_order.specs.Accounts.{Account}
-use Rattle.retire_order.specs.Events.{ending_of}
+use Rattle.run_books.specs.declared.event.Ending.{Ending}
+use Rattle.run_books.specs.Accounts.{Account}
+use Rattle.run_books.specs.Events.{ending_of}
 use Rattle.shared_store.specs.Seats.{RootView, StoreId}
 use Rattle.parallel_dispatch.specs.Events.{IsReached}
 use Rattle.parallel_dispatch.specs.Moves.{AreCounted}

@@ -5,8 +5,8 @@ use Rattle.machine_code.specs.Coded.{Code}
 use Rattle.exchange_model.specs.declared.exchange.Exchange.{Exchange}
 use Rattle.source_meaning.specs.SingleRun.{Ending, end_state, ending_at, jobs_at_end}
 use Rattle.source_meaning.specs.State.{State}
-use Rattle.retire_order.specs.Accounts.{with_words}
-use Rattle.retire_order.specs.Events.{ending_of}
+use Rattle.run_books.specs.Accounts.{with_words}
+use Rattle.run_books.specs.Events.{ending_of}
 use Rattle.source_meaning.specs.Valid.{IsValid}
 use Rattle.checked.specs.Kept.{KeptSummaries}
 use Rattle.interleave_core.specs.declared.event.CoreEvent.{CoreEvent}

@@ -6,7 +6,7 @@ use Rattle.source_meaning.specs.Arrivals.{arrivals}
 use Rattle.source_meaning.specs.SingleRun.{after}
 use Rattle.source_meaning.specs.State.{State}
 use Rattle.machine_meaning.specs.Faithful.{started}
-use Rattle.retire_order.specs.Accounts.{Account}
+use Rattle.run_books.specs.Accounts.{Account}
 use Rattle.checked.specs.Kept.{KeptSummaries}
 use Rattle.interleave_core.specs.declared.event.CoreEvent.{CoreEvent}
 use Rattle.interleave_core.specs.declared.event.CoreEvent.TheVariants.{Issue}

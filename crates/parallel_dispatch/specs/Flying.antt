@@ -12,7 +12,7 @@ use Rattle.entry_summary.specs.declared.summary.Summary.{Summary}
 use Rattle.start_permit.specs.Granted.{MayRead, MayWrite}
 use Rattle.checked.specs.Kept.{KeptSummaries}
 use Rattle.order_laws.specs.Books.{AreAhead}
-use Rattle.retire_order.specs.Accounts.{Account, with_words}
+use Rattle.run_books.specs.Accounts.{Account, with_words}
 use Rattle.shared_store.specs.declared.view.Lent.{Lent}
 use Rattle.shared_store.specs.declared.view.Top.{Top}
 use Rattle.shared_store.specs.Loans.{Has}

@@ -12,7 +12,7 @@ use Rattle.source_meaning.specs.State.{State}
 use Rattle.checked.specs.Kept.{IsChecked, KeptSummaries}
 use Rattle.order_laws.specs.Keeps.{NoLineBefore}
 use Rattle.machine_meaning.specs.Faithful.{Faithful}
-use Rattle.retire_order.specs.Accounts.{Account, upcoming, with_words}
+use Rattle.run_books.specs.Accounts.{Account, upcoming, with_words}
 use Rattle.shared_store.specs.declared.view.Top.{Top}
 use Rattle.shared_store.specs.declared.view.Lent.{Lent}
 use Rattle.shared_store.specs.Loans.{Has}

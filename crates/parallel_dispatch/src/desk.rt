@@ -2,7 +2,7 @@
 // of the core of events.
 ghost use Rattle.std.specs.Prelude.{◌≡◌, ◌<◌, [], length, Some, IsTrue, IfOk, IfErr};
 ghost use Rattle.shared_store.specs.Loans.{unlent};
-ghost use Rattle.retire_order.specs.Events.{ending_of};
+ghost use Rattle.run_books.specs.Events.{ending_of};
 ghost use Rattle.source_meaning.specs.SingleRun.{ending_at};
 ghost use Rattle.source_meaning.specs.Valid.{IsValid};
 ghost use Rattle.parallel_dispatch.specs.Desks.{GoesOn, TellsEnd};
@@ -20,7 +20,7 @@ use interference_check::PairTable;
 use job_pace::Pace;
 use plex_io::Gate;
 use plex_num::{Memory, Seq};
-use retire_order::{Books, Ending, let_arrive};
+use run_books::{Books, Ending, let_arrive};
 use shared_store::{RootSeat, SharedStore};
 use std::alloc::Global;
 use std::marker::Model;

@@ -10,7 +10,7 @@ use exchange_run::Standing;
 use lone_job::RunContext;
 use plex_io::Gate;
 use plex_num::Seq;
-use retire_order::{Books, Ending};
+use run_books::{Books, Ending};
 use shared_store::{RootSeat, SharedStore};
 use std::marker::Brand;
 use std::sync::Wait;

@@ -4,7 +4,7 @@ ghost use Rattle.std.specs.Prelude.{◌≡◌, ◌+◌, ◌<◌, [], length, Som
 ghost use Rattle.std.specs.List.{AllByRecursion};
 ghost use Rattle.job_types.specs.declared.job.JobStart.{JobStart as StartType};
 ghost use Rattle.order_laws.specs.Keeps.{NoLineBefore};
-ghost use Rattle.retire_order.specs.Accounts.{upcoming};
+ghost use Rattle.run_books.specs.Accounts.{upcoming};
 ghost use Rattle.source_meaning.specs.SingleRun.{ending_at};
 ghost use Rattle.worker_pool.specs.Ways.{AreMeans};
 ghost use Rattle.parallel_dispatch.specs.Flying.{starts_of};
@@ -22,7 +22,7 @@ use job_types::JobStart;
 use lone_job::{number_of_next, retire_on_root, turn_alone};
 use plex_io::Gate;
 use plex_num::Memory;
-use retire_order::Books;
+use run_books::Books;
 use run_engines::length_of;
 use shared_store::RootSeat;
 use std::alloc::Global;

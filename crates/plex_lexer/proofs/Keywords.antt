@@ -3,8 +3,8 @@ use Rattle.std.proofs.Common.{◌≡◌, ℕ, ◌<◌, Bool, true, false, not, m
 use Rattle.std.proofs.lemmas.Bool.{le-ltb}
 use Rattle.std.specs.List.{prefix_len}
 use Rattle.std.specs.Cmp.Lexicographic.{same_text}
-use Rattle.case_table.specs.Names.{keyword_names}
-use Rattle.case_table.specs.Rows.{same_bytes, place_of}
+use Rattle.name_tables.specs.Names.{keyword_names}
+use Rattle.name_tables.specs.Rows.{same_bytes, place_of}
 use Rattle.plex_lexer.specs.Words.{keyword_of}
 
 -- the length of the longest of these names

@@ -1,7 +1,7 @@
 -- What runs of letters and digits say.
 use Rattle.std.specs.Prelude.{ℕ, nat_lt, List, length, Option, Some, None, Result, Ok, Err, if◌then◌else◌}
-use Rattle.case_table.specs.Names.{keyword_names}
-use Rattle.case_table.specs.Rows.{place_of}
+use Rattle.name_tables.specs.Names.{keyword_names}
+use Rattle.name_tables.specs.Rows.{place_of}
 use Rattle.plex_num.specs.Number.{number_of}
 use Rattle.plex_lexer.specs.declared.fault.LexFault.{LexFault}
 use Rattle.plex_lexer.specs.declared.fault.LexFault.TheVariants.{BadNumber, LongName}

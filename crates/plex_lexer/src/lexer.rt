@@ -1,6 +1,6 @@
 ghost use Rattle.std.specs.Prelude.{◌≡◌, ◌≤◌, ◌<◌, ◌∷◌, length, IfOk};
-ghost use Rattle.case_table.specs.Names.{keyword_names};
-ghost use Rattle.case_table.specs.Rows.{names_of};
+ghost use Rattle.name_tables.specs.Names.{keyword_names};
+ghost use Rattle.name_tables.specs.Rows.{names_of};
 ghost use Rattle.plex_lexer.specs.Lexed.{tokens_of, TellsTokens};
 ghost use Rattle.plex_lexer.specs.Pieces.{token_at, seen, IsEnd};
 ghost use Rattle.plex_lexer.specs.Spots.{IsSmall};
@@ -12,7 +12,7 @@ use crate::sort::Sort;
 use crate::spot::Spot;
 use crate::tokens::Tokens;
 use crate::words::{number, word};
-use case_table::{Row, keywords};
+use name_tables::{Row, keywords};
 use plex_limits::MOST_BYTES;
 use plex_num::Seq;
 use std::alloc::Global;

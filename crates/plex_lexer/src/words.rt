@@ -1,8 +1,8 @@
 // Keywords, names and numbers: what a run of letters and digits says.
 ghost use Rattle.std.specs.Prelude.{◌≡◌, ◌<◌, length, take_while, IfOk, IfSome};
 ghost use Rattle.std.specs.Char.{is_ascii_digit};
-ghost use Rattle.case_table.specs.Names.{keyword_names};
-ghost use Rattle.case_table.specs.Rows.{names_of};
+ghost use Rattle.name_tables.specs.Names.{keyword_names};
+ghost use Rattle.name_tables.specs.Rows.{names_of};
 ghost use Rattle.plex_lexer.specs.Bytes.{in_word};
 ghost use Rattle.plex_lexer.specs.Spots.{kinds_at, value_of, IsSmall};
 ghost use Rattle.plex_num.specs.Number.{number_of};
@@ -11,7 +11,7 @@ ghost use Rattle.plex_lexer.specs.Words.{keyword_of, word_kind, number_kind};
 use crate::fault::LexFault;
 use crate::runs::{digit_run, word_run};
 use crate::sort::Sort;
-use case_table::{Row, find};
+use name_tables::{Row, find};
 use plex_num::read_number;
 
 /// The number of bytes of the longest keyword.

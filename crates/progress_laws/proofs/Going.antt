@@ -13,7 +13,7 @@ use Rattle.exchange_model.specs.Kept.{IsExchange}
 use Rattle.source_meaning.specs.Arrivals.{arrivals, is_quiet}
 use Rattle.source_meaning.specs.SingleRun.{Ending, after, ending_at, jobs_at_end}
 use Rattle.source_meaning.specs.State.{Coming, State}
-use Rattle.retire_order.specs.Accounts.{next_count}
+use Rattle.run_books.specs.Accounts.{next_count}
 use Rattle.machine_meaning.specs.Faithful.{Faithful}
 use Rattle.checked.specs.Kept.{KeptSummaries}
 use Rattle.order_laws.specs.Keeps.{NoneDue}

@@ -19,7 +19,7 @@ use Rattle.source_meaning.specs.SingleRun.{after, begun, next_start, turn}
 use Rattle.source_meaning.specs.State.{Coming, State}
 use Rattle.source_meaning.specs.Valid.{IsFitting, IsValid}
 use Rattle.source_meaning.proofs.Retiring.{turn_valid}
-use Rattle.retire_order.specs.Accounts.{next_count}
+use Rattle.run_books.specs.Accounts.{next_count}
 use Rattle.machine_meaning.specs.Faithful.{Faithful, started}
 use Rattle.machine_meaning.specs.Machine.{Machine, stepped}
 use Rattle.machine_meaning.specs.Private.{Private}

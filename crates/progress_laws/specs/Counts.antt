@@ -7,7 +7,7 @@ use Rattle.machine_code.specs.Coded.{Code}
 use Rattle.exchange_model.specs.declared.exchange.Exchange.{Exchange}
 use Rattle.source_meaning.specs.SingleRun.{after, ending_at, jobs_at_end, next_start}
 use Rattle.source_meaning.specs.State.{State}
-use Rattle.retire_order.specs.Accounts.{Account, with_words}
+use Rattle.run_books.specs.Accounts.{Account, with_words}
 use Rattle.interleave_core.specs.Follows.{own_run}
 
 -- the job of this start, alone on these words, is over after so many instructions, and not before

@@ -7,7 +7,7 @@ use Rattle.source_meaning.specs.SingleRun.{end_state, ending_at, jobs_at_end}
 use Rattle.source_meaning.specs.State.{State}
 use Rattle.source_meaning.specs.Valid.{IsValid}
 use Rattle.machine_meaning.specs.Faithful.{Faithful}
-use Rattle.retire_order.specs.Accounts.{Account, with_words}
+use Rattle.run_books.specs.Accounts.{Account, with_words}
 use Rattle.checked.specs.Kept.{IsChecked}
 use Rattle.interleave_core.specs.declared.event.CoreEvent.{CoreEvent}
 use Rattle.interleave_core.specs.Cores.{Core, opened_core}

@@ -1,7 +1,7 @@
 // What holds of every list of allowed events, said by clauses.
 ghost use Rattle.std.specs.Prelude.{◌≡◌, ◌⊎◌, ◌≤◌, ℕ, List, length};
 ghost use Rattle.exchange_model.specs.declared.exchange.Exchange.{Exchange};
-ghost use Rattle.retire_order.specs.Accounts.{Account, with_words};
+ghost use Rattle.run_books.specs.Accounts.{Account, with_words};
 ghost use Rattle.interleave_core.specs.declared.event.CoreEvent.{CoreEvent};
 ghost use Rattle.interleave_core.specs.Cores.{Core, opened_core};
 ghost use Rattle.interleave_core.specs.Runs.{Setting};

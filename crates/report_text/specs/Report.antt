@@ -17,7 +17,7 @@ use Rattle.job_types.specs.declared.fault.Fault.{Fault}
 use Rattle.job_types.specs.Forlopps.{ChainMap, chain_at}
 use Rattle.source_meaning.specs.SingleRun.{Ending, Finished, Limited, Restarted}
 use Rattle.source_meaning.specs.State.{RunEvent, Lost, Out, Release, Restart, State}
-use Rattle.retire_order.specs.declared.event.Faulty.{Faulty}
+use Rattle.run_books.specs.declared.event.Faulty.{Faulty}
 use Rattle.report_text.specs.Names.{fault_word, name_of_held, name_of_point, record_name}
 use Rattle.exchange_model.specs.Names.{name_of_signal}
 

@@ -1,12 +1,12 @@
 // The lines of the events.
 ghost use Rattle.std.specs.Prelude.{◌≡◌, ◌++◌, IfOk, OnOk};
-ghost use Rattle.retire_order.specs.Events.{event_of};
+ghost use Rattle.run_books.specs.Events.{event_of};
 ghost use Rattle.report_text.specs.Report.{event_line, event_lines, out_line, text_of, value_words, words_of_fault, written};
 
 use crate::names::{add_point, fault_word};
 use exchange_model::Exchange;
 use plex_num::{Memory, Seq, add_number};
-use retire_order::{EventQueue, Faulty, ReportEvent};
+use run_books::{EventQueue, Faulty, ReportEvent};
 use std::alloc::Global;
 use text_parts::Text;
 

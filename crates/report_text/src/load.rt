@@ -1,13 +1,13 @@
 // The summary of a load.
 ghost use Rattle.std.specs.Prelude.{◌≡◌, ◌+◌, ◌<◌, ◌^◌, IfOk};
 ghost use Rattle.std.specs.List.{count_by};
-ghost use Rattle.retire_order.specs.Events.{ending_of, event_of};
+ghost use Rattle.run_books.specs.Events.{ending_of, event_of};
 ghost use Rattle.report_text.specs.Load.{is_lost, is_out, is_release, load_text};
 ghost use Rattle.report_text.specs.Tallies.{IsTallied};
 
 use crate::whole::{add_counted, add_ending};
 use plex_num::Memory;
-use retire_order::{Books, Ending, EventQueue, ReportEvent};
+use run_books::{Books, Ending, EventQueue, ReportEvent};
 use std::alloc::Global;
 use text_parts::Text;
 

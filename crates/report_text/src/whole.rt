@@ -1,7 +1,7 @@
 ghost use Rattle.std.specs.Prelude.{◌≡◌, ◌++◌, IfOk, OnOk};
 ghost use Rattle.std.specs.Fmt.{decimal};
-ghost use Rattle.retire_order.specs.Accounts.{with_words};
-ghost use Rattle.retire_order.specs.Events.{ending_of};
+ghost use Rattle.run_books.specs.Accounts.{with_words};
+ghost use Rattle.run_books.specs.Events.{ending_of};
 ghost use Rattle.report_text.specs.Report.{end_line, report_text, written};
 
 use crate::events::add_events;
@@ -9,7 +9,7 @@ use crate::forlopps::add_holders;
 use crate::stored::{add_fields, add_variables};
 use exchange_model::Exchange;
 use plex_num::{Memory, Seq, add_number};
-use retire_order::{Books, Ending};
+use run_books::{Books, Ending};
 use std::alloc::Global;
 use text_parts::Text;
 

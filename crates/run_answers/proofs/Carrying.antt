@@ -4,9 +4,9 @@ use Rattle.plex_limits.specs.declared.limits.TheConstants.{MOST_JOBS}
 use Rattle.exchange_model.specs.declared.exchange.Exchange.{Exchange}
 use Rattle.source_meaning.specs.State.{State}
 use Rattle.source_meaning.specs.Valid.{IsValid}
-use Rattle.retire_order.specs.declared.parts.BookParts.{BookParts}
-use Rattle.retire_order.specs.Accounts.{Account, with_words}
-use Rattle.retire_order.specs.Parts.{AreParts, account_of}
+use Rattle.run_books.specs.declared.parts.BookParts.{BookParts}
+use Rattle.run_books.specs.Accounts.{Account, with_words}
+use Rattle.run_books.specs.Parts.{AreParts, account_of}
 use Rattle.exchange_run.specs.declared.turns.Standing.{Standing}
 use Rattle.exchange_run.specs.Runs.{state_of}
 use Rattle.block_change.specs.Carried.{AreStanding, IsCarried, state_with}

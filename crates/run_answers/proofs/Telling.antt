@@ -5,8 +5,8 @@ use Rattle.exchange_model.specs.declared.exchange.Exchange.{Exchange}
 use Rattle.signal_file.specs.declared.line.Line.{Line}
 use Rattle.source_meaning.specs.SingleRun.{Ending, Finished, Limited, Restarted}
 use Rattle.source_meaning.specs.State.{State}
-use Rattle.retire_order.specs.Accounts.{with_words}
-use Rattle.retire_order.specs.Events.{ending_of as told_ending}
+use Rattle.run_books.specs.Accounts.{with_words}
+use Rattle.run_books.specs.Events.{ending_of as told_ending}
 use Rattle.exchange_run.specs.declared.turns.Ended.{Ended}
 use Rattle.report_text.specs.Load.{load_text}
 use Rattle.report_text.specs.Report.{report_text}

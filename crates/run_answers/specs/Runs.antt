@@ -4,7 +4,7 @@ use Rattle.exchange_model.specs.declared.exchange.Exchange.{Exchange}
 use Rattle.signal_file.specs.declared.line.Line.{Line}
 use Rattle.source_meaning.specs.SingleRun.{opening}
 use Rattle.source_meaning.specs.State.{State}
-use Rattle.retire_order.specs.Lines.{coming_of}
+use Rattle.run_books.specs.Lines.{coming_of}
 use Rattle.exchange_run.specs.declared.turns.Ended.{Ended}
 use Rattle.exchange_run.specs.declared.turns.Standing.{Standing}
 use Rattle.exchange_run.specs.Runs.{IsEndOf, MayGoOn, state_of}

@@ -1,7 +1,7 @@
 // The answer at the end of a run, whoever ran it.
 ghost use Rattle.std.specs.Prelude.{◌≡◌, IfOk};
-ghost use Rattle.retire_order.specs.Accounts.{with_words};
-ghost use Rattle.retire_order.specs.Events.{ending_of};
+ghost use Rattle.run_books.specs.Accounts.{with_words};
+ghost use Rattle.run_books.specs.Events.{ending_of};
 ghost use Rattle.answer_meaning.specs.LoadAnswer.{summed_answer};
 ghost use Rattle.answer_meaning.specs.Outcome.{headed_by};
 ghost use Rattle.answer_meaning.specs.Program.{IsEnding};
@@ -13,7 +13,7 @@ use exchange_model::Exchange;
 use exchange_run::Ended;
 use plex_num::Memory;
 use report_text::{add_report, load_summary, report};
-use retire_order::Ending;
+use run_books::Ending;
 use std::alloc::Global;
 use text_parts::Text;
 

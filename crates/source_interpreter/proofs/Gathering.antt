@@ -4,7 +4,7 @@ use Rattle.std.specs.Prelude.{IfSome}
 use Rattle.std.specs.List.{AllByRecursion}
 use Rattle.std.proofs.lemmas.List.{take_more, take_all}
 use Rattle.plex_num.proofs.Lists.{all_from, all_last, all_left, all_push}
-use Rattle.number_table.specs.Tables.{IsTable}
+use Rattle.case_lookup.specs.Tables.{IsTable}
 use Rattle.exchange_model.specs.declared.block.Block.{Block}
 use Rattle.exchange_model.specs.declared.expr.Cond.{Cond}
 use Rattle.exchange_model.specs.declared.expr.Expr.{Expr}

@@ -4,13 +4,13 @@
 // tables are made of them, by their points, and then it is looked whether each CASE finds its own.
 ghost use Rattle.std.specs.Prelude.{◌≡◌, ◌∷◌, [], ℕ, List, None, IfOk, IsTrue, OnOk};
 ghost use Rattle.std.specs.Option.{option_copied};
-ghost use Rattle.number_table.specs.Tables.{IsTable};
+ghost use Rattle.case_lookup.specs.Tables.{IsTable};
 ghost use Rattle.exchange_model.specs.declared.stmt.StmtKind.{out-StmtKind};
 ghost use Rattle.source_interpreter.specs.Cases.{AreTablesOf, BlockKnown, FindsOwn, IsKnown, LayerKnown, WhenKnown, numbers_of, table_at};
 ghost use Rattle.source_interpreter.specs.Found.{AreOwn, Gathers};
 
+use case_lookup::table_of;
 use exchange_model::{Block, Exchange, Stmt, StmtKind, When};
-use number_table::table_of;
 use plex_num::{Memory, Seed, Seq};
 use std::alloc::Global;
 use std::collections::HashMap;

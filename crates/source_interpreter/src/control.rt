@@ -4,7 +4,7 @@ ghost use Rattle.exchange_model.specs.declared.stmt.StmtKind.{out-StmtKind};
 ghost use Rattle.exchange_model.specs.declared.stmt.StmtKind.TheOpen as stmt;
 ghost use Rattle.source_meaning.specs.Step.{starts};
 ghost use Rattle.source_meaning.specs.Changes.{ends, chosen as statements_chosen};
-ghost use Rattle.number_table.specs.Tables.{IsTable};
+ghost use Rattle.case_lookup.specs.Tables.{IsTable};
 ghost use Rattle.source_interpreter.specs.Cases.{FindsOwn, numbers_of};
 ghost use Rattle.source_interpreter.specs.Leaves.{Does, Leads, turn};
 ghost use Rattle.source_interpreter.specs.Kept.{AreOfText, AreWhensOfText, IsCondOfText, IsExprOfText};
@@ -12,9 +12,9 @@ ghost use Rattle.source_interpreter.specs.Kept.{AreOfText, AreWhensOfText, IsCon
 use crate::cases::Cases;
 use crate::run::Run;
 use crate::stop::Stop;
+use case_lookup::first_place;
 use exchange_model::{Cond, Expr, Stmt, StmtKind, When};
 use job_types::Fault;
-use number_table::first_place;
 use plex_num::Seq;
 
 impl<'a> Run<'a> {

@@ -4,8 +4,8 @@ use Rattle.exchange_model.specs.declared.exchange.Exchange.{Exchange}
 use Rattle.signal_file.specs.declared.line.Line.{Line}
 use Rattle.source_meaning.specs.SingleRun.{opening}
 use Rattle.source_meaning.specs.State.{State, Coming}
-use Rattle.retire_order.specs.Accounts.{with_words}
-use Rattle.retire_order.specs.Lines.{coming_of}
+use Rattle.run_books.specs.Accounts.{with_words}
+use Rattle.run_books.specs.Lines.{coming_of}
 use Rattle.exchange_run.specs.declared.turns.Ended.{Ended}
 use Rattle.machine_code.specs.Coded.{Code}
 use Rattle.stmt_code.specs.Whole.{entry_addresses, whole_code}

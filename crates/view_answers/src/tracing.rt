@@ -3,7 +3,7 @@ ghost use Rattle.std.specs.Prelude.{◌≡◌, ◌≤◌, IfOk, map};
 ghost use Rattle.plex_limits.specs.declared.limits.TheConstants.{MOST_JOBS};
 ghost use Rattle.store_layout.specs.Laid.{IsLayout};
 ghost use Rattle.source_meaning.specs.SingleRun.{opening};
-ghost use Rattle.retire_order.specs.Lines.{coming_of};
+ghost use Rattle.run_books.specs.Lines.{coming_of};
 ghost use Rattle.exchange_run.specs.Runs.{IsEndOf, MayGoOn, state_of};
 ghost use Rattle.signal_trace.specs.Text.{trace_text};
 ghost use Rattle.signal_trace.specs.Trace.{trace};

@@ -15,11 +15,11 @@ use Rattle.signal_file.specs.declared.line.Line.{Line}
 use Rattle.source_meaning.specs.Valid.{IsValid}
 use Rattle.source_meaning.proofs.Opening.{opening_valid}
 use Rattle.source_meaning.proofs.Retiring.{after_valid}
-use Rattle.retire_order.specs.declared.parts.BookParts.{BookParts}
-use Rattle.retire_order.specs.Accounts.{Account, with_words}
-use Rattle.retire_order.specs.Lines.{coming_of}
-use Rattle.retire_order.specs.Parts.{AreParts, account_of}
-use Rattle.retire_order.specs.Events.{ending_of as told_ending}
+use Rattle.run_books.specs.declared.parts.BookParts.{BookParts}
+use Rattle.run_books.specs.Accounts.{Account, with_words}
+use Rattle.run_books.specs.Lines.{coming_of}
+use Rattle.run_books.specs.Parts.{AreParts, account_of}
+use Rattle.run_books.specs.Events.{ending_of as told_ending}
 use Rattle.exchange_run.specs.declared.turns.Ended.{Ended}
 use Rattle.exchange_run.specs.declared.turns.Standing.{Standing}
 use Rattle.exchange_run.specs.Runs.{IsEndOf, state_of}

@@ -9,7 +9,7 @@ use Rattle.lone_job.specs.Contexts.{IsContext}
 use Rattle.exchange_model.specs.declared.exchange.Exchange.{Exchange}
 use Rattle.source_meaning.specs.State.{State}
 use Rattle.source_meaning.specs.Valid.{IsValid}
-use Rattle.retire_order.specs.Accounts.{Account, with_words}
+use Rattle.run_books.specs.Accounts.{Account, with_words}
 use Rattle.shared_store.specs.Loans.{unlent}
 use Rattle.shared_store.specs.Seats.{RootView, StoreId}
 use Rattle.checked.specs.Kept.{IsChecked, KeptSummaries}

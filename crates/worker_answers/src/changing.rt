@@ -21,10 +21,10 @@ use known_exchange::{exchange_as, known_in, lines_in};
 use parallel_dispatch::Host;
 use plex_io::{Gate, Shelf};
 use plex_num::{Memory, Seq};
-use retire_order::BookParts;
 use run_answers::{
     Change, carried_run, end_answer, ends_before, headed_answer, misfit_answer, text_before,
 };
+use run_books::BookParts;
 use signal_file::Line;
 use std::sync::Wait;
 use std::thread::Threads;

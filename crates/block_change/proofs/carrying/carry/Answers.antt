@@ -1,5 +1,5 @@
-use Rattle.retire_order.specs.Accounts.{with_words}
-use Rattle.retire_order.specs.Parts.{account_of}
+use Rattle.run_books.specs.Accounts.{with_words}
+use Rattle.run_books.specs.Parts.{account_of}
 use Rattle.block_change.proofs.Moved.{levels_there, parts_carried, parts_kept, parts_valid, records_there}
 use Rattle.block_change.proofs.carrying.carry.Goals as goal
 

@@ -1,5 +1,5 @@
 use Rattle.std.proofs.Common.{map}
-use Rattle.retire_order.specs.Lines.{coming_of}
+use Rattle.run_books.specs.Lines.{coming_of}
 use Rattle.core_tests.proofs.Making.{begins_quiet, begins_valid}
 use Rattle.core_tests.proofs.given.books_of.Goals as goal
 

@@ -1,5 +1,5 @@
 use Rattle.std.proofs.Common.{map}
-use Rattle.retire_order.specs.Lines.{coming_of}
+use Rattle.run_books.specs.Lines.{coming_of}
 use Rattle.exchange_run.proofs.Opened.{may_begin}
 use Rattle.exchange_run.proofs.turns.before_lines.Goals as goal
 

@@ -1,5 +1,5 @@
 use Rattle.std.proofs.Common.{List, ℕ, ap, sym, ◌∙◌}
-use Rattle.case_table.specs.Rows.{place_of}
+use Rattle.name_tables.specs.Rows.{place_of}
 use Rattle.listing.proofs.Named.{named_none}
 use Rattle.listing.proofs.read_line.instruction.Goals as goal
 

@@ -1,6 +1,6 @@
 use Rattle.std.proofs.Common.{ℕ, List, None, ◌∙◌, sym, ap, subst}
-use Rattle.retire_order.specs.Retired.{HasRetired, retired_trace}
-use Rattle.retire_order.specs.Stores.{MayStore}
+use Rattle.run_books.specs.Retired.{HasRetired, retired_trace}
+use Rattle.run_books.specs.Stores.{MayStore}
 use Rattle.job_runner.specs.Seen.{free_to_write}
 use Rattle.shared_store.specs.Seats.{RootView}
 use Rattle.lone_job.proofs.turn.retire_on_root.Goals as goal

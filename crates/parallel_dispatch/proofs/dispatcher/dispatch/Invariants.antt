@@ -1,4 +1,4 @@
-use Rattle.retire_order.specs.Accounts.{with_words}
+use Rattle.run_books.specs.Accounts.{with_words}
 use Rattle.parallel_dispatch.proofs.dispatcher.dispatch.Given as goal
 
 abbrev pub ghosts-run_named-B-Naming : goal.ghosts-run_named-B-Naming

@@ -1,7 +1,7 @@
 use Rattle.std.proofs.Common.{◌≡◌, Some, ◌∙◌, rules, sym, subst}
 use Rattle.std.proofs.lemmas.Grind.{common_steps}
 use Rattle.std.specs.List.{AllByRecursion}
-use Rattle.retire_order.specs.Accounts.{upcoming}
+use Rattle.run_books.specs.Accounts.{upcoming}
 use Rattle.parallel_dispatch.specs.Flying.{starts_of}
 use Rattle.parallel_dispatch.specs.Moves.{HasSummary}
 use Rattle.parallel_dispatch.proofs.Choosing.{may_issue_alone, may_issue_beside}

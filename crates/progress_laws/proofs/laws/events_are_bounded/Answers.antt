@@ -1,4 +1,4 @@
-use Rattle.retire_order.specs.Accounts.{with_words}
+use Rattle.run_books.specs.Accounts.{with_words}
 use Rattle.progress_laws.specs.Counts.{jobs_of_run}
 use Rattle.progress_laws.proofs.Counting.{one_total}
 use Rattle.progress_laws.proofs.Ending.{few_jobs}

@@ -2,7 +2,7 @@ use Rattle.std.proofs.Common.{◌++◌, ap, ◌∙◌, map}
 use Rattle.std.specs.Fmt.{decimal}
 use Rattle.std.specs.List.{count_by}
 use Rattle.std.specs.Prelude.{codes}
-use Rattle.retire_order.specs.Events.{ending_of}
+use Rattle.run_books.specs.Events.{ending_of}
 use Rattle.report_text.specs.Load.{is_lost, is_out, is_release}
 use Rattle.report_text.specs.Report.{jobs_line, written}
 use Rattle.report_text.proofs.Joined.{summed}

@@ -1,7 +1,7 @@
 use Rattle.std.proofs.Common.{◌++◌, map, ap, ◌∙◌}
 use Rattle.source_meaning.specs.State.{State}
-use Rattle.retire_order.specs.Accounts.{Account, with_words}
-use Rattle.retire_order.specs.Events.{ending_of}
+use Rattle.run_books.specs.Accounts.{Account, with_words}
+use Rattle.run_books.specs.Events.{ending_of}
 use Rattle.report_text.specs.Report.{event_line, field_lines, held_lines, jobs_line, text_of, variable_lines, written}
 use Rattle.report_text.proofs.Joined.{whole}
 use Rattle.report_text.proofs.whole.add_report.Goals as goal

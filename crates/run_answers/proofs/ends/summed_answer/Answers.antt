@@ -1,4 +1,4 @@
-use Rattle.retire_order.specs.Events.{ending_of}
+use Rattle.run_books.specs.Events.{ending_of}
 use Rattle.run_answers.proofs.Telling.{told_summed}
 use Rattle.run_answers.proofs.ends.summed_answer.Goals as goal
 

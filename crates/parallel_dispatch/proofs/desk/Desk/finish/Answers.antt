@@ -1,5 +1,5 @@
 use Rattle.std.proofs.Common.{ap, refl, ◌∙◌, subst, sym}
-use Rattle.retire_order.specs.Events.{ending_of}
+use Rattle.run_books.specs.Events.{ending_of}
 use Rattle.shared_store.specs.declared.view.Top.{Top}
 use Rattle.source_meaning.specs.SingleRun.{ending_at}
 use Rattle.parallel_dispatch.specs.Desks.{DeskView}

@@ -2,7 +2,7 @@ use Rattle.std.proofs.Common.{◌≡◌, ◌+◌, [], None, Some, refl, sym, sub
 use Rattle.job_types.specs.declared.job.JobStart.{JobStart}
 use Rattle.source_meaning.specs.SingleRun.{ending_at}
 use Rattle.order_laws.specs.Keeps.{NoLineBefore}
-use Rattle.retire_order.specs.Accounts.{Account, upcoming}
+use Rattle.run_books.specs.Accounts.{Account, upcoming}
 use Rattle.parallel_dispatch.specs.Desks.{DeskView}
 use Rattle.parallel_dispatch.specs.Events.{whole_turn}
 use Rattle.parallel_dispatch.specs.Moves.{HasSummary}

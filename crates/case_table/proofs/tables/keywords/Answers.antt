@@ -1,5 +1,0 @@
-use Rattle.case_table.proofs.Differ.{keyword_names_differ}
-use Rattle.case_table.proofs.tables.keywords.Goals as goal
-
-pub returns-clause-differ : goal.returns-clause-differ
-returns-clause-differ c = keyword_names_differ

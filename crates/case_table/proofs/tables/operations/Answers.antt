@@ -1,5 +1,0 @@
-use Rattle.case_table.proofs.Differ.{operation_names_differ}
-use Rattle.case_table.proofs.tables.operations.Goals as goal
-
-pub returns-clause-differ : goal.returns-clause-differ
-returns-clause-differ c = operation_names_differ

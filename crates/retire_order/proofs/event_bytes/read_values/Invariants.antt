@@ -1,6 +1,0 @@
-use Rattle.std.proofs.Common.{reverse}
-use Rattle.retire_order.proofs.Numbered.{Valued}
-use Rattle.retire_order.proofs.event_bytes.read_values.Given as goal
-
-abbrev pub invariant-loop : goal.invariant-loop
-invariant-loop l = Valued (reverse l.fn.bytes.items) (reverse l.bytes.items) l.values l.many l.counter

@@ -1,5 +1,0 @@
-use Rattle.retire_order.proofs.Listed.{Blocked}
-use Rattle.retire_order.proofs.stores.list_cleared.Given as goal
-
-abbrev pub invariant-loop-block : goal.invariant-loop-block
-invariant-loop-block l = Blocked l.fn.stores l.stores l.word l.exchange.blocks l.block-index
