@@ -31,7 +31,7 @@ quiet_again x s = by (has_stopped s) refl
     by true is = ap (arrivals x) (arrivals_stopped x s is)
     by false is = arrivals_idle x (arrivals x s) (arrivals_settle x s is)
 
-quiet_after : (x : Exchange) (first : State) (n : ℕ) → arrivals x (after x first n) ≡ after x first n
+pub quiet_after : (x : Exchange) (first : State) (n : ℕ) → arrivals x (after x first n) ≡ after x first n
 unfolding after
 quiet_after x first zero = quiet_again x first
 quiet_after x first (suc n) = by (next_start (after x first n)) (quiet_after x first n)
