@@ -1,6 +1,7 @@
 pub mod Naming
 pub mod Cells
 pub mod Apart
+pub mod Beside
 pub mod Releasing
 pub mod Staying
 pub mod Retiring
