@@ -6,6 +6,7 @@ pub mod Mixing
 pub mod Naming
 pub mod Ordering
 pub mod Outside
+pub mod Passing
 pub mod Permitting
 pub mod Shifting
 pub mod Sparing

@@ -12,7 +12,8 @@ ghost use Rattle.entry_summary.specs.Summaries.{IsSummary};
 ghost use Rattle.entry_summary.specs.declared.summary.Summary.{Summary};
 ghost use Rattle.flow_points.specs.declared.fact.Fact.{Fact};
 ghost use Rattle.flow_points.specs.Facts.{IsClosed, IsLeast};
-ghost use Rattle.addition_laws.specs.Sparing.{IsSparing};
+ghost use Rattle.addition_laws.specs.Sparing.{IsSparing, PassesAdding};
+ghost use Rattle.pair_tests.specs.Pairs.{Passes};
 ghost use Rattle.pair_laws.specs.Together.{HaveOwnWords};
 ghost use Rattle.addition_laws.specs.Either.{AreApartBut, SameInEitherOrder, ShareOnly};
 ghost use Rattle.additions_meaning.specs.Additions.{IsAddedWord, OnlyAddsToAll};
@@ -74,6 +75,22 @@ pub fn jobs_add_in_either_order()
         → OnlyAddsToAll x (Contains facts) b.job.entry numbers
         → ShareOnly x (IsAddedWord x numbers) s first later a b
         → SameInEitherOrder x s.store a b [] }
+{}
+
+/// Two jobs that pass by their summaries without the accesses to variables to which both only add,
+/// by facts that are closed, and whose starts fit a valid state, do the same in either order,
+/// before they retire. Whatever passes passes so.
+pub fn passing_jobs_add_in_either_order()
+    ensures orders { (x : Exchange) (facts : List Fact) (s : State) (first later : Summary)
+        (a b : JobStart)
+        → IsExchange x → IsClosed x (Contains facts) → IsValid x s
+        → IsFitting x s a → IsFitting x s b
+        → IsSummary x (Contains facts) a.job.entry first
+        → IsSummary x (Contains facts) b.job.entry later
+        → PassesAdding x (Contains facts) first later a b
+        → SameInEitherOrder x s.store a b [] }
+    ensures passes { (x : Exchange) (facts : List Fact) (first later : Summary) (a b : JobStart)
+        → Passes first later a b → PassesAdding x (Contains facts) first later a b }
 {}
 
 /// Where two summaries without their accesses to the variables of a list let two jobs share no

@@ -10,5 +10,6 @@
 mod laws;
 
 pub use laws::{
-    jobs_add_as_much_to_other_words, jobs_add_in_either_order, spared_words_are_those_of_variables,
+    jobs_add_as_much_to_other_words, jobs_add_in_either_order, passing_jobs_add_in_either_order,
+    spared_words_are_those_of_variables,
 };

@@ -1,6 +1,5 @@
 -- The start of the later job fits still where the first has retired.
 use Rattle.std.proofs.Common.{◌≡◌, ◌≢◌, ℕ, zero, suc, ◌+◌, ◌<◌, true, false, List, [], ◌∷◌, refl, sym, ◌∙◌, subst, arith}
-use Rattle.std.specs.FinSet as set
 use Rattle.job_types.specs.declared.job.JobStart.{JobStart}
 use Rattle.job_types.specs.declared.outbox.Sent.{Sent}
 use Rattle.job_types.specs.declared.outbox.SendTo.{SendTo}
