@@ -191,4 +191,5 @@ def installed(plex: pathlib.Path, folder: pathlib.Path) -> pathlib.Path:
     for name in ("bin", "lib/plex"):
         (folder / name).mkdir(parents=True)
     (folder / "lib/plex/plex").symlink_to(plex)
+    shutil.copy(TOOLS / "maintain" / "start.sh", folder / "lib/plex")
     return pathlib.Path(shutil.copy(TOOLS / "maintain" / "plex.sh", folder / "bin/plex"))

@@ -28,6 +28,7 @@ from plextools import programs
 FOLDERS = {path.parent for item in programs.PROGRAMS for path in EXAMPLES.rglob(item.words)}
 NAMES = sorted(str(folder.relative_to(EXAMPLES)) for folder in FOLDERS)
 DONE, USAGE, LEAST, LONGEST = 0, 1, 89, harness.WHILE
+ANSWERED = "--help", "-h", "--version"
 ENVIRONMENT = {name: value for name, value in os.environ.items() if name != "PLEX_PROGRESS"}
 
 
@@ -82,6 +83,14 @@ def launcher(program: programs.Program) -> pathlib.Path:
     return harness.find_launcher(program)
 
 
+def called_for(program: programs.Program, words: Sequence[str]) -> pathlib.Path:
+    """What these words are given to. Help and the version are what the launcher answers by itself,
+    so the program is asked for these.
+    """
+    alone = words[0] if len(words) == 1 else ""
+    return harness.found(program) if alone in ANSWERED else launcher(program)
+
+
 class Runner:
     """Runs the programs in the folder of an example, and compares what comes of it."""
 
@@ -92,7 +101,7 @@ class Runner:
         self, program: programs.Program, words: Sequence[str], wanted: Wanted | None = None
     ) -> None:
         """Fails where a run comes to something else than this, or than what the files say."""
-        done = run(launcher(program), words, self.folder)
+        done = run(called_for(program, words), words, self.folder)
         shown = " ".join([program.name, *words])
         if done is None:
             check(f"{shown}: no answer in time")

@@ -127,7 +127,7 @@ def test_the_product_alone_is_installed() -> None:
     assert spec
     install = importlib.util.module_from_spec(spec)
     loader.exec_module(install)
-    product = ("bin/", "python/", "maintain/completions/", "maintain/plex.sh")
+    product = ("bin/", "python/", "maintain/completions/", "maintain/plex.sh", "maintain/start.sh")
     below = [
         source[len("tools/") :] for source, _ in install.INSTALLED if source.startswith("tools/")
     ]

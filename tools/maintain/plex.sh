@@ -1,7 +1,6 @@
 #!/bin/sh
 # plex WORDS, plex-merge WORDS, plex-conflicts WORDS: runs the program of this name that is
-# installed beside this, in lib/plex. A limit on the size of files is told to it by its write, which
-# then fails, and does not end it without a word.
+# installed beside this, in lib/plex.
 place=$0
 case $place in
     */*) ;;
@@ -10,5 +9,6 @@ esac
 if [ -L "$place" ]; then
     place=$(readlink -f "$place")
 fi
-trap '' XFSZ
-exec "${place%/*}/../lib/plex/${place##*/}" "$@"
+name=${place##*/}
+program=${place%/*}/../lib/plex/$name
+. "${place%/*}/../lib/plex/start.sh"

@@ -137,8 +137,9 @@ def check_version(name: str, path: str) -> None:
         )
     except (OSError, subprocess.TimeoutExpired) as wrong:
         raise Wrong(f"{path} cannot be run: {wrong}") from wrong
-    lines = done.stderr.decode("utf-8", "replace").strip()
-    told = lines.rpartition("\n")[2]  # the last line, since a launcher says more before it
+    # a launcher answers on the standard output, the program itself beside its usage line
+    lines = (done.stderr if done.returncode else done.stdout).decode("utf-8", "replace").strip()
+    told = lines.rpartition("\n")[2]
     if told != f"{name} {VERSION}":
         wanted = f"{name} {VERSION}, of which these tools are"
         raise Wrong(f"{path} is not {wanted}: its --version says {told[:80]!r}")
