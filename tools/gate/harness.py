@@ -32,6 +32,7 @@ from plextools import programs
 
 ROOT = programs.ROOT
 CASES = ROOT / "tools" / "gate" / "cases"
+GUIDE = [ROOT / "docs" / "GUIDE.md", *sorted((ROOT / "docs" / "guide").glob("*.md"))]
 PLEX, MERGER, CONFLICTS = (
     programs.BY_NAME[name] for name in ("plex", "plex-merge", "plex-conflicts")
 )

@@ -21,7 +21,7 @@ import pytest
 from gate import harness
 from gate.checking import EXAMPLES, ROOT, TOOLS, check, check_enough, read_words
 
-PRINTED = [ROOT / "README.md", ROOT / "docs" / "GUIDE.md"]
+PRINTED = [ROOT / "README.md", *harness.GUIDE]
 COMMANDS = re.compile(r"^```\n((?:plex-(?:chart|why|load|page) .*\n)+)```$", re.M)
 LEAST, LEAST_WRONG, LONGEST = 8, 56, harness.WHILE
 GOOD = EXAMPLES / "guide" / "bills" / "exchange.plex"
