@@ -133,7 +133,7 @@ module _ (x : Exchange) (known : List Fact) (e : ℕ) where
   by_from b p l a (inr (inl (h, held, is))) = holder_from b p l a h held is
   by_from b p l a (inr (inr is)) = layer_from b p l a is
 
-  does : (b p : ℕ) (l : Layer) → Listed (Does b p l)
+  pub does : (b p : ℕ) (l : Layer) → Listed (Does b p l)
   does b p l =
       listed_as (By b p l) (Does b p l) (by_from b p l) (by_to b p l)
       (listed_or (ByName b p l) (λ a. ByHolder b l a ⊎ OfLayer b p l a)

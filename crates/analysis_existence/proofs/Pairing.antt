@@ -38,7 +38,7 @@ sooner (Some c) (Some d) = by (ranked c d)
     by (Before h) = (Some c, inr (refl, λ before. none_before_itself c (precedes_trans c d c h before)))
     by (After h) = (Some d, inl (refl, h))
 
-abbrev Least : (Conflict → Type 0) → Type 0
+abbrev pub Least : (Conflict → Type 0) → Type 0
 Least P = (r : Option Conflict) × IsLeastConflict P r
 
 least_of : (cs : List Conflict) → Least (λ c. Contains cs c)
@@ -85,7 +85,7 @@ module _ (first later : Summary) where
       listed_as (λ c. Clashes first.accesses later.accesses c ⊎ ClashesAbove first.levels later.level c) (IsConflict first later) conflict_from (conflict_cases first later)
       (listed_or (Clashes first.accesses later.accesses) (ClashesAbove first.levels later.level) clashes above)
 
-  first_conflict : Least (IsConflict first later)
+  pub first_conflict : Least (IsConflict first later)
   first_conflict = (let l = conflicts in let least = least_of l.items in (least.0, least_same (λ c. Contains l.items c) (IsConflict first later) l.each l.all least.0 least.1))
 
   -- tests
@@ -121,7 +121,7 @@ module _ (first later : Summary) where
       listed_as (λ t. Asked first.accesses later.accesses t ⊎ AskedRelease first.fault later.accesses t) (IsTest first later) test_from (test_cases first later)
       (listed_or (Asked first.accesses later.accesses) (AskedRelease first.fault later.accesses) asked release)
 
-  tests : (ts : List Test) × AreTests first later ts
+  pub tests : (ts : List Test) × AreTests first later ts
   tests = (let r = in_order test_order order_laws.total-law tests_equal (IsTest first later) all_tests in (r.listed.items, record { exact = λ t. (r.listed.each t, r.listed.all t); rising = r.rising }))
 
   -- the text of the two

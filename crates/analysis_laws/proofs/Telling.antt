@@ -26,7 +26,7 @@ turn_once P n t u once one other =
     (other.each k (subst (λ m. k < m) one.count lt))) in
     one.is ∙ ap concat parts ∙ sym other.is
 
-tests_once : (first later : Summary) (a b : List Test) → AreTests first later a → AreTests first later b → a ≡ b
+pub tests_once : (first later : Summary) (a b : List Test) → AreTests first later a → AreTests first later b → a ≡ b
 tests_once first later a b one other = rising_once test_order test_laws.total-law a b one.rising other.rising (λ t. same_sides (one.exact t) (other.exact t))
 
 pair_once : (names : Names) (i j : ℕ) (first later : Summary) (t u : List ℕ) → IsPairText names i j first later t → IsPairText names i j first later u → t ≡ u

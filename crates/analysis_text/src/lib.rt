@@ -13,4 +13,6 @@ mod told;
 mod whole;
 
 pub use laws::names_stand_by_their_numbers;
+pub use names::{Names, name_at, names_of};
+pub use pairs::{add_conflict, add_pair_words, add_test};
 pub use whole::analysis;

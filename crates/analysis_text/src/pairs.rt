@@ -96,14 +96,15 @@ fn add_never(
 }
 
 /// `PAIR i j`.
-fn add_pair_words(text: &mut Seq<u8>, number: usize, other: usize) -> Result<(), Memory>
+pub fn add_pair_words(text: &mut Seq<u8>, number: usize, other: usize) -> Result<(), Memory>
     ensures { OnOk result (text.new ≡ text.old ++ pair_words number other) }
 {
     add_number(text, b"PAIR ", number as u64)?;
     add_number(text, b" ", other as u64)
 }
 
-fn add_conflict(text: &mut Seq<u8>, names: &Names, conflict: Conflict) -> Result<(), Memory>
+/// A conflict, as a line NEVER tells it.
+pub fn add_conflict(text: &mut Seq<u8>, names: &Names, conflict: Conflict) -> Result<(), Memory>
     ensures { OnOk result (text.new ≡ text.old ++ conflict_words names.now conflict) }
 {
     match conflict {
@@ -167,7 +168,8 @@ fn add_if(
     text.append(b"\n")
 }
 
-fn add_test(text: &mut Seq<u8>, names: &Names, test: Test) -> Result<(), Memory>
+/// A test, as a line IF tells it.
+pub fn add_test(text: &mut Seq<u8>, names: &Names, test: Test) -> Result<(), Memory>
     ensures { OnOk result (text.new ≡ text.old ++ test_words names.now test) }
 {
     match test {
