@@ -3,6 +3,7 @@ from __future__ import annotations
 
 import os
 import pathlib
+import signal
 import tempfile
 from collections import Counter, defaultdict
 from typing import Any, Iterator
@@ -18,6 +19,7 @@ SUMS: defaultdict[str, Sums] = defaultdict(Sums)
 SKIPPED: list[str] = []
 UNPROVED: set[str] = set()  # the programs that were taken though they are not proved
 OUTCOMES = ("passed", "failed", "error", "skipped")
+LONGEST = 300.0  # seconds that the Python of one test may compute; what it calls has its own limits
 
 
 def several(word: str) -> list[int]:
@@ -151,6 +153,22 @@ def tally(request: pytest.FixtureRequest) -> Tally:
         cases_of(request.config, by_chance.args[0]) if by_chance else request.config.option.forms
     )
     return Tally(request.node, counted.args[0] if counted else cases)
+
+
+def goes_round(*_: object) -> None:
+    """Ends a test that computes for too long, where it is."""
+    pytest.fail(f"it computes for more than {LONGEST:.0f} seconds")
+
+
+@pytest.hookimpl(hookwrapper=True)  # type: ignore[misc]
+def pytest_runtest_call() -> Iterator[None]:
+    """Limits the time of a test, since a wrong answer may lead its own account astray."""
+    signal.signal(signal.SIGVTALRM, goes_round)
+    signal.setitimer(signal.ITIMER_VIRTUAL, LONGEST)
+    try:
+        yield
+    finally:
+        signal.setitimer(signal.ITIMER_VIRTUAL, 0)
 
 
 def pytest_runtest_logreport(report: pytest.TestReport) -> None:

@@ -7,7 +7,7 @@ import subprocess
 from typing import Sequence, Union
 
 JOBS = 50_000  # of the run that is timed
-SHORTEST = 0.001
+SHORTEST, LONGEST = 0.001, 600  # seconds
 
 
 def processor() -> float:
@@ -31,6 +31,7 @@ def jobs_in(
         stdin=subprocess.DEVNULL,
         stdout=subprocess.DEVNULL,
         stderr=subprocess.DEVNULL,
+        timeout=LONGEST,
         check=False,
     )
     taken = max(SHORTEST, processor() - begun)

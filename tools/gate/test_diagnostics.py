@@ -11,6 +11,7 @@ import pty
 import re
 import subprocess
 import sys
+import threading
 from typing import Any, Dict, List, Sequence, Tuple
 
 import jsonschema  # type: ignore[import]
@@ -223,6 +224,8 @@ def on_terminal(words: Sequence[str], folder: pathlib.Path, **variables: str) ->
         [sys.executable, str(CHECK), *words], cwd=folder, env=environment, stdout=theirs
     ) as process:
         os.close(theirs)
+        timer = threading.Timer(LONGEST, process.kill)
+        timer.start()
         told = b""
         while True:
             try:
@@ -233,6 +236,7 @@ def on_terminal(words: Sequence[str], folder: pathlib.Path, **variables: str) ->
                 break
             told += some
         process.wait(LONGEST)
+        timer.cancel()
     os.close(ours)
     return told.decode().replace("\r\n", "\n")
 

@@ -16,6 +16,7 @@ from plextools.text.explanations import EXCHANGE, MADE, Explanation, Files
 KNOWN = explanations.explanations()
 LARGEST = 2**24
 WIDEST, LONGEST = 80, 34
+SOON = 60  # seconds within which the shell ends
 # The words that plex-check tells alone.
 OWN = {*warnings.WARNINGS, *change.CHANGES, *change.NOTES}
 CERTIFICATE = ("BADTEXT", "WRONGEXCHANGE", "STRANGE", "MISSING")
@@ -158,7 +159,9 @@ def test_completion() -> None:
     place = harness.ROOT / "tools" / "maintain" / "completions" / "plex-check.bash"
     script = f". {place}; _plex_check_explained; COMP_WORDS=(plex-check --no ''); COMP_CWORD=2"
     script += "; echo; _plex_check; echo ${COMPREPLY[@]}"
-    done = subprocess.run(["bash", "-c", script], capture_output=True, text=True, check=True)
+    done = subprocess.run(
+        ["bash", "-c", script], capture_output=True, text=True, check=True, timeout=SOON
+    )
     explained, switched = done.stdout.splitlines()
     assert explained.split() == list(KNOWN)
     assert switched.split() == list(check.TO_SWITCH_OFF)

@@ -38,6 +38,7 @@ SECONDS, BYTES, TRIES = 2.0, 20_000_000, 3
 # pair are drawn at once.
 COMMON, COMMON_BYTES, MANY, AT_ONCE = (128, 100), 1_000_000, (2, 150), 100
 LEAST, TESTS = 146, 10
+LONGEST = 300  # seconds of one call
 STRANGE_NAME = "a <b> & \"c' .plex"
 STRANGE = b"""! </script><script>document.title = 'taken'</script> <img src=x onerror="alert(1)"> \xff\xfe & &amp;
 SIGNAL TICK SINGLE BUFFERED B DATA 0;
@@ -67,7 +68,7 @@ def wrong_page(
         stdin=subprocess.DEVNULL,
         stdout=subprocess.PIPE,
         stderr=subprocess.PIPE,
-        timeout=300,
+        timeout=LONGEST,
     )
     is_right = (done.returncode, done.stdout, done.stderr) == (0, b"", b"")
     return None if is_right else f"plex-page: {done.returncode}, {done.stderr[-300:]!r}"
@@ -141,6 +142,7 @@ class Look:
             [TOOLS / "bin" / "plex-why", "exchange.plex", "2", "2"],
             cwd=GUIDE,
             stdout=subprocess.PIPE,
+            timeout=LONGEST,
             check=True,
         ).stdout.decode()
         lines = [line for line in why.split("\n") if "exchange.plex:" in line]

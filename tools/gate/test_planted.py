@@ -1,4 +1,4 @@
-"""The planted faults: each is one of a check, an edit fits its file, and README.md tells all."""
+"""The planted faults: each is one of a check, an edit fits its file, and README.md lists all."""
 import pathlib
 import re
 
@@ -46,5 +46,5 @@ def test_check(name: str) -> None:
 
 
 def test_readme() -> None:
-    """README.md has the table that `run --table` writes."""
-    assert tables.table() in README.read_text(), "tools/gate/planted/run --table writes another one"
+    """README.md has the list that `run --list` writes."""
+    assert tables.listed() in README.read_text(), "tools/gate/planted/run --list writes another one"

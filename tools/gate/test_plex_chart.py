@@ -489,6 +489,7 @@ def test_no_box_characters_where_the_output_cannot_take_them() -> None:
         [sys.executable, TOOL, *files(ASK)],
         env={**os.environ, "PYTHONIOENCODING": "ascii"},
         capture_output=True,
+        timeout=SOON,
         check=True,
     )
     assert got.stdout.isascii() and b"\\u" not in got.stdout and b"==>" in got.stdout

@@ -176,8 +176,8 @@ def test_a_difference_is_a_unified_diff(told: Caller) -> None:
     assert last == "0 passed, 1 failed"
     (told.folder / "right").write_text(right)
     words = ["diff", "-u", str(folder / "report.txt"), str(told.folder / "right")]
-    other = subprocess.run(words, stdout=subprocess.PIPE, check=False).stdout.decode()
-    assert diff == other.splitlines()[2:]
+    other = subprocess.run(words, stdout=subprocess.PIPE, timeout=SOON, check=False)
+    assert diff == other.stdout.decode().splitlines()[2:]
 
 
 @pytest.mark.parametrize(
@@ -448,6 +448,14 @@ def test_many_run_at_once(told: Caller) -> None:
     assert told("cases", "--jobs", "4", "--timeout", "60").wrote == "4 passed, 0 failed\n"
 
 
+def wait_for_text(path: pathlib.Path) -> None:
+    """Waits until something stands in a file."""
+    end = time.monotonic() + SOON
+    while not path.exists() or not path.read_text():
+        assert time.monotonic() < end, f"nothing stands in {path.name}"
+        time.sleep(0.1)
+
+
 @pytest.mark.parametrize("number", [signal.SIGINT, signal.SIGTERM])
 def test_interrupted(told: Caller, number: int) -> None:
     """It tells what it has done, and ends all that it has started."""
@@ -464,8 +472,7 @@ def test_interrupted(told: Caller, number: int) -> None:
         stderr=subprocess.PIPE,
     ) as process:
         assert process.stdout and process.stdout.readline() == b"PASS: cases/a\n"
-        while not (told.folder / "child").exists() or not (told.folder / "child").read_text():
-            time.sleep(0.1)
+        wait_for_text(told.folder / "child")
         process.send_signal(number)
         wrote, complaint = process.communicate(timeout=SOON)
     assert (process.returncode, wrote, complaint) == (130, b"1 passed, 0 failed, 1 not run\n", b"")

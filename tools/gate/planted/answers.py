@@ -76,6 +76,11 @@ def conflicts(name: str, told: str, check: str, alter: calls.Alter, *words: str)
 
 
 ALL_RUNS = " ".join(RUNS)
+LISTED = "--cases", "20", "-k", "by_chance"
+TOO_EARLY = f"is told one line too early from line {FAR_LINE} on"
+OTHER_WORKERS = "two lines VAR change places with a number of workers that is none of " + ", ".join(
+    USUAL_WORKERS
+)
 
 OF_ANALYSES = [
     plex(
@@ -325,8 +330,7 @@ OF_RUNS = [
     plex(
         "other_workers",
         "run",
-        "two lines VAR change places with a number of workers that is none "
-        f"of {', '.join(USUAL_WORKERS)}",
+        OTHER_WORKERS,
         "fuzz",
         calls.only_if(has_other_workers, calls.swapped(rb"^VAR ")),
         "--cases",
@@ -335,7 +339,7 @@ OF_RUNS = [
     plex(
         "other_workers_timed",
         "timed change",
-        "the same of `timed` and `change`",
+        OTHER_WORKERS,
         "fuzz",
         calls.only_if(has_other_workers, calls.swapped(rb"^VAR ")),
         "--cases",
@@ -357,19 +361,24 @@ OF_OTHERS = [
         "listing_lines_swapped",
         "list",
         "two neighbouring loads change places",
-        "compare_runs",
+        "examples",
         calls.swapped(rb"^LD"),
-        "--cases",
-        "20",
+    ),
+    plex(
+        "other_local",
+        "list",
+        "the first local that is stored is the next one",
+        "compare_runs",
+        calls.counted(rb"^STT (\d+) "),
+        *LISTED,
     ),
     plex(
         "link_word_wrong",
         "list",
-        "the first jump leads one further",
+        "each jump leads one further",
         "compare_runs",
-        calls.counted(rb"^JMP (\d+)$"),
-        "--cases",
-        "20",
+        calls.counted(rb"^JMP (\d+)$", count=0),
+        *LISTED,
     ),
     plex(
         "statement_numbered_twice",
@@ -395,7 +404,7 @@ OF_OTHERS = [
     plex(
         "far_load_wrong",
         "load",
-        f"the same from {FAR_CALLS} calls on",
+        f"the signals that left are one more from {FAR_CALLS} calls on",
         "hostile",
         calls.counted(rb"^OUTS (\d+)$", FAR_CALLS),
         "-k",
@@ -547,7 +556,7 @@ OF_FAULTS = [
     plex(
         "far_signal_line",
         "run",
-        f"a fault is told one line too early from line {FAR_LINE} on",
+        f"a fault of a signal file {TOO_EARLY}",
         "hostile",
         calls.only_if(is_line(rb"SIGNALS line"), one_line_early),
         "-k",
@@ -556,7 +565,7 @@ OF_FAULTS = [
     plex(
         "far_table_line",
         "timed",
-        "the same of a table",
+        f"a fault of a table {TOO_EARLY}",
         "hostile",
         calls.only_if(is_line(rb"TABLE line"), one_line_early),
         "-k",
@@ -565,7 +574,7 @@ OF_FAULTS = [
     plex(
         "far_filter_line",
         "trace",
-        "the same of a filter",
+        f"a fault of a filter {TOO_EARLY}",
         "hostile",
         calls.only_if(is_line(rb"FILTER line"), one_line_early),
         "-k",
@@ -574,7 +583,7 @@ OF_FAULTS = [
     plex(
         "far_text_line",
         "run",
-        "the same of an exchange text",
+        f"a fault of an exchange text {TOO_EARLY}",
         "hostile",
         calls.only_if(is_line(rb"SOURCE line"), one_line_early),
         "-k",

@@ -7,6 +7,7 @@ import time
 from typing import Callable, List, NamedTuple, Sequence
 
 Line = bytes
+LONGEST = 600  # seconds of a call
 
 
 class Answer(NamedTuple):
@@ -48,8 +49,8 @@ class Call:
 
     def again(self) -> None:
         """Runs the program once more, for nobody."""
-        nobody = subprocess.DEVNULL
-        subprocess.run([self.program, *self.words], stdout=nobody, stderr=nobody, check=False)
+        nobody, words = subprocess.DEVNULL, [self.program, *self.words]
+        subprocess.run(words, stdout=nobody, stderr=nobody, timeout=LONGEST, check=False)
 
     def word_behind(self, option: str, other: str) -> str:
         """The word behind an option, or another one where that is not there."""
@@ -107,9 +108,9 @@ def replaced(pattern: bytes, by: bytes, count: int = 0) -> Alter:
     return alter
 
 
-def counted(pattern: bytes, least: int = 0) -> Alter:
-    """One is added to the number that the first group of the first match has, where it is at least
-    so large.
+def counted(pattern: bytes, least: int = 0, count: int = 1) -> Alter:
+    """One is added to the number that the first group of a match has, where it is at least so
+    large: in the first match, or in so many, or in all where `count` is 0.
     """
 
     def more(found: "re.Match[bytes]") -> bytes:
@@ -119,7 +120,7 @@ def counted(pattern: bytes, least: int = 0) -> Alter:
         return found[0][:start] + b"%d" % number + found[0][end:]
 
     def alter(answer: Answer, _: Call) -> Answer:
-        return answer._replace(wrote=re.sub(pattern, more, answer.wrote, count=1, flags=re.M))
+        return answer._replace(wrote=re.sub(pattern, more, answer.wrote, count, re.M))
 
     return alter
 

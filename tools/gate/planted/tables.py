@@ -1,15 +1,13 @@
-"""All planted faults, and the table of them that README.md has."""
-from typing import List
+"""All planted faults, and the list of them that README.md has."""
+import textwrap
+from typing import Dict, List
 
 from gate.planted import answers, edits
 from gate.planted.checks import called
 from gate.planted.planted import Planted
 
 PLANTED: List[Planted] = [*answers.ALTERED, *edits.EDITS]
-HEAD = "| Name | Altered | What is altered | Told by |\n|---|---|---|---|\n"
-
-
-SHOWN = 70  # letters of words
+SHOWN, WIDTH = 70, 100  # letters of words, and of a line
 
 
 def of_check(row: Planted) -> str:
@@ -20,10 +18,18 @@ def of_check(row: Planted) -> str:
     return f"`{' '.join([called(row.check), *words])}`"
 
 
-def table() -> str:
-    """The table in Markdown."""
-    rows = [
-        f"| `{row.name}` | {row.of} | {row.told} | {of_check(row)} |\n"
-        for row in sorted(PLANTED, key=lambda row: (row.check, row.name))
-    ]
-    return HEAD + "".join(rows)
+def item(row: Planted) -> str:
+    """A row in Markdown."""
+    told = f"- `{row.name}` ({row.of}): {row.told}"
+    lines = textwrap.wrap(
+        told, WIDTH, subsequent_indent="  ", break_long_words=False, break_on_hyphens=False
+    )
+    return "\n".join(lines) + "\n"
+
+
+def listed() -> str:
+    """All rows in Markdown, below a heading for each check that must tell them."""
+    found: Dict[str, List[str]] = {}
+    for row in sorted(PLANTED, key=lambda row: (row.check, row.words, row.name)):
+        found.setdefault(of_check(row), []).append(item(row))
+    return "\n".join(f"### {check}\n\n{''.join(rows)}" for check, rows in found.items())
