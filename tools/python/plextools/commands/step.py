@@ -1,0 +1,185 @@
+"""plex-step [OPTION ...] E S [T]
+
+Steps through the run of the exchange text E and the signal file S, forward and backward, as a
+debugger does: by statements, signals and jobs, to a line, or to where a name is stored into. With a
+table of periodic signals T the run is that of both, merged. Commands are read from the standard
+input; help tells of them.
+
+  -x FILE     takes the commands of a file, a line each; ! begins a comment
+  -e COMMAND  takes a command; -e and -x may stand several times, and are taken in their order
+  --limit N   the run ends after N jobs at the latest; 1,000,000 without it
+
+With -x or -e the session ends behind the last of these commands, and what it writes depends on the
+files alone. A wrong command ends it there, with the status 1.
+"""
+import argparse
+import contextlib
+import os
+import sys
+import tempfile
+from typing import Iterable, Iterator, List, NamedTuple, Optional
+
+from plextools import limits, programs, tables
+from plextools.commands import check as checker
+from plextools.commands.step_session import BY_NAME, INFOS, Ended, Refused, Session
+from plextools.runs import check, choice
+from plextools.runs.signals import lines_of
+from plextools.text.statements import Text
+
+PROMPT = "(plex) "
+WRONG_COMMAND = 1
+MOST_SCRIPT = 16_777_216
+
+
+class Taken(NamedTuple):
+    """A command that the words or a script give."""
+
+    line: str
+
+
+class Given(argparse.Namespace):
+    """The words of the command."""
+
+    exchange: str
+    signals: str
+    table: Optional[str]
+    scripts: Optional[List["Source"]]
+    limit: int
+
+
+class Source(NamedTuple):
+    """Commands that are given by a word: a file of them, or one."""
+
+    is_file: bool
+    word: str
+
+    def commands(self) -> Iterator[str]:
+        if not self.is_file:
+            yield self.word
+            return
+        content = programs.bytes_of(self.word)
+        for line in content.decode("utf-8", "backslashreplace").splitlines():
+            if line.strip() and not line.lstrip().startswith("!"):
+                yield line.strip()
+
+
+def parser() -> programs.Words:
+    """Reads the words of the command."""
+    words = programs.Words(__doc__)
+    words.add_argument("exchange", metavar="E")
+    words.add_argument("signals", metavar="S")
+    words.add_argument("table", metavar="T", nargs="?")
+    words.add_argument(
+        "-x", dest="scripts", action="append", type=lambda word: Source(True, word), metavar="FILE"
+    )
+    words.add_argument("-e", dest="scripts", action="append", type=lambda word: Source(False, word))
+    words.add_argument(
+        "--limit", type=programs.number_to(limits.MOST_JOBS), default=limits.USUAL_JOBS
+    )
+    return words
+
+
+def told_faults(names: List[str]) -> bool:
+    """Tells the faults of files as plex-check does; whether there are any."""
+    report = checker.Report(checker.read_words(names))
+    checker.check_files(report, names, [programs.bytes_of(name) for name in names])
+    faults = [one for one in report.findings if one.severity is checker.Severity.ERROR]
+    report.findings = faults
+    report.write()
+    return bool(faults)
+
+
+def run_of(given: Given, folder: str) -> choice.Run:
+    """The run, whose files plex accepts. What is merged stands in a file of the folder."""
+    content, signals = programs.bytes_of(given.exchange), given.signals
+    if given.table:
+        merged = programs.answer([given.exchange, signals, given.table], of="plex-merge")
+        signals = os.path.join(folder, "merged")
+        with open(signals, "wb") as file:
+            file.write(merged)
+    words = ["run", given.exchange, signals, "--workers", "1", "--jobs", "1"]
+    programs.answer(words, choice.ENDINGS)
+    text = Text(given.exchange, content)
+    lines = lines_of(text, programs.bytes_of(signals))
+    return choice.Run(given.exchange, signals, text, lines, given.limit)
+
+
+def complete(session: Session, word: str, place: int) -> Optional[str]:
+    """The word of this number that may be meant by the begin of one."""
+    text = session.stepper.run.text
+    names = {name for _, name in session.names.layout.variables}
+    names |= {name for _, name in [*session.names.layout.field_of, *session.names.layout.file_of]}
+    every = [*BY_NAME, *INFOS, *sorted(names | set(text.signals) | set(session.names.blocks))]
+    found = [one for one in every if one.startswith(word) or one.startswith(word.upper())]
+    return found[place] if place < len(found) else None
+
+
+def typed(session: Session) -> Iterator[str]:
+    """The lines of the standard input; on a terminal they can be edited, where that is built in."""
+    is_terminal = sys.stdin.isatty()
+    if is_terminal:
+        with contextlib.suppress(ImportError):
+            import readline
+
+            readline.set_completer(lambda word, place: complete(session, word, place))
+            readline.set_completer_delims(" ()")
+            readline.parse_and_bind("tab: complete")
+    while True:
+        try:
+            line = input(PROMPT if is_terminal else "")
+        except KeyboardInterrupt:
+            print()
+            continue
+        except EOFError:
+            return
+        yield line
+
+
+def write(lines: Iterable[str]) -> None:
+    for line in lines:
+        print(line)
+
+
+def ask(session: Session, lines: Iterable[str], is_echoed: bool) -> Iterator[str]:
+    """Does commands one after the other, and gives what is wrong with them."""
+    for line in lines:
+        if is_echoed:
+            print(f"{PROMPT}{tables.printed(line)}".rstrip())
+        try:
+            write(session.do(line))
+        except Refused as refused:
+            print(refused)
+            yield str(refused)
+        except KeyboardInterrupt:
+            print("stopped")
+            session.stepper.go(session.stepper.place)
+
+
+def talk(given: Given, session: Session) -> int:
+    """Takes the commands of the words, or those of the standard input."""
+    write(session.begun())
+    if given.scripts:
+        lines = [line for source in given.scripts for line in source.commands()]
+        return WRONG_COMMAND if next(ask(session, lines, True), None) is not None else 0
+    for _ in ask(session, typed(session), not sys.stdin.isatty()):
+        pass
+    return 0
+
+
+def main() -> int:
+    """Runs the command."""
+    given = parser().parse_args(namespace=Given())
+    with tempfile.TemporaryDirectory() as folder:
+        try:
+            run = run_of(given, folder)
+        except programs.Wrong as wrong:
+            names = [given.exchange, given.signals, *([given.table] if given.table else [])]
+            if wrong.refused and told_faults(names):
+                return wrong.status
+            raise
+        try:
+            return talk(given, Session(run, programs.bytes_of(given.exchange)))
+        except Ended:
+            return 0
+        except check.Different as different:
+            raise check.refused(different) from different
