@@ -19,13 +19,10 @@ use Rattle.order_laws.specs.Windows.{MakesWay, done_by}
 use Rattle.pair_laws.specs.Orders.{KeepsTo}
 use Rattle.pair_laws.specs.Pairs.{IsDoneBy, MayRunAtOnce}
 use Rattle.pair_laws.specs.Together.{AreIndependent, HaveOwnWords, RetiresAside, RunTogether, StartsAlike}
-use Rattle.pair_laws.proofs.Apart.{reads_apart, writes_apart}
+use Rattle.pair_laws.proofs.Apart.{first_alone, later_alone, reads_apart, retired_store, retirement_apart, start_fits, writes_apart}
 use Rattle.pair_laws.proofs.Keeping.{keeps_to, lets_stay, way_made}
 use Rattle.pair_laws.proofs.Leaving.{job_leaves}
-use Rattle.pair_laws.proofs.Living.{start_fits}
 use Rattle.pair_laws.proofs.Ordering.{orders_same, reads_same, writes_same}
-use Rattle.pair_laws.proofs.Storing.{retired_store, retirement_apart}
-use Rattle.pair_laws.proofs.Touching.{first_alone, later_alone}
 
 module _ (x : Exchange) (facts : List Fact) (s : State) (first later : Summary) (a b : JobStart) (closed : IsClosed x (Contains facts)) (h : MayRunAtOnce x facts s first later a b) where
   first_keeps : KeepsTo x s first a

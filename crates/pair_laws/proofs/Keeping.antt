@@ -8,6 +8,7 @@ use Rattle.job_types.specs.declared.job.JobStart.{JobStart}
 use Rattle.job_types.specs.declared.outbox.Sent.{Sent}
 use Rattle.job_types.specs.declared.outbox.SendTo.{SendTo}
 use Rattle.job_types.specs.declared.outbox.SendTo.TheVariants.{Queue, Outside}
+use Rattle.job_types.specs.declared.outcome.JobDone.{JobDone}
 use Rattle.job_types.specs.declared.outcome.Outcome.{Outcome}
 use Rattle.job_types.specs.declared.outcome.Outcome.TheVariants.{Ended, Faulted}
 use Rattle.job_types.specs.Own.{outcome_of}
@@ -29,7 +30,7 @@ use Rattle.order_laws.specs.Ends.{GoesBehind, LetsStay, Spares, rank}
 use Rattle.order_laws.specs.Windows.{MakesWay, done_by}
 use Rattle.pair_laws.specs.Orders.{KeepsTo}
 use Rattle.pair_laws.specs.Pairs.{IsFaulted}
-use Rattle.pair_laws.proofs.Apart.{is_in_forlopp, is_in_other, is_not_above}
+use Rattle.pair_laws.proofs.Beside.{is_in_forlopp, is_in_other, is_not_above}
 
 -- the fault that ended a job
 record IsOverBy (o : Option Outcome) : Type 0 where
@@ -72,12 +73,13 @@ module _ (first later : Summary) (a b : JobStart) (own : later.level ≡ b.job.l
   spares Ended may = tt
   spares (Faulted f point) may = (is_in_forlopp first later a b passes (may tt), is_in_other first later a b passes (may tt))
 
+  -- a job that sends to these levels and faults only if it may
+  pub lets_stay_so : (done : JobDone) → AreToLevels first done.sends → (IsFaulted done.outcome → first.fault ≡ true) → LetsStay a done b.job
+  lets_stay_so done sends may = record { sends = all_behind done.sends sends; outcome = spares done.outcome may }
+
   module _ (x : Exchange) (facts : List Fact) (kept : IsExchange x) (closed : IsClosed x (Contains facts)) (told : IsSummary x (Contains facts) a.job.entry first) where
     pub lets_stay : (s : State) → IsValid x s → IsFitting x s a → LetsStay a (done_by (job x a s.store)) b.job
-    lets_stay s valid fits = record {
-      sends = all_behind (job x a s.store).own.sends (job_stays x kept (Contains facts) closed first s valid a fits told).2;
-      outcome = spares (done_by (job x a s.store)).outcome (may_fault x facts kept closed s valid first a fits told);
-    }
+    lets_stay s valid fits = lets_stay_so (done_by (job x a s.store)) (job_stays x kept (Contains facts) closed first s valid a fits told).2 (may_fault x facts kept closed s valid first a fits told)
 
     pub way_made : MakesWay x a b
     way_made = record { forlopps = passes.forlopps; stays = lets_stay }

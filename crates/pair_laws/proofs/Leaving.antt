@@ -38,7 +38,7 @@ use Rattle.pair_laws.specs.Pairs.{IsDoneBy}
 use Rattle.permit_laws.specs.Permitted.{ArePermitted, MayHoldAll}
 use Rattle.pair_laws.proofs.Naming.{access_fits}
 use Rattle.pair_laws.proofs.Cells.{AllFit, CellLet, written}
-use Rattle.pair_laws.proofs.Apart.{held_at_start, held_not_free}
+use Rattle.pair_laws.proofs.Beside.{held_at_start, held_not_free}
 use Rattle.pair_laws.proofs.Staying.{chain_of}
 
 -- permitted touches do not store to a word, or it may be written

@@ -1,6 +1,5 @@
 pub mod Naming
 pub mod Cells
-pub mod Apart
 pub mod Beside
 pub mod Releasing
 pub mod Staying
@@ -8,6 +7,7 @@ pub mod Retiring
 pub mod Touching
 pub mod Storing
 pub mod Living
+pub mod Apart
 pub mod Leaving
 pub mod Ordering
 pub mod Pairing

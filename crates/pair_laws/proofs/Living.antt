@@ -13,13 +13,10 @@ use Rattle.job_types.proofs.Died.{alive_still}
 use Rattle.source_meaning.specs.Retirement.{all_delivered, delivered, delivered_to, keeps_chain, retires, with_outcome}
 use Rattle.source_meaning.specs.State.{State, chain_in}
 use Rattle.source_meaning.specs.Valid.{IsFitting, IsLive, MayBe}
-use Rattle.flow_points.specs.declared.fact.Fact.{Fact}
 use Rattle.entry_summary.specs.declared.summary.Summary.{Summary}
-use Rattle.pair_laws.specs.Pairs.{IsDoneBy, IsFaulted, LeavesChains, MayRunAtOnce}
-use Rattle.pair_laws.proofs.Apart.{some_forlopp}
+use Rattle.pair_laws.specs.Pairs.{IsDoneBy, IsFaulted, LeavesChains}
+use Rattle.pair_laws.proofs.Beside.{AreBeside, some_forlopp}
 use Rattle.pair_laws.proofs.Retiring.{chains_left}
-
--- a number that is not dead, where another one dies
 
 -- a number that is live, where sends take effect
 
@@ -32,14 +29,14 @@ delivered_live : (forlopp : ℕ) (sends : List Sent) (t : State) (n : ℕ) → I
 delivered_live forlopp [] t n live = live
 delivered_live forlopp (m ∷ rest) t n live = delivered_live forlopp rest (delivered forlopp m t) n (sent_live m.to forlopp m.values t n live)
 
-module _ (x : Exchange) (facts : List Fact) (s : State) (first later : Summary) (a b : JobStart) (done : JobDone) (h : MayRunAtOnce x facts s first later a b) (d : IsDoneBy x first a s.chains done) where
+module _ (x : Exchange) (s : State) (first later : Summary) (a b : JobStart) (done : JobDone) (h : AreBeside x s first later a b) (d : IsDoneBy x first a s.chains done) where
   -- the forlopp of the later job, if it has one, is not the first one's
   other_number : b.job.forlopp ≢ 0 → b.job.forlopp ≢ a.job.forlopp
   other_number some same = some (same ∙ h.passes.forlopps (sym same))
 
   live_by : (f : ℕ) (o : Outcome) (t : State) (n : ℕ) → f ≡ a.job.forlopp → done.outcome ≡ o → n ≢ a.job.forlopp → IsLive t n → IsLive (with_outcome x f o (keeps_chain f done.chain t)) n
   live_by zero Ended t n is how other live = live
-  live_by zero (Faulted f point) t n is how other live = absurd (some_forlopp x facts s first later a b h (d.fault (subst IsFaulted (sym how) tt)) (sym is))
+  live_by zero (Faulted f point) t n is how other live = absurd (some_forlopp x s first later a b h (d.fault (subst IsFaulted (sym how) tt)) (sym is))
   live_by (suc k) Ended t n is how other live = record { drawn = live.drawn; before = live.before; alive = live.alive }
   live_by (suc k) (Faulted f point) t n is how other live = record { drawn = live.drawn; before = live.before; alive = alive_still t.dead (suc k) n (λ same. other (same ∙ is)) live.alive }
 
@@ -63,5 +60,5 @@ module _ (x : Exchange) (facts : List Fact) (s : State) (first later : Summary) 
   start_fits t chains dead next = record {
     job = h.later_fits.job;
     forlopp = may_still t b.job.forlopp dead next other_number h.later_fits.forlopp;
-    chain = h.later_fits.chain ∙ chain_still t b.job.forlopp (chains_left x facts s first later a b done h d t chains) other_number;
+    chain = h.later_fits.chain ∙ chain_still t b.job.forlopp (chains_left x s first later a b done h d t chains) other_number;
   }

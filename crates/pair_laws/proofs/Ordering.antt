@@ -21,11 +21,9 @@ use Rattle.start_permit.specs.Granted.{MayRead, MayWrite}
 use Rattle.order_laws.specs.Windows.{done_by}
 use Rattle.pair_laws.specs.Orders.{KeepsTo, SameOrders, after_job, retirement_touches, with_words_of}
 use Rattle.pair_laws.specs.Pairs.{IsDoneBy, LeavesChains, MayRunAtOnce}
+use Rattle.pair_laws.proofs.Apart.{chains_left, first_alone, later_alone, reads_stay, retired_store, retirement_apart, writes_stay}
 use Rattle.pair_laws.proofs.Leaving.{job_leaves}
-use Rattle.pair_laws.proofs.Retiring.{chains_left}
-use Rattle.pair_laws.proofs.Staying.{reads_stay, writes_stay}
-use Rattle.pair_laws.proofs.Storing.{retired_store, retirement_apart}
-use Rattle.pair_laws.proofs.Touching.{first_alone, later_alone, lists_past, no_store_append, touched_read}
+use Rattle.pair_laws.proofs.Touching.{lists_past, no_store_append, touched_read}
 
 module _ (x : Exchange) (facts : List Fact) (s : State) (first later : Summary) (a b : JobStart) (h : MayRunAtOnce x facts s first later a b) (k : KeepsTo x s first a) where
   abbrev done : JobDone

@@ -12,8 +12,8 @@ use Rattle.entry_summary.specs.declared.summary.Summary.{Summary}
 use Rattle.order_laws.specs.Windows.{done_by}
 use Rattle.pair_laws.specs.Orders.{KeepsTo}
 use Rattle.pair_laws.specs.Pairs.{MayRunAtOnce}
+use Rattle.pair_laws.proofs.Apart.{start_fits}
 use Rattle.pair_laws.proofs.Leaving.{job_leaves}
-use Rattle.pair_laws.proofs.Living.{start_fits}
 
 -- the later one's start fits after the turn of the first
 turn_fits : (x : Exchange) (facts : List Fact) (s : State) (first later : Summary) (a b : JobStart) → MayRunAtOnce x facts s first later a b → KeepsTo x s first a → IsFitting x (ended_as x a (job x a s.store) (begun s)) b

@@ -24,15 +24,13 @@ use Rattle.source_meaning.specs.State.{State}
 use Rattle.source_meaning.specs.Valid.{IsRecord}
 use Rattle.source_meaning.proofs.Chains.{record_itself}
 use Rattle.source_meaning.proofs.Touching.{record_all}
-use Rattle.flow_points.specs.declared.fact.Fact.{Fact}
 use Rattle.entry_summary.specs.declared.summary.Summary.{Summary}
 use Rattle.entry_summary.specs.Accesses.{IsForlopp}
 use Rattle.start_permit.specs.Granted.{MayHold, MayRead}
-use Rattle.pair_laws.specs.Pairs.{MayRunAtOnce}
 use Rattle.permit_laws.specs.Permitted.{MayHoldAll}
 use Rattle.pair_laws.proofs.Naming.{kinds_apart}
 use Rattle.pair_laws.proofs.Cells.{CellLet, WordLet, read}
-use Rattle.pair_laws.proofs.Apart.{later_fit, none_held, no_two_seize, own_apart}
+use Rattle.pair_laws.proofs.Beside.{AreBeside, none_held, no_two_seize, own_apart}
 
 -- touches that store to another word, or to none
 abbrev StoresElsewhere : ℕ → Touch → Type 0
@@ -52,17 +50,17 @@ first_held summary start chains r rest hold = hold r.file r.number (or_left (is_
 later_held : (summary : Summary) (start : JobStart) (chains : ChainMap) (r : Held) (rest : List Held) → MayHoldAll summary start chains (r ∷ rest) → MayHoldAll summary start chains rest
 later_held summary start chains r rest hold file number at = hold file number (or_right (is_record file number r) (holds rest file number) at)
 
-module _ (x : Exchange) (facts : List Fact) (s : State) (first later : Summary) (a b : JobStart) (h : MayRunAtOnce x facts s first later a b) (fault : first.fault ≡ true) where
+module _ (x : Exchange) (s : State) (first later : Summary) (a b : JobStart) (h : AreBeside x s first later a b) (fault : first.fault ≡ true) where
   -- cells of a record that the first may hold
 
   field_not_let : (v : Bool) (file number field : ℕ) → IsForlopp x file → MayHold first.accesses a.chain s.chains file number → CellLet x later.accesses b s.chains v (cell.Field file number field) → ⊥
   field_not_let v file number field kind held (inl q) = kinds_apart x file q.plain kind
-  field_not_let v file number field kind held (inr q) = own_apart x facts s first later a b h file number held q.held
+  field_not_let v file number field kind held (inr q) = own_apart x s first later a b h file number held q.held
 
   mark_not_let : (v : Bool) (file number : ℕ) → MayHold first.accesses a.chain s.chains file number → CellLet x later.accesses b s.chains v (cell.Mark file number) → ⊥
-  mark_not_let v file number (inl p) (inl q) = none_held x facts s first later a b h file number fault q.there p
-  mark_not_let v file number (inr p) (inl q) = no_two_seize x facts s first later a b h file p.0 q.there
-  mark_not_let v file number held (inr q) = own_apart x facts s first later a b h file number held q.held
+  mark_not_let v file number (inl p) (inl q) = none_held x s first later a b h file number fault q.there p
+  mark_not_let v file number (inr p) (inl q) = no_two_seize x s first later a b h file p.0 q.there
+  mark_not_let v file number held (inr q) = own_apart x s first later a b h file number held q.held
 
   module _ (w : ℕ) (v : Bool) (q : WordLet x later.accesses b s.chains v w) where
     -- the word is that of no such cell
@@ -99,5 +97,5 @@ module _ (x : Exchange) (facts : List Fact) (s : State) (first later : Summary) 
 
   pub release_apart : (held : List Held) (store : List ℕ) (w : ℕ) → AllByRecursion (IsRecord x) held → MayHoldAll first a s.chains held → MayRead x later b s.chains w → NoStore w (release_world x held (untouched store)).trace
   release_apart held store w records hold reads =
-      let q = read x later b s.chains w (later_fit x facts s first later a b h) reads in
+      let q = read x later b s.chains w h.later_fit reads in
       no_store w (release_world x held (untouched store)).trace (each_opened w q.write q.lets held (untouched store) records hold tt)

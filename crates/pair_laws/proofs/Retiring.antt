@@ -1,5 +1,5 @@
 -- What the retirement of the first job leaves of the chains.
-use Rattle.std.proofs.Common.{◌≡◌, inl, inr, ℕ, zero, suc, ◌+◌, true, false, List, [], refl, sym, ap, ◌∙◌, subst}
+use Rattle.std.proofs.Common.{◌≡◌, inl, inr, ℕ, zero, suc, ◌+◌, true, false, [], refl, sym, ap, ◌∙◌, subst}
 use Rattle.std.proofs.lemmas.Bool.{false≢true}
 use Rattle.job_types.specs.declared.job.JobStart.{JobStart}
 use Rattle.job_types.specs.declared.outcome.JobDone.{JobDone}
@@ -12,23 +12,19 @@ use Rattle.exchange_model.specs.declared.exchange.Exchange.{Exchange}
 use Rattle.source_meaning.specs.Retirement.{all_delivered, keeps_chain, retires, with_outcome}
 use Rattle.source_meaning.specs.State.{State}
 use Rattle.source_meaning.proofs.Delivering.{all_delivered_chains}
-use Rattle.flow_points.specs.declared.fact.Fact.{Fact}
 use Rattle.entry_summary.specs.declared.summary.Summary.{Summary}
-use Rattle.pair_laws.specs.Pairs.{IsDoneBy, IsFaulted, LeavesChains, MayRunAtOnce}
-use Rattle.pair_laws.proofs.Apart.{held_at_start, some_forlopp}
+use Rattle.pair_laws.specs.Pairs.{IsDoneBy, IsFaulted, LeavesChains}
+use Rattle.pair_laws.proofs.Beside.{AreBeside, held_at_start, some_forlopp}
 use Rattle.pair_laws.proofs.Staying.{bare_holds_none}
-use Rattle.job_types.proofs.ChainMaps.{chain_other, chain_same}
 
--- sends leave the chains as they are
-
-module _ (x : Exchange) (facts : List Fact) (s : State) (first later : Summary) (a b : JobStart) (done : JobDone) (h : MayRunAtOnce x facts s first later a b) (d : IsDoneBy x first a s.chains done) where
+module _ (x : Exchange) (s : State) (first later : Summary) (a b : JobStart) (done : JobDone) (h : AreBeside x s first later a b) (d : IsDoneBy x first a s.chains done) where
   left_by : (f : ℕ) (o : Outcome) (t : State) → f ≡ a.job.forlopp → done.outcome ≡ o → t.chains ≡ s.chains → LeavesChains first a s.chains (with_outcome x f o (keeps_chain f done.chain t)).chains
   left_by zero Ended t is how same = record {
     others = λ n other. ap (λ (m : ChainMap). chain_at m n) same;
     own = λ file number held. absurd (bare_holds_none x s file number h.state (subst (λ chain. holds chain file number ≡ true) (ap (chain_at t.chains) (sym is) ∙ ap (λ (m : ChainMap). chain_at m 0) same) held));
     let_go = λ file number held gone. absurd ((held_at_start x s a file number h.first_fits held).0 (sym is));
   }
-  left_by zero (Faulted f point) t is how same = absurd (some_forlopp x facts s first later a b h (d.fault (subst IsFaulted (sym how) tt)) (sym is))
+  left_by zero (Faulted f point) t is how same = absurd (some_forlopp x s first later a b h (d.fault (subst IsFaulted (sym how) tt)) (sym is))
   left_by (suc k) Ended t is how same =
       let own : chain_at (with_chain t.chains (suc k) done.chain) a.job.forlopp ≡ done.chain = ap (chain_at (with_chain t.chains (suc k) done.chain)) (sym is) ∙ chain_same t.chains (suc k) done.chain in
       record {

@@ -10,13 +10,12 @@ use Rattle.job_types.specs.Forlopps.{ChainMap, chain_at}
 use Rattle.exchange_model.specs.declared.exchange.Exchange.{Exchange}
 use Rattle.source_meaning.specs.State.{State, chain_in}
 use Rattle.source_meaning.specs.Valid.{HasRecords, IsValid}
-use Rattle.flow_points.specs.declared.fact.Fact.{Fact}
 use Rattle.entry_summary.specs.declared.summary.Access.{Access}
 use Rattle.entry_summary.specs.declared.summary.Access.TheVariants.{Variable, Field, Own, Seizes, Frees}
 use Rattle.entry_summary.specs.declared.summary.Summary.{Summary}
 use Rattle.start_permit.specs.Granted.{IsFree, IsOfField, IsOfMark, Lets, Marks, MayHold, MayRead, MayWrite, OneOf}
-use Rattle.pair_laws.specs.Pairs.{LeavesChains, MayRunAtOnce}
-use Rattle.pair_laws.proofs.Apart.{held_not_free, no_seize_freed, no_two_seize, none_held}
+use Rattle.pair_laws.specs.Pairs.{LeavesChains}
+use Rattle.pair_laws.proofs.Beside.{AreBeside, held_not_free, no_seize_freed, no_two_seize, none_held}
 
 -- what is let depends on which records are free of the files of which some may be seized, and on no other
 
@@ -51,10 +50,10 @@ module _ (x : Exchange) (all : List Access) (start : JobStart) (before after : C
   lets_same write word (Seizes file) there h = record { does = h.does; has = marks_let_same write file word there h.has }
   lets_same write word (Frees file) there h = record { does = h.does; has = freed_let_same file word h.has }
 
-  one_same : (write : Bool) (word : ℕ) → OneOf (Lets x all start before write) all word → OneOf (Lets x all start after write) all word
+  pub one_same : (write : Bool) (word : ℕ) → OneOf (Lets x all start before write) all word → OneOf (Lets x all start after write) all word
   one_same write word o = record { item = o.item; there = o.there; gives = lets_same write word o.item o.there o.gives }
 
-  read_same : (word : ℕ) → OneOf (Lets x all start before false) all word ⊎ OneOf (Lets x all start before true) all word → OneOf (Lets x all start after false) all word ⊎ OneOf (Lets x all start after true) all word
+  pub read_same : (word : ℕ) → OneOf (Lets x all start before false) all word ⊎ OneOf (Lets x all start before true) all word → OneOf (Lets x all start after false) all word ⊎ OneOf (Lets x all start after true) all word
   read_same word (inl o) = inl (one_same false word o)
   read_same word (inr o) = inr (one_same true word o)
 
@@ -72,12 +71,12 @@ pub chain_of : (x : Exchange) (s : State) (n file number : ℕ) → IsValid x s 
 chain_of x s zero file number valid h = absurd (bare_holds_none x s file number valid h)
 chain_of x s (suc n) file number valid h = h
 
-module _ (x : Exchange) (facts : List Fact) (s : State) (first later : Summary) (a b : JobStart) (chains : ChainMap) (h : MayRunAtOnce x facts s first later a b) (leaves : LeavesChains first a s.chains chains) where
+module _ (x : Exchange) (s : State) (first later : Summary) (a b : JobStart) (chains : ChainMap) (h : AreBeside x s first later a b) (leaves : LeavesChains first a s.chains chains) where
   -- a record that is free before is free after
 
   not_taken : (file number : ℕ) → Contains later.accesses (Seizes file) → IsFree s.chains file number → MayHold first.accesses a.chain s.chains file number → ⊥
   not_taken file number seizes free (inl held) = held_not_free x s a file number h.first_fits held free
-  not_taken file number seizes free (inr taken) = no_two_seize x facts s first later a b h file taken.0 seizes
+  not_taken file number seizes free (inr taken) = no_two_seize x s first later a b h file taken.0 seizes
 
   free_own : (file number : ℕ) → Contains later.accesses (Seizes file) → IsFree s.chains file number → holds (chain_at chains a.job.forlopp) file number ≡ false
   free_own file number seizes free =
@@ -93,8 +92,8 @@ module _ (x : Exchange) (facts : List Fact) (s : State) (first later : Summary) 
   -- and one that is free after was free before
 
   not_let_go : (file number : ℕ) → Contains later.accesses (Seizes file) → holds a.chain file number ≡ true → Contains first.accesses (Frees file) ⊎ (first.fault ≡ true) → ⊥
-  not_let_go file number seizes held (inl frees) = no_seize_freed x facts s first later a b h file frees seizes
-  not_let_go file number seizes held (inr fault) = none_held x facts s first later a b h file number fault seizes held
+  not_let_go file number seizes held (inl frees) = no_seize_freed x s first later a b h file frees seizes
+  not_let_go file number seizes held (inr fault) = none_held x s first later a b h file number fault seizes held
 
   own_free : (file number : ℕ) → Contains later.accesses (Seizes file) → holds (chain_at chains a.job.forlopp) file number ≡ false → holds (chain_at s.chains a.job.forlopp) file number ≡ false
   own_free file number seizes gone =

@@ -22,14 +22,12 @@ use Rattle.source_meaning.specs.Changes.{opens_fields, opens_record}
 use Rattle.source_meaning.specs.Config.{files_of}
 use Rattle.source_meaning.specs.Retirement.{all_delivered, all_opened, delivered, delivered_to, keeps_chain, opened, release_world, retires, with_outcome}
 use Rattle.source_meaning.specs.State.{State}
-use Rattle.flow_points.specs.declared.fact.Fact.{Fact}
 use Rattle.entry_summary.specs.declared.summary.Summary.{Summary}
 use Rattle.start_permit.specs.Granted.{MayRead}
 use Rattle.pair_laws.specs.Orders.{ended_touches, release_touches, retirement_touches}
-use Rattle.pair_laws.specs.Pairs.{IsDoneBy, IsFaulted, MayRunAtOnce}
-use Rattle.pair_laws.proofs.Apart.{some_forlopp}
+use Rattle.pair_laws.specs.Pairs.{IsDoneBy, IsFaulted}
+use Rattle.pair_laws.proofs.Beside.{AreBeside, some_forlopp}
 use Rattle.pair_laws.proofs.Releasing.{release_apart}
-use Rattle.job_types.proofs.ChainMaps.{chain_same}
 
 -- stores that are made, whatever the words are
 
@@ -97,10 +95,10 @@ kept_store : (forlopp : ℕ) (chain : List Held) (t : State) → (keeps_chain fo
 kept_store zero chain t = refl
 kept_store (suc n) chain t = refl
 
-module _ (x : Exchange) (facts : List Fact) (s : State) (first later : Summary) (a b : JobStart) (done : JobDone) (h : MayRunAtOnce x facts s first later a b) (d : IsDoneBy x first a s.chains done) where
+module _ (x : Exchange) (s : State) (first later : Summary) (a b : JobStart) (done : JobDone) (h : AreBeside x s first later a b) (d : IsDoneBy x first a s.chains done) where
   stored_by : (f : ℕ) (o : Outcome) (t : State) → f ≡ a.job.forlopp → done.outcome ≡ o → (with_outcome x f o (keeps_chain f done.chain t)).store ≡ stored t.store (ended_touches x o done.chain)
   stored_by f Ended t is how = kept_store f done.chain t
-  stored_by zero (Faulted f point) t is how = absurd (some_forlopp x facts s first later a b h (d.fault (subst IsFaulted (sym how) tt)) (sym is))
+  stored_by zero (Faulted f point) t is how = absurd (some_forlopp x s first later a b h (d.fault (subst IsFaulted (sym how) tt)) (sym is))
   stored_by (suc k) (Faulted f point) t is how =
       ap (λ chain. (release_world x chain (untouched t.store)).store) (chain_same t.chains (suc k) done.chain) ∙ release_stored x done.chain t.store
 
@@ -112,7 +110,7 @@ module _ (x : Exchange) (facts : List Fact) (s : State) (first later : Summary) 
 
   apart_by : (o : Outcome) (w : ℕ) → done.outcome ≡ o → MayRead x later b s.chains w → NoStore w (ended_touches x o done.chain)
   apart_by Ended w how reads = tt
-  apart_by (Faulted f point) w how reads = release_apart x facts s first later a b h (d.fault (subst IsFaulted (sym how) tt)) done.chain [] w d.records d.held reads
+  apart_by (Faulted f point) w how reads = release_apart x s first later a b h (d.fault (subst IsFaulted (sym how) tt)) done.chain [] w d.records d.held reads
 
   pub retirement_apart : (w : ℕ) → MayRead x later b s.chains w → NoStore w (retirement_touches x done)
   retirement_apart w reads = apart_by done.outcome w refl reads

@@ -9,12 +9,10 @@ use Rattle.job_types.specs.Touches.{NoStore, stored}
 use Rattle.exchange_model.specs.declared.exchange.Exchange.{Exchange}
 use Rattle.source_meaning.specs.State.{State}
 use Rattle.source_meaning.specs.Traces.{IsTouched, LeavesAlone}
-use Rattle.flow_points.specs.declared.fact.Fact.{Fact}
 use Rattle.entry_summary.specs.declared.summary.Summary.{Summary}
 use Rattle.start_permit.specs.Granted.{MayRead, MayWrite}
-use Rattle.pair_laws.specs.Pairs.{MayRunAtOnce}
 use Rattle.permit_laws.specs.Permitted.{ArePermitted}
-use Rattle.pair_laws.proofs.Apart.{reads_apart, writes_apart}
+use Rattle.pair_laws.proofs.Beside.{AreBeside, reads_apart, writes_apart}
 
 module _ (x : Exchange) (m : Summary) (start : JobStart) (chains : ChainMap) where
   -- a word that is touched may be read
@@ -30,12 +28,12 @@ module _ (x : Exchange) (m : Summary) (start : JobStart) (chains : ChainMap) whe
   not_stored (Load u v ∷ ts) w all none = not_stored ts w all.1 none
   not_stored (Store u v ∷ ts) w all none = (λ is. none (subst (MayWrite x m start chains) (sym is) all.0), not_stored ts w all.1 none)
 
-module _ (x : Exchange) (facts : List Fact) (s : State) (first later : Summary) (a b : JobStart) (h : MayRunAtOnce x facts s first later a b) where
+module _ (x : Exchange) (s : State) (first later : Summary) (a b : JobStart) (h : AreBeside x s first later a b) where
   pub first_alone : (ts us : List Touch) → ArePermitted x first a s.chains ts → ArePermitted x later b s.chains us → LeavesAlone ts us
-  first_alone ts us p q w at = not_stored x first a s.chains ts w p (λ writes. writes_apart x facts s first later a b h w writes (touched_read x later b s.chains us w q at))
+  first_alone ts us p q w at = not_stored x first a s.chains ts w p (λ writes. writes_apart x s first later a b h w writes (touched_read x later b s.chains us w q at))
 
   pub later_alone : (ts us : List Touch) → ArePermitted x first a s.chains ts → ArePermitted x later b s.chains us → LeavesAlone us ts
-  later_alone ts us p q w at = not_stored x later b s.chains us w q (λ writes. reads_apart x facts s first later a b h w (touched_read x first a s.chains ts w p at) writes)
+  later_alone ts us p q w at = not_stored x later b s.chains us w q (λ writes. reads_apart x s first later a b h w (touched_read x first a s.chains ts w p at) writes)
 
 -- two lists, one after the other
 pub no_store_append : (w : ℕ) (ts us : List Touch) → NoStore w ts → NoStore w us → NoStore w (ts ++ us)

@@ -32,13 +32,9 @@ use Rattle.checked.specs.Kept.{IsChecked, KeptSummaries}
 use Rattle.order_laws.specs.Windows.{done_by}
 use Rattle.pair_laws.specs.Orders.{KeepsTo, retirement_touches}
 use Rattle.pair_laws.specs.Pairs.{IsDoneBy, IsFaulted, LeavesChains, MayRunAtOnce}
-use Rattle.pair_laws.proofs.Apart.{reads_apart, some_forlopp, writes_apart}
+use Rattle.pair_laws.proofs.Apart.{chains_left, first_alone, reads_apart, reads_stay, release_apart, retired_store, retirement_apart, some_forlopp, writes_apart, writes_stay}
 use Rattle.pair_laws.proofs.Leaving.{job_leaves}
-use Rattle.pair_laws.proofs.Releasing.{release_apart}
-use Rattle.pair_laws.proofs.Retiring.{chains_left}
-use Rattle.pair_laws.proofs.Staying.{reads_stay, writes_stay}
-use Rattle.pair_laws.proofs.Storing.{retired_store, retirement_apart}
-use Rattle.pair_laws.proofs.Touching.{first_alone, no_store_append, touched_read}
+use Rattle.pair_laws.proofs.Touching.{no_store_append, touched_read}
 use Rattle.run_books.specs.Retired.{outcome_world, retired_world}
 use Rattle.shared_store.specs.declared.view.Lent.{Lent}
 use Rattle.parallel_dispatch.specs.Flying.{IsLent}

@@ -1,4 +1,4 @@
-use Rattle.pair_laws.proofs.Staying.{reads_stay, writes_stay}
+use Rattle.pair_laws.proofs.Apart.{reads_stay, writes_stay}
 use Rattle.pair_laws.proofs.laws.permits_stay.Goals as goal
 
 pub returns-clause-reads : goal.returns-clause-reads

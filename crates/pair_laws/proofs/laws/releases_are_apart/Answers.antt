@@ -1,5 +1,4 @@
-use Rattle.pair_laws.proofs.Apart.{other_forlopp, some_forlopp}
-use Rattle.pair_laws.proofs.Releasing.{release_apart}
+use Rattle.pair_laws.proofs.Apart.{other_forlopp, release_apart, some_forlopp}
 use Rattle.pair_laws.proofs.laws.releases_are_apart.Goals as goal
 
 pub returns-clause-forlopps : goal.returns-clause-forlopps

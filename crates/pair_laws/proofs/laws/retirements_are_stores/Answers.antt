@@ -1,4 +1,4 @@
-use Rattle.pair_laws.proofs.Storing.{retired_store, retirement_apart}
+use Rattle.pair_laws.proofs.Apart.{retired_store, retirement_apart}
 use Rattle.pair_laws.proofs.laws.retirements_are_stores.Goals as goal
 
 pub returns-clause-words : goal.returns-clause-words

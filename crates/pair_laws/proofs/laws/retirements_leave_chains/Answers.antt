@@ -1,4 +1,4 @@
-use Rattle.pair_laws.proofs.Retiring.{chains_left}
+use Rattle.pair_laws.proofs.Apart.{chains_left}
 use Rattle.pair_laws.proofs.laws.retirements_leave_chains.Goals as goal
 
 pub returns : goal.returns

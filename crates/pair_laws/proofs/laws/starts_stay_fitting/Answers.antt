@@ -1,4 +1,4 @@
-use Rattle.pair_laws.proofs.Living.{start_fits}
+use Rattle.pair_laws.proofs.Apart.{start_fits}
 use Rattle.pair_laws.proofs.laws.starts_stay_fitting.Goals as goal
 
 pub returns : goal.returns

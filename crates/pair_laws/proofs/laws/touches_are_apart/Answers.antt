@@ -1,4 +1,5 @@
-use Rattle.pair_laws.proofs.Touching.{first_alone, later_alone, lists_past}
+use Rattle.pair_laws.proofs.Apart.{first_alone, later_alone}
+use Rattle.pair_laws.proofs.Touching.{lists_past}
 use Rattle.pair_laws.proofs.laws.touches_are_apart.Goals as goal
 
 pub returns-clause-apart : goal.returns-clause-apart
