@@ -1,6 +1,7 @@
 pub mod Adding
 pub mod Amounting
 pub mod Going
+pub mod Joining
 pub mod Leading
 pub mod Mixing
 pub mod Naming
@@ -8,6 +9,7 @@ pub mod Ordering
 pub mod Outside
 pub mod Passing
 pub mod Permitting
+pub mod Retiring
 pub mod Shifting
 pub mod Sparing
 pub mod Summing

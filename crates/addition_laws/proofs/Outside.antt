@@ -86,7 +86,7 @@ module _ (x : Exchange) (kept : IsExchange x) where
     pub field_out : (file number field : ℕ) (p : Placed) → IsFileAt x file p → number < p.file.size → field < length p.file.fields → Out (field_cell p number field)
     field_out file number field p there below lt d = no_field d.item file number field p there below lt d.gives
 
-    mark_out : (file number : ℕ) (p : Placed) → IsFileAt x file p → number < p.file.size → p.file.forlopp ≡ true → Out (mark_cell p number)
+    pub mark_out : (file number : ℕ) (p : Placed) → IsFileAt x file p → number < p.file.size → p.file.forlopp ≡ true → Out (mark_cell p number)
     mark_out file number p there below kind d = no_mark d.item file number p there below kind d.gives
 
     named_out : (b : ℕ) (deed : Deed) (rest : List Item) (e : Expr) (v : ℕ) → DeedStands x b deed rest → IsApart b deed → IsExprOf deed e → Contains (named_in e) (NamedVariable v) → Out (base_of x b + v)

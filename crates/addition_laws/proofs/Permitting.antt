@@ -40,8 +40,8 @@ permitted_order x P s first later a b numbers kept closed valid first_fits later
 
     apart : AreApartBut x (IsAddedWord x numbers) s.store a b []
     apart = record {
-      first = λ w not at. subst (NoStore w) (sym (append-nil ts)) (not_stored x first a s.chains ts w firsts (λ writes. share.first_writes w not writes (touched_read x later b s.chains us w laters at)));
-      later = λ w not at. not_stored x later b s.chains us w laters (λ writes. share.later_writes w not (touched_read x first a s.chains ts w firsts at) writes);
+      first = λ w not at. subst (NoStore w) (sym (append-nil ts)) (not_stored x first a s.chains ts w firsts (λ writes. not (share.first_writes w writes (touched_read x later b s.chains us w laters at))));
+      later = λ w not at. not_stored x later b s.chains us w laters (λ writes. not (share.later_writes w (touched_read x first a s.chains ts w firsts at) writes));
       outside = tt;
       fits = (job_in_range x kept a s.store first_fits.job valid.store).store;
     }

@@ -35,13 +35,11 @@ pub record AreApartBut (x : Exchange) (D : ℕ → Type 0) (s : List ℕ) (a b :
   pub outside : AllByRecursion (IsOutside D) ending
   pub fits : StoreFits x (left_by x a ending s)
 
--- no word that one of two jobs may write is one that the other one may read, but words of D
+-- a word that one of two jobs may write and the other one may read is one of D
 pub record ShareOnly (x : Exchange) (D : ℕ → Type 0) (s : State) (first later : Summary)
     (a b : JobStart) : Type 0 where
-  pub first_writes : (w : ℕ) → (D w → ⊥) → MayWrite x first a s.chains w
-      → MayRead x later b s.chains w → ⊥
-  pub later_writes : (w : ℕ) → (D w → ⊥) → MayRead x first a s.chains w
-      → MayWrite x later b s.chains w → ⊥
+  pub first_writes : (w : ℕ) → MayWrite x first a s.chains w → MayRead x later b s.chains w → D w
+  pub later_writes : (w : ℕ) → MayRead x first a s.chains w → MayWrite x later b s.chains w → D w
 
 -- the same run but for its words and touches
 abbrev pub IsSameRun : Config → Config → Type 0

@@ -1,5 +1,5 @@
 // What additions leave alone, said by clauses.
-ghost use Rattle.std.specs.Prelude.{ℕ, List, []};
+ghost use Rattle.std.specs.Prelude.{◌↔◌, ℕ, List, []};
 ghost use Rattle.std.specs.List.{Contains};
 ghost use Rattle.job_types.specs.declared.job.JobStart.{JobStart};
 ghost use Rattle.job_types.specs.declared.touch.Touch.{Touch};
@@ -12,11 +12,14 @@ ghost use Rattle.entry_summary.specs.Summaries.{IsSummary};
 ghost use Rattle.entry_summary.specs.declared.summary.Summary.{Summary};
 ghost use Rattle.flow_points.specs.declared.fact.Fact.{Fact};
 ghost use Rattle.flow_points.specs.Facts.{IsClosed, IsLeast};
+ghost use Rattle.order_laws.specs.Windows.{MakesWay};
 ghost use Rattle.addition_laws.specs.Sparing.{IsSparing, PassesAdding};
+ghost use Rattle.addition_laws.specs.Together.{MayAddAtOnce, RunTogetherAdding};
 ghost use Rattle.pair_tests.specs.Pairs.{Passes};
 ghost use Rattle.pair_laws.specs.Together.{HaveOwnWords};
 ghost use Rattle.addition_laws.specs.Either.{AreApartBut, SameInEitherOrder, ShareOnly};
 ghost use Rattle.additions_meaning.specs.Additions.{IsAddedWord, OnlyAddsToAll};
+ghost use Rattle.additions_meaning.specs.Lists.{AreAdded};
 ghost use Rattle.additions_meaning.specs.Amounts.{DiffersBy, RunsAlike};
 
 /// A job over stored words that fit the exchange, and the same job over others: at each variable of
@@ -82,15 +85,35 @@ pub fn jobs_add_in_either_order()
 /// before they retire. Whatever passes passes so.
 pub fn passing_jobs_add_in_either_order()
     ensures orders { (x : Exchange) (facts : List Fact) (s : State) (first later : Summary)
-        (a b : JobStart)
-        → IsExchange x → IsClosed x (Contains facts) → IsValid x s
-        → IsFitting x s a → IsFitting x s b
-        → IsSummary x (Contains facts) a.job.entry first
-        → IsSummary x (Contains facts) b.job.entry later
-        → PassesAdding x (Contains facts) first later a b
+        (a b : JobStart) → IsClosed x (Contains facts) → MayAddAtOnce x facts s first later a b
         → SameInEitherOrder x s.store a b [] }
     ensures passes { (x : Exchange) (facts : List Fact) (first later : Summary) (a b : JobStart)
         → Passes first later a b → PassesAdding x (Contains facts) first later a b }
+{}
+
+/// Two such jobs leave one another alone but for the words of variables to which both only add.
+/// The first sends to no level above the later one's; where it faults it is of a forlopp, which is
+/// not the later one's; and its retirement, with its release after a fault, stores to no word that
+/// the later one may read. So the later one, run after the first has retired, fits, may touch the
+/// same words, takes the same way, sends the same, holds the same records, counts the same and ends
+/// the same; so does the first one after the later one's words; and the words in the end are the
+/// same in both orders.
+pub fn adding_jobs_run_together()
+    ensures { (x : Exchange) (facts : List Fact) (s : State) (first later : Summary)
+        (a b : JobStart) → IsClosed x (Contains facts)
+        → (h : MayAddAtOnce x facts s first later a b)
+        → RunTogetherAdding x (IsAddedWord x h.passes.shared) s first later a b }
+{}
+
+/// Where two jobs pass so by facts that are closed, the first makes way to the later one, wherever
+/// it begins: all that it sends goes behind the later one, and a fault of it neither restarts the
+/// exchange nor releases the later one's forlopp.
+pub fn adding_jobs_make_way()
+    ensures { (x : Exchange) (facts : List Fact) (first later : Summary) (a b : JobStart)
+        → IsExchange x → IsClosed x (Contains facts)
+        → IsSummary x (Contains facts) a.job.entry first
+        → IsSummary x (Contains facts) b.job.entry later
+        → IsJob x b.job → PassesAdding x (Contains facts) first later a b → MakesWay x a b }
 {}
 
 /// Where two summaries without their accesses to the variables of a list let two jobs share no
@@ -101,4 +124,15 @@ pub fn spared_words_are_those_of_variables()
         → IsSparing numbers first one → IsSparing numbers later other
         → HaveOwnWords x s one other a b
         → ShareOnly x (IsAddedWord x numbers) s first later a b }
+{}
+
+/// Two lists of the variables to which the jobs of an entry only add, by the same facts, have the
+/// same numbers.
+pub fn added_lists_are_one()
+    ensures facts { (x : Exchange) (facts : List Fact) (entry : ℕ) (d e : List ℕ) (n : ℕ)
+        → AreAdded x (Contains facts) entry d → AreAdded x (Contains facts) entry e
+        → Contains d n ↔ Contains e n }
+    ensures least { (x : Exchange) (entry : ℕ) (d e : List ℕ) (n : ℕ)
+        → AreAdded x (IsLeast x) entry d → AreAdded x (IsLeast x) entry e
+        → Contains d n ↔ Contains e n }
 {}
