@@ -3,8 +3,9 @@
 Each folder of tools/gate/cases/analysis has an exchange with the analysis that must be written of
 it: worked out by hand from docs/ANALYSIS.md, for each kind of statement, each fault, each conflict
 and each test. Analyses and certificates of texts made by chance, and of 12 of 32 to 64 entries, are
-compared with `oracle.analysis`. And each fact in turn is taken out of the certificate of
-examples/certificate: `run` must tell that this one is missing.
+compared with `oracle.analysis`. Each fact in turn is taken out of the certificate of
+examples/certificate: `run` must tell that this one is missing. And facts are put into certificates
+of exchanges made by chance: `run` must refuse them as `oracle.analysis` does, or run as `single`.
 """
 from __future__ import annotations
 
@@ -14,9 +15,9 @@ from typing import Iterator
 
 import pytest
 
-from gate import harness
-from gate.checking import EXAMPLES, check, check_enough
-from gate.makers import made_text, wide_text
+from gate import harness, more_facts
+from gate.checking import EXAMPLES, Tally, check, check_enough
+from gate.makers import made_exchange, made_text, wide_text
 from gate.oracle import analysis as oracle_analysis
 
 CASES = harness.CASES / "analysis"
@@ -25,6 +26,9 @@ CERTIFIED = (EXAMPLES / "certificate" / "exchange.plex").read_bytes()
 EXCHANGE = oracle_analysis.Exchange(CERTIFIED)
 FACTS = oracle_analysis.least_facts(EXCHANGE)
 LEAST_CASES, LEAST_FACTS, WIDE = 66, 48, 12
+PUT_IN = 60
+# How many certificates with facts put in come to what, for each that is made.
+LEAST_PUT_IN = {"taken": 0.25, "MISSING": 0.15, "STRANGE": 0.02}
 NO_JOBS = "JOBS 0\nEND DONE"
 
 
@@ -83,6 +87,27 @@ def test_without_a_fact(plex: pathlib.Path, folder: pathlib.Path, place: int) ->
         harness.wrong(got, 9 if refused else 0, f"{line or NO_JOBS}\n".encode()),
         f"the oracle tells {told}" if told != line else None,
     )
+
+
+@pytest.mark.by_chance(PUT_IN)
+def test_with_more_facts(
+    plex: pathlib.Path, folder: pathlib.Path, seed: str, tally: Tally, number: int
+) -> None:
+    """A certificate with facts put in is refused for the right fact, or taken."""
+    chance = random.Random(f"facts {seed}.{number}")
+    case = made_exchange.made_case(chance)
+    exchange = oracle_analysis.Exchange(case.exchange)
+    facts = more_facts.with_more(exchange, chance)
+    certificate = oracle_analysis.certificate_of(exchange, facts)
+    harness.write_files(folder, {"E": case.exchange, "S": case.signals, "F": certificate})
+    line = oracle_analysis.refusal(case.exchange, facts)
+    words = ["E", "S", "--jobs", case.limit]
+    single = harness.answer(plex, ["single", *words], folder)
+    wanted = (9, f"{line}\n".encode()) if line else (single.status, single.wrote)
+    workers = ["--workers", chance.randint(2, 64)]
+    got = harness.answer(plex, ["run", *words, *workers, "--cert", "F"], folder)
+    tally.add("facts put in", {line.split()[1] if line else "taken": 1}, LEAST_PUT_IN)
+    check(harness.wrong(got, *wanted))
 
 
 def test_all_cases_are_there() -> None:

@@ -11,6 +11,9 @@ one to meet each fault, event and ending. What the program writes, and its statu
 - trace: with a filter made by chance, beside oracle.runs
 - change: to another exchange, of which each fifth one lacks something, beside oracle.runs
 - list: the listing is read and run by oracle.listing, whose report must be that of the run
+- long jobs, of half of the cases: the same exchange with a long loop in each job, so that jobs run
+  at once: by single, and by run with and without the certificate, beside oracle.machine, or where
+  that would take too long, beside one another
 
 Runs of more than 100,000 statements are passed over, but for those that are made for the fault
 BUDGET. Enough of each kind must be compared.
@@ -25,7 +28,7 @@ from __future__ import annotations
 import pathlib
 import random
 from collections import Counter
-from typing import Any, Callable, Optional, Sequence
+from typing import Any, Callable, Iterator, Optional, Sequence
 
 import pytest
 
@@ -36,10 +39,10 @@ from gate.oracle import listing as oracle_listing
 from gate.oracle import machine as oracle_machine
 from gate.oracle import runs as oracle_runs
 
-GATE = 60
+GATE, LONG_ONES = 60, 2
 PATIENCE, LONG_PATIENCE, SHORT_PATIENCE = 100_000, 1_100_000, 5_000
 KINDS = ("single", "run", "certified", "timed", "trace", "change", "list")
-LEAST_SHARE = 0.6
+LEAST_SHARE, LEAST_LONG = 0.6, 0.2  # of the cases, and of those with long jobs by oracle.machine
 FORMS = {"one worker": ["--workers", 1], "four workers": ["--workers", 4]}
 LACKING = {3: "ENTRY", 8: "FILE"}
 TRIES = 200
@@ -89,6 +92,7 @@ class Case:
         files = {"E": case.exchange, "S": case.signals, "X": self.other}
         harness.write_files(folder, {**files, "T": self.table, "Q": self.filter})
         self.workers = ["--workers", chance.randint(2, 64)]
+        self.is_long_too = False
 
     def wrong(self, words: Sequence[Any], report: bytes, status: int) -> Optional[str]:
         """What is wrong with a run."""
@@ -115,6 +119,26 @@ class Case:
             "change": lambda: self.change(report),
             "list": lambda: self.list(report),
         }
+
+    def of_long_jobs(self) -> Iterator[tuple[str, Optional[str]]]:
+        """What is wrong with the runs of the same exchange with long jobs."""
+        exchange = made_exchange.with_long_jobs(self.case.exchange)
+        harness.write_files(self.folder, {"L": exchange})
+        certify = harness.answer(self.plex, ["certify", "L"], self.folder)
+        harness.write_files(self.folder, {"M": certify.wrote})
+        single = harness.answer(self.plex, ["single", "L", "S", *self.jobs], self.folder)
+        wanted = single.wrote, single.status
+        try:
+            wanted = oracle_machine.run(
+                exchange, self.case.signals, self.case.limit, self.patience
+            )[:2]
+            yield "single", harness.wrong(single, wanted[1], wanted[0])
+        except oracle_machine.TooLong:
+            pass
+        run = ["run", "L", "S"]
+        yield "run", self.wrong([*run, *self.workers], *wanted)
+        workers = ["--workers", self.chance.randint(2, 64)]
+        yield "certified", self.wrong([*run, *workers, "--cert", "M"], *wanted)
 
     def timed(self) -> Optional[str]:
         """A run with the table."""
@@ -169,6 +193,11 @@ def compare(held: Case, tally: Tally, name: str = "compared runs") -> None:
             continue
         counts[f"compared {kind}"] += 1
         told += [f"{kind}: {wrong}"] if wrong else []
+    if held.is_long_too:
+        least["compared long single"] = LEAST_LONG
+        for kind, wrong in held.of_long_jobs():
+            counts[f"compared long {kind}"] += 1
+            told += [f"long jobs, {kind}: {wrong}"] if wrong else []
     tally.add(name, counts, least)
     check(*told)
 
@@ -180,7 +209,9 @@ def test_by_chance(
     """All runs of an exchange are those of the second account."""
     case = made_exchange.made_case(random.Random(f"{seed}.{number}"))
     chance = random.Random(f"{seed}.{number}.more")
-    compare(Case(plex, folder, case, chance, number, PATIENCE), tally)
+    held = Case(plex, folder, case, chance, number, PATIENCE)
+    held.is_long_too = number % LONG_ONES == 0
+    compare(held, tally)
 
 
 def is_met(purpose: str, report: str) -> bool:

@@ -99,20 +99,52 @@ def test_sarif(folder: pathlib.Path, monkeypatch: pytest.MonkeyPatch) -> None:
 
 
 def result_of(run: Dict[str, Any], result: Dict[str, Any]) -> Tuple[object, ...]:
-    """The word, the file, the place and the sentence of a result."""
-    place = result["locations"][0]["physicalLocation"]
+    """The word, the weight, the sentence, the place, the other places and the cure of a result."""
     rule = run["tool"]["driver"]["rules"][result["ruleIndex"]]["id"]
     assert rule == result["ruleId"]
-    region = place["region"]
-    there = (region["startLine"], region["startColumn"], region["endLine"], region["endColumn"])
-    return (rule, place["artifactLocation"]["uri"], *there, result["message"]["text"])
+    (place,) = result["locations"]
+    others = [place_of(one) for one in result.get("relatedLocations", [])]
+    cures = [cure_of(one) for one in result.get("fixes", [])]
+    return rule, result["level"], result["message"]["text"], place_of(place), others, cures
+
+
+def place_of(location: Dict[str, Any]) -> Tuple[object, ...]:
+    """What is said of a place, its file, and where it begins and ends."""
+    place = location["physicalLocation"]
+    told = location.get("message", {"text": ""})["text"]
+    return (told, place["artifactLocation"]["uri"], *region_of(place["region"]))
+
+
+def region_of(region: Dict[str, int]) -> Tuple[int, ...]:
+    return region["startLine"], region["startColumn"], region["endLine"], region["endColumn"]
+
+
+def cure_of(fix: Dict[str, Any]) -> Tuple[object, ...]:
+    """A cure in words, its file, and each part with what is to stand there."""
+    (change,) = fix["artifactChanges"]
+    edits = [
+        (*region_of(one["deletedRegion"]), one["insertedContent"]["text"])
+        for one in change["replacements"]
+    ]
+    return fix["description"]["text"], change["artifactLocation"]["uri"], edits
 
 
 def essence(record: Dict[str, Any]) -> Tuple[object, ...]:
     """The same of a record."""
+    file, fix = record["file"], record["fix"]
+    others = [("also here", file, *span_of(one)) for one in record["also"]]
+    others += [(one["message"], one["file"], *span_of(one)) for one in record["notes"]]
+    cures = []
+    if fix and fix["edits"]:
+        edits = [(*span_of(one), one["text"]) for one in fix["edits"]]
+        cures.append((fix["message"], file, edits))
+    place = ("", file, *span_of(record))
+    return record["word"], record["severity"], record["message"], place, others, cures
+
+
+def span_of(record: Dict[str, Any]) -> Tuple[int, ...]:
     end = record["end"]
-    there = (record["line"], record["column"], end["line"], end["column"])
-    return (record["word"], record["file"], *there, record["message"])
+    return record["line"], record["column"], end["line"], end["column"]
 
 
 @pytest.mark.parametrize(

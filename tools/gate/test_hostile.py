@@ -2,9 +2,10 @@
 
 Every front of a small exchange text; texts that break each rule; words, files and outputs that are
 none; limits that are just kept and just passed; signal files, tables, filters and certificates that
-are almost right; late faults, many jobs and calls; and plex-merge and plex-conflicts on such files
-and outputs. Each case has the status and the text that docs/FORMATS.md gives, and what it gives for
-the standard error, byte for byte. Each word of a fault and each reason has a case.
+are almost right; late faults, many jobs and calls; and plex-merge on all of these lines, files and
+outputs, and plex-conflicts on some. Each case has the status and the text that docs/FORMATS.md
+gives, and what it gives for the standard error, byte for byte. Each word of a fault and each reason
+has a case.
 """
 from __future__ import annotations
 
@@ -13,12 +14,12 @@ from typing import Iterable, Iterator
 
 import pytest
 
-from gate import hostile_lines, hostile_words, sentence_tables
+from gate import hostile_lines, hostile_merge, hostile_words, sentence_tables
 from gate.checking import check, check_enough
 from gate.hostile_case import ANY_WRITTEN, FAULTY, Case
 from gate.makers import far_cases
 
-LEAST = 1283
+LEAST = 1482
 
 
 def of_rows(rows: Iterable[far_cases.Row], *command: str) -> Iterator[Case]:
@@ -48,7 +49,7 @@ GROUPS = {
     "far": far,
 }
 ALL = [(group, case) for group, cases in GROUPS.items() for case in cases()]
-MERGES = list(of_rows(far_cases.merges(), "merge"))
+MERGES = [*of_rows(far_cases.merges(), "merge"), *hostile_merge.cases()]
 CONFLICTS = list(of_rows(far_cases.conflicts(), "conflicts"))
 
 

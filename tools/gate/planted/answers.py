@@ -1,16 +1,12 @@
 """The answers of the programs that are altered, each with the check that must tell it."""
-from typing import Dict, Tuple
-
-from gate.planted import calls
+from gate.planted import calls, other_answers
 from gate.planted.calls import Answer
 from gate.planted.planted import Altered
+from gate.planted.rows import ALL_RUNS, LISTED, OTHER_WORKERS, TOO_EARLY, plex
 from gate.planted.special import (
     FAR_CALLS,
     FAR_JOB,
-    FAR_LINE,
     REFUSALS,
-    RUNS,
-    USUAL_WORKERS,
     WIDE,
     all_jobs_shown,
     always_refuses,
@@ -18,68 +14,12 @@ from gate.planted.special import (
     has_other_workers,
     has_status,
     is_line,
-    of_all_pairs,
     one_job_more,
     one_line_early,
     re_counted,
     takes_any_certificate,
     without_far_jobs,
     without_far_pairs,
-)
-
-
-def of_some(*names: str) -> Tuple[str, str]:
-    """The words for these cases alone."""
-    return "-k", " or ".join(names)
-
-
-# Cases of checks that have all kinds of lines.
-CASES: Dict[str, Tuple[str, ...]] = {
-    "analyses": ("--cases", "1"),
-    "conformance": of_some(
-        "trace_up_to_the_limit",
-        "trace_of_all_jobs",
-        "change_with_records_held",
-        "range_in_no_forlopp",
-        "two_periods_at_one_count",
-        "periods_that_restart",
-    ),
-    "examples": of_some(
-        "three_ticks",
-        "job_limit",
-        "listing",
-        "load_of_five",
-        "broken_rule",
-        "broken_signal_line",
-        "usage_help",
-        "usage_version",
-        "merged_ticks",
-        "merge_broken_table",
-        "conflicts_of_two",
-    ),
-}
-
-
-def plex(
-    name: str, commands: str, told: str, check: str, alter: calls.Alter, *words: str
-) -> Altered:
-    some = words or CASES.get(check, ())
-    return Altered(name, "plex", tuple(commands.split()), told, check, alter, some)
-
-
-def merger(name: str, told: str, check: str, alter: calls.Alter, *words: str) -> Altered:
-    return Altered(name, "plex-merge", (), told, check, alter, words or CASES.get(check, ()))
-
-
-def conflicts(name: str, told: str, check: str, alter: calls.Alter, *words: str) -> Altered:
-    return Altered(name, "plex-conflicts", (), told, check, alter, words or CASES.get(check, ()))
-
-
-ALL_RUNS = " ".join(RUNS)
-LISTED = "--cases", "20", "-k", "by_chance"
-TOO_EARLY = f"is told one line too early from line {FAR_LINE} on"
-OTHER_WORKERS = "two lines VAR change places with a number of workers that is none of " + ", ".join(
-    USUAL_WORKERS
 )
 
 OF_ANALYSES = [
@@ -175,6 +115,17 @@ OF_ANALYSES = [
         "the number of points is one larger",
         "analyses",
         calls.counted(rb"points (\d+)"),
+    ),
+    plex(
+        "other_fact_missing",
+        "run",
+        "a fact that is missing is told of the next entry",
+        "analyses",
+        calls.counted(rb"^CERTIFICATE MISSING FACT (\d+) "),
+        "-k",
+        "more_facts",
+        "--cases",
+        "20",
     ),
     plex("certify_refuses", "certify", "each text is refused", "conformance", always_refuses),
     plex(
@@ -357,6 +308,14 @@ OF_RUNS = [
 ]
 
 OF_OTHERS = [
+    plex(
+        "long_jobs_differ",
+        "run",
+        "a variable is one larger in a run of long jobs with a certificate",
+        "compare_runs",
+        calls.only_if(calls.has_words("L", "--cert"), calls.counted(rb"^VAR \S+ (\d+)$")),
+        *LISTED,
+    ),
     plex(
         "listing_lines_swapped",
         "list",
@@ -659,87 +618,6 @@ OF_COSTS = [
     cost("run_memory", "run", "4 times the memory", calls.larger(4), SENDS),
 ]
 
-OF_MERGER = [
-    merger(
-        "merge_fails_well",
-        "the status of a failed write is 0",
-        "hostile",
-        calls.status_becomes((7,), 0),
-        "-k",
-        "test_plex_merge",
-    ),
-    merger(
-        "merge_says_nothing",
-        "nothing on the standard error",
-        "hostile",
-        calls.complained(rb"(?s).+", b""),
-        "-k",
-        "test_plex_merge",
-    ),
-    merger(
-        "merged_lines_swapped",
-        "two neighbouring lines change places",
-        "fuzz",
-        calls.swapped(rb"^AFTER "),
-        "--cases",
-        "40",
-    ),
-    merger(
-        "merged_as_one_later",
-        "the first AS names one line further",
-        "fuzz",
-        calls.counted(rb" AS (\d+)$"),
-        "--cases",
-        "40",
-    ),
-    merger(
-        "merged_without_newline",
-        "the last newline is missing",
-        "examples",
-        calls.replaced(rb"\n\Z", b""),
-    ),
-    merger(
-        "merge_takes_any_table",
-        "a table that is refused ends with status 0",
-        "examples",
-        calls.status_becomes((11,), 0),
-    ),
-]
-
-OF_CONFLICTS = [
-    conflicts(
-        "clash_lost",
-        "the last line CLASH is missing",
-        "compare_conflicts",
-        calls.without(rb"^CLASH ", slice(-1, None)),
-    ),
-    conflicts(
-        "clashes_swapped",
-        "two neighbouring lines CLASH change places",
-        "compare_conflicts",
-        calls.swapped(rb"^CLASH "),
-    ),
-    conflicts(
-        "statement_one_later",
-        "the line of the first statement is one larger",
-        "compare_conflicts",
-        calls.counted(rb"^AT .* LINE (\d+)$"),
-    ),
-    conflicts(
-        "level_clash_lost",
-        "no conflict of a level",
-        "compare_conflicts",
-        calls.without(rb"^CLASH \d+ \d+ \d+$"),
-    ),
-    conflicts("pair_not_heeded", "the numbers of a pair are not heeded", "examples", of_all_pairs),
-    conflicts(
-        "conflicts_end_lost",
-        "the last line is missing",
-        "examples",
-        calls.without(rb"^END CONFLICTS$"),
-    ),
-]
-
 
 ALTERED = [
     *OF_ANALYSES,
@@ -747,7 +625,6 @@ ALTERED = [
     *OF_OTHERS,
     *OF_FAULTS,
     *OF_COSTS,
-    *OF_MERGER,
-    *OF_CONFLICTS,
+    *other_answers.ALTERED,
 ]
 BY_NAME = {row.name: row for row in ALTERED}

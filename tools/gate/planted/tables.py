@@ -2,11 +2,11 @@
 import textwrap
 from typing import Dict, List
 
-from gate.planted import answers, edits
+from gate.planted import answers, edits, tool_edits
 from gate.planted.checks import called
 from gate.planted.planted import Planted
 
-PLANTED: List[Planted] = [*answers.ALTERED, *edits.EDITS]
+PLANTED: List[Planted] = [*answers.ALTERED, *edits.EDITS, *tool_edits.EDITS]
 SHOWN, WIDTH = 70, 100  # letters of words, and of a line
 
 

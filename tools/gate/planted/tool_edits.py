@@ -1,0 +1,338 @@
+"""Files of the tools for users that are altered: one for each option that writes or chooses
+something.
+"""
+from typing import List
+
+from gate.planted.planted import Edit
+
+SHOW = "tools/python/plextools/show"
+RUNS = "tools/python/plextools/runs"
+COMMANDS = "tools/python/plextools/commands"
+RECORDS, LONG_FORM = f"{SHOW}/records.py", f"{SHOW}/long_form.py"
+EXPLANATIONS = "tools/python/plextools/text/explanations.py"
+CHECK, WHY, TEST = (f"{COMMANDS}/{name}.py" for name in ("check", "why", "test"))
+CHART, CHART_SVG, CHART_WORDS = (
+    f"{SHOW}/{name}.py" for name in ("chart", "chart_svg", "chart_words")
+)
+CHOICE, CASE_RUNS = f"{RUNS}/choice.py", f"{RUNS}/case_runs.py"
+PAIR_JSON, OUTCOMES, DIFFERENCES = (
+    f"{SHOW}/{name}.py" for name in ("pair_json", "outcomes", "differences")
+)
+
+
+def shown(name: str, told: str, file: str, old: str, new: str, only: str = "") -> Edit:
+    words = ("-k", only) if only else ()
+    return Edit(name, "plex-check", told, "diagnostics", file, old, new, words)
+
+
+def explained(name: str, told: str, old: str, new: str) -> Edit:
+    return Edit(name, "plex-check", told, "explanations", EXPLANATIONS, old, new)
+
+
+def row_of(name: str, told: str, old: str, new: str) -> Edit:
+    words = ("-k", "test_row or warning_row")
+    return Edit(name, "plex-check", told, "compare_checks", CHECK, old, new, words)
+
+
+def drawn(name: str, told: str, file: str, old: str, new: str, *only: str) -> Edit:
+    words = ("-k", " or ".join(only)) if only else ("-k", "by_chance", "--cases", "20")
+    return Edit(name, "plex-chart", told, "plex_chart", file, old, new, words)
+
+
+def tested(name: str, told: str, file: str, old: str, new: str, only: str) -> Edit:
+    return Edit(name, "plex-test", told, "plex_test", file, old, new, ("-k", only))
+
+
+OF_CHECK = [
+    shown(
+        "json_column",
+        "`--json` gives each column one too large",
+        RECORDS,
+        '"column": self.columns[file].column(place)}',
+        '"column": self.columns[file].column(place) + 1}',
+        "first_fault",
+    ),
+    shown(
+        "json_without_cures",
+        "`--json` gives the cure in words alone",
+        RECORDS,
+        "edits = [self.edit(finding.file, edit) for edit in finding.advice.edits]",
+        "edits = [self.edit(finding.file, edit) for edit in ()]",
+        "cures",
+    ),
+    shown(
+        "sarif_end",
+        "`--sarif` ends each region where it begins",
+        RECORDS,
+        '"endColumn": end["column"],',
+        '"endColumn": start["column"],',
+        "sarif",
+    ),
+    shown(
+        "sarif_levels",
+        "`--sarif` tells warnings as errors",
+        RECORDS,
+        'level = "note" if finding.severity is Severity.NOTE else finding.severity.value',
+        'level = "note" if finding.severity is Severity.NOTE else "error"',
+        "sarif",
+    ),
+    shown(
+        "sarif_without_places",
+        "`--sarif` leaves out the other places of a fault",
+        RECORDS,
+        "related += [self.at(one.file, one.span, one.sentence) for one in finding.advice.notes]",
+        "related += [self.at(one.file, one.span, one.sentence) for one in ()]",
+        "sarif",
+    ),
+    shown(
+        "sarif_without_cures",
+        "`--sarif` leaves out the cures",
+        RECORDS,
+        "        if finding.advice.edits:\n",
+        "        if finding.advice.edits and not used:\n",
+        "sarif",
+    ),
+    shown(
+        "long_form_cut",
+        "`--long` shows one place of a fault with several",
+        LONG_FORM,
+        "for note in finding.advice.notes:",
+        "for note in finding.advice.notes[:1]:",
+        "long_form",
+    ),
+    shown(
+        "long_form_wide",
+        "`--long` takes three columns too many",
+        LONG_FORM,
+        "return self.width - self.gutter - 3",
+        "return self.width - self.gutter",
+    ),
+    shown(
+        "colours_of_notes",
+        "`--color` colours no warning",
+        LONG_FORM,
+        "Severity.WARNING: YELLOW,",
+        "Severity.WARNING: BOLD,",
+        "colours",
+    ),
+    explained(
+        "explained_wrong_as_right",
+        "`--explain` gives the two examples in each other's place",
+        "zip(self.heads, (self.wrong, self.right))",
+        "zip(self.heads, (self.right, self.wrong))",
+    ),
+    explained(
+        "explained_without_frame",
+        "`--explain` leaves out the text that both examples share",
+        'return texts.pop() if len(texts) == 1 else ""',
+        "return texts.pop()",
+    ),
+    row_of(
+        "werror_ends_well",
+        "`--werror` ends with 0",
+        "return ODD if Severity.WARNING in worst and self.words.werror else FINE",
+        "return ODD if Severity.WARNING in worst and not self.words else FINE",
+    ),
+    row_of(
+        "werror_of_all",
+        "warnings end with 1 without `--werror`",
+        "return ODD if Severity.WARNING in worst and self.words.werror else FINE",
+        "return ODD if Severity.WARNING in worst else FINE",
+    ),
+    row_of(
+        "no_not_heeded",
+        "`--no` leaves nothing out",
+        "[one for one in findings if one.word not in self.switched_off]",
+        "[one for one in findings if one.word not in ()]",
+    ),
+]
+
+OF_WHY = [
+    Edit(
+        "never_is_if",
+        "plex-why",
+        "`--json` tells NEVER as IF",
+        "compare_why",
+        PAIR_JSON,
+        'return "NEVER" if reasons[0].is_conflict else "IF"',
+        'return "IF"',
+        ("-k", "test_case"),
+    ),
+    Edit(
+        "json_line_of_why",
+        "plex-why",
+        "`--json` gives each line one too large",
+        "compare_why",
+        PAIR_JSON,
+        '"line": told.line,',
+        '"line": told.line + 1,',
+        ("-k", "test_case"),
+    ),
+    Edit(
+        "all_not_heeded",
+        "plex-why",
+        "`--all` cuts long lists",
+        "tool_examples",
+        WHY,
+        "shown = EVERYTHING if given.all else why.SHOWN",
+        "shown = why.SHOWN",
+    ),
+    Edit(
+        "names_not_heeded",
+        "plex-why",
+        "the names of an entry tell the first one of the signal",
+        "tool_examples",
+        WHY,
+        "if [entry.signal, entry.block] == words:",
+        "if entry.signal == words[0]:",
+    ),
+]
+
+OF_CHART = [
+    drawn(
+        "chart_other_receiver",
+        "a signal is told to start the job behind its own",
+        CHART,
+        'return f"to job {job.place}{forlopp}"',
+        'return f"to job {job.place + 1}{forlopp}"',
+    ),
+    drawn(
+        "chart_lost_untold",
+        "lines that are lost are not drawn",
+        CHART,
+        "for one in seen.lost:\n            self.rows",
+        "for one in seen.lost[1:]:\n            self.rows",
+    ),
+    drawn(
+        "chart_values_swapped",
+        "`--values` tells the old value behind the new one",
+        CHART,
+        "{stored.old} -> {stored.new}",
+        "{stored.new} -> {stored.old}",
+    ),
+    drawn(
+        "chart_answers_as_calls",
+        "answers are drawn as signals inside a job",
+        CHART,
+        "style = Style.ANSWER if message.kind is Kind.ANSWER else style",
+        "style = Style.CALL if message.kind is Kind.ANSWER else style",
+    ),
+    drawn(
+        "chart_gap_of_one",
+        "a job that is left out alone is not told",
+        CHART,
+        "        if count > 0:\n",
+        "        if count > 1:\n",
+    ),
+    drawn(
+        "chart_around_one_less",
+        "`--context` has one job fewer on each side",
+        CHOICE,
+        "most = min(self.wishes.context, self.wishes.most // 2)",
+        "most = max(0, min(self.wishes.context, self.wishes.most // 2) - 1)",
+    ),
+    drawn(
+        "chart_block_of_entry",
+        "`--block` chooses by the first block alone",
+        CHOICE,
+        "seen.blocks | {entry.block}, seen.signals",
+        "{entry.block}, seen.signals",
+    ),
+    drawn(
+        "chart_other_fault",
+        "`--around` takes the last job with the fault",
+        CHOICE,
+        "found, faults = found or one, faults + 1",
+        "found, faults = one, faults + 1",
+    ),
+    drawn(
+        "chart_lines_lost",
+        "`--lines` leaves the lines of the signal file out",
+        CHART,
+        'return f" S:{number}" if self.look.lines else ""',
+        'return ""',
+        "chart.words",
+        "in_text",
+        "picture",
+        "by_chance",
+    ),
+    drawn(
+        "chart_rails",
+        "`--svg` draws the rails elsewhere",
+        CHART_SVG,
+        "RAILS, RAIL, FIRST_RAIL = 6, 6, 18",
+        "RAILS, RAIL, FIRST_RAIL = 6, 7, 18",
+        "picture",
+        "rails",
+    ),
+    drawn(
+        "chart_for_mermaid",
+        "`--mermaid` writes names as they are",
+        CHART_WORDS,
+        'f"#{ord(letter)};" if letter in STEERS else letter',
+        'f"#{ord(letter)};" if letter in "#" else letter',
+        "strange",
+    ),
+    drawn(
+        "chart_for_msc",
+        "`--msc` draws an answer as a signal",
+        CHART_WORDS,
+        'Style.ANSWER: ">>", Style.LOST: "-x"}\nMSC_COLOURS',
+        'Style.ANSWER: "->", Style.LOST: "-x"}\nMSC_COLOURS',
+        "msc",
+        "files",
+    ),
+]
+
+OF_TEST = [
+    tested(
+        "no_faults_not_heeded",
+        "`--no-faults` takes a report with a fault",
+        CASE_RUNS,
+        "if self.settings.forbids_faults:",
+        "if self.settings.forbids_faults and step.is_first:",
+        "no_faults",
+    ),
+    tested(
+        "update_of_any_run",
+        "`--update` takes a run that the system has ended",
+        CASE_RUNS,
+        "is_own = answer.status in ((0,) if step.is_first else OWN_STATUSES)",
+        "is_own = True",
+        "update",
+    ),
+    tested(
+        "junit_counts",
+        "`--junit` tells no failures",
+        OUTCOMES,
+        '"failures": str(failed),',
+        '"failures": "0",',
+        "junit",
+    ),
+    tested(
+        "chosen_by_all",
+        "`-k` chooses cases with all of the parts",
+        TEST,
+        "if parts is None or any(part in case.below for part in parts)",
+        "if parts is None or all(part in case.below for part in parts)",
+        "chosen",
+    ),
+    tested(
+        "diff_without_context",
+        "a difference has two lines around each change",
+        DIFFERENCES,
+        "AROUND = 3  #",
+        "AROUND = 2  #",
+        "diff",
+    ),
+    tested(
+        "late_runs_pass",
+        "`--timeout` ends a run and what it has started is left",
+        CASE_RUNS,
+        "            self.running.discard(process)\n            kill(process)\n",
+        "            self.running.discard(process)\n            process.terminate()\n",
+        "late",
+    ),
+]
+
+EDITS: List[Edit] = [*OF_CHECK, *OF_WHY, *OF_CHART, *OF_TEST]
