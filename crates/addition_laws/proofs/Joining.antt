@@ -88,7 +88,7 @@ module _ (x : Exchange) (facts : List Fact) (s : State) (first later : Summary) 
   words_retired = retired_store x s one other a b done (beside x facts s first later a b h) left_so at_end
 
   outside : AllByRecursion (IsOutside Added) endings
-  outside = retirement_out x h.exchange (Contains facts) a.job.entry h.passes.shared done left.records
+  outside = retirement_out x h.passes.shared (λ n there. (h.passes.first_only.fields n there).plain) done left.records
 
   aside : (w : ℕ) → MayRead x later b s.chains w → NoStore w endings
   aside w reads = ⊎_elim (λ added. no_store Added endings w outside added)

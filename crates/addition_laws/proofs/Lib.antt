@@ -1,8 +1,10 @@
 pub mod Adding
 pub mod Amounting
+pub mod Cells
 pub mod Going
 pub mod Joining
 pub mod Leading
+pub mod Listing
 pub mod Mixing
 pub mod Naming
 pub mod Ordering

@@ -2,7 +2,6 @@
 -- only add to they share no word.
 use Rattle.std.proofs.Common.{◌≡◌, ℕ, List, [], ◌∷◌, refl, sym, ◌∙◌, subst}
 use Rattle.std.specs.List.{Contains}
-use Rattle.std.specs.Prelude.{◌↔◌}
 use Rattle.plex_num.specs.declared.level.Level.{Level}
 use Rattle.plex_num.proofs.Members.{none_in}
 use Rattle.job_types.specs.declared.job.JobStart.{JobStart}
@@ -30,15 +29,15 @@ use Rattle.pair_laws.proofs.Beside.{AreBeside, writes_apart, reads_apart}
 use Rattle.pair_laws.proofs.Cells.{AllFit}
 use Rattle.pair_laws.proofs.Keeping.{lets_stay_so, may_fault}
 use Rattle.pair_laws.proofs.Naming.{access_fits}
-use Rattle.additions_meaning.specs.Additions.{IsAddedWord}
+use Rattle.additions_meaning.specs.Additions.{IsAddedWord, OnlyAddsToEach, Targets}
 use Rattle.addition_laws.specs.Either.{SameInEitherOrder, ShareOnly}
 use Rattle.addition_laws.specs.Sparing.{IsSpared, IsSparing, PassesAdding}
 use Rattle.addition_laws.specs.Together.{MayAddAtOnce}
 use Rattle.addition_laws.proofs.Permitting.{permitted_order}
 use Rattle.addition_laws.proofs.Sparing.{share_only}
 
-spared_fit : (x : Exchange) (kept : IsExchange x) (P : Facts) (entry : ℕ) (numbers : List ℕ) (m n : Summary) → IsSummary x P entry m → IsSparing numbers m n → AllFit x n
-spared_fit x kept P entry numbers m n told sparing a there = access_fits x kept P entry a ((told.accesses a).0 ((sparing.accesses a).0 there).0)
+spared_fit : (x : Exchange) (kept : IsExchange x) (P : Facts) (entry : ℕ) (d : Targets) (m n : Summary) → IsSummary x P entry m → IsSparing d m n → AllFit x n
+spared_fit x kept P entry d m n told sparing a there = access_fits x kept P entry a ((told.accesses a).0 ((sparing.accesses a).0 there).0)
 
 module _ (x : Exchange) (facts : List Fact) (s : State) (first later : Summary) (a b : JobStart) (h : MayAddAtOnce x facts s first later a b) where
   pub beside : AreBeside x s h.passes.one h.passes.other a b
@@ -87,27 +86,30 @@ module _ (x : Exchange) (facts : List Fact) (kept : IsExchange x) (closed : IsCl
   pub makes_way : MakesWay x a b
   makes_way = record { forlopps = p.passes.forlopps; stays = stays_adding }
 
--- two that say the same of a third
-pub same_said : {A B C : Type 0} → A ↔ C → B ↔ C → A ↔ B
-same_said one other = ((λ a. other.1 (one.0 a)), (λ b. one.1 (other.0 b)))
+-- no access is one to a variable or a field of none
 
--- no access is one to a variable of none
-none_spared : (a : Access) → IsSpared [] a → ⊥
+abbrev none : Targets
+none = record { variables = []; fields = [] }
+
+none_spared : (a : Access) → IsSpared none a → ⊥
 none_spared (Variable write number) at = none_in number at
-none_spared (Field write number selector) at = at
+none_spared (Field write number selector) at = none_in number at
 none_spared (Own write number) at = at
 none_spared (Seizes file) at = at
 none_spared (Frees file) at = at
 
-spares_none : (m : Summary) → IsSparing [] m m
+spares_none : (m : Summary) → IsSparing none m m
 spares_none m = record { level = refl; accesses = λ a. ((λ there. (there, none_spared a)), (λ both. both.0)); levels = refl; fault = refl }
+
+adds_to_none : (x : Exchange) (P : Facts) (entry : ℕ) → OnlyAddsToEach x P entry none
+adds_to_none x P entry = record { variables = λ n at. absurd (none_in n at); fields = λ n at. absurd (none_in n at) }
 
 -- whatever passes passes so
 pub pass_so : (x : Exchange) (P : Facts) (first later : Summary) (a b : JobStart) → Passes first later a b → PassesAdding x P first later a b
 pass_so x P first later a b passes = record {
-  shared = [];
-  first_only = λ n at. absurd (none_in n at);
-  later_only = λ n at. absurd (none_in n at);
+  shared = none;
+  first_only = adds_to_none x P a.job.entry;
+  later_only = adds_to_none x P b.job.entry;
   one = first;
   other = later;
   of_first = spares_none first;

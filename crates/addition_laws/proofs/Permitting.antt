@@ -1,5 +1,5 @@
--- Two jobs by whose permits they share no words but those of variables to which both only add.
-use Rattle.std.proofs.Common.{ℕ, List, [], sym, subst}
+-- Two jobs by whose permits they share no words but those to which both only add.
+use Rattle.std.proofs.Common.{List, [], sym, subst}
 use Rattle.std.proofs.lemmas.List.{append-nil}
 use Rattle.job_types.specs.declared.job.JobStart.{JobStart}
 use Rattle.job_types.specs.declared.touch.Touch.{Touch}
@@ -16,15 +16,15 @@ use Rattle.entry_summary.specs.Summaries.{IsSummary}
 use Rattle.permit_laws.specs.Permitted.{ArePermitted}
 use Rattle.permit_laws.proofs.Stepping.{job_stays}
 use Rattle.pair_laws.proofs.Touching.{not_stored, touched_read}
-use Rattle.additions_meaning.specs.Additions.{OnlyAddsToAll, IsAddedWord}
+use Rattle.additions_meaning.specs.Additions.{OnlyAddsToEach, IsAddedWord, Targets}
 use Rattle.addition_laws.specs.Either.{AreApartBut, SameInEitherOrder, ShareOnly}
 use Rattle.addition_laws.proofs.Ordering.{either_order}
 
-pub permitted_order : (x : Exchange) (P : Facts) (s : State) (first later : Summary) (a b : JobStart) (numbers : List ℕ) → IsExchange x → IsClosed x P → IsValid x s → IsFitting x s a → IsFitting x s b
-    → IsSummary x P a.job.entry first → IsSummary x P b.job.entry later → OnlyAddsToAll x P a.job.entry numbers → OnlyAddsToAll x P b.job.entry numbers
-    → ShareOnly x (IsAddedWord x numbers) s first later a b → SameInEitherOrder x s.store a b []
-permitted_order x P s first later a b numbers kept closed valid first_fits later_fits first_told later_told first_only later_only share =
-    either_order x kept P closed numbers s.store valid.store a b [] first_fits.job later_fits.job first_only later_only apart
+pub permitted_order : (x : Exchange) (P : Facts) (s : State) (first later : Summary) (a b : JobStart) (d : Targets) → IsExchange x → IsClosed x P → IsValid x s → IsFitting x s a → IsFitting x s b
+    → IsSummary x P a.job.entry first → IsSummary x P b.job.entry later → OnlyAddsToEach x P a.job.entry d → OnlyAddsToEach x P b.job.entry d
+    → ShareOnly x (IsAddedWord x d) s first later a b → SameInEitherOrder x s.store a b []
+permitted_order x P s first later a b d kept closed valid first_fits later_fits first_told later_told first_only later_only share =
+    either_order x kept P closed d s.store valid.store a b [] first_fits.job later_fits.job first_only later_only apart
   where
     ts : List Touch
     ts = trace_of x a s.store
@@ -38,7 +38,7 @@ permitted_order x P s first later a b numbers kept closed valid first_fits later
     laters : ArePermitted x later b s.chains us
     laters = (job_stays x kept P closed later s valid b later_fits later_told).0
 
-    apart : AreApartBut x (IsAddedWord x numbers) s.store a b []
+    apart : AreApartBut x (IsAddedWord x d) s.store a b []
     apart = record {
       first = λ w not at. subst (NoStore w) (sym (append-nil ts)) (not_stored x first a s.chains ts w firsts (λ writes. not (share.first_writes w writes (touched_read x later b s.chains us w laters at))));
       later = λ w not at. not_stored x later b s.chains us w laters (λ writes. not (share.later_writes w (touched_read x first a s.chains ts w firsts at) writes));

@@ -1,5 +1,5 @@
 -- What a job may touch by its summary is an added word, or it may touch it by the summary that spares these.
-use Rattle.std.proofs.Common.{◌⊎◌, inl, inr, ⊎_elim, ℕ, Bool, List}
+use Rattle.std.proofs.Common.{◌⊎◌, inl, inr, ⊎_elim, ℕ, Bool}
 use Rattle.std.specs.List.{Contains}
 use Rattle.job_types.specs.declared.job.JobStart.{JobStart}
 use Rattle.job_types.specs.Forlopps.{ChainMap}
@@ -10,16 +10,16 @@ use Rattle.entry_summary.specs.declared.summary.Access.TheVariants.{Variable, Fi
 use Rattle.entry_summary.specs.declared.summary.Summary.{Summary}
 use Rattle.start_permit.specs.Granted.{Lets, MayHold, MayRead, MayWrite, OneOf}
 use Rattle.pair_laws.specs.Together.{HaveOwnWords}
-use Rattle.additions_meaning.specs.Additions.{IsAddedWord}
+use Rattle.additions_meaning.specs.Additions.{IsAddedWord, Targets}
 use Rattle.addition_laws.specs.Either.{ShareOnly}
 use Rattle.addition_laws.specs.Sparing.{IsSpared, IsSparing}
-use Rattle.addition_laws.proofs.Going.{is_listed}
+use Rattle.addition_laws.proofs.Cells.{is_listed}
 
-module _ (x : Exchange) (numbers : List ℕ) (m n : Summary) (sparing : IsSparing numbers m n) where
-  abbrev Listed : ℕ → Type 0
-  Listed w = IsAddedWord x numbers w
+module _ (x : Exchange) (d : Targets) (m n : Summary) (sparing : IsSparing d m n) where
+  abbrev Added : ℕ → Type 0
+  Added w = IsAddedWord x d w
 
-  pub stands : (a : Access) → Contains m.accesses a → (IsSpared numbers a → ⊥) → Contains n.accesses a
+  pub stands : (a : Access) → Contains m.accesses a → (IsSpared d a → ⊥) → Contains n.accesses a
   stands a there not = (sparing.accesses a).1 (there, not)
 
   module _ (start : JobStart) (chains : ChainMap) where
@@ -30,16 +30,22 @@ module _ (x : Exchange) (numbers : List ℕ) (m n : Summary) (sparing : IsSparin
     abbrev Still : Bool → ℕ → Type 0
     Still write w = OneOf (Lets x n.accesses start chains write) n.accesses w
 
-    one_lets : (write : Bool) (w : ℕ) (a : Access) → Contains m.accesses a → Lets x m.accesses start chains write a w → Listed w ⊎ Still write w
+    one_lets : (write : Bool) (w : ℕ) (a : Access) → Contains m.accesses a → Lets x m.accesses start chains write a w → Added w ⊎ Still write w
     one_lets write w (Variable u number) there h = ⊎_elim
-        (λ listed. inl (record { item = number; there = listed; gives = h.has }))
+        (λ listed. inl (inl (record { item = number; there = listed; gives = h.has })))
         (λ none. inr (record { item = Variable u number; there = stands (Variable u number) there none; gives = record { does = h.does; has = h.has } }))
-        (is_listed number numbers)
-    one_lets write w (Field u number selector) there h = inr (record {
-      item = Field u number selector;
-      there = stands (Field u number selector) there (λ none. none);
-      gives = record { does = h.does; has = h.has };
-    })
+        (is_listed number d.variables)
+    one_lets write w (Field u number selector) there h =
+        let f = h.has in
+        let r = f.of_record in
+        ⊎_elim
+        (λ listed. inl (inr (record {
+          item = number;
+          there = listed;
+          gives = record { file = f.file; field = f.field; at = f.at; of_record = record { number = r.number; below = r.below; chosen = tt; is = r.is } };
+        })))
+        (λ none. inr (record { item = Field u number selector; there = stands (Field u number selector) there none; gives = record { does = h.does; has = h.has } }))
+        (is_listed number d.fields)
     one_lets write w (Own u number) there h =
         let f = h.has in
         let r = f.of_record in
@@ -58,12 +64,12 @@ module _ (x : Exchange) (numbers : List ℕ) (m n : Summary) (sparing : IsSparin
           gives = record { does = h.does; has = record { placed = f.placed; there = f.there; of_record = record { number = r.number; below = r.below; chosen = held file r.number r.chosen; is = r.is } } };
         })
 
-    pub writes_spared : (w : ℕ) → MayWrite x m start chains w → Listed w ⊎ MayWrite x n start chains w
+    pub writes_spared : (w : ℕ) → MayWrite x m start chains w → Added w ⊎ MayWrite x n start chains w
     writes_spared w o = one_lets _ w o.item o.there o.gives
 
-    pub reads_spared : (w : ℕ) → MayRead x m start chains w → Listed w ⊎ MayRead x n start chains w
-    reads_spared w (inl o) = ⊎_elim (λ listed. inl listed) (λ still. inr (inl still)) (one_lets _ w o.item o.there o.gives)
-    reads_spared w (inr o) = ⊎_elim (λ listed. inl listed) (λ still. inr (inr still)) (writes_spared w o)
+    pub reads_spared : (w : ℕ) → MayRead x m start chains w → Added w ⊎ MayRead x n start chains w
+    reads_spared w (inl o) = ⊎_elim (λ added. inl added) (λ still. inr (inl still)) (one_lets _ w o.item o.there o.gives)
+    reads_spared w (inr o) = ⊎_elim (λ added. inl added) (λ still. inr (inr still)) (writes_spared w o)
 
 -- of two things that do not both hold, but for a third
 either_third : {A B C : Type 0} → (A → B → ⊥) → C ⊎ A → C ⊎ B → C
@@ -71,9 +77,9 @@ either_third not (inl c) second = c
 either_third not (inr a) (inl c) = c
 either_third not (inr a) (inr b) = absurd (not a b)
 
--- where the summaries that spare them share no word, the whole ones share those of these variables alone
-pub share_only : (x : Exchange) (numbers : List ℕ) (s : State) (first later one other : Summary) (a b : JobStart) → IsSparing numbers first one → IsSparing numbers later other → HaveOwnWords x s one other a b → ShareOnly x (IsAddedWord x numbers) s first later a b
-share_only x numbers s first later one other a b of_first of_later own = record {
-  first_writes = λ w p q. either_third (own.first_writes w) (writes_spared x numbers first one of_first a s.chains w p) (reads_spared x numbers later other of_later b s.chains w q);
-  later_writes = λ w p q. either_third (own.later_writes w) (reads_spared x numbers first one of_first a s.chains w p) (writes_spared x numbers later other of_later b s.chains w q);
+-- where the summaries that spare them share no word, the whole ones share added words alone
+pub share_only : (x : Exchange) (d : Targets) (s : State) (first later one other : Summary) (a b : JobStart) → IsSparing d first one → IsSparing d later other → HaveOwnWords x s one other a b → ShareOnly x (IsAddedWord x d) s first later a b
+share_only x d s first later one other a b of_first of_later own = record {
+  first_writes = λ w p q. either_third (own.first_writes w) (writes_spared x d first one of_first a s.chains w p) (reads_spared x d later other of_later b s.chains w q);
+  later_writes = λ w p q. either_third (own.later_writes w) (reads_spared x d first one of_first a s.chains w p) (writes_spared x d later other of_later b s.chains w q);
 }

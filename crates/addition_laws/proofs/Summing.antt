@@ -1,19 +1,21 @@
--- An addition over words that have more at its variable gives as much more, or the same fault.
-use Rattle.std.proofs.Common.{◌≡◌, ℕ, zero, suc, ◌+◌, ◌*◌, ◌/◌, ◌%◌, ◌^◌, ◌<◌, Bool, true, false, List, [], ◌∷◌, ◌++◌, map, refl, sym, ap, ◌∙◌, subst, arith}
+-- An addition over words that have more at its variable or field gives as much more, or the same fault.
+use Rattle.std.proofs.Common.{◌≡◌, ℕ, zero, suc, ◌+◌, ◌*◌, ◌/◌, ◌%◌, ◌^◌, ◌<◌, Bool, true, false, List, [], ◌∷◌, ◌++◌, map, Option, Some, None, refl, sym, ap, ◌∙◌, subst, slice_get, arith}
 use Rattle.std.proofs.Math.Nat.{div-le_self, mod-le}
 use Rattle.std.specs.Prelude.{slice_index}
 use Rattle.std.specs.List.{AllByRecursion}
+use Rattle.job_types.specs.declared.fault.Fault.{Fault}
 use Rattle.job_types.specs.declared.touch.Touch.{Touch}
-use Rattle.job_types.specs.declared.touch.Touch.TheVariants.{Load}
 use Rattle.exchange_model.specs.declared.expr.Expr.{Expr, out-Expr}
 use Rattle.exchange_model.specs.declared.expr.Term.{Term, out-Term}
+use Rattle.exchange_model.specs.declared.expr.Factor.TheVariants as factor
 use Rattle.exchange_model.specs.declared.expr.FactorOp.{FactorOp}
 use Rattle.exchange_model.specs.declared.expr.FactorOp.TheVariants.{Times, Divide, Modulo}
-use Rattle.source_meaning.specs.Named.{named_in_term}
-use Rattle.source_meaning.specs.Value.{Got, Gives, Fails, Eval, Sight, Multiplier, after_loads, with_value, joined, summed, sum_value, product_value, summand_of, multiplier_of, expr_value, term_value}
-use Rattle.source_meaning.proofs.Layers.{expr_value-out, term_value-out, factor_value-Variable}
+use Rattle.exchange_model.specs.Cells.{Placed, field_cell}
+use Rattle.source_meaning.specs.Named.{Named, named_in_term}
+use Rattle.source_meaning.specs.Value.{Got, Gives, Fails, Eval, Sight, Multiplier, after_loads, with_value, joined, summed, sum_value, product_value, summand_of, multiplier_of, cell_value, field_value, load_or_fault, pointer_fault, expr_value, factor_value, term_value}
+use Rattle.source_meaning.proofs.Layers.{expr_value-out, term_value-out, factor_value-Field, factor_value-Variable}
 use Rattle.source_meaning.proofs.Reading.{over}
-use Rattle.additions_meaning.specs.Additions.{IsAddition, IsOwnTerm}
+use Rattle.additions_meaning.specs.Additions.{IsAdditionTo, IsNameTerm, factor_of}
 use Rattle.addition_laws.proofs.Naming.{SameOf, term_same}
 use Rattle.addition_laws.proofs.Shifting.{more_added, more_taken, more_itself}
 
@@ -108,34 +110,63 @@ module _ (t : List ℕ) (s : Sight) (k : ℕ) where
       let go = λ (z : Sight) (v : ℕ). sum_value (map summand_of (ts ++ rest)) (summed minus sum v) z in
       more_with k (term_value e s) (term_value e (over t s)) (go s) (go (over t s)) (term_word e s) each.0 (λ v low. front_more ts rest (summed minus sum v) each.1 more)
 
-  -- the variable itself
-  own_value : (v : ℕ) (own : Term) (z : Sight) → IsOwnTerm v own → term_value own z ≡ Gives (Load (z.first + v) (slice_index z.store (z.first + v)) ∷ []) ((1 * slice_index z.store (z.first + v)) % 2 ^ 32)
-  own_value v own z alone =
-      ap (λ (e : Eval). e z) (term_value-out own) ∙ ap (λ js. product_value (map multiplier_of js) 1 z) alone.only
-      ∙ ap (λ got. with_value got (λ u. with_value (joined Times 1 u) (λ p. Gives [] p))) (factor_value-Variable v z)
+  -- the name itself
 
-  own_more : (v : ℕ) (own : Term) (back : List Term) (sum : ℕ) → IsOwnTerm v own → slice_index t (s.first + v) ≡ (slice_index s.store (s.first + v) + k) % 2 ^ 32 → AllByRecursion Same back
+  abbrev own_product : ℕ → Got
+  own_product v = with_value (joined Times 1 v) (λ p. Gives [] p)
+
+  abbrev goes_on : List Term → ℕ → Sight → Bool → ℕ → Got
+  goes_on back sum z minus v = sum_value (map summand_of back) (summed minus sum v) z
+
+  name_more : (back : List Term) (sum : ℕ) (got next : Got) → AllByRecursion Same back → GivesMore k got next
+      → GivesMore k (with_value (with_value got own_product) (goes_on back sum s false)) (with_value (with_value next own_product) (goes_on back sum (over t s) false))
+  name_more back sum (Gives loads v) (Gives others w) each is =
+      let sums : (sum + (1 * w) % 2 ^ 32) % 2 ^ 32 ≡ ((sum + (1 * v) % 2 ^ 32) % 2 ^ 32 + k) % 2 ^ 32 = ap (λ n. (sum + (1 * n) % 2 ^ 32) % 2 ^ 32) is ∙ more_itself (2 ^ 32) k sum v in
+      let rest : GivesMore k (goes_on back sum s false ((1 * v) % 2 ^ 32)) (goes_on back sum (over t s) false ((1 * w) % 2 ^ 32)) =
+      subst (λ n. GivesMore k (goes_on back sum s false ((1 * v) % 2 ^ 32)) (sum_value (map summand_of back) n (over t s))) (sym sums) (back_more back ((sum + (1 * v) % 2 ^ 32) % 2 ^ 32) each) in
+      more_after k (loads ++ []) (others ++ []) (goes_on back sum s false ((1 * v) % 2 ^ 32)) (goes_on back sum (over t s) false ((1 * w) % 2 ^ 32)) rest
+  name_more back sum (Fails loads f) (Fails others g) each is = is
+  name_more back sum (Gives loads v) (Fails others g) each is = absurd is
+  name_more back sum (Fails loads f) (Gives others w) each is = absurd is
+
+  own_value : (n : Named) (own : Term) (z : Sight) → IsNameTerm n own → term_value own z ≡ with_value (factor_value (factor_of n) z) own_product
+  own_value n own z alone = ap (λ (e : Eval). e z) (term_value-out own) ∙ ap (λ js. product_value (map multiplier_of js) 1 z) alone.only
+
+  own_more : (n : Named) (own : Term) (back : List Term) (sum : ℕ) → IsNameTerm n own → GivesMore k (factor_value (factor_of n) s) (factor_value (factor_of n) (over t s)) → AllByRecursion Same back
       → GivesMore k (sum_value (map summand_of (own ∷ back)) sum s) (sum_value (map summand_of (own ∷ back)) sum (over t s))
-  own_more v own back sum alone more each =
-      let cell = s.first + v in
-      let c = slice_index s.store cell in
-      let d = slice_index t cell in
-      let minus = (out-Term own).minus in
-      let go = λ (z : Sight) (minus : Bool) (u : ℕ). sum_value (map summand_of back) (summed minus sum u) z in
-      let sums : (sum + (1 * d) % 2 ^ 32) % 2 ^ 32 ≡ ((sum + (1 * c) % 2 ^ 32) % 2 ^ 32 + k) % 2 ^ 32 = ap (λ n. (sum + (1 * n) % 2 ^ 32) % 2 ^ 32) more ∙ more_itself (2 ^ 32) k sum c in
-      let rest : GivesMore k (go s false ((1 * c) % 2 ^ 32)) (go (over t s) false ((1 * d) % 2 ^ 32)) =
-      subst (λ n. GivesMore k (go s false ((1 * c) % 2 ^ 32)) (sum_value (map summand_of back) n (over t s))) (sym sums) (back_more back ((sum + (1 * c) % 2 ^ 32) % 2 ^ 32) each) in
-      let plus : GivesMore k (go s minus ((1 * c) % 2 ^ 32)) (go (over t s) minus ((1 * d) % 2 ^ 32)) =
-      subst (λ b. GivesMore k (go s b ((1 * c) % 2 ^ 32)) (go (over t s) b ((1 * d) % 2 ^ 32))) (sym alone.plus) rest in
-      subst (λ got. GivesMore k (with_value got (go s minus)) (with_value (term_value own (over t s)) (go (over t s) minus))) (sym (own_value v own s alone))
-      (subst (λ got. GivesMore k (with_value (Gives (Load cell c ∷ []) ((1 * c) % 2 ^ 32)) (go s minus)) (with_value got (go (over t s) minus))) (sym (own_value v own (over t s) alone))
-      (more_after k (Load cell c ∷ []) (Load cell d ∷ []) (go s minus ((1 * c) % 2 ^ 32)) (go (over t s) minus ((1 * d) % 2 ^ 32)) plus))
+  own_more n own back sum alone more each =
+      subst (λ b. GivesMore k (with_value (term_value own s) (goes_on back sum s b)) (with_value (term_value own (over t s)) (goes_on back sum (over t s) b))) (sym alone.plus)
+      (subst (λ got. GivesMore k (with_value got (goes_on back sum s false)) (with_value (term_value own (over t s)) (goes_on back sum (over t s) false))) (sym (own_value n own s alone))
+      (subst (λ got. GivesMore k (with_value (with_value (factor_value (factor_of n) s) own_product) (goes_on back sum s false)) (with_value got (goes_on back sum (over t s) false))) (sym (own_value n own (over t s) alone))
+      (name_more back sum (factor_value (factor_of n) s) (factor_value (factor_of n) (over t s)) each more)))
+
+  -- a variable over words that have more there
+  pub variable_more : (v : ℕ) → slice_index t (s.first + v) ≡ (slice_index s.store (s.first + v) + k) % 2 ^ 32 → GivesMore k (factor_value (factor.Variable v) s) (factor_value (factor.Variable v) (over t s))
+  variable_more v more =
+      subst (λ got. GivesMore k got (factor_value (factor.Variable v) (over t s))) (sym (factor_value-Variable v s))
+      (subst (GivesMore k (cell_value (s.first + v) s)) (sym (factor_value-Variable v (over t s))) more)
+
+  -- so a field, or the same fault
+  pub field_more : (file field pointer : ℕ) (p : Placed) → slice_get s.files file ≡ Some p
+      → (pointer_fault s.chain file p (slice_index s.temps pointer) ≡ None → slice_index t (field_cell p (slice_index s.temps pointer) field) ≡ (slice_index s.store (field_cell p (slice_index s.temps pointer) field) + k) % 2 ^ 32)
+      → GivesMore k (factor_value (factor.Field file field pointer) s) (factor_value (factor.Field file field pointer) (over t s))
+  field_more file field pointer p there more =
+      subst (λ got. GivesMore k got (factor_value (factor.Field file field pointer) (over t s))) (sym (factor_value-Field file field pointer s))
+      (subst (GivesMore k (field_value (slice_get s.files file) file field number s)) (sym (factor_value-Field file field pointer (over t s)))
+      (subst (λ found. GivesMore k (field_value found file field number s) (field_value found file field number (over t s))) (sym there) (by (pointer_fault s.chain file p number) refl)))
+    where
+      number : ℕ
+      number = slice_index s.temps pointer
+
+      by : (found : Option Fault) → pointer_fault s.chain file p number ≡ found → GivesMore k (load_or_fault found (field_cell p number field) s) (load_or_fault found (field_cell p number field) (over t s))
+      by None sound = more sound
+      by (Some f) sound = refl
 
   -- an addition, over words that are the same wherever else it looks
-  pub addition_more : (v : ℕ) (e : Expr) (a : IsAddition v e) → AllByRecursion (λ (e : Term). SameOf t s (named_in_term e)) a.before → AllByRecursion (λ (e : Term). SameOf t s (named_in_term e)) a.after
-      → slice_index t (s.first + v) ≡ (slice_index s.store (s.first + v) + k) % 2 ^ 32 → GivesMore k (expr_value e s) (expr_value e (over t s))
-  addition_more v e a front back more =
-      let rest = λ (sum : ℕ). own_more v a.own a.after sum a.alone more (sames a.after back) in
+  pub addition_more : (n : Named) (e : Expr) (a : IsAdditionTo n e) → AllByRecursion (λ (e : Term). SameOf t s (named_in_term e)) a.before → AllByRecursion (λ (e : Term). SameOf t s (named_in_term e)) a.after
+      → GivesMore k (factor_value (factor_of n) s) (factor_value (factor_of n) (over t s)) → GivesMore k (expr_value e s) (expr_value e (over t s))
+  addition_more n e a front back more =
+      let rest = λ (sum : ℕ). own_more n a.own a.after sum a.alone more (sames a.after back) in
       let whole = front_more a.before (a.own ∷ a.after) 0 (sames a.before front) rest in
       let shown = λ (u w : Eval). GivesMore k (u s) (w (over t s)) in
       subst (λ (u : Eval). shown u u) (sym (expr_value-out e)) (subst (λ ts. GivesMore k (sum_value (map summand_of ts) 0 s) (sum_value (map summand_of ts) 0 (over t s))) (sym a.terms) whole)

@@ -18,71 +18,71 @@ ghost use Rattle.addition_laws.specs.Together.{MayAddAtOnce, RunTogetherAdding};
 ghost use Rattle.pair_tests.specs.Pairs.{Passes};
 ghost use Rattle.pair_laws.specs.Together.{HaveOwnWords};
 ghost use Rattle.addition_laws.specs.Either.{AreApartBut, SameInEitherOrder, ShareOnly};
-ghost use Rattle.additions_meaning.specs.Additions.{IsAddedWord, OnlyAddsToAll};
-ghost use Rattle.additions_meaning.specs.Lists.{AreAdded};
+ghost use Rattle.additions_meaning.specs.Additions.{IsAddedWord, OnlyAddsToEach, Targets};
+ghost use Rattle.additions_meaning.specs.Lists.{AreAdded, AreOfBoth, HaveTheSame};
 ghost use Rattle.additions_meaning.specs.Amounts.{DiffersBy, RunsAlike};
 
-/// A job over stored words that fit the exchange, and the same job over others: at each variable of
-/// a list, to which the jobs of its entry only add by facts that are closed, these have so much
-/// more, modulo 2^32, and else they are the same. Then both runs take the same way: after any
-/// number of steps they are at the same statement, with the same temporaries, callers, records,
-/// count and outcome, and have sent the same signals. And the words differ as they did: each
-/// variable of the list has so much more in the second run, so that both have added as much to it.
-/// All this holds of the whole job, and of the least facts, which are closed.
+/// A job over stored words that fit the exchange, and the same job over others: at listed
+/// variables, and at listed fields in whatever record, to which the jobs of its entry only add by
+/// facts that are closed, these have so much more, modulo 2^32, and else they are the same. Then
+/// both runs take the same way: after any number of steps they are at the same statement, with the
+/// same temporaries, callers, records, count and outcome, and have sent the same signals. And the
+/// words differ as they did: each listed variable and field has so much more in the second run, so
+/// that both have added as much to it. All this holds of the whole job, and of the least facts,
+/// which are closed.
 pub fn jobs_add_as_much_to_other_words()
-    ensures steps { (x : Exchange) (facts : List Fact) (start : JobStart) (numbers : List ℕ)
+    ensures steps { (x : Exchange) (facts : List Fact) (start : JobStart) (d : Targets)
         (more : ℕ → ℕ) (s t : List ℕ) (n : ℕ)
         → IsExchange x → IsClosed x (Contains facts) → IsJob x start.job → StoreFits x s
-        → OnlyAddsToAll x (Contains facts) start.job.entry numbers
-        → DiffersBy (IsAddedWord x numbers) more s t
-        → RunsAlike (IsAddedWord x numbers) more (after_steps n x (begins x start s))
+        → OnlyAddsToEach x (Contains facts) start.job.entry d
+        → DiffersBy (IsAddedWord x d) more s t
+        → RunsAlike (IsAddedWord x d) more (after_steps n x (begins x start s))
         (after_steps n x (begins x start t)) }
-    ensures job { (x : Exchange) (facts : List Fact) (start : JobStart) (numbers : List ℕ)
+    ensures job { (x : Exchange) (facts : List Fact) (start : JobStart) (d : Targets)
         (more : ℕ → ℕ) (s t : List ℕ)
         → IsExchange x → IsClosed x (Contains facts) → IsJob x start.job → StoreFits x s
-        → OnlyAddsToAll x (Contains facts) start.job.entry numbers
-        → DiffersBy (IsAddedWord x numbers) more s t
-        → RunsAlike (IsAddedWord x numbers) more (job x start s) (job x start t) }
-    ensures least { (x : Exchange) (start : JobStart) (numbers : List ℕ) (more : ℕ → ℕ)
+        → OnlyAddsToEach x (Contains facts) start.job.entry d
+        → DiffersBy (IsAddedWord x d) more s t
+        → RunsAlike (IsAddedWord x d) more (job x start s) (job x start t) }
+    ensures least { (x : Exchange) (start : JobStart) (d : Targets) (more : ℕ → ℕ)
         (s t : List ℕ)
         → IsExchange x → IsJob x start.job → StoreFits x s
-        → OnlyAddsToAll x (IsLeast x) start.job.entry numbers
-        → DiffersBy (IsAddedWord x numbers) more s t
-        → RunsAlike (IsAddedWord x numbers) more (job x start s) (job x start t) }
+        → OnlyAddsToEach x (IsLeast x) start.job.entry d
+        → DiffersBy (IsAddedWord x d) more s t
+        → RunsAlike (IsAddedWord x d) more (job x start s) (job x start t) }
 {}
 
-/// Two jobs that both only add to the variables of a list, by facts that are closed, begun over
+/// Two jobs that both only add to listed variables and fields, by facts that are closed, begun over
 /// words that fit the exchange. Stores may follow the first one, such as those of its retirement,
-/// which are to none of these variables. But for these neither stores to a word that the other one
-/// touches. Then in either order each of them takes the same way as alone: it sends the same, holds
-/// the same, and ends the same. And the words in the end are the same in both orders. So it is,
-/// where nothing follows the first one, of two jobs that begin in a valid state, if no word that
-/// one of them may write, by the summary of its entry, is one that the other one may read, but
-/// those of these variables.
+/// which are to none of these. But for these neither stores to a word that the other one touches.
+/// Then in either order each of them takes the same way as alone: it sends the same, holds the
+/// same, and ends the same. And the words in the end are the same in both orders. So it is, where
+/// nothing follows the first one, of two jobs that begin in a valid state, if each word that one of
+/// them may write and the other one may read, by the summaries of their entries, is of these.
 pub fn jobs_add_in_either_order()
-    ensures touches { (x : Exchange) (facts : List Fact) (a b : JobStart) (numbers s : List ℕ)
+    ensures touches { (x : Exchange) (facts : List Fact) (a b : JobStart) (d : Targets) (s : List ℕ)
         (ending : List Touch)
         → IsExchange x → IsClosed x (Contains facts) → IsJob x a.job → IsJob x b.job
         → StoreFits x s
-        → OnlyAddsToAll x (Contains facts) a.job.entry numbers
-        → OnlyAddsToAll x (Contains facts) b.job.entry numbers
-        → AreApartBut x (IsAddedWord x numbers) s a b ending
+        → OnlyAddsToEach x (Contains facts) a.job.entry d
+        → OnlyAddsToEach x (Contains facts) b.job.entry d
+        → AreApartBut x (IsAddedWord x d) s a b ending
         → SameInEitherOrder x s a b ending }
     ensures permits { (x : Exchange) (facts : List Fact) (s : State) (first later : Summary)
-        (a b : JobStart) (numbers : List ℕ)
+        (a b : JobStart) (d : Targets)
         → IsExchange x → IsClosed x (Contains facts) → IsValid x s
         → IsFitting x s a → IsFitting x s b
         → IsSummary x (Contains facts) a.job.entry first
         → IsSummary x (Contains facts) b.job.entry later
-        → OnlyAddsToAll x (Contains facts) a.job.entry numbers
-        → OnlyAddsToAll x (Contains facts) b.job.entry numbers
-        → ShareOnly x (IsAddedWord x numbers) s first later a b
+        → OnlyAddsToEach x (Contains facts) a.job.entry d
+        → OnlyAddsToEach x (Contains facts) b.job.entry d
+        → ShareOnly x (IsAddedWord x d) s first later a b
         → SameInEitherOrder x s.store a b [] }
 {}
 
-/// Two jobs that pass by their summaries without the accesses to variables to which both only add,
-/// by facts that are closed, and whose starts fit a valid state, do the same in either order,
-/// before they retire. Whatever passes passes so.
+/// Two jobs that pass by their summaries without the accesses to variables and fields to which both
+/// only add, by facts that are closed, and whose starts fit a valid state, do the same in either
+/// order, before they retire. Whatever passes passes so.
 pub fn passing_jobs_add_in_either_order()
     ensures orders { (x : Exchange) (facts : List Fact) (s : State) (first later : Summary)
         (a b : JobStart) → IsClosed x (Contains facts) → MayAddAtOnce x facts s first later a b
@@ -91,7 +91,7 @@ pub fn passing_jobs_add_in_either_order()
         → Passes first later a b → PassesAdding x (Contains facts) first later a b }
 {}
 
-/// Two such jobs leave one another alone but for the words of variables to which both only add.
+/// Two such jobs leave one another alone but for the words to which both only add.
 /// The first sends to no level above the later one's; where it faults it is of a forlopp, which is
 /// not the later one's; and its retirement, with its release after a fault, stores to no word that
 /// the later one may read. So the later one, run after the first has retired, fits, may touch the
@@ -116,23 +116,34 @@ pub fn adding_jobs_make_way()
         → IsJob x b.job → PassesAdding x (Contains facts) first later a b → MakesWay x a b }
 {}
 
-/// Where two summaries without their accesses to the variables of a list let two jobs share no
-/// word, the whole summaries let them share no words but those of these variables.
-pub fn spared_words_are_those_of_variables()
-    ensures { (x : Exchange) (numbers : List ℕ) (s : State) (first later one other : Summary)
+/// Where two summaries without their accesses to listed variables and fields let two jobs share no
+/// word, the whole summaries let them share no words but those of these.
+pub fn spared_words_are_added_to()
+    ensures { (x : Exchange) (d : Targets) (s : State) (first later one other : Summary)
         (a b : JobStart)
-        → IsSparing numbers first one → IsSparing numbers later other
+        → IsSparing d first one → IsSparing d later other
         → HaveOwnWords x s one other a b
-        → ShareOnly x (IsAddedWord x numbers) s first later a b }
+        → ShareOnly x (IsAddedWord x d) s first later a b }
 {}
 
-/// Two lists of the variables to which the jobs of an entry only add, by the same facts, have the
-/// same numbers.
+/// Two lists of what the jobs of an entry only add to, by the same facts, have the same variables
+/// and the same fields.
 pub fn added_lists_are_one()
-    ensures facts { (x : Exchange) (facts : List Fact) (entry : ℕ) (d e : List ℕ) (n : ℕ)
+    ensures facts { (x : Exchange) (facts : List Fact) (entry : ℕ) (d e : Targets)
         → AreAdded x (Contains facts) entry d → AreAdded x (Contains facts) entry e
-        → Contains d n ↔ Contains e n }
-    ensures least { (x : Exchange) (entry : ℕ) (d e : List ℕ) (n : ℕ)
-        → AreAdded x (IsLeast x) entry d → AreAdded x (IsLeast x) entry e
-        → Contains d n ↔ Contains e n }
+        → HaveTheSame d e }
+    ensures least { (x : Exchange) (entry : ℕ) (d e : Targets)
+        → AreAdded x (IsLeast x) entry d → AreAdded x (IsLeast x) entry e → HaveTheSame d e }
+{}
+
+/// Two jobs pass but for additions exactly where they pass by their summaries without the accesses
+/// to what the lists of both entries have.
+pub fn lists_tell_who_passes()
+    ensures { (x : Exchange) (facts : List Fact) (first later one other : Summary)
+        (a b : JobStart) (d e shared : Targets) → IsExchange x
+        → IsSummary x (Contains facts) a.job.entry first
+        → IsSummary x (Contains facts) b.job.entry later
+        → AreAdded x (Contains facts) a.job.entry d → AreAdded x (Contains facts) b.job.entry e
+        → AreOfBoth d e shared → IsSparing shared first one → IsSparing shared later other
+        → Passes one other a b ↔ PassesAdding x (Contains facts) first later a b }
 {}
