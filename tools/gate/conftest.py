@@ -16,6 +16,8 @@ from gate.checking import Share, Sums, Tally
 from plextools import programs
 
 SUMS: defaultdict[str, Sums] = defaultdict(Sums)
+SECONDS: defaultdict[str, float] = defaultdict(float)  # of the processor, of each check
+BEGUN = pytest.StashKey[float]()
 SKIPPED: list[str] = []
 UNPROVED: set[str] = set()  # the programs that were taken though they are not proved
 OUTCOMES = ("passed", "failed", "error", "skipped")
@@ -77,6 +79,7 @@ def pytest_configure(config: pytest.Config) -> None:
     config.addinivalue_line(
         "markers", "alone: measures time, so that no other test may run beside it"
     )
+    config.addinivalue_line("markers", "long: takes long, so that it is started first")
     if config.option.seed is None:
         config.option.seed = harness.seed()
 
@@ -100,6 +103,11 @@ def pytest_generate_tests(metafunc: pytest.Metafunc) -> None:
     if mark:
         numbers = range(cases_of(metafunc.config, mark.args[0]))
         metafunc.parametrize("number", numbers, ids=[f"case{number}" for number in numbers])
+
+
+def pytest_collection_modifyitems(items: list[pytest.Item]) -> None:
+    """Puts what takes long first, so that no process works on alone at the end."""
+    items.sort(key=lambda item: item.get_closest_marker("long") is None)
 
 
 def found(program: programs.Program) -> pathlib.Path:
@@ -171,14 +179,34 @@ def pytest_runtest_call() -> Iterator[None]:
         signal.setitimer(signal.ITIMER_VIRTUAL, 0)
 
 
+def processor() -> float:
+    """The seconds of the processor that this process and its ended children have taken."""
+    return sum(os.times()[:4])
+
+
+@pytest.hookimpl(tryfirst=True)  # type: ignore[misc]
+def pytest_runtest_setup(item: pytest.Item) -> None:
+    """Notes when a test begins."""
+    item.stash[BEGUN] = processor()
+
+
+@pytest.hookimpl(tryfirst=True)  # type: ignore[misc]
+def pytest_runtest_makereport(item: pytest.Item, call: pytest.CallInfo[None]) -> None:
+    """Notes what a test has taken of the processor."""
+    if call.when == "teardown":
+        item.user_properties.append(("seconds", processor() - item.stash[BEGUN]))
+
+
 def pytest_runtest_logreport(report: pytest.TestReport) -> None:
-    """Sums up what the cases count, in the process that starts the others."""
+    """Sums up what the cases count and take, in the process that starts the others."""
     if report.skipped:
         SKIPPED.append(report.nodeid)
-    for name, value in report.user_properties if report.when == "call" else ():
-        if name == "share":
+    for name, value in report.user_properties:
+        if name == "share" and report.when == "call":
             share = Share(**value)  # type: ignore[arg-type]
             SUMS[share.check].add(share)
+        elif name == "seconds":
+            SECONDS[file_of(report)] += float(str(value))
 
 
 def wrong_at_the_end() -> Iterator[str]:
@@ -213,12 +241,17 @@ def pytest_testnodedown(node: Any) -> None:
     UNPROVED.update(getattr(node, "workeroutput", {}).get("unproved", ()))
 
 
+def file_of(report: pytest.TestReport) -> str:
+    """The name of the file of a test."""
+    return report.nodeid.split("::")[0].rpartition("/")[2]
+
+
 def by_file(reporter: TerminalReporter) -> dict[str, Counter[str]]:
     """How many tests of each file came to which end."""
     files: defaultdict[str, Counter[str]] = defaultdict(Counter)
     for outcome in OUTCOMES:
         for report in reporter.stats.get(outcome, ()):
-            files[report.nodeid.split("::")[0].rpartition("/")[2]][outcome] += 1
+            files[file_of(report)][outcome] += 1
     return dict(sorted(files.items()))
 
 
@@ -230,7 +263,8 @@ def pytest_terminal_summary(terminalreporter: TerminalReporter) -> None:
     terminalreporter.section("checks")
     for name, outcomes in files.items():
         told = ", ".join(f"{number} {outcome}" for outcome, number in outcomes.items())
-        terminalreporter.write_line(f"{name}: {told}")
+        terminalreporter.write_line(f"{name}: {told}; {SECONDS[name]:.1f} s of the processor")
+    terminalreporter.write_line(f"in all: {sum(SECONDS.values()):.1f} s of the processor")
     for name, sums in SUMS.items():
         terminalreporter.write_line(f"{name}: {sums.shares} of {sums.of} cases; {sums.told()}")
     terminalreporter.write_line(f"seed: {terminalreporter.config.option.seed}")

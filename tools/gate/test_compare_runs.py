@@ -127,6 +127,9 @@ class Case:
         certify = harness.answer(self.plex, ["certify", "L"], self.folder)
         harness.write_files(self.folder, {"M": certify.wrote})
         single = harness.answer(self.plex, ["single", "L", "S", *self.jobs], self.folder)
+        if single.status is None:
+            yield "single", harness.wrong(single, 0)
+            return
         wanted = single.wrote, single.status
         try:
             wanted = oracle_machine.run(

@@ -27,7 +27,8 @@ from gate.checking import EXAMPLES, ROOT, TOOLS, Tally, check, leave_out
 from gate.makers import tool_cases, wide_exchange
 from measure import measured
 
-pytestmark = pytest.mark.alone
+# One process has the browser, and so all tests that look at pages with it.
+BROWSER = pytest.mark.xdist_group("browser")
 
 GUIDE = EXAMPLES / "guide" / "which_change"
 PICTURES = ROOT / "docs" / "pictures"
@@ -37,7 +38,7 @@ SECONDS, BYTES, TRIES = 2.0, 20_000_000, 3
 # So many entries that use so many variables, the bytes of their page, and how many reasons of a
 # pair are drawn at once.
 COMMON, COMMON_BYTES, MANY, AT_ONCE = (128, 100), 1_000_000, (2, 150), 100
-LEAST, TESTS = 146, 10
+LEAST, TESTS, LEAST_WIDE = 138, 9, 8  # looks, the tests that have them, and those of a wide page
 LONGEST = 300  # seconds of one call
 STRANGE_NAME = "a <b> & \"c' .plex"
 STRANGE = b"""! </script><script>document.title = 'taken'</script> <img src=x onerror="alert(1)"> \xff\xfe & &amp;
@@ -83,10 +84,10 @@ class Look:
         self.window, self.folder, self.tally = window, folder, tally
         self.seen, self.wrong = 0, list[str]()
 
-    def done(self) -> None:
+    def done(self, what: str = "looks at pages", least: float = LEAST / TESTS) -> None:
         """Counts what was looked at, and tells what is wrong."""
         if self.tally:
-            self.tally.add("looks at pages", {"looks": self.seen}, {"looks": LEAST / TESTS})
+            self.tally.add(what, {"looks": self.seen}, {"looks": least})
         check(*self.wrong)
 
     def need(self, holds: object, told: str) -> None:
@@ -371,6 +372,7 @@ def address(look: Look) -> str:
 
 @pytest.mark.parametrize("size", SIZES, ids=["wide", "wide, dark", "narrow", "narrow, dark"])
 @pytest.mark.counted(TESTS)
+@BROWSER
 def test_at_a_size(look: Look, address: str, size: Size) -> None:
     """A window of a size."""
     look.at_a_size(address, size)
@@ -378,6 +380,7 @@ def test_at_a_size(look: Look, address: str, size: Size) -> None:
 
 
 @pytest.mark.counted(TESTS)
+@BROWSER
 def test_by_address(look: Look, address: str) -> None:
     """Addresses with a choice."""
     look.by_address(address)
@@ -385,6 +388,7 @@ def test_by_address(look: Look, address: str) -> None:
 
 
 @pytest.mark.counted(TESTS)
+@BROWSER
 def test_without_scripts(look: Look, address: str) -> None:
     """A browser that runs no scripts."""
     look.without_scripts(address)
@@ -392,6 +396,7 @@ def test_without_scripts(look: Look, address: str) -> None:
 
 
 @pytest.mark.counted(TESTS)
+@BROWSER
 def test_stands_alone(look: Look, address: str) -> None:
     """A page that asks for no other file."""
     look.stands_alone("page.html")
@@ -399,6 +404,7 @@ def test_stands_alone(look: Look, address: str) -> None:
 
 
 @pytest.mark.counted(TESTS)
+@BROWSER
 def test_strange(look: Look) -> None:
     """A name and a text with all that a page may take for its own."""
     look.strange()
@@ -406,6 +412,7 @@ def test_strange(look: Look) -> None:
 
 
 @pytest.mark.counted(TESTS)
+@BROWSER
 def test_many_conflicts(look: Look) -> None:
     """Pages of pairs with many conflicts."""
     look.small()
@@ -413,11 +420,12 @@ def test_many_conflicts(look: Look) -> None:
     look.done()
 
 
-@pytest.mark.counted(TESTS)
+@pytest.mark.counted(1)
+@pytest.mark.alone
 def test_wide(look: Look) -> None:
-    """A page of a large exchange."""
+    """A page of a large exchange, whose time is measured."""
     look.wide()
-    look.done()
+    look.done("looks at a wide page", LEAST_WIDE)
 
 
 def compare_page(folder: pathlib.Path, case: page_text.Case) -> None:
@@ -438,6 +446,7 @@ def test_read_back_made(plex: pathlib.Path, folder: pathlib.Path, seed: str, num
     compare_page(folder, page_text.made_case(folder, seed, number))
 
 
+@BROWSER
 def test_pictures(window: browser.Browser, room: pathlib.Path, pytestconfig: pytest.Config) -> None:
     """The documents have pictures of a page with a pair that is chosen, and of its time line;
     `--write` takes them.

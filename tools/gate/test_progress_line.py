@@ -23,7 +23,7 @@ import pytest
 from gate import harness, paced_runs
 from gate.checking import check
 
-pytestmark = pytest.mark.alone
+pytestmark = [pytest.mark.xdist_group("progress"), pytest.mark.long]
 
 LAUNCHER = harness.PLEX.launcher
 LONGEST = 300

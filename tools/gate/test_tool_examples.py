@@ -24,6 +24,7 @@ from gate.checking import EXAMPLES, ROOT, TOOLS, check, check_enough, read_words
 PRINTED = [ROOT / "README.md", *harness.GUIDE]
 COMMANDS = re.compile(r"^```\n((?:plex-(?:chart|why|load|page) .*\n)+)```$", re.M)
 LEAST, LEAST_WRONG, LONGEST = 8, 56, harness.WHILE
+MANY = 40  # statements of a kind
 GOOD = EXAMPLES / "guide" / "bills" / "exchange.plex"
 LINES = EXAMPLES / "guide" / "bills" / "signals.txt"
 REFUSED = EXAMPLES / "guide" / "first_refusal" / "exchange.plex"
@@ -193,6 +194,16 @@ OF_TOOLS: dict[str, list[Any]] = {
     "PLEX": ["plex-load", GOOD, LINES],
 }
 READ = [f"plex-why {GOOD}", f"plex-load {GOOD} {LINES}", f"plex-load --json {GOOD} {LINES}"]
+
+
+@pytest.mark.parametrize("words", [[], ["--all"]], ids=["the first ones", "--all"])
+def test_all_statements(folder: pathlib.Path, words: list[str]) -> None:
+    """plex-why tells the first few statements of a kind, and all of them with --all."""
+    text = (EXAMPLES / "three_ticks" / "exchange.plex").read_text()
+    (folder / "E").write_text(text.replace("N = N + 1;", "N = N + 1;\n" * MANY))
+    done = run(["plex-why", *words, "E", "0", "0"], folder)
+    told = done.stdout.decode().count("E:")
+    assert done.returncode == 0 and (told >= 2 * MANY if words else 0 < told < MANY)
 
 
 @pytest.mark.parametrize("tool", EMPTY)

@@ -47,6 +47,7 @@ def run(*words: str) -> "subprocess.CompletedProcess[str]":
     )
 
 
+@pytest.mark.long
 @pytest.mark.parametrize("tool", TOOLS)
 def test_clean(tool: str) -> None:
     """A tool finds nothing in the typed rooms."""

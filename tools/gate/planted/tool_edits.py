@@ -35,7 +35,7 @@ def row_of(name: str, told: str, old: str, new: str) -> Edit:
 
 
 def drawn(name: str, told: str, file: str, old: str, new: str, *only: str) -> Edit:
-    words = ("-k", " or ".join(only)) if only else ("-k", "by_chance", "--cases", "20")
+    words = ("-k", " or ".join(only)) if only else ("-k", "by_chance", "--cases", "8")
     return Edit(name, "plex-chart", told, "plex_chart", file, old, new, words)
 
 
@@ -176,6 +176,7 @@ OF_WHY = [
         WHY,
         "shown = EVERYTHING if given.all else why.SHOWN",
         "shown = why.SHOWN",
+        ("-k", "all_statements"),
     ),
     Edit(
         "names_not_heeded",
@@ -185,6 +186,7 @@ OF_WHY = [
         WHY,
         "if [entry.signal, entry.block] == words:",
         "if entry.signal == words[0]:",
+        ("-k", "why.words"),
     ),
 ]
 
