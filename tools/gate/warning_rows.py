@@ -30,6 +30,11 @@ RETURN TOLD;
 END BLOCK;
 """
 MANY = TEXT.replace("TEMPORARY T;", "TEMPORARY T; TEMPORARY P; TEMPORARY Q; TEMPORARY R;")
+TONES = (
+    TEXT.replace("BLOCK A;", "SIGNAL R OUTSIDE DATA 0; SIGNAL Q OUTSIDE DATA 0; BLOCK A;")
+    .replace("RECEIVE ASK;", "RECEIVE ASK; SEND R; SEND Q;")
+    .replace("FREE T IN F;\nL)", "FREE T IN F; IF N = 0 GOTO L;\nSEND R;\nL)\nSEND Q;")
+)
 FINE, ODD = 0, 1
 
 
@@ -75,7 +80,11 @@ ROWS = [
         "14:1: RUNSON: the entry of GO, line 7, runs on into this one; "
         "EXIT before it would end the job",
     ),
-    fine("an entry that ends by a GOTO", "EXIT;\nENTER ASK;", "GOTO L;\nENTER ASK;"),
+    fine(
+        "an entry that ends by a GOTO",
+        "EXIT;\nENTER ASK;\nRETURN",
+        "GOTO M;\nENTER ASK;\nM)\nRETURN",
+    ),
     odd(
         "records that are never freed",
         "FREE T IN F;\n",
@@ -128,6 +137,111 @@ ROWS = [
             "E:4:53: UNUSED: no statement uses the temporary RETRUN",
         ],
     ),
+    odd(
+        "a statement that nothing reaches",
+        "EXIT;\nENTER ASK;",
+        "EXIT;\nN = 1;\nEXIT;\nENTER ASK;",
+        "15:1: UNREACHED: nothing reaches this behind the EXIT of line 14",
+    ),
+    odd(
+        "a statement behind branches that all end",
+        "EXIT;\nENTER ASK;",
+        "IF N = 0 THEN EXIT; ELSE GOTO L; FI;\nN = 1;\nEXIT;\nENTER ASK;",
+        "15:1: UNREACHED: nothing reaches this behind the IF of line 14",
+    ),
+    fine("an EXIT that nothing reaches", "EXIT;\nENTER ASK;", "EXIT;\nEXIT;\nENTER ASK;"),
+    Row(
+        "a SEND that runs on into a label with another",
+        TONES,
+        ODD,
+        [
+            "E:12:1: RUNSINTO: the way that sends R on line 11 runs on to here, and sends Q too; "
+            "EXIT before it would end the job"
+        ],
+    ),
+    Row(
+        "a SEND before a label with another",
+        TONES.replace("SEND R;\nL)", "SEND R;\nEXIT;\nL)"),
+        FINE,
+    ),
+    odd(
+        "a loop that no way leaves",
+        "EXIT;\nENTER ASK;",
+        "GOTO L;\nENTER ASK;",
+        "14:1: ENDLESS: no way leaves the loop from L to here but the fault BUDGET",
+    ),
+    fine("a loop that a way leaves", "EXIT;\nENTER", "IF N = 0 GOTO L;\nEXIT;\nENTER"),
+    odd(
+        "a constant that is too wide",
+        "X(T) = N;",
+        "X(T) = N; N = 256;",
+        "9:15: TOOWIDE: N gets 256, and 255 is the most that fits WIDTH 8",
+    ),
+    fine("a constant that fits", "X(T) = N;", "X(T) = N; N = 255;"),
+    odd(
+        "a record that is not there",
+        "X(T) = N;",
+        "X(T) = N; T = 2; X(T) = 1;",
+        "9:20: NORECORD: T is 2, and 1 is the last record of F",
+    ),
+    fine("the last record", "X(T) = N;", "X(T) = N; T = 1; X(T) = 1;"),
+    odd(
+        "a loop that goes up to a record that is not there",
+        "X(T) = N;",
+        "ON T FROM 0 UPTO 2 DO X(T) = N; NO;",
+        "9:25: NORECORD: T goes up to 2, and 1 is the last record of F",
+    ),
+    fine(
+        "a loop that looks at its record number",
+        "X(T) = N;",
+        "ON T FROM 0 UPTO 2 DO IF T < 2 THEN X(T) = N; FI; NO;",
+    ),
+    odd(
+        "a division by 0",
+        "X(T) = N;",
+        "X(T) = N / 0;",
+        "9:12: BYZERO: a division by 0 is the fault DIVIDE",
+    ),
+    fine("a fault on purpose", "X(T) = N;", "X(T) = N; X(T) = 1 / 0;"),
+    odd(
+        "a relation that never holds",
+        "X(T) = N;",
+        "X(T) = N; IF N > 255 THEN N = 0; FI;",
+        "9:14: CONSTANT: N > 255 is never true",
+    ),
+    odd(
+        "a relation that always holds",
+        "X(T) = N;",
+        "X(T) = N; IF N = 1 OR N <= 255 THEN N = 0; FI;",
+        "9:23: CONSTANT: N <= 255 is always true",
+    ),
+    fine("a relation", "X(T) = N;", "X(T) = N; IF N > 254 THEN N = 0; FI;"),
+    odd(
+        "a loop without a turn",
+        "X(T) = N;",
+        "X(T) = N; ON T FROM 3 UPTO 2 DO NO;",
+        "9:11: NOTURN: the loop has no turn: it goes from 3 up to 2",
+    ),
+    fine("a loop of one turn", "X(T) = N;", "X(T) = N; ON T FROM 2 UPTO 2 DO NO;"),
+    odd(
+        "a value that nothing reads",
+        "FREE T IN F;",
+        "FREE T IN F; T = N;",
+        "10:14: NEVERREAD: nothing reads what T gets here",
+    ),
+    fine("a value that is read", "FREE T IN F;", "FREE T IN F; T = N; N = T;"),
+    odd(
+        "a record that a way does not free",
+        "X(T) = N;",
+        "IF N = 0 GOTO L; X(T) = N;",
+        "8:1: LOST: the record of F is not freed on the way to line 14, and its number is lost",
+    ),
+    fine(
+        "a record that each way frees",
+        "X(T) = N;",
+        "IF N = 0 THEN FREE T IN F; GOTO L; FI; X(T) = N;",
+    ),
+    fine("a record whose number is kept", "X(T) = N;", "N = T; IF N = 0 GOTO L; X(T) = N;"),
     Row("all that is odd", MANY, ODD, UNUSED),
     Row("as many as there are", MANY, ODD, UNUSED, ("--most", "3")),
     Row(

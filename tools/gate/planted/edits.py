@@ -6,6 +6,7 @@ from gate.planted.planted import Edit
 CHANGE = "tools/python/plextools/text/change.py"
 CHECK = "tools/python/plextools/commands/check.py"
 WARNINGS = "tools/python/plextools/text/warnings.py"
+WAYS = "tools/python/plextools/text/ways.py"
 WHY = "tools/python/plextools/analysis/why.py"
 FACTS = "tools/python/plextools/analysis/entry_facts.py"
 REPORT = "tools/python/plextools/runs/report.py"
@@ -37,6 +38,55 @@ def page(name: str, told: str, file: str, old: str, new: str) -> Edit:
 
 
 OF_CHECK = [
+    check(
+        "one_too_wide_untold",
+        "a constant of 2 to the power of WIDTH is not TOOWIDE",
+        WAYS,
+        "if value.value >= 2**width:",
+        "if value.value > 2**width:",
+    ),
+    check(
+        "record_of_size_untold",
+        "the record number SIZE is not NORECORD",
+        WAYS,
+        "or highest.value < int(file.size.text):",
+        "or highest.value <= int(file.size.text):",
+    ),
+    check(
+        "one_turn_told",
+        "a loop of one turn is NOTURN",
+        WAYS,
+        "if least > most:",
+        "if least >= most:",
+    ),
+    check(
+        "labels_not_heeded",
+        "what is behind an ENTER is UNREACHED",
+        WAYS,
+        'label, ended = item if item.kind == "label" else None, None',
+        'label = item if item.kind == "label" else None',
+    ),
+    check(
+        "all_loops_left",
+        "ENDLESS is not told",
+        WAYS,
+        "if node.point in ends or label is None",
+        "if node.point not in ends or label is None",
+    ),
+    check(
+        "kept_numbers_lost",
+        "a record is LOST though a variable has its number",
+        WAYS,
+        'is_value = node.kind in ("set", "set_field", "SEND", "RETURN")',
+        'is_value = node.kind in ("SEND", "RETURN")',
+    ),
+    check(
+        "relations_of_or_untold",
+        "a constant relation behind AND or OR is told at the first one",
+        WAYS,
+        "start = starts[number]",
+        "start = starts[0]",
+    ),
     check(
         "equal_sizes_refused",
         "`--change` refuses a FORLOPP FILE of the same size",

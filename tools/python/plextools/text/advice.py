@@ -20,6 +20,11 @@ WORD = re.compile(r"[A-Z][A-Z0-9]*|[0-9]+|\S")
 WRITTEN = re.compile(r"[A-Za-z_][A-Za-z0-9_]*")
 POINTED = re.compile(r"[A-Z][A-Z0-9]*[ \t\r\n]*\([ \t\r\n]*$")
 WITH = re.compile(r"\bWITH\b([^;]*)")
+FREED = re.compile(r"[A-Z][A-Z0-9]*\s+IN\s+([A-Z][A-Z0-9]*)")
+POINTER = re.compile(r"([A-Z][A-Z0-9]*)\s*$")
+ASSIGNED = re.compile(r"[A-Z][A-Z0-9]*\s*(?:\(\s*[A-Z][A-Z0-9]*\s*\)\s*)?$")
+PHRASE_END = re.compile(r";|\b(?:THEN|DO|IS)\b")
+RELATION_END = re.compile(r"\s*(?:;|\b(?:AND|OR|THEN|GOTO)\b)")
 MOST_SEARCHED = 2**18
 OF_TEMPORARIES = ("ON", "FIRST", "SEIZE", "FREE")
 DECLARING = re.compile(r"\b(?:DECLARE|VARIABLE|TEMPORARY)\b")
@@ -42,6 +47,16 @@ LABELS = {
     "NOENTER": "received, and not entered",
     "RUNSON": "the entry above runs on to here",
     "NOFREE": "never freed",
+    "UNREACHED": "not reached",
+    "RUNSINTO": "the way above runs on to here",
+    "ENDLESS": "goes round for ever",
+    "TOOWIDE": "does not fit",
+    "NORECORD": "no such record",
+    "BYZERO": "is 0",
+    "CONSTANT": "constant",
+    "NOTURN": "no turn",
+    "NEVERREAD": "not read",
+    "LOST": "not freed on each way",
     "UNUSED": "not used",
     "KEYWORD": "a name",
 }
@@ -557,6 +572,42 @@ class Adviser:
         cure = f"give it another name, or write {meant} where the keyword is meant"
         return Advice(self.span(place), "", (), cure)
 
+    # of the ways through a text
+
+    def of_way(self, place: int) -> Advice:
+        """The statement, up to its end or to the statements in it."""
+        found = PHRASE_END.search(self.clean, place)
+        return Advice(Span(place, found.end() if found else self.span(place).end))
+
+    def of_relation(self, place: int) -> Advice:
+        found = RELATION_END.search(self.clean, place)
+        return Advice(Span(place, found.start() if found else self.span(place).end))
+
+    def of_wide(self, place: int) -> Advice:
+        """A constant, and where what it is stored in is declared."""
+        name = self.name(self.statement(place))
+        return Advice(self.span(place), notes=self.of_declared(place, name))
+
+    def of_record(self, place: int) -> Advice:
+        """A pointer, and where the file is declared of whose record it has the number."""
+        names, end = self.block_at(place).names, self.clean.rfind("(", 0, place)
+        found = FREED.match(self.clean, place) or POINTER.search(self.clean, max(0, end - 200), end)
+        named = names.get(found[1]) if found else None
+        file = named.file if named and named.file else named
+        return Advice(self.span(place), notes=self.of_declared(place, file.name if file else ""))
+
+    def statement(self, place: int) -> int:
+        """Where the assignment begins in which a place is."""
+        start = self.clean.rfind("=", 0, place)
+        begun = max(self.clean.rfind(";", 0, start), 0)
+        found = ASSIGNED.search(self.clean, begun, start)
+        return found.start() if found else begun
+
+    def of_declared(self, place: int, name: str) -> Tuple[Note, ...]:
+        """Where a name of the block is declared in which a place is."""
+        declared = self.block_at(place).names.get(name)
+        return (self.declared(declared.place, f"{name} is declared here"),) if declared else ()
+
 
 def counted_names(count: Optional[int]) -> str:
     """So many names of temporaries, as an example."""
@@ -593,4 +644,8 @@ ADVICE: Dict[str, Callable[[Adviser, int], Advice]] = {
     "SWALLOWED": Adviser.of_comment,
     "UNUSED": Adviser.of_unused,
     "KEYWORD": Adviser.of_keyword,
+    **{word: Adviser.of_way for word in ("UNREACHED", "ENDLESS", "NOTURN", "NEVERREAD", "LOST")},
+    "CONSTANT": Adviser.of_relation,
+    "TOOWIDE": Adviser.of_wide,
+    "NORECORD": Adviser.of_record,
 }

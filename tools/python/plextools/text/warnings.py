@@ -9,12 +9,23 @@ from plextools.text.hints import near
 from plextools.text.grammar import Node, Phrases, StatementFault
 from plextools.text.reader import Frame
 from plextools.text.tokens import COMMENT, KEYWORDS, Piece, Text, Told, Token, shown
+from plextools.text.ways import odd_ways
 
 WARNINGS = {
     "RUNSON": "an entry runs on into the next ENTER",
     "SWALLOWED": "a comment has a statement in it that was perhaps meant to be one",
     "UNUSED": "nothing uses what is declared, or a line of a survey",
     "NOFREE": "records of a file are seized, and no FREE gives one back",
+    "UNREACHED": "nothing reaches a statement, as EXIT, GOTO or the like is before it",
+    "RUNSINTO": "the way behind a SEND to the outside runs on into a label with another one",
+    "ENDLESS": "no way leaves a loop by GOTO",
+    "TOOWIDE": "a constant is too large for the WIDTH of what it is stored in",
+    "NORECORD": "a constant record number is not below the SIZE of the file",
+    "BYZERO": "a division by the constant 0, or MOD 0",
+    "CONSTANT": "a relation is always true, or never",
+    "NOTURN": "the bounds of a loop leave it no turn",
+    "NEVERREAD": "nothing reads a value that a temporary gets",
+    "LOST": "a record is seized on a way that ends without FREE, and its number is not kept",
     "KEYWORD": "a name is a keyword but for a letter",
     "ODDAS": "AS names a line that ends in AS itself",
     "NOJOB": "a filter names a signal, a block or a forlopp of which there is no job",
@@ -22,7 +33,7 @@ WARNINGS = {
 LONG_KEYWORDS = [word for word in KEYWORDS if len(word) > 5]
 IN_COMMENT = re.compile(r"(?<![A-Za-z0-9_])[A-Z][A-Z0-9]*")
 ALONE = ("FI", "NO", "ESAC", "DECLARE", "SURVEY", "PROGRAM")
-MOST_TRIED, MOST_COMMENTS = 20, 20000
+MOST_TRIED, MOST_COMMENTS, MOST_LOOKED_AT = 20, 20000, 2**21
 
 
 class Inside(NamedTuple):
@@ -125,7 +136,14 @@ class Oddities(Checker):
         self.look_at_comments()
         if not self.grammar and not self.source.faults:
             self.look_at_signals()
+            self.look_at_ways()
         return sorted(self.odd)
+
+    def look_at_ways(self) -> None:
+        """What is odd in the ways through a text that breaks no rule and is not very large."""
+        if not self.found and self.source.size <= MOST_LOOKED_AT:
+            for place, word, sentence in odd_ways(self.source.text.encode("latin-1")):
+                self.warn(place, word, sentence)
 
     def odd_left_out(self) -> Dict[str, int]:
         return {
