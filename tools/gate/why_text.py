@@ -12,6 +12,8 @@ from plextools.tables import quoted
 ALL = 10**9  # statements of a side
 VERDICT = re.compile(r"PAIR \d+ \d+ (?:NEVER|IF) (.*)|also: (.*)")
 CURE = "  what helps: "
+# What is said of counters, which test_compare_counters.py looks at.
+ASIDE = (why_lines.COUNTER, why_lines.TODAY, why_lines.BEHIND, "    added up", "    who reads")
 UNKNOWN = {
     "changed by ON": "ON",
     "found by FOR FIRST": "FOR",
@@ -40,6 +42,8 @@ def read(lines: Iterator[str], name: str) -> List[Reason]:
             is_later = False
         elif line.startswith(CURE):
             found[-1] = found[-1]._replace(cure=line[len(CURE) :])
+        elif line.startswith(ASIDE):
+            continue
         else:
             is_later = is_later or line.startswith("  later, ")
             told = statement.fullmatch(line)

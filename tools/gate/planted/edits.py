@@ -15,6 +15,14 @@ JOBS = "tools/python/plextools/runs/jobs.py"
 MACHINE = "tools/python/plextools/runs/machine.py"
 PAGE_DATA = "tools/python/plextools/show/page_data.py"
 CASE_RUNS = "tools/python/plextools/runs/case_runs.py"
+TOUCHES = "tools/python/plextools/runs/touches.py"
+EXACT = "tools/python/plextools/runs/exact.py"
+BOTH_ORDERS = "tools/python/plextools/runs/both_orders.py"
+PRECISION = "tools/python/plextools/runs/precision.py"
+COSTS = "tools/python/plextools/runs/machine_costs.py"
+COUNTERS = "tools/python/plextools/analysis/counters.py"
+ADDITIONS = "tools/python/plextools/text/additions.py"
+PAIR_CHANGES = "tools/python/plextools/analysis/pair_changes.py"
 PAIR_GRAPH = "tools/python/plextools/show/pair_graph.py"
 PAIR_TABLE = "tools/python/plextools/show/pair_table.py"
 PAGE_HTML = "tools/python/plextools/show/page_html.py"
@@ -33,10 +41,95 @@ def load(name: str, told: str, file: str, old: str, new: str) -> Edit:
     return Edit(name, "plex-load", told, "compare_load", file, old, new, ("--cases", "20"))
 
 
+def bound(name: str, told: str, file: str, old: str, new: str) -> Edit:
+    return Edit(name, "plex-load", told, "compare_bounds", file, old, new, ("--cases", "30"))
+
+
+def option(name: str, tool: str, told: str, file: str, old: str, new: str) -> Edit:
+    return Edit(name, tool, told, "load_options", file, old, new)
+
+
 def page(name: str, told: str, file: str, old: str, new: str) -> Edit:
     return Edit(name, "plex-page", told, "look_at_page", file, old, new, ("-k", "read_back"))
 
 
+OF_BOUNDS = [
+    bound(
+        "searches_untouched",
+        "the cells that a search has looked at are not touched",
+        TOUCHES,
+        'self.span(f"range({first}, {end}, {stride})", False)',
+        "self.settle()",
+    ),
+    bound(
+        "additions_in_order",
+        "what is added to waits for what was added to before",
+        EXACT,
+        "*map(self.plain.__getitem__, adds)",
+        "*map(self.touched.__getitem__, adds)",
+    ),
+    bound(
+        "levels_follow",
+        "a job below the level of a signal that was sent may follow the sender",
+        EXACT,
+        "for level in LEVELS if level < job.level",
+        "for level in LEVELS if level > job.level",
+    ),
+    bound(
+        "faults_restart_nothing",
+        "a first job that may fault in no forlopp is allowed",
+        PLAY,
+        '"FORLOPP": lambda first, later: first.forlopp != 0,',
+        '"FORLOPP": lambda first, later: True,',
+    ),
+    bound(
+        "values_differ_always",
+        "two jobs that name one record are allowed",
+        PLAY,
+        '"DIFFER": lambda first, later: first.values[a] != later.values[b],',
+        '"DIFFER": lambda first, later: True,',
+    ),
+    option(
+        "other_order_is_the_first",
+        "plex-load",
+        "a pair that does not commute is one that does",
+        BOTH_ORDERS,
+        "commutes = orders == (first.left, later.left, wanted.cells)",
+        "commutes = orders is not False",
+    ),
+    option(
+        "narrow_counters",
+        "plex-why",
+        "a variable of any WIDTH is a counter",
+        COUNTERS,
+        "if reason.kind not in KINDS or self.width(reason.name) != MOST_WIDTH:",
+        "if reason.kind not in KINDS:",
+    ),
+    option(
+        "taken_from_is_added",
+        "plex-why",
+        "V = T - V is an addition",
+        ADDITIONS,
+        'if len(term) > 1 or operator == "-" or not names(factor, node):',
+        "if len(term) > 1 or not names(factor, node):",
+    ),
+    option(
+        "accesses_cost_nothing",
+        "plex-load",
+        "a synchronised access costs nothing",
+        COSTS,
+        "len(job.sent) * costs.send + sync)",
+        "len(job.sent) * costs.send)",
+    ),
+    option(
+        "freed_is_still",
+        "plex-why",
+        "a pair that is free now is told as one that never runs together",
+        PAIR_CHANGES,
+        "change = (STILL if is_never else FREE)",
+        "change = (STILL if is_never else STILL)",
+    ),
+]
 OF_CHECK = [
     check(
         "one_too_wide_untold",
@@ -218,8 +311,8 @@ OF_LOAD = [
         "chain_without_forlopps",
         "the longest chain leaves forlopps out",
         JOBS,
-        "number for number in (job.sender, last.get(job.forlopp)) if number is not None",
-        "number for number in (job.sender, None) if number is not None",
+        "number for number in (job.sender, last.get(job.forlopp)) if number in best",
+        "number for number in (job.sender, None) if number in best",
     ),
     load(
         "lengths_of_a_trace",
@@ -345,4 +438,4 @@ OF_OTHERS = [
     ),
 ]
 
-EDITS: List[Edit] = [*OF_CHECK, *OF_WHY, *OF_LOAD, *OF_PAGE, *OF_OTHERS]
+EDITS: List[Edit] = [*OF_CHECK, *OF_WHY, *OF_LOAD, *OF_BOUNDS, *OF_PAGE, *OF_OTHERS]

@@ -60,8 +60,11 @@ _plex_tools() {
     local word=${COMP_WORDS[COMP_CWORD]} before=${COMP_WORDS[COMP_CWORD-1]} options
     COMPREPLY=()
     case ${COMP_WORDS[0]##*/} in
-        plex-why) options='--all --json --help' ;;
-        plex-load) options='--workers --jobs --json --help' ;;
+        plex-why) options='--all --json --diff --help' ;;
+        plex-load)
+            options='--workers --jobs --skip --dense --precision --diff --json --help'
+            options+=' --cost-job --cost-send --cost-sync --statement --machines'
+            ;;
         plex-page) options='-o --workers --jobs --help' ;;
         plex-test) _plex_test "$word" "$before"; return ;;
         plex-chart) _plex_chart "$word" "$before"; return ;;
@@ -69,6 +72,7 @@ _plex_tools() {
     case $before in
         --workers) _plex_tools_words "$word" 1 2 4 8 16 32 64 ;;
         --jobs) _plex_tools_words "$word" 1000 1000000 10000000 ;;
+        --skip | --cost-job | --cost-send | --cost-sync | --statement) ;;
         *)
             if [[ $word == -* ]]; then
                 _plex_tools_words "$word" "$options"

@@ -22,10 +22,12 @@ from plextools.analysis import conflicts
 from plextools.analysis.entry_facts import Made, facts_of
 from plextools.analysis.lines import ANY, Entry
 from plextools.analysis.reasons import Numbers, Reason, selectors_of
+from plextools.analysis.counters import Counters
 from plextools.tables import quoted
 from plextools.text.statements import Text
 
 SHOWN, WIDEST = 3, 46
+COUNTER, TODAY, BEHIND = "  a counter: ", "  plex today: ", "  behind what is added to: "
 RECORDS = {"ARG": "of record ARG {0}", "CONST": "of record {0}", "ANY": "of any record"}
 DOES = {"READ": "reads", "WRITE": "writes", "SEIZE": "seizes", "FREE": "frees"}
 FAULTS = {
@@ -124,6 +126,7 @@ class Exchange:
         self.made: Dict[int, Made] = {}
         self.unknown: Dict[Unknown, str] = {}
         self.sides: Dict[Side, List[Told]] = {}
+        self.counters = Counters(self.text, self.conflicts)
 
     def entry(self, number: int) -> Entry:
         return self.analysis.entries[number]
@@ -478,3 +481,16 @@ def told(
         for side, head in zip(sides, heads):
             yield from placed(name, side, head, shown, max(map(len, heads)), widest)
         yield f"  what helps: {pair.cure(reason)}"
+        if exchange.counters.is_counter(i, j, reason):
+            yield from counter_words(reason)
+    if any(exchange.counters.is_counter(i, j, reason) for reason in reasons):
+        yield f"{BEHIND}{', '.join(exchange.counters.behind(i, j)) or 'nothing'}"
+
+
+def counter_words(reason: Reason) -> Iterator[str]:
+    """What is said of a conflict about what both only add to."""
+    name = short(reason.name)
+    yield f"{COUNTER}both only add to {name}: in either order {name} is the same; kept apart and"
+    yield "    added up at the end, or by an atomic add, both run at once"
+    yield f"{TODAY}SEND what is added to an entry of a block SUMS at level D, which adds it up;"
+    yield f"    who reads {name} there at a higher level sees it late"

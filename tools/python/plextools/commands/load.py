@@ -1,26 +1,33 @@
-"""plex-load [--json] [--jobs N] [--trace-json F] E S [--workers N ..]
+"""plex-load [--json] [--precision | --diff] [OPTION ..] E S [E2 [S2]] [--workers N ..]
 
 Tells what N workers would bring for the load of the exchange text E and the signal file S, and what
 is in the way. It runs the load statement by statement, and plays its jobs as plex hands them to
 workers, with time in statements. Without --workers it does so for 1, 2, 4, 8, 16 and 64, and tells
 what jobs waited for with 4; else for each N from 1 to 64 that is given, and what they waited for
-with the last. --jobs ends the run after N jobs. --json writes all figures for a program.
---trace-json writes the jobs of the workers of the last N, 4 without --workers, to the file F, in
-the trace event format of Chrome, which Perfetto and speedscope open.
+with the last. --jobs N ends the run after N jobs, and the first N of --skip N do not count. --dense
+takes each line to be there in time. --json writes all figures for a program. --trace-json writes
+the jobs of the workers of the last N, 4 without --workers, to the file F, in the trace event format
+of Chrome, which Perfetto and speedscope open.
+--precision tells which pairs of jobs that stood beside one another commute, how many of these the
+verdicts allow, and why they do not allow the others. --diff sets the figures beside those of E2
+with S2, or with S where there is no S2.
+--cost-job N, --cost-send N and --cost-sync N say what handing out a job, a signal and a
+synchronised access cost on another machine: in statements, or in ns where --statement NS says how
+many ns a statement takes. --machines F reads several machines from the file F.
 """
+import argparse
 import gc
 import os
-from typing import Sequence
+from typing import List, Optional, Sequence
 
 from plextools import limits, programs, progress, tables
-from plextools.commands import outputs
-from plextools.runs import jobs
-from plextools.runs import play
-from plextools.runs import report
-from plextools.show.trace_json import Trace
 from plextools.analysis import why
+from plextools.commands import outputs
+from plextools.runs import jobs, load_changes, machine_costs, play, precision, report
+from plextools.show.trace_json import Trace
 
 USUAL, CHOSEN = (1, 2, 4, 8, 16, 64), 4
+OWN = "your machine"
 
 
 def figures(
@@ -46,27 +53,107 @@ def write_trace(name: str, exchange: why.Exchange, load: jobs.Load, workers: int
     outputs.write(name, Trace(exchange.analysis.entries, title, made).parts())
 
 
-def main() -> int:
-    """Runs the command."""
+def precise(exchange: why.Exchange, load: jobs.Load) -> precision.Figures:
+    """The precision of the verdicts; on a terminal a line tells how far it is."""
+    if load.is_traced:
+        raise programs.Wrong(
+            "the load has too many statements for --precision; --jobs ends it earlier"
+        )
+    line = progress.Line()
+    try:
+        return precision.precision(
+            exchange,
+            load,
+            lambda place: line.draw(f"{place} of {len(load.ran)} jobs are looked at"),
+        )
+    finally:
+        line.erase()
+
+
+def machines(given: argparse.Namespace) -> List[machine_costs.Costs]:
+    """The machines of which costs are given."""
+    found = machine_costs.machines_of(given.machines) if given.machines else []
+    words: List[Optional[str]] = [given.cost_job, given.cost_send, given.cost_sync]
+    if any(word is not None for word in words):
+        costs = [machine_costs.cost_of(word or "0") for word in words]
+        statement = machine_costs.cost_of(given.statement) if given.statement else None
+        found.insert(0, machine_costs.in_statements(OWN, costs, statement))
+    elif given.statement:
+        raise programs.Wrong("--statement goes with --cost-job, --cost-send or --cost-sync")
+    return found
+
+
+def words_of() -> programs.Words:
     words = programs.Words(__doc__)
     most_jobs, most_workers = limits.MOST_JOBS, limits.MOST_WORKERS
     words.add_argument("--json", action="store_true")
+    words.add_argument("--precision", action="store_true")
+    words.add_argument("--diff", action="store_true")
+    words.add_argument("--dense", action="store_true")
     words.add_argument("--jobs", type=programs.number_to(most_jobs), default=limits.USUAL_JOBS)
+    words.add_argument("--skip", type=programs.number_to(most_jobs), default=0)
+    for option in ("--cost-job", "--cost-send", "--cost-sync", "--statement", "--machines"):
+        words.add_argument(option)
     words.add_argument("--trace-json", metavar="F")
     words.add_argument("--workers", type=programs.number_to(most_workers), nargs="+")
     words.add_argument("exchange")
     words.add_argument("signals")
+    words.add_argument("after", nargs="*", default=[])
+    return words
+
+
+def read(words: programs.Words) -> argparse.Namespace:
+    """The words, which must fit one another."""
     given = words.parse_args()
+    if given.diff and len(given.after) not in (1, 2):
+        words.error("--diff takes E S E2 [S2]")
+    if given.after and not given.diff:
+        words.error(f"unrecognized arguments: {' '.join(given.after)}")
+    costs = (given.cost_job, given.cost_send, given.cost_sync, given.statement, given.machines)
+    if sum([given.diff, given.precision, any(cost is not None for cost in costs)]) > 1:
+        words.error("--diff, --precision and the costs of a machine do not go together")
+    return given
+
+
+def load_of(given: argparse.Namespace, exchange: why.Exchange, signals: str) -> jobs.Load:
+    load = jobs.jobs_of(exchange, signals, given.jobs, touches=not given.precision)
+    load.skip(given.skip)
+    load.is_dense = given.dense
+    return load
+
+
+def main() -> int:
+    """Runs the command."""
+    given = read(words_of())
     counts, chosen = (given.workers, given.workers[-1]) if given.workers else (USUAL, CHOSEN)
     if given.trace_json:
-        outputs.refuse_inputs(given.trace_json, [given.exchange, given.signals])
+        outputs.refuse_inputs(given.trace_json, [given.exchange, given.signals, *given.after])
     # What is made of a load is kept to the end, so that looking for what could go costs time alone.
     gc.disable()
-    exchange = why.Exchange(given.exchange)
-    load = jobs.jobs_of(exchange, given.signals, given.jobs)
+    priced = machines(given)
+    exchange = why.Exchange(given.exchange, keeps_facts=given.precision)
+    load = load_of(given, exchange, given.signals)
     if given.trace_json:
         write_trace(given.trace_json, exchange, load, chosen)
-    told = figures(exchange, load, counts, chosen)
-    for line in [tables.as_json(told)] if given.json else report.text_of(exchange, told):
+    told: object
+    if given.precision:
+        told = pairs = precise(exchange, load)
+        lines = precision.text_of(pairs)
+    elif given.diff:
+        after = why.Exchange(given.after[0])
+        later = load_of(given, after, given.after[1] if given.after[1:] else given.signals)
+        told = both = load_changes.changes(
+            load_changes.Side(exchange, figures(exchange, load, counts, chosen)),
+            load_changes.Side(after, figures(after, later, counts, chosen)),
+        )
+        lines = load_changes.text_of(both)
+    elif priced:
+        machine = machine_costs.Machines(exchange, load)
+        told = rows = [machine.figures(costs, counts) for costs in priced]
+        lines = machine_costs.text_of(rows)
+    else:
+        told = one = figures(exchange, load, counts, chosen)
+        lines = report.text_of(exchange, one)
+    for line in [tables.as_json(told)] if given.json else lines:
         print(line)
     return 0

@@ -1,16 +1,18 @@
-"""plex-why [--all] [--json] E [I J | SIGNAL BLOCK SIGNAL BLOCK]
+"""plex-why [--all] [--json] E [I J | SIGNAL BLOCK SIGNAL BLOCK] | --diff [--json] E E2
 
 Tells why jobs of two entries of the exchange text E are kept apart, with the statements that make
 it so: for the entries I and J, by their numbers in the analysis or by the names of signal and
 block, or else for all pairs that never run together. The first entry is that of the job that comes
 first. --all lists all statements, and not the first few of each kind. --json writes a list of
 objects for a program, one a line and a pair, with all statements. plex-conflicts has to be there.
+--diff tells what has become of the pairs of E in the exchange text E2: which are free now, and
+which conflicts are gone, still there or new.
 """
 from typing import Iterable, Iterator, List, Optional, Sequence
 
 from plextools import limits, programs, tables
-from plextools.analysis import why
-from plextools.analysis.conflicts import Pair
+from plextools.analysis import pair_changes, why
+from plextools.analysis.conflicts import Conflicts, Pair
 from plextools.analysis.lines import Analysis
 from plextools.show import pair_json
 
@@ -73,14 +75,27 @@ def as_json(exchange: why.Exchange, pairs: Sequence[Pair]) -> Iterator[str]:
     yield "]"
 
 
+def differences(before: str, after: str, json: bool) -> Iterator[str]:
+    """What has become of the pairs of a text in another one."""
+    told = pair_changes.changes(Conflicts(before), Conflicts(after))
+    yield from [tables.as_json(told)] if json else pair_changes.text_of(told)
+
+
 def main() -> int:
     """Runs the command."""
     words = programs.Words(__doc__)
+    words.add_argument("--diff", action="store_true")
     words.add_argument("--all", action="store_true")
     words.add_argument("--json", action="store_true")
     words.add_argument("exchange")
     words.add_argument("pair", nargs="*", default=[])
     given = words.parse_args()
+    if given.diff:
+        if len(given.pair) != 1 or given.all:
+            words.error("--diff takes two exchange texts, and may have --json alone beside it")
+        for line in differences(given.exchange, given.pair[0], given.json):
+            print(line)
+        return 0
     if len(given.pair) not in (0, 2, 4):
         words.error("a pair is two numbers of entries, or SIGNAL BLOCK SIGNAL BLOCK")
     exchange = why.Exchange(given.exchange, asked(given.pair))

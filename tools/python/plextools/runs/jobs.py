@@ -19,6 +19,7 @@ from plextools.runs.machine import Arrival, Job, Machine, TooLong
 from plextools.runs.running import Sent
 from plextools.runs.signals import Line, lines_of
 from plextools.runs.steps import Program
+from plextools.runs.touches import Foot, TouchedContext, TouchedProgram, Trails, range_of
 
 PATIENCE = 20_000_000
 ENDINGS = (0, 4, 5)
@@ -29,7 +30,10 @@ class Load:
     """The jobs of a run in the order in which they came, those that ran in their order, the lines,
     and how it ended.
 
-    `lines` has each line of the signal file that has arrived.
+    `lines` has each line of the signal file that has arrived, and `signals` all of them. Where the
+    load `is_dense` each is taken to be there when the turn of its job comes. The first `skipped`
+    jobs run but do not count. `feet` has what each job that ran has touched, where that was asked
+    for.
     """
 
     def __init__(
@@ -43,20 +47,27 @@ class Load:
     ) -> None:
         self.jobs, self.ran, self.lines, self.ending, self.limit = jobs, ran, lines, ending, limit
         self.is_traced = is_traced
-        self.statements = sum(job.length for job in ran)
         self.entries = sorted({job.entry for job in jobs})
+        self.feet: Optional[List[Foot]] = None
+        self.signals: Sequence[Line] = ()
+        self.is_dense = False
+        self.skip(0)
+
+    def skip(self, count: int) -> None:
+        """From now on the first jobs do not count."""
+        self.skipped = min(count, len(self.ran))
+        self.counted = self.ran[self.skipped :]
+        self.statements = sum(job.length for job in self.counted)
 
     def chain(self) -> List[Job]:
-        """The jobs of the longest chain: each was sent by the one before it, or came after it in
-        one forlopp. The first comes first.
+        """The jobs of the longest chain among those that count: each was sent by the one before
+        it, or came after it in one forlopp. The first comes first.
         """
         best: Dict[int, int] = {}
         before: Dict[int, Optional[int]] = {}
         last: Dict[int, int] = {}
-        for job in self.ran:
-            others = [
-                number for number in (job.sender, last.get(job.forlopp)) if number is not None
-            ]
+        for job in self.counted:
+            others = [number for number in (job.sender, last.get(job.forlopp)) if number in best]
             former = max(others, key=best.__getitem__) if others else None
             before[job.number] = former
             best[job.number] = job.length + (best[former] if former is not None else 0)
@@ -94,9 +105,44 @@ class Recorder(Machine):
         finally:
             line.erase()
 
+    def feet(self) -> Optional[List[Foot]]:
+        """What each job has touched, where that is kept."""
+
     def load(self, is_traced: bool) -> Load:
         assert self.kept is not None
-        return Load(self.kept, self.ran, self.arrivals, self.ending, self.limit, is_traced)
+        made = Load(self.kept, self.ran, self.arrivals, self.ending, self.limit, is_traced)
+        made.feet, made.signals = self.feet(), self.lines
+        return made
+
+
+class TouchRecorder(Recorder):
+    """The single run, which keeps what each job has touched."""
+
+    def __init__(
+        self, program: TouchedProgram, lines: Sequence[Line], limit: int, patience: Optional[int]
+    ) -> None:
+        super().__init__(program, lines, limit, patience)
+        assert isinstance(self.context, TouchedContext)
+        self.trails = Trails(program, self.context)
+
+    def feet(self) -> List[Foot]:
+        return list(self.trails.feet())
+
+    def perform(self, job: Job) -> None:
+        super().perform(job)
+        self.trails.close()
+
+    def end_forlopps(self, job: Job) -> None:
+        """What a release or a restart stores counts as stored by the job."""
+        chains = self.chains
+        ended = [chains.get(job.forlopp, {})] if job.forlopp else list(chains.values())
+        freed = [range_of(file, record) for one in ended for record, file in self.records_of(one)]
+        self.trails.note(() if job.forlopp else self.cleared(), freed)
+        super().end_forlopps(job)
+
+    def cleared(self) -> List[int]:
+        variables = self.program.layout.variables.values()
+        return [variable.cell for variable in variables if variable.is_clear]
 
 
 class Tracer(Recorder):
@@ -170,17 +216,28 @@ def mean_lengths(ran: List[Job], count: int) -> List[int]:
     return [max(1, round(total / number)) if number else mean for total, number in sums]
 
 
-def jobs_of(exchange: Exchange, signals_name: str, limit: int, patience: int = PATIENCE) -> Load:
-    """The load of an exchange, whose text is known to be right, and of a signal file."""
+def jobs_of(
+    exchange: Exchange,
+    signals_name: str,
+    limit: int,
+    patience: int = PATIENCE,
+    touches: bool = False,
+) -> Load:
+    """The load of an exchange, whose text is known to be right, and of a signal file. It has what
+    its jobs touch where that is asked for, and where they are done statement by statement.
+    """
     signals, name = bytes_of(signals_name), exchange.text.name
     answer(["run", name, signals_name, "--workers", "1", "--jobs", "1"], ENDINGS)
-    program = Program(exchange.text)
     lines = lines_of(exchange.text, signals)
-    machine = Recorder(program, lines, limit, patience)
+    machine = (
+        TouchRecorder(TouchedProgram(exchange.text), lines, limit, patience)
+        if touches
+        else Recorder(Program(exchange.text), lines, limit, patience)
+    )
     try:
         machine.run()
     except TooLong:
-        return traced(exchange, program, lines, signals_name, machine)
+        return traced(exchange, Program(exchange.text), lines, signals_name, machine)
     words = ["run", name, signals_name, "--workers", "1", "--jobs", str(limit)]
     try:
         check.compare_report(machine, programs.lines_of(words, ENDINGS))

@@ -10,7 +10,7 @@ from collections import deque
 from typing import Deque, Dict, Iterator, List, NamedTuple, Optional, Sequence, Set, Tuple, Union
 
 from plextools.runs.layout import File
-from plextools.runs.running import Context, JobFault, Sent, Watch, perform
+from plextools.runs.running import JobFault, Sent, Watch, perform
 from plextools.runs.signals import NEW, NONE, Line
 from plextools.runs.steps import Program
 
@@ -148,10 +148,8 @@ class Machine:
         keeps: bool = False,
     ) -> None:
         self.program, self.lines, self.limit, self.patience = program, lines, limit, patience
-        layout, text = program.layout, program.text
-        self.context = Context(
-            list(layout.cells), len(layout.files), program.segments, watch or Watch()
-        )
+        text = program.text
+        self.context = program.context(watch or Watch())
         self.levels = [text.signals[node.signal.text].level or "" for node in text.entries]
         self.waiting: Dict[str, Deque[Job]] = {level: deque() for level in LEVELS}
         # How many jobs wait, and how many of each forlopp. Jobs of a dead one stay in the lists
@@ -336,12 +334,16 @@ class Machine:
 
     def free_chain(self, forlopp: int) -> int:
         """Frees the records of a forlopp, and tells how many they are."""
-        chain, context = self.chains.pop(forlopp, {}), self.context
+        chain = self.chains.pop(forlopp, {})
         for number, file in self.records_of(chain):
-            first = file.first + number * file.stride
-            context.cells[first : first + file.stride] = file.opening
-            context.hints[file.number] = min(context.hints[file.number], number)
+            self.free(number, file)
         return len(chain)
+
+    def free(self, number: int, file: File) -> None:
+        """Frees a record."""
+        context, first = self.context, file.first + number * file.stride
+        context.cells[first : first + file.stride] = file.opening
+        context.hints[file.number] = min(context.hints[file.number], number)
 
     def records_of(self, chain: Dict[int, int]) -> Iterator[Tuple[int, File]]:
         """The records of a chain in its order, each with its file."""

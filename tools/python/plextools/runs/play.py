@@ -23,6 +23,7 @@ from typing import (
 )
 
 from plextools.analysis.conflicts import Conflicts
+from plextools.analysis.counters import Counters
 from plextools.analysis.reasons import Numbers, Reason
 from plextools.runs.jobs import Load
 from plextools.runs.machine import Job
@@ -158,6 +159,23 @@ class Rules:
         return Against(conflicting, tested)
 
 
+class AddingRules(Rules):
+    """The rules where counters keep nothing apart: the verdicts with additions."""
+
+    def __init__(self, conflicts: Conflicts, counters: Counters) -> None:
+        super().__init__(conflicts)
+        self.counters = counters
+
+    def pair(self, i: int, j: int) -> OfPair:
+        key = i, j
+        if key not in self.known:
+            left = self.counters.conflicts_left(i, j)
+            tests = [] if left else self.counters.tests_left(i, j)
+            conflict = left[0] if left else None
+            self.known[key] = OfPair(conflict, [Test(test, holding(test)) for test in tests])
+        return self.known[key]
+
+
 def holding(test: Reason) -> Holds:
     """The function that tells whether a test holds of the first and the later of two jobs."""
     a, b = test.numbers or Numbers(0, 0)
@@ -185,7 +203,7 @@ def keys_of(i: int, j: int, reason: Reason) -> List[Key]:
 
 class Play:
     """What came of it: the time, how long the window had how many jobs, and how long it stood still
-    for which reason.
+    for which reason. Of a load whose first jobs do not count, all this is behind them.
 
     `bars` and `waits` are there where bars are kept.
     """
@@ -246,6 +264,8 @@ class Player:
         self.forlopps: Set[int] = set()
         self.known: Dict[int, Against] = {}
         self.held: Optional[Held] = None
+        # When what counts has begun.
+        self.start = 0
         # The rows in which no bar is drawn now, and those of the jobs of the window.
         self.free_rows = list(range(workers - 1, -1, -1))
         self.rows: Deque[int] = deque()
@@ -263,11 +283,21 @@ class Player:
 
     def next_line(self) -> Tuple[float, float]:
         lines = self.load.lines
+        if self.load.is_dense:
+            return NEVER, NEVER
         return (
             (lines[self.line][1], lines[self.line][0]) if self.line < len(lines) else (NEVER, NEVER)
         )
 
+    def next_in_turn(self) -> Optional[Job]:
+        """The next job of the run, unless the job that sends it has not retired."""
+        begun = len(self.begun)
+        job = self.load.ran[begun] if begun < len(self.load.ran) else None
+        return job if job and job.by <= self.ended else None
+
     def next_job(self) -> Optional[Job]:
+        if self.load.is_dense:
+            return self.next_in_turn()
         dead = self.dead
         for jobs in self.waiting.values():
             while jobs:
@@ -336,12 +366,17 @@ class Player:
         self.held = Held(job, place, blocked)
         return blocked
 
+    def length(self, job: Job) -> int:
+        """How much time a job takes."""
+        return job.length
+
     def issue(self, job: Job) -> None:
         made, entry = self.made, job.entry
-        self.waiting[job.level].popleft()
+        if not self.load.is_dense:
+            self.waiting[job.level].popleft()
         self.held = None
         self.begun.append(job)
-        self.ends.append(made.time + job.length)
+        self.ends.append(made.time + self.length(job))
         self.counts[entry] += 1
         self.present |= 1 << entry
         if job.forlopp:
@@ -364,15 +399,22 @@ class Player:
         if not self.counts[entry]:
             self.present ^= 1 << entry
         self.forlopps.discard(job.forlopp)
-        if job.sent:
+        if job.sent and not self.load.is_dense:
             for sent in self.load.jobs[job.sent[0] : job.sent[-1] + 1]:
                 self.waiting[sent.level].append(sent)
         if job.fault:
             self.end_forlopps(job.forlopp)
         if not self.ends:
             self.arrive()
+        if self.ended == self.load.skipped:
+            self.start_over()
         if self.tell and self.ended % BETWEEN == 0:
             self.tell(self.workers, self.ended)
+
+    def start_over(self) -> None:
+        """The jobs that do not count have all retired."""
+        self.start, self.made.standing = self.made.time, 0
+        self.made.waited.clear()
 
     def end_forlopps(self, forlopp: int) -> None:
         """The jobs of a forlopp leave the lists, or all where a job of none has faulted."""
@@ -407,7 +449,8 @@ class Player:
             elif reason is not None and self.ends:
                 self.go_on(reason, job)
             else:
-                self.made.busy = sum(one.length for one in self.begun)
+                self.made.busy = sum(one.length for one in self.begun[self.load.skipped :])
+                self.made.time -= self.start
                 return self.made
 
 
@@ -424,7 +467,7 @@ def one_by_one(load: Load) -> Play:
     retired.
     """
     made = Play(1)
-    made.order, made.widest = list(load.ran), min(1, len(load.ran))
+    made.order, made.widest = list(load.ran), min(1, len(load.counted))
     made.time = made.busy = made.standing = load.statements
     if made.time:
         made.waited[FULL] = made.time
@@ -434,6 +477,11 @@ def one_by_one(load: Load) -> Play:
 def plays(
     load: Load, rules: Rules, counts: Iterable[int], tell: Optional[Tell] = None
 ) -> Dict[int, Play]:
+    """A play for each count of workers."""
+    return widest_first(counts, lambda workers: play(load, rules, workers, tell=tell))
+
+
+def widest_first(counts: Iterable[int], one: Callable[[int], Play]) -> Dict[int, Play]:
     """A play for each count of workers. One that never fills its window is that of all counts down
     to its widest.
     """
@@ -441,6 +489,6 @@ def plays(
     wider: Optional[Play] = None
     for workers in sorted(set(counts), reverse=True):
         if wider is None or wider.widest >= workers:
-            wider = play(load, rules, workers, tell=tell)
+            wider = one(workers)
         made[workers] = wider.with_workers(workers)
     return made

@@ -9,12 +9,15 @@ from typing import Dict, FrozenSet, Iterator, List, Optional, Sequence, Set, Tup
 
 from plextools.analysis import why as why_lines
 from plextools.analysis.reasons import Reason
+from plextools.runs.exact import exact_plays, longest_chain
 from plextools.runs.jobs import Load
 from plextools.runs.play import END, FULL, LINE, SAME, SENDER
-from plextools.runs.play import Blocked, Key, OfPair, Play, Rules, Tell, keys_of, play, plays
+from plextools.runs.play import AddingRules, Blocked, Key, OfPair, Play, Rules, Tell
+from plextools.runs.play import keys_of, play, plays
 from plextools.tables import in_columns
 
 WORST, SHOWN, OTHERS, SHORT, MOST_ENTRIES = 10, 20, 3, 4000, 10
+IDLE = 0.2  # of the time, from which on it is told
 WAITS = {"pair": "pair", LINE: "line", SENDER: "sender", END: "end"}
 HEADS = ["workers", "speed-up", "time", "in the window", "full", *WAITS.values()]
 MEANING = (
@@ -24,6 +27,10 @@ MEANING = (
     "since a pair may not run together, for a line of",
     "the signal file that comes first, or for the job that sends it; "
     "or no other job came, at the end.",
+)
+EXACT = (
+    "Exact: jobs wait for those alone that touch a word of theirs where one of the two stores.",
+    "And additions: not for words to which both only add, by V = V + .. with a WIDTH of 32.",
 )
 MEANS = (
     "The load is large, so plex trace told its later jobs: "
@@ -57,6 +64,7 @@ class PairBlocks(TypedDict, total=False):
     first: int
     later: int
     reason: str
+    counter: bool
     waited: int
     share: float
     speed_up_without_it: float
@@ -68,6 +76,7 @@ class ChangePays(TypedDict, total=False):
     """A reason in all pairs, and what the speed-up would be without it."""
 
     change: str
+    counter: bool
     waited: int
     pairs: int
     share: float
@@ -96,6 +105,27 @@ class OfEntry(TypedDict):
     share: float
 
 
+class Bound(TypedDict):
+    """What a load would reach with exact knowledge of what its jobs touch: by its longest chain,
+    and with each count of workers.
+    """
+
+    longest_chain: int
+    speed_up_by_chain: float
+    speed_ups: List[float]
+
+
+class Exact(TypedDict):
+    """The same where each store counts, and where additions commute. The speed-ups stand in the
+    order of the counts of workers; the first ones are those by the verdicts, if counters kept
+    nothing apart.
+    """
+
+    verdicts_with_additions: List[float]
+    touches: Bound
+    additions_commute: Bound
+
+
 class Figures(TypedDict):
     """All figures of a load, as --json writes them."""
 
@@ -107,6 +137,7 @@ class Figures(TypedDict):
     speed_up_by_chain: float
     workers: List[OfPlay]
     blockers: Blocks
+    exact: Optional[Exact]
     entries: List[OfEntry]
 
 
@@ -121,7 +152,7 @@ def figures(
     made = plays(load, Rules(exchange.conflicts), [*counts, chosen], tell)
     chain = sum(job.length for job in load.chain())
     return {
-        "jobs": len(load.ran),
+        "jobs": len(load.counted),
         "statements": load.statements,
         "ending": load.ending,
         "lengths_are_means": load.is_traced,
@@ -129,7 +160,31 @@ def figures(
         "speed_up_by_chain": ratio(load.statements, chain),
         "workers": [of_play(made[workers]) for workers in counts],
         "blockers": Blockers(exchange, load, made[chosen], tell).told(),
+        "exact": exact(exchange, load, counts, tell) if load.feet is not None else None,
         "entries": of_entries(exchange, load),
+    }
+
+
+def exact(
+    exchange: why_lines.Exchange, load: Load, counts: Sequence[int], tell: Optional[Tell]
+) -> Exact:
+    """What exact knowledge of what jobs touch would bring."""
+    rules = Rules(exchange.conflicts)
+
+    def bound(adding: bool) -> Bound:
+        made = exact_plays(load, rules, counts, adding, tell)
+        chain = longest_chain(load, adding)
+        return {
+            "longest_chain": chain,
+            "speed_up_by_chain": ratio(load.statements, chain),
+            "speed_ups": [made[workers].speed for workers in counts],
+        }
+
+    adding = plays(load, AddingRules(exchange.conflicts, exchange.counters), counts, tell)
+    return {
+        "verdicts_with_additions": [adding[workers].speed for workers in counts],
+        "touches": bound(False),
+        "additions_commute": bound(True),
     }
 
 
@@ -208,6 +263,7 @@ class Blockers:
                 "first": i,
                 "later": j,
                 "reason": told_reason(told, reason),
+                "counter": self.is_counter(i, j, reason),
                 "waited": time,
                 "share": part_of(time, self.made.time),
             }
@@ -230,14 +286,23 @@ class Blockers:
             if reason:
                 change = changes.setdefault(
                     keys_of(i, j, reason)[1],
-                    {"change": self.change(i, j, reason), "waited": 0, "pairs": 0},
+                    {
+                        "change": self.change(i, j, reason),
+                        "counter": True,
+                        "waited": 0,
+                        "pairs": 0,
+                    },
                 )
                 change["waited"] += time
                 change["pairs"] += 1
+                change["counter"] &= self.is_counter(i, j, reason)
         for key, row in sorted(changes.items(), key=lambda one: -one[1]["waited"])[:WORST]:
             row["share"] = part_of(row["waited"], self.made.time)
             row["speed_up_without_it"] = self.without(key)
             yield row
+
+    def is_counter(self, i: int, j: int, reason: Optional[Reason]) -> bool:
+        return reason is not None and self.exchange.counters.is_counter(i, j, reason)
 
     def change(self, i: int, j: int, reason: Reason) -> str:
         """A reason as it stands in all pairs that one change would mend."""
@@ -267,7 +332,7 @@ def told_reason(told: str, reason: Optional[Reason]) -> str:
 def of_entries(exchange: why_lines.Exchange, load: Load) -> List[OfEntry]:
     rows: List[OfEntry] = []
     for entry in exchange.analysis.entries:
-        lengths = [job.length for job in load.ran if job.entry == entry.number]
+        lengths = [job.length for job in load.counted if job.entry == entry.number]
         if lengths:
             rows.append(
                 {
@@ -297,6 +362,9 @@ def text_of(exchange: why_lines.Exchange, told: Figures) -> Iterator[str]:
     yield ""
     yield from of_workers(told)
     yield ""
+    if told["exact"]:
+        yield from of_exact(told)
+        yield ""
     yield from of_blockers(exchange, told["blockers"])
     yield "Jobs by entry"
     yield from in_columns(
@@ -310,12 +378,54 @@ def of_run(told: Figures) -> Iterator[str]:
     chain, speed = told["longest_chain"], told["speed_up_by_chain"]
     longest = f"The longest chain of jobs that wait for one another has {chain}"
     yield f"{longest}: at best {speed:.2f} times as fast."
+    if told["exact"]:
+        yield from of_bounds(told["exact"])
     if told["lengths_are_means"]:
         yield from MEANS
     mean = ratio(told["statements"], told["jobs"])
     if told["jobs"] and mean < SHORT:
-        short = f"The jobs are short, {mean:.0f} statements each"
-        yield f"{short}: plex hands jobs to other workers from some {SHORT} on."
+        short = f"The jobs are short, {mean:.0f} statements each: plex itself hands jobs to other"
+        yield f"{short} workers from some {SHORT} on."
+        yield "Another machine may do so earlier: --cost-job tells of it."
+    yield from of_idle(told)
+
+
+def of_idle(told: Figures) -> Iterator[str]:
+    """That the load itself leaves workers idle, with the count for which most is told."""
+    workers = told["blockers"]["workers"]
+    row = next((one for one in told["workers"] if one["workers"] == workers), None)
+    idle = row["stood_still_for"][LINE] + row["stood_still_for"][SENDER] if row else 0
+    if row and part_of(idle, row["time"]) >= IDLE:
+        part = f"in {share(part_of(idle, row['time']))} of the time with {workers} workers"
+        yield f"The load is spread: {part} no line was due, or"
+        yield "no job had sent the next one. --dense plays it as if each line were there in time."
+
+
+def of_bounds(told: Exact) -> Iterator[str]:
+    heads = "With exact knowledge of what jobs touch", "Where additions commute as well"
+    for head, bound in zip(heads, (told["touches"], told["additions_commute"])):
+        chain, speed = bound["longest_chain"], bound["speed_up_by_chain"]
+        yield f"{head} it has {chain}: at best {speed:.2f} times as fast."
+
+
+def of_exact(told: Figures) -> Iterator[str]:
+    """How fast the load would be with each count of workers and exact knowledge."""
+    assert told["exact"]
+    bounds = told["exact"]["touches"], told["exact"]["additions_commute"]
+    adding = told["exact"]["verdicts_with_additions"]
+    yield "How fast where additions commute, and with exact knowledge of what jobs touch"
+    rows = [
+        [
+            str(row["workers"]),
+            f"{row['speed_up']:.2f}",
+            f"{adding[place]:.2f}",
+            *(f"{bound['speed_ups'][place]:.2f}" for bound in bounds),
+        ]
+        for place, row in enumerate(told["workers"])
+    ]
+    heads = ["workers", "by the verdicts", "and additions", "exact", "exact and additions"]
+    yield from in_columns(heads, rows, None)
+    yield from EXACT
 
 
 def rows_of_entries(told: Figures) -> List[List[str]]:
@@ -353,7 +463,7 @@ def rows_of_workers(told: Figures) -> List[List[str]]:
 def rows_of_changes(told: Blocks) -> List[List[str]]:
     return [
         [
-            row["change"],
+            row["change"] + (", a counter" if row["counter"] else ""),
             str(row["pairs"]),
             str(row["waited"]),
             share(row["share"]),

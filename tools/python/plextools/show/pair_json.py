@@ -27,21 +27,27 @@ class OfStatement(TypedDict):
 
 
 class OfReason(TypedDict):
-    """A conflict or a test, the statements of both jobs, and what helps."""
+    """A conflict or a test, the statements of both jobs, and what helps; and whether it is about a
+    counter, to which both only add.
+    """
 
     reason: str
     first: List[OfStatement]
     later: List[OfStatement]
     helps: str
+    counter: bool
 
 
 class OfPair(TypedDict):
-    """A pair, with its verdict: NEVER, IF or ALWAYS."""
+    """A pair, with its verdict: NEVER, IF or ALWAYS. `behind` are the conflicts, or else the tests,
+    that are left where counters keep nothing apart.
+    """
 
     first: OfEntry
     later: OfEntry
     verdict: str
     reasons: List[OfReason]
+    behind: List[str]
 
 
 def of_pair(exchange: Exchange, i: int, j: int) -> OfPair:
@@ -52,6 +58,7 @@ def of_pair(exchange: Exchange, i: int, j: int) -> OfPair:
         "later": of_entry(pair.later),
         "verdict": verdict_of(reasons),
         "reasons": [of_reason(pair, reason) for reason in reasons],
+        "behind": exchange.counters.behind(i, j),
     }
 
 
@@ -77,6 +84,7 @@ def of_reason(pair: Pair, reason: Reason) -> OfReason:
         "first": of_statements(first),
         "later": of_statements(later),
         "helps": pair.cure(reason),
+        "counter": pair.exchange.counters.is_counter(pair.i, pair.j, reason),
     }
 
 
