@@ -24,8 +24,8 @@ def test_names() -> None:
 
 @pytest.mark.parametrize("row", tables.PLANTED, ids=lambda row: str(row.name))
 def test_row(row: Planted) -> None:
-    """A row names a check and a program that are there, and an edit fits its file once, which is one
-    of the tools, since they alone are copied.
+    """A row names a check and a program that are there, and an edit fits its file once, which is of
+    the tools, since they alone are copied.
     """
     assert row.check in CHECKS
     if isinstance(row, Edit):

@@ -38,6 +38,7 @@ LANE = re.compile(r"    participant L(\d+) as (\w+)")
 BESIDE = re.compile(r"    Note right of L(\d+): (.*)")
 OVER = re.compile(r"    Note over L0(?:,L\d+)?: (.*)")
 ENDS = re.compile(r" \((to job (\d+)|removed|later|never started)(?:, new F(\d+))?\)$")
+RAIL = re.compile(r'd="M([\d.]+) ([\d.]+)V([\d.]+)H([\d.]+)"')
 STORED = re.compile(r"(\w+(?:\(\d+\))?): (\d+) -> (\d+)(?: \((\d+) stores\))?")
 MADE: Any = made_exchange
 ORACLE: Any = oracle_machine
@@ -533,7 +534,12 @@ def test_rails_lead_to_the_jobs_that_start() -> None:
     made = chart_of(run_of(*files("guide/levels")), wishes())
     leading = [row for row in made.rows if isinstance(row, chart.Arrow) and row.receiver]
     svg = "\n".join(chart_svg.svg_of(made, None))
-    assert len(re.findall(r'd="M[\d.]+ [\d.]+V[\d.]+H[\d.]+"', svg)) == len(leading)
+    rails = [tuple(map(float, found)) for found in RAIL.findall(svg)]
+    assert len(rails) == len(leading)
+    for place, (x, top, bottom, lane) in enumerate(rails):
+        assert x < lane and top < bottom
+        beside = [other for other in rails[:place] if other[0] == x]
+        assert all(bottom <= other[1] or other[2] <= top for other in beside), "one over another"
 
 
 def test_strange_names_and_comments_draw_safely(tmp_path: pathlib.Path) -> None:

@@ -206,6 +206,18 @@ def test_all_statements(folder: pathlib.Path, words: list[str]) -> None:
     assert done.returncode == 0 and (told >= 2 * MANY if words else 0 < told < MANY)
 
 
+def test_names_of_entries(folder: pathlib.Path) -> None:
+    """plex-why takes the names of signal and block for the number of an entry."""
+    counter = (EXAMPLES / "three_ticks" / "exchange.plex").read_text()
+    _, block, text = counter.partition("BLOCK ")
+    (folder / "E").write_text(counter + block + text.replace("COUNTER", "OTHER"))
+    numbered = [run(["plex-why", "E", word, word], folder).stdout for word in ("0", "1")]
+    named = [
+        run(["plex-why", "E", *["TICK", name] * 2], folder).stdout for name in ("COUNTER", "OTHER")
+    ]
+    assert named == numbered and named[0] != named[1] and all(named)
+
+
 @pytest.mark.parametrize("tool", EMPTY)
 def test_empty_texts(folder: pathlib.Path, tool: str) -> None:
     """An empty text is one."""

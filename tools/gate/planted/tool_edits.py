@@ -186,7 +186,7 @@ OF_WHY = [
         WHY,
         "if [entry.signal, entry.block] == words:",
         "if entry.signal == words[0]:",
-        ("-k", "why.words"),
+        ("-k", "names_of_entries"),
     ),
 ]
 
@@ -260,11 +260,10 @@ OF_CHART = [
     ),
     drawn(
         "chart_rails",
-        "`--svg` draws the rails elsewhere",
+        "`--svg` draws rails over one another",
         CHART_SVG,
-        "RAILS, RAIL, FIRST_RAIL = 6, 6, 18",
-        "RAILS, RAIL, FIRST_RAIL = 6, 7, 18",
-        "picture",
+        "free = next((track for track in range(RAILS) if track not in tracks), None)",
+        "free = next((track for track in range(RAILS)), None)",
         "rails",
     ),
     drawn(
