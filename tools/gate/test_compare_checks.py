@@ -32,8 +32,11 @@ from gate.test_broken_texts import TEXTS as BROKEN_TEXTS
 from gate.test_sentences import TEXTS as SENTENCES
 from plextools.commands import check as plex_check
 from plextools.text import tokens
-from plextools.text.warnings import WARNINGS
+from plextools.text.warnings import WARNINGS, Oddities
 
+WAYS = set(
+    "UNREACHED RUNSINTO ENDLESS TOOWIDE NORECORD BYZERO CONSTANT NOTURN NEVERREAD LOST".split()
+)
 CHECK = TOOLS / "bin" / "plex-check"
 LONGEST, GATE = 300, 200
 TOLD = ("SOURCE", "SIGNALS", "TABLE", "FILTER")
@@ -465,6 +468,19 @@ def test_row(plex: pathlib.Path, folder: pathlib.Path, place: int) -> None:
     done = run([CHECK, *options, *files], folder)
     assert (done.returncode, done.stderr) == (status, b"")
     assert done.stdout.decode().splitlines() == lines
+
+
+def test_no_false_warning_of_ways() -> None:
+    """Of the examples one has a statement that nothing reaches, and none has another of the odd
+    ways through a text.
+    """
+    found = []
+    for path in sorted(EXAMPLES.glob("**/*.plex")):
+        checker = Oddities(tokens.Text(path.read_bytes(), 100))
+        if not checker.check():
+            words = {told.rule for told in checker.oddities()} & WAYS
+            found += [(path.parent.name, word) for word in words]
+    assert found == [("differences", "UNREACHED")]
 
 
 @pytest.mark.parametrize("row", warning_rows.ROWS, ids=lambda row: str(row.name))

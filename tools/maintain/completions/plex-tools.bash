@@ -1,5 +1,5 @@
-# Completion of the words of plex-chart, plex-why, plex-load, plex-page and plex-test in bash. Source
-# this file, or put it into a folder of bash-completion under the name of each tool.
+# Completion of the words of plex-chart, plex-format, plex-why, plex-load, plex-page and plex-test in
+# bash. Source this file, or put it into a folder of bash-completion under the name of each tool.
 
 # The file names that begin with the word.
 _plex_tools_files() {
@@ -61,9 +61,10 @@ _plex_tools() {
     COMPREPLY=()
     case ${COMP_WORDS[0]##*/} in
         plex-why) options='--all --json --diff --help' ;;
+        plex-format) options='--check --diff --help --version' ;;
         plex-load)
             options='--workers --jobs --skip --dense --precision --diff --json --help'
-            options+=' --cost-job --cost-send --cost-sync --statement --machines'
+            options+=' --cost-job --cost-send --cost-sync --statement --machines --trace-json'
             ;;
         plex-page) options='-o --workers --jobs --help' ;;
         plex-test) _plex_test "$word" "$before"; return ;;
@@ -83,4 +84,4 @@ _plex_tools() {
     esac
 }
 
-complete -F _plex_tools plex-chart plex-why plex-load plex-page plex-test
+complete -F _plex_tools plex-chart plex-format plex-why plex-load plex-page plex-test

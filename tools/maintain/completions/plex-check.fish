@@ -1,0 +1,13 @@
+# Made by tools/maintain/completion from its table of words.
+complete -c plex-check -l explain -x -a 'TOOLARGE BADBYTE BADNUMBER LONGNAME UNEXPECTED TOODEEP ENDED N1 N2 N3 N4 N5 N6 N7 N8 N9 N10 N11 N12 N13 N14 N15 N16 N17 NORECEIVER NEEDSREFERENCE NOTRECEIVED NOTINSURVEY TWOENTERS NOENTER LIMIT BADLINE UNKNOWNSIGNAL UNKNOWNBLOCK WRONGDATA FALLINGCOUNT BADAS BADRANGE TOOMANY BADTEXT WRONGEXCHANGE STRANGE MISSING ENTRY FILE DROPPED NARROWED STAYS UNSENT MOVED KEPT NEW RUNSON SWALLOWED UNUSED NOFREE UNREACHED RUNSINTO ENDLESS TOOWIDE NORECORD BYZERO CONSTANT NOTURN NEVERREAD LOST KEYWORD ODDAS NOJOB' -d 'explains a word'
+complete -c plex-check -l long -d 'shows faults in their lines'
+complete -c plex-check -l short -d 'writes a line for each fault'
+complete -c plex-check -l json -d 'writes a record of JSON for each fault'
+complete -c plex-check -l sarif -d 'writes a document of SARIF'
+complete -c plex-check -l color -x -a 'always never auto' -d 'whether there are colours'
+complete -c plex-check -l werror -d 'warnings are an error'
+complete -c plex-check -l no -x -a 'RUNSON SWALLOWED UNUSED NOFREE UNREACHED RUNSINTO ENDLESS TOOWIDE NORECORD BYZERO CONSTANT NOTURN NEVERREAD LOST KEYWORD ODDAS NOJOB DROPPED NARROWED STAYS UNSENT MOVED KEPT NEW' -d 'leaves warnings of a word out'
+complete -c plex-check -l most -x -a '1 100 1000 100000' -d 'tells so many of each word'
+complete -c plex-check -l change -d 'compares two exchange texts'
+complete -c plex-check -l help -d 'writes help'
+complete -c plex-check -l version -d 'writes the version'

@@ -1,0 +1,12 @@
+# Made by tools/maintain/completion from its table of words.
+complete -c plex-test -f -a '(__fish_complete_directories)'
+complete -c plex-test -s j -l jobs -x -a '1 2 4 8 16 32 64' -d 'runs so many cases at once'
+complete -c plex-test -s k -x -d 'runs cases with a text in their names'
+complete -c plex-test -l list -d 'lists the cases'
+complete -c plex-test -s v -l verbose -d 'tells passed cases too'
+complete -c plex-test -l update -d 'takes what is written into the cases'
+complete -c plex-test -l no-faults -d 'fails a case with a RELEASE or a RESTART'
+complete -c plex-test -l junit -r -F -d 'writes JUnit XML'
+complete -c plex-test -l timeout -x -a '10 60 600' -d 'ends a run after so many seconds'
+complete -c plex-test -l help -d 'writes help'
+complete -c plex-test -l version -d 'writes the version'
