@@ -169,11 +169,19 @@ class AddingRules(Rules):
     def pair(self, i: int, j: int) -> OfPair:
         key = i, j
         if key not in self.known:
-            left = self.counters.conflicts_left(i, j)
-            tests = [] if left else self.counters.tests_left(i, j)
-            conflict = left[0] if left else None
+            conflict = self.conflict(i, j)
+            tests = [] if conflict else self.counters.tests_left(i, j)
             self.known[key] = OfPair(conflict, [Test(test, holding(test)) for test in tests])
         return self.known[key]
+
+    def conflict(self, i: int, j: int) -> Optional[Reason]:
+        """The first conflict of two entries that is about no counter. The others are asked for only
+        where the first one is.
+        """
+        first = self.conflicts.first(i, j)
+        if first is None or not self.counters.is_counter(i, j, first):
+            return first
+        return next(iter(self.counters.conflicts_left(i, j)), None)
 
 
 def holding(test: Reason) -> Holds:

@@ -17,6 +17,7 @@ from plextools.runs.play import keys_of, play, plays
 from plextools.tables import in_columns
 
 WORST, SHOWN, OTHERS, SHORT, MOST_ENTRIES = 10, 20, 3, 4000, 10
+MOST_EXACT = 5000  # jobs of a load that is played with exact knowledge too
 IDLE = 0.2  # of the time, from which on it is told
 WAITS = {"pair": "pair", LINE: "line", SENDER: "sender", END: "end"}
 HEADS = ["workers", "speed-up", "time", "in the window", "full", *WAITS.values()]
@@ -117,8 +118,8 @@ class Bound(TypedDict):
 
 class Exact(TypedDict):
     """The same where each store counts, and where additions commute. The speed-ups stand in the
-    order of the counts of workers; the first ones are those by the verdicts, if counters kept
-    nothing apart.
+    order of the counts of workers, and are left out of a load of many jobs; the first ones are
+    those by the verdicts, if counters kept nothing apart.
     """
 
     verdicts_with_additions: List[float]
@@ -172,17 +173,27 @@ def exact(
     rules = Rules(exchange.conflicts)
 
     def bound(adding: bool) -> Bound:
-        made = exact_plays(load, rules, counts, adding, tell)
         chain = longest_chain(load, adding)
         return {
             "longest_chain": chain,
             "speed_up_by_chain": ratio(load.statements, chain),
-            "speed_ups": [made[workers].speed for workers in counts],
+            "speed_ups": speeds(adding, chain),
         }
 
-    adding = plays(load, AddingRules(exchange.conflicts, exchange.counters), counts, tell)
+    is_played = len(load.ran) <= MOST_EXACT
+
+    def speeds(adding: bool, chain: int) -> List[float]:
+        if not is_played:
+            return []
+        if chain == load.statements and not load.skipped:
+            return [1.0 for _ in counts]  # each job follows the one before it
+        made = exact_plays(load, rules, counts, adding, tell)
+        return [made[workers].speed for workers in counts]
+
+    adding = AddingRules(exchange.conflicts, exchange.counters)
+    made = plays(load, adding, counts, tell) if is_played else {}
     return {
-        "verdicts_with_additions": [adding[workers].speed for workers in counts],
+        "verdicts_with_additions": [made[workers].speed for workers in counts if is_played],
         "touches": bound(False),
         "additions_commute": bound(True),
     }
@@ -413,6 +424,10 @@ def of_exact(told: Figures) -> Iterator[str]:
     assert told["exact"]
     bounds = told["exact"]["touches"], told["exact"]["additions_commute"]
     adding = told["exact"]["verdicts_with_additions"]
+    if not adding:
+        yield f"The load has more than {MOST_EXACT} jobs: how fast it is so with how many workers"
+        yield "is left out; --jobs ends the run earlier."
+        return
     yield "How fast where additions commute, and with exact knowledge of what jobs touch"
     rows = [
         [
