@@ -13,6 +13,8 @@ from _pytest.terminal import TerminalReporter
 
 from gate import harness
 from gate.checking import Share, Sums, Tally
+from gate.lsp_client import Client
+from gate.lsp_example import need_module
 from plextools import programs
 
 SUMS: defaultdict[str, Sums] = defaultdict(Sums)
@@ -151,6 +153,39 @@ def folder() -> Iterator[pathlib.Path]:
     """A folder for the files of a case, which is removed behind it: some have many megabytes."""
     with tempfile.TemporaryDirectory() as name:
         yield pathlib.Path(name)
+
+
+@pytest.fixture(scope="module")
+def server() -> Iterator[Client]:
+    """A language server, without the programs of plex."""
+    yield from one_server()
+
+
+@pytest.fixture(scope="module")
+def other_server() -> Iterator[Client]:
+    """A second one."""
+    yield from one_server()
+
+
+def one_server() -> Iterator[Client]:
+    need_module()
+    made = Client(environment={"PLEX_CONFLICTS": "/nowhere/plex-conflicts"})
+    yield made
+    made.kill()
+
+
+@pytest.fixture
+def client(server: Client) -> Iterator[Client]:
+    """The client of a language server, with no document open."""
+    yield server
+    server.close_all()
+
+
+@pytest.fixture
+def other(other_server: Client) -> Iterator[Client]:
+    """The client of the second one."""
+    yield other_server
+    other_server.close_all()
 
 
 @pytest.fixture

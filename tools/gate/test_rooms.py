@@ -2,8 +2,8 @@
 
 A room is a folder with Python files. Its files import modules of the rooms that stand beside it in
 `ROOMS`, and nothing else of the tools. The order of the product is limits, text, analysis, runs,
-show, commands; the product imports nothing of gate, measure and maintain, and a second account in
-gate/oracle nothing of the product but the reader of texts and the limits.
+show, lsp, commands; the product imports nothing of gate, measure and maintain, and a second account
+in gate/oracle nothing of the product but the reader of texts and the limits.
 """
 import ast
 import importlib.util
@@ -24,7 +24,8 @@ KNOWS_TEXTS = {"plextools.limits", "plextools.text"}
 ANALYSIS = BASE | {"plextools.text", "plextools.analysis"}
 RUNS = ANALYSIS | {"plextools.runs"}
 SHOW = RUNS | {"plextools.show"}
-PRODUCT = SHOW | {"plextools.commands"}
+LSP = ANALYSIS | {"plextools.lsp"}
+PRODUCT = SHOW | LSP | {"plextools.commands"}
 
 # Each room, and what its files may import: rooms, or single modules of one.
 ROOMS = {
@@ -33,6 +34,7 @@ ROOMS = {
     "python/plextools/analysis": ANALYSIS,
     "python/plextools/runs": RUNS,
     "python/plextools/show": SHOW,
+    "python/plextools/lsp": LSP,
     "python/plextools/commands": PRODUCT,
     "bin": PRODUCT,
     "gate/oracle": KNOWS_TEXTS | {"gate.oracle"},

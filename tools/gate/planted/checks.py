@@ -22,6 +22,8 @@ TESTS = (
     "large_texts",
     "load_options",
     "look_at_page",
+    "lsp",
+    "lsp_edits",
     "plex_chart",
     "plex_test",
     "progress_line",

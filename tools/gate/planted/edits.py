@@ -23,6 +23,7 @@ COSTS = "tools/python/plextools/runs/machine_costs.py"
 COUNTERS = "tools/python/plextools/analysis/counters.py"
 ADDITIONS = "tools/python/plextools/text/additions.py"
 PAIR_CHANGES = "tools/python/plextools/analysis/pair_changes.py"
+LSP = "tools/python/plextools/lsp/"
 PAIR_GRAPH = "tools/python/plextools/show/pair_graph.py"
 PAIR_TABLE = "tools/python/plextools/show/pair_table.py"
 PAGE_HTML = "tools/python/plextools/show/page_html.py"
@@ -130,6 +131,11 @@ OF_BOUNDS = [
         "change = (STILL if is_never else STILL)",
     ),
 ]
+def lsp(name: str, told: str, file: str, old: str, new: str, test: str) -> Edit:
+    check = "lsp_edits" if test in ("test_edits", "test_long_text") else "lsp"
+    return Edit(name, "plex-lsp", told, check, LSP + file, old, new, ("-k", test))
+
+
 OF_CHECK = [
     check(
         "one_too_wide_untold",
@@ -399,6 +405,57 @@ OF_PAGE += [
     ),
 ]
 
+OF_LSP = [
+    lsp(
+        "diagnostic_one_line_lower",
+        "what is told stands one line lower",
+        "documents.py",
+        'return {"line": line, "character": character}',
+        'return {"line": line + 1, "character": character}',
+        "test_quick_fix",
+    ),
+    lsp(
+        "bytes_for_units",
+        "characters are counted in bytes",
+        "documents.py",
+        "len(before) if before.isascii() else units(letters_of(before))",
+        "len(before)",
+        "test_positions",
+    ),
+    lsp(
+        "place_not_renamed",
+        "a rename leaves out the last place",
+        "names.py",
+        "for document, noted in all_uses(workspace, meant):",
+        "for document, noted in list(all_uses(workspace, meant))[:-1]:",
+        "test_rename",
+    ),
+    lsp(
+        "segment_kept",
+        "for a block that was changed the names of another one are taken",
+        "index.py",
+        "known.segments.get(clean) or SegmentReader",
+        'known.segments.get(next(iter(known.segments), "")) or SegmentReader',
+        "test_edits",
+    ),
+    lsp(
+        "near_edit_elsewhere",
+        "a fault near an edit of a long text is told where it stands in the part that is read",
+        "quick.py",
+        "inside = [rewriting.finding(one) for one in found]",
+        "inside = list(found)",
+        "test_long_text",
+    ),
+    lsp(
+        "other_entry_counted",
+        "an entry that is kept apart is counted once more",
+        "verdicts.py",
+        'told.append(f"never together with {len(self.never)}")',
+        'told.append(f"never together with {len(self.never) + 1}")',
+        "test_code_lens",
+    ),
+]
+
 OF_OTHERS = [
     Edit(
         "other_report_taken",
@@ -438,4 +495,12 @@ OF_OTHERS = [
     ),
 ]
 
-EDITS: List[Edit] = [*OF_CHECK, *OF_WHY, *OF_LOAD, *OF_BOUNDS, *OF_PAGE, *OF_OTHERS]
+EDITS: List[Edit] = [
+    *OF_CHECK,
+    *OF_WHY,
+    *OF_LOAD,
+    *OF_BOUNDS,
+    *OF_PAGE,
+    *OF_LSP,
+    *OF_OTHERS,
+]

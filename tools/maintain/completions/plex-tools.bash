@@ -1,5 +1,6 @@
-# Completion of the words of plex-chart, plex-format, plex-why, plex-load, plex-page and plex-test in
-# bash. Source this file, or put it into a folder of bash-completion under the name of each tool.
+# Completion of the words of plex-chart, plex-format, plex-why, plex-load, plex-lsp, plex-page and
+# plex-test in bash. Source this file, or put it into a folder of bash-completion under the name of
+# each tool.
 
 # The file names that begin with the word.
 _plex_tools_files() {
@@ -66,6 +67,7 @@ _plex_tools() {
             options='--workers --jobs --skip --dense --precision --diff --json --help'
             options+=' --cost-job --cost-send --cost-sync --statement --machines --trace-json'
             ;;
+        plex-lsp) _plex_tools_words "$word" '--stdio --help --version'; return ;;
         plex-page) options='-o --workers --jobs --help' ;;
         plex-test) _plex_test "$word" "$before"; return ;;
         plex-chart) _plex_chart "$word" "$before"; return ;;
@@ -84,4 +86,4 @@ _plex_tools() {
     esac
 }
 
-complete -F _plex_tools plex-chart plex-format plex-why plex-load plex-page plex-test
+complete -F _plex_tools plex-chart plex-format plex-why plex-load plex-lsp plex-page plex-test
