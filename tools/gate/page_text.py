@@ -26,7 +26,7 @@ BAR = re.compile(rf'<rect class="bar" data-bar="(\d+)" {SHAPE}[^>]*><title>([^<]
 WAIT = re.compile(rf'<rect class="wait[^"]*" data-wait="(\d+)" {SHAPE}><title>([^<]*)</title>')
 CELL = re.compile(r"<td class=\w+(?: title=\"[^\"]*\")?>(.)")
 LINE = re.compile(r"<div id=L(\d+) data-n=\d+(?: data-by=\"([^\"]*)\")?>")
-MADE, WORKERS, JOBS = 6, 4, 300
+MADE, WORKERS, JOBS, DRAWN = 6, 4, 300, 200  # so many bars are drawn without scripts
 LEFT, LEAST_WIDTH, NEAR = 80.0, 2.0, 0.15  # where bars begin, and how wide and how exact they are
 
 
@@ -146,11 +146,15 @@ def of_lines(page: str, facts: Facts) -> Iterator[str]:
 # the play
 
 
+def rows_of(columns: Dict[str, List[Any]]) -> List[Dict[str, Any]]:
+    """Bars or waits, each with its parts."""
+    return [dict(zip(columns, parts)) for parts in zip(*columns.values())]
+
+
 def of_bar(told: Dict[str, Any], bar: Bar, place: Dict[int, int]) -> Dict[str, Any]:
     """What of a bar of the data is otherwise."""
     job: Job = bar.job
     wanted = {
-        "job": place[job.number],
         "entry": job.entry,
         "row": bar.row,
         "from": bar.begin,
@@ -161,22 +165,22 @@ def of_bar(told: Dict[str, Any], bar: Bar, place: Dict[int, int]) -> Dict[str, A
         "sender": place[job.sender] if job.sender is not None else None,
         "held": list(job.held),
         "fault": job.fault,
-        "sent": [place[number] for number in job.sent if number in place],
     }
     return {name: told[name] for name, value in wanted.items() if told[name] != value}
 
 
 def of_bars(play: Any, made: Play, boxes: List[Drawn]) -> Iterator[str]:
-    """The bars in the data and as they are drawn."""
+    """The bars in the data, and the first ones as a reader without scripts sees them."""
     place = {job.number: number for number, job in enumerate(made.order, 1)}
-    if not len(play["bars"]) == len(boxes) == len(made.bars):
-        yield f"{len(play['bars'])} bars, {len(boxes)} drawn, and not {len(made.bars)}"
+    bars = rows_of(play["bars"])
+    if not len(bars) == len(made.bars) or len(boxes) != min(len(bars), DRAWN):
+        yield f"{len(bars)} bars, {len(boxes)} drawn, and not {len(made.bars)}"
         return
-    for told, bar in zip(play["bars"], made.bars):
-        wrong = of_bar(told, bar, place)
-        if wrong:
-            yield f"the bar of job {place[bar.job.number]} has {wrong}"
-    yield from of_boxes([(told["from"], told["to"]) for told in play["bars"]], boxes)
+    for number, (told, bar) in enumerate(zip(bars, made.bars), 1):
+        wrong = of_bar({**told, "held": play["files"][told["held"]]}, bar, place)
+        if wrong or place[bar.job.number] != number:
+            yield f"the bar of job {place[bar.job.number]}, which is bar {number}, has {wrong}"
+    yield from of_boxes([(told["from"], told["to"]) for told in bars[:DRAWN]], boxes)
 
 
 def of_boxes(times: List[Tuple[int, int]], boxes: List[Drawn]) -> Iterator[str]:
@@ -198,16 +202,24 @@ def of_waits(play: Any, boxes: List[Drawn], facts: Facts) -> Iterator[str]:
     """Each wait begins where the window was begun or a job ended, and ends where one ended; one for
     a pair tells a reason of that pair.
     """
-    ends = {bar["to"] for bar in play["bars"]}
-    for wait, box in zip(play["waits"], boxes):
+    ends = set(play["bars"]["to"])
+    waits = [{**wait, **of_told(play, wait)} for wait in rows_of(play["waits"])]
+    last = max(play["bars"]["to"][:DRAWN], default=0)
+    for place, wait in enumerate(waits):
         told = f"from {wait['from']} to {wait['to']}: {wait['reason']}"
         if wait["from"] not in ends | {0} or wait["to"] not in ends:
             yield f"a wait {told}, when no job ended"
-        if box.title.replace("&amp;", "&") != told:
-            yield f"a wait {told} is called {box.title}"
+        if place < len(boxes) and boxes[place].title.replace("&amp;", "&") != told:
+            yield f"a wait {told} is called {boxes[place].title}"
         yield from of_reason(wait, facts)
-    if len(boxes) != len(play["waits"]):
-        yield f"{len(boxes)} waits are drawn, and not {len(play['waits'])}"
+    if len(boxes) != sum(wait["from"] < last for wait in waits):
+        yield f"{len(boxes)} waits are drawn, of {len(waits)}"
+
+
+def of_told(play: Any, wait: Any) -> Dict[str, Any]:
+    """The reason of a wait with its pair and its letter."""
+    told = play["reasons"][wait["reason"]]
+    return {"reason": told["told"], "pair": told["pair"], "kind": told["kind"]}
 
 
 def of_reason(wait: Any, facts: Facts) -> Iterator[str]:

@@ -49,6 +49,27 @@ END BLOCK;
 """  # noqa: E501
 TOLD = "document.getElementById('told').innerText"
 LINES = "Array.from(document.querySelectorAll('{}')).map((e) => Number(e.id.slice(1)))"
+# The bars of the drawing with the part of the time that is in view, and where bars begin and end.
+RULE, EDGE = 74, 8
+DRAWN = """new Promise((done) => requestAnimationFrame(() => setTimeout(() => {
+  const svg = document.querySelector("svg.drawing");
+  const bars = JSON.parse(document.getElementById("data").textContent).play.bars;
+  const boxes = Array.from(svg.querySelectorAll("rect.bar")).map((box) => [
+    Number(box.dataset.bar), Number(box.getAttribute("x")), Number(box.getAttribute("width"))]);
+  done({boxes: boxes, from: bars.from, to: bars.to, since: Number(svg.dataset.from),
+    until: Number(svg.dataset.to), width: Number(svg.getAttribute("width"))});
+}, 50)))"""
+APART = """(() => { const [one, other] = ["#told", "#pairs .wide"].map((name) =>
+  document.querySelector(name).getBoundingClientRect());
+  return one.left >= other.right || other.left >= one.right ||
+    one.top >= other.bottom || other.top >= one.bottom;
+})()"""
+IN_TEXT = """(() => { const box = document.getElementById("lines").getBoundingClientRect();
+  const line = document.querySelector("#lines .first, #lines .both").getBoundingClientRect();
+  return line.top >= box.top && line.bottom <= box.bottom; })()"""
+UNCUT = (
+    "Array.from(document.querySelectorAll('.plain')).every((e) => e.scrollWidth <= e.clientWidth)"
+)
 LIT = LINES.format("#lines .first, #lines .later, #lines .both")
 
 
@@ -133,8 +154,11 @@ class Look:
         )
         self.pair()
         self.bar()
+        self.drawn()
+        self.searched()
         self.entry()
         self.keys()
+        self.laid_out(size)
 
     def pair(self) -> None:
         """A click at a pair."""
@@ -178,6 +202,43 @@ class Look:
         self.window.click("[data-wait]:nth-last-of-type(1)")
         self.shows(["The window stood still"], "a time of waiting")
 
+    def drawn(self) -> None:
+        """The bars that are in view are where their times say, at first and nearer."""
+        for key, code in (("0", 48), ("+", 187), ("+", 187)):
+            self.window.value("document.querySelector('svg.drawing').focus()")
+            self.window.key(key, code)
+            told = self.window.value(DRAWN)
+            least = 5 if key == "0" else 2
+            self.need(len(told["boxes"]) >= least, f"{len(told['boxes'])} bars are drawn")
+            for number, left, width in told["boxes"]:
+                begin, end = told["from"][number], told["to"][number]
+                scale = (told["width"] - RULE - EDGE) / (told["until"] - told["since"])
+                wanted = max(RULE, RULE + scale * (begin - told["since"]))
+                last = min(told["width"] - EDGE, RULE + scale * (end - told["since"]))
+                self.need(
+                    abs(left - wanted) < 0.1 and abs(width - max(1.5, last - wanted - 0.5)) < 0.1,
+                    f"bar {number} is at {left}, {width} wide, and not at {wanted} to {last}",
+                )
+        self.need(told["until"] - told["since"] < told["to"][-1] / 2, "+ does not zoom")
+
+    def searched(self) -> None:
+        """A word that is looked for."""
+        self.window.value("document.querySelector('#time input').focus()")
+        self.window.ask("Input.insertText", text="bill")
+        self.window.key("Enter", 13)
+        self.shows(["BILL FEES"], "a search")
+        count = self.window.value("document.querySelector('#time .found').textContent")
+        self.need(count.startswith("1 of "), f"a search tells {count!r}")
+
+    def laid_out(self, size: Size) -> None:
+        """What is chosen covers nothing, the text goes to it, and no table is cut."""
+        self.window.click("#table tbody tr:nth-child(3) td:nth-of-type(3)")
+        apart = self.window.value(APART)
+        self.need(apart, f"{size}: the panel covers the table")
+        self.need(self.window.value(IN_TEXT), f"{size}: the text does not go to the statements")
+        if size[0] >= 1400:
+            self.need(self.window.value(UNCUT), f"{size}: a table is cut")
+
     def entry(self) -> None:
         """A click at an entry."""
         self.window.click('[data-entry="1"]')
@@ -196,8 +257,8 @@ class Look:
             "Choose a pair" in self.window.value(TOLD) and not self.window.value(LIT),
             "keys: Escape does not let go",
         )
-        self.window.value("document.querySelector('[data-bar]').focus()")
-        for key in ("ArrowRight", " "):
+        self.window.value("document.querySelector('svg.drawing').focus()")
+        for key in ("Home", "ArrowRight", " "):
             self.window.key(key, 32 if key == " " else 0)
         self.shows(["Job 2: CALL FEES"], "keys: the second bar")
 

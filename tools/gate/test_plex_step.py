@@ -25,7 +25,7 @@ from gate.oracle import machine as oracle_machine
 from plextools.commands import step as command
 from plextools.commands.step_session import Refused, Session
 from plextools.runs import check, choice, kept
-from plextools.runs.machine import Machine
+from plextools.runs.machine import Job, Machine
 from plextools.runs.running import Activation, Context, Watch
 from plextools.runs.searches import FIRST, Place, Watched, Wish
 from plextools.runs.signals import lines_of
@@ -69,7 +69,7 @@ class Notes(Watch):
     """The full trace of a run."""
 
     def __init__(self, text: Text, lines: Sequence[Any], limit: int) -> None:
-        self.machine = Machine(Program(text, watched=True), lines, limit, watch=self)
+        self.machine = NotedRun(self, text, lines, limit)
         self.places: List[Noted] = []
         self.stores: List[Store] = []
         self.depth, self.count = 0, 0
@@ -101,16 +101,7 @@ class Notes(Watch):
 
     def run(self) -> None:
         """Notes the run; what a release stores is noted by the cells before and behind it."""
-        machine, perform = self.machine, self.machine.perform
-
-        def performed(job: Any) -> None:
-            self.count = 0
-            perform(job)
-            if job.fault:
-                self.note(last_place(machine.ended + 1, job), job.point, True)
-            self.depth = 0
-
-        machine.perform = performed  # type: ignore[method-assign]
+        machine = self.machine
         for job in machine.jobs():
             if job.fault:
                 before, place = self.places[-1].cells, self.places[-1].place
@@ -119,6 +110,21 @@ class Notes(Watch):
                         self.pending.append(Store(place, place, cell, old, new))
         self.end = Place(machine.ended + 1, 1)
         self.stores += [one._replace(behind=self.end) for one in self.pending]
+
+
+class NotedRun(Machine):
+    """A run that notes its faults."""
+
+    def __init__(self, notes: Notes, text: Text, lines: Sequence[Any], limit: int) -> None:
+        super().__init__(Program(text, watched=True), lines, limit, watch=notes)
+        self.notes = notes
+
+    def perform(self, job: Job) -> None:
+        self.notes.count = 0
+        super().perform(job)
+        if job.fault:
+            self.notes.note(last_place(self.ended + 1, job), job.point, True)
+        self.notes.depth = 0
 
 
 class Case:
@@ -204,7 +210,9 @@ def wanted(case: Case, motion: Motion, here: Noted) -> Optional[Noted]:
     """Where a motion leads from a place by the full trace; None for the end or the beginning."""
     every: Iterator[Noted] = iter(case.notes.places)
     if motion.is_forward:
-        return next((one for one in every if one.place > here.place and motion.fits(here, one)), None)
+        return next(
+            (one for one in every if one.place > here.place and motion.fits(here, one)), None
+        )
     behind = [one for one in every if one.place < here.place and motion.fits(here, one)]
     return behind[-1] if behind else None
 
@@ -342,7 +350,12 @@ def test_kept_states_are_bounded(tmp_path: pathlib.Path, monkeypatch: pytest.Mon
     assert kept.MOST_OF_GRID / 2 <= len(states.grid) <= kept.MOST_OF_GRID
     turns: List[int] = []
     turn = stepper.machine.turn
-    monkeypatch.setattr(stepper.machine, "turn", lambda: (turns.append(1), turn())[1])
+
+    def counted() -> Optional[Job]:
+        turns.append(1)
+        return turn()
+
+    monkeypatch.setattr(stepper.machine, "turn", counted)
     for _ in range(30):
         stepper.backward(Wish(begins=True))
         assert len(states.near) <= kept.MOST_NEAR

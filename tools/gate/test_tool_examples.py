@@ -1,4 +1,5 @@
-"""The examples of plex-chart, plex-why, plex-load and plex-page, and wrong words for the last 3.
+"""The examples of plex-chart, plex-step, plex-why, plex-load and plex-page, and wrong words for the
+last 3.
 
 Each file NAME.words below examples/ has the words of a run, one a line, the tool first, and
 NAME.txt what it must write, from that folder; `--write` writes the texts anew. Each command of

@@ -25,12 +25,14 @@ TESTS = (
     "lsp",
     "lsp_edits",
     "plex_chart",
+    "plex_step",
     "plex_test",
     "progress_line",
     "rules",
     "sentences",
     "sentences_table",
     "tool_examples",
+    "trace_json",
 )
 PYTEST = ("pytest-3", "-q", "-x", "-p", "no:cacheprovider")
 

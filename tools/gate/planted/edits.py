@@ -24,6 +24,11 @@ COUNTERS = "tools/python/plextools/analysis/counters.py"
 ADDITIONS = "tools/python/plextools/text/additions.py"
 PAIR_CHANGES = "tools/python/plextools/analysis/pair_changes.py"
 LSP = "tools/python/plextools/lsp/"
+KEPT = "tools/python/plextools/runs/kept.py"
+SEARCHES = "tools/python/plextools/runs/searches.py"
+STEPPING = "tools/python/plextools/runs/stepping.py"
+STEP_TEXT = "tools/python/plextools/show/step_text.py"
+TRACE_JSON = "tools/python/plextools/show/trace_json.py"
 PAIR_GRAPH = "tools/python/plextools/show/pair_graph.py"
 PAIR_TABLE = "tools/python/plextools/show/pair_table.py"
 PAGE_HTML = "tools/python/plextools/show/page_html.py"
@@ -131,9 +136,19 @@ OF_BOUNDS = [
         "change = (STILL if is_never else STILL)",
     ),
 ]
+
+
 def lsp(name: str, told: str, file: str, old: str, new: str, test: str) -> Edit:
     check = "lsp_edits" if test in ("test_edits", "test_long_text") else "lsp"
     return Edit(name, "plex-lsp", told, check, LSP + file, old, new, ("-k", test))
+
+
+def step(name: str, told: str, file: str, old: str, new: str) -> Edit:
+    return Edit(name, "plex-step", told, "plex_step", file, old, new)
+
+
+def trace(name: str, told: str, old: str, new: str) -> Edit:
+    return Edit(name, "plex-load", told, "trace_json", TRACE_JSON, old, new)
 
 
 OF_CHECK = [
@@ -355,8 +370,8 @@ OF_PAGE = [
         "other_sender",
         "a job is told to be sent by the one before",
         PAGE_DATA,
-        '"sender": None if job.sender is None else place.get(job.sender),',
-        '"sender": None if job.sender is None else place.get(job.sender - 1),',
+        '"sender": [None if job.sender is None else place.get(job.sender) for job in jobs],',
+        '"sender": [None if job.sender is None else place.get(job.sender - 1) for job in jobs],',
     ),
     page(
         "other_reach",
@@ -383,8 +398,8 @@ OF_PAGE = [
         "waits_one_later",
         "a wait begins one statement later",
         PAGE_DATA,
-        '        "from": wait.begin,\n',
-        '        "from": wait.begin + 1,\n',
+        '"from": [wait.begin for wait in waits],',
+        '"from": [wait.begin + 1 for wait in waits],',
     ),
 ]
 
@@ -456,6 +471,73 @@ OF_LSP = [
     ),
 ]
 
+OF_STEP = [
+    step(
+        "back_past_the_last_place",
+        "a search backward takes the place where it begins",
+        SEARCHES,
+        "        if place >= self.origin:\n            raise Halted\n        if self.is_wished",
+        "        if place > self.origin:\n            raise Halted\n        if self.is_wished",
+    ),
+    step(
+        "release_not_watched",
+        "a watchpoint is not met where a release stores",
+        SEARCHES,
+        "        self.writes += writes\n",
+        "        pass\n",
+    ),
+    step(
+        "same_value_not_stored",
+        "a watchpoint is not met where the value stays the same",
+        SEARCHES,
+        "if cell in one.cells and (old != new or not one.of_changes)",
+        "if cell in one.cells and old != new",
+    ),
+    step(
+        "state_one_later",
+        "a run goes on from a state behind the place to which it goes",
+        KEPT,
+        "for number in self.near if number <= ended]",
+        "for number in self.near if number <= ended + 1]",
+    ),
+    step(
+        "any_number_of_states",
+        "states are kept without a bound",
+        KEPT,
+        "while self.is_full():",
+        "while False:",
+    ),
+    step(
+        "jobs_not_compared",
+        "the jobs of a run are not compared with those of plex",
+        STEPPING,
+        "if digest.digest() != self.machine.digest.digest():",
+        "if not digest.digest():",
+    ),
+    step(
+        "escapes_not_quoted",
+        "what would steer a terminal is written as it stands",
+        STEP_TEXT,
+        "told = printed(text)",
+        "told = text",
+    ),
+]
+
+OF_TRACE = [
+    trace(
+        "flow_behind_its_job",
+        "the flow of a signal begins behind the job that sends it",
+        'begins = event("s", "sent", "sent", bar.end - 1, thread)',
+        'begins = event("s", "sent", "sent", bar.end, thread)',
+    ),
+    trace(
+        "job_of_another_worker",
+        "a job is that of the worker before",
+        "job, thread = bar.job, bar.row + 1",
+        "job, thread = bar.job, bar.row",
+    ),
+]
+
 OF_OTHERS = [
     Edit(
         "other_report_taken",
@@ -502,5 +584,7 @@ EDITS: List[Edit] = [
     *OF_BOUNDS,
     *OF_PAGE,
     *OF_LSP,
+    *OF_STEP,
+    *OF_TRACE,
     *OF_OTHERS,
 ]

@@ -1,6 +1,6 @@
-# Completion of the words of plex-chart, plex-format, plex-why, plex-load, plex-lsp, plex-page and
-# plex-test in bash. Source this file, or put it into a folder of bash-completion under the name of
-# each tool.
+# Completion of the words of plex-chart, plex-format, plex-step, plex-why, plex-load, plex-lsp,
+# plex-page and plex-test in bash. Source this file, or put it into a folder of bash-completion under
+# the name of each tool.
 
 # The file names that begin with the word.
 _plex_tools_files() {
@@ -57,6 +57,21 @@ _plex_chart() {
     esac
 }
 
+# plex-step takes commands.
+_plex_step() {
+    case $2 in
+        --limit) _plex_tools_words "$1" 1000 1000000 10000000 ;;
+        -e) _plex_tools_words "$1" c s n where help quit ;;
+        *)
+            if [[ $1 == -* ]]; then
+                _plex_tools_words "$1" '-x -e --limit --help --version'
+            else
+                _plex_tools_files "$1"
+            fi
+            ;;
+    esac
+}
+
 _plex_tools() {
     local word=${COMP_WORDS[COMP_CWORD]} before=${COMP_WORDS[COMP_CWORD-1]} options
     COMPREPLY=()
@@ -71,6 +86,7 @@ _plex_tools() {
         plex-page) options='-o --workers --jobs --help' ;;
         plex-test) _plex_test "$word" "$before"; return ;;
         plex-chart) _plex_chart "$word" "$before"; return ;;
+        plex-step) _plex_step "$word" "$before"; return ;;
     esac
     case $before in
         --workers) _plex_tools_words "$word" 1 2 4 8 16 32 64 ;;
@@ -86,4 +102,5 @@ _plex_tools() {
     esac
 }
 
-complete -F _plex_tools plex-chart plex-format plex-why plex-load plex-lsp plex-page plex-test
+complete -F _plex_tools plex-chart plex-format plex-step plex-why plex-load plex-lsp plex-page
+complete -F _plex_tools plex-test

@@ -7,10 +7,17 @@ jobs never run together, with its conflict; a dashed one is a pair whose jobs ma
 its tests hold. Where both orders of a pair have the same line, it has one arrow with two heads.
 Pairs without an arrow may always run together. With `--never` there are no dashed arrows. For a
 picture: plex analyse E | pairs_dot | dot -Tsvg > pairs.svg
+
+Where there are more than 40 arrows, `pairs_table` is the better picture, which a line on the
+standard error says.
 """
+import sys
+
 from plextools import programs
 from plextools.commands import pair_words
-from plextools.show.pair_graph import graph
+from plextools.show.pair_graph import arrows, graph
+
+MOST_ARROWS = 40
 
 
 def main() -> int:
@@ -19,4 +26,9 @@ def main() -> int:
     words.add_argument("--never", action="store_true")
     words.add_argument("file", nargs="?")
     given = words.parse_args()
-    return pair_words.write(graph(pair_words.analysis_in(given.file), given.never))
+    analysis = pair_words.analysis_in(given.file)
+    count = sum(1 for _ in arrows(analysis, given.never))
+    if count > MOST_ARROWS:
+        told = f"a graph of {count} arrows is hard to read"
+        print(f"pairs_dot: {told}: pairs_table draws the same as a table", file=sys.stderr)
+    return pair_words.write(graph(analysis, given.never))

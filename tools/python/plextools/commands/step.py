@@ -24,17 +24,11 @@ from plextools.commands import check as checker
 from plextools.commands.step_session import BY_NAME, INFOS, Ended, Refused, Session
 from plextools.runs import check, choice
 from plextools.runs.signals import lines_of
+from plextools.text.finding import Severity
 from plextools.text.statements import Text
 
 PROMPT = "(plex) "
 WRONG_COMMAND = 1
-MOST_SCRIPT = 16_777_216
-
-
-class Taken(NamedTuple):
-    """A command that the words or a script give."""
-
-    line: str
 
 
 class Given(argparse.Namespace):
@@ -83,7 +77,7 @@ def told_faults(names: List[str]) -> bool:
     """Tells the faults of files as plex-check does; whether there are any."""
     report = checker.Report(checker.read_words(names))
     checker.check_files(report, names, [programs.bytes_of(name) for name in names])
-    faults = [one for one in report.findings if one.severity is checker.Severity.ERROR]
+    faults = [one for one in report.findings if one.severity is Severity.ERROR]
     report.findings = faults
     report.write()
     return bool(faults)

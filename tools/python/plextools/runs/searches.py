@@ -11,8 +11,6 @@ run goes on, and end it by `Halted`.
 from dataclasses import dataclass, field
 from typing import AbstractSet, Container, FrozenSet, List, NamedTuple, Optional, Sequence
 
-from plextools.runs.machine import Job
-
 NO_DEPTH = 1000
 
 

@@ -1,4 +1,3 @@
-"use strict";
 // Makes the page live: a pair, an entry, a job or a time of waiting that is chosen lights up its statements, and is
 // told at the side.
 (function () {
@@ -7,8 +6,12 @@
   const drawnAtOnce = 100;
   const panel = document.getElementById("told");
   const table = document.getElementById("table");
+  const entryNames = data.entries.map((entry) => entry.name);
+  const live = document.getElementById("live");
   let lit = [];
   let chosen = [];
+  let timeLine = null;
+  const space = live && document.querySelector("#drawn svg").namespaceURI;
 
   // small helpers: an element with a class and its content
 
@@ -36,6 +39,7 @@
     for (const element of chosen) element.classList.remove("chosen");
     lit = [];
     chosen = [];
+    if (timeLine) timeLine.mark(null);
   }
 
   function light(number, kind) {
@@ -57,10 +61,13 @@
     }
   }
 
+  // The text, which scrolls in its own box, goes to the first line that is lit up.
   function showFirstLit() {
+    if (!lit.length) return;
     const text = document.getElementById("lines");
-    const box = text.getBoundingClientRect();
-    if (lit.length && box.top < window.innerHeight && box.bottom > 0) lit[0].scrollIntoView({block: "center"});
+    const first = lit.reduce((one, other) => Number(other.dataset.n) < Number(one.dataset.n) ? other : one);
+    const top = first.getBoundingClientRect().top - text.getBoundingClientRect().top;
+    text.scrollTop += top - text.clientHeight / 3;
   }
 
   function mark(element) {
@@ -201,8 +208,35 @@
 
   // jobs and times of waiting
 
+  // A bar or a wait with its parts, of which each has a list.
+  function partsOf(columns, k) {
+    const one = {};
+    for (const name of Object.keys(columns)) one[name] = columns[name][k];
+    return one;
+  }
+
+  function barOf(k) {
+    return {...partsOf(data.play.bars, k), job: k + 1, held: data.play.files[data.play.bars.held[k]]};
+  }
+
+  function waitOf(k) {
+    return {...partsOf(data.play.waits, k), reason: data.play.reasons[data.play.waits.reason[k]]};
+  }
+
+  // The numbers, from 0, of those of a list that are so.
+  function those(list, value) {
+    const some = [];
+    for (let k = list.indexOf(value); k >= 0; k = list.indexOf(value, k + 1)) some.push(k);
+    return some;
+  }
+
+  function someJobs(some) {
+    const shown = some.slice(0, 20).map((k) => k + 1).join(", ");
+    return some.length > 20 ? shown + " and " + (some.length - 20) + " more" : shown;
+  }
+
   function tellBar(k) {
-    const bar = data.play.bars[k];
+    const bar = barOf(k);
     const entry = data.entries[bar.entry];
     const list = make("ul", "");
     function item(...content) { list.append(make("li", "", ...content)); }
@@ -212,14 +246,65 @@
     item((bar.to - bar.from) + " statements, from " + bar.from + " to " + bar.to + ", on worker " + (bar.row + 1));
     item(bar.line ? "came with line " + bar.line + " of the signal file" : "was sent by job " + bar.sender);
     if (bar.held.length) item("held records of " + bar.held.join(", ") + " as it began");
-    item(bar.sent.length ? "sent the jobs " + bar.sent.join(", ") : "sent no job that ran");
+    const sent = those(data.play.bars.sender, bar.job);
+    item(sent.length ? "sent the jobs " + someJobs(sent) : "sent no job that ran");
     item(bar.fault ? "ended by the fault " + bar.fault : "ended by itself");
-    for (const wait of data.play.waits.filter((one) => one.job === bar.job)) {
-      item("waited from " + wait.from + " to " + wait.to + ": ", reasonOf(wait));
+    for (const place of those(data.play.waits.job, bar.job)) {
+      const wait = waitOf(place);
+      item("waited from " + wait.from + " to " + wait.to + ": ", reasonOf(wait.reason));
     }
     lightRanges(entry.reach);
-    mark(document.querySelector('[data-bar="' + k + '"]'));
-    return [make("h2", "", "Job " + bar.job + ": " + entry.name), list];
+    timeLine.mark("bar", k);
+    return [make("h2", "", "Job " + bar.job + ": " + entry.name), list, ...(bar.forlopp ? callFlow(k) : [])];
+  }
+
+  // the call flow of a forlopp
+
+  const flowMost = 60, flowRow = 22, flowColumn = 92;
+
+  function draw(name, attributes, ...content) {
+    const element = document.createElementNS(space, name);
+    for (const key of Object.keys(attributes)) element.setAttribute(key, attributes[key]);
+    element.append(...content);
+    return element;
+  }
+
+  // Jobs of the forlopp of a bar, around it: a line for each block, and an arrow for each signal that starts a job.
+  function callFlow(k) {
+    const forlopp = data.play.bars.forlopp[k];
+    const every = those(data.play.bars.forlopp, forlopp);
+    const first = Math.max(0, Math.min(every.indexOf(k) - flowMost / 2, every.length - flowMost));
+    const jobs = every.slice(first, first + flowMost);
+    const blockOf = (place) => entryNames[data.play.bars.entry[place]].split(" ")[1];
+    const senders = jobs.map((place) => data.play.bars.sender[place]);
+    const sources = senders.map((sender) => sender === null ? "outside" : blockOf(sender - 1));
+    const lanes = [...new Set(["outside", ...sources, ...jobs.map(blockOf)])];
+    const at = (lane) => 62 + lanes.indexOf(lane) * flowColumn;
+    const high = 26 + flowRow * jobs.length, wide = at(lanes[lanes.length - 1]) + 50;
+    const svg = draw("svg", {class: "flow", width: wide, height: high, role: "group", "aria-label": "call flow"});
+    for (const lane of lanes) {
+      svg.append(draw("text", {x: at(lane), y: 12, "text-anchor": "middle"}, lane.slice(0, 13)));
+      svg.append(draw("path", {class: "lane", d: "M" + at(lane) + ",18 V" + high}));
+    }
+    jobs.forEach((place, row) => svg.append(flowArrow(place, at(sources[row]), at(blockOf(place)), 26 + flowRow * row,
+      place === k)));
+    const told = jobs.length < every.length ? " (" + jobs.length + " of " + every.length + " jobs)" : "";
+    return [make("h3", "", "Call flow of forlopp " + forlopp + told), make("div", "flows", svg)];
+  }
+
+  function flowArrow(place, from, to, y, isChosen) {
+    const bar = barOf(place);
+    const label = [entryNames[bar.entry].split(" ")[0], ...bar.values].join(" ");
+    const link = draw("a", {href: "#bar=" + place, class: isChosen ? "chosen" : ""});
+    const side = to < from ? 1 : -1, tip = to + 7 * side;
+    const path = from === to ? "M" + from + "," + y + " h16 v8 H" + (to + 7) : "M" + from + "," + (y + 8) + " H" + tip;
+    const head = from === to ? 1 : side;
+    link.append(draw("text", {x: 2, y: y + 11, class: "soft"}, String(bar.job)));
+    link.append(draw("path", {class: "arrow", d: path}));
+    link.append(draw("path", {class: "head", d: "M" + to + "," + (y + 8) + " l" + 8 * head + ",-4 v8 z"}));
+    const x = from === to ? from + 20 : Math.min(from, to) + 6;
+    link.append(draw("text", {x: x, y: y + 4}, label.slice(0, 24) + (bar.fault ? " ✗ " + bar.fault : "")));
+    return link;
   }
 
   function why(reason) {
@@ -231,15 +316,15 @@
     return told[reason] || reason;
   }
 
-  function reasonOf(wait) {
-    return wait.pair ? choice("pair=" + wait.pair.join(","), wait.reason) : why(wait.reason);
+  function reasonOf(reason) {
+    return reason.pair ? choice("pair=" + reason.pair.join(","), reason.told) : why(reason.told);
   }
 
   function tellWait(k) {
-    const wait = data.play.waits[k];
+    const wait = waitOf(k);
     const parts = [make("h2", "", "The window stood still from " + wait.from + " to " + wait.to)];
-    parts.push(make("p", "", wait.job ? "Job " + wait.job + " waited: " : "", reasonOf(wait)));
-    mark(document.querySelector('[data-wait="' + k + '"]'));
+    parts.push(make("p", "", wait.job ? "Job " + wait.job + " waited: " : "", reasonOf(wait.reason)));
+    timeLine.mark("wait", k);
     return parts;
   }
 
@@ -253,8 +338,8 @@
     const [i, j] = numbers;
     if (kind === "pair" && numbers.length === 2 && i < count && j < count) return () => tellPair(i, j);
     if (kind === "entry" && i < count) return () => tellEntry(i);
-    if (kind === "bar" && data.play && numbers[0] < data.play.bars.length) return () => tellBar(numbers[0]);
-    if (kind === "wait" && data.play && numbers[0] < data.play.waits.length) return () => tellWait(numbers[0]);
+    if (kind === "bar" && data.play && numbers[0] < data.play.bars.entry.length) return () => tellBar(numbers[0]);
+    if (kind === "wait" && data.play && numbers[0] < data.play.waits.from.length) return () => tellWait(numbers[0]);
     return null;
   }
 
@@ -266,11 +351,22 @@
     close.type = "button";
     close.addEventListener("click", nothing);
     panel.replaceChildren(close, ...teller());
+    settle(place);
     panel.scrollTop = 0;
     if (location.hash !== "#" + place) history.replaceState(null, "", "#" + place);
     showFirstLit();
     return true;
   }
+
+  // Where a window is narrow, the panel stands behind the part in which something was chosen, and covers nothing.
+  const narrow = window.matchMedia("(max-width: 1149px)");
+  function settle(place) {
+    const parts = {pair: "pairs", entry: "entries", bar: "time", wait: "time"};
+    const part = place && document.getElementById(parts[place.split("=")[0]]);
+    if (narrow.matches && part) part.after(panel);
+    else document.querySelector("main").after(panel);
+  }
+  narrow.addEventListener("change", () => settle(decodeURIComponent(location.hash.slice(1))));
 
   function nothing() {
     dark();
@@ -281,18 +377,16 @@
   document.addEventListener("click", (event) => {
     const link = event.target.closest('a[href^="#"]');
     const cell = event.target.closest("#table td");
-    const mark = event.target.closest("[data-bar], [data-wait]");
     let place = null;
     if (cell) {
       const j = cell.classList.contains("run") ? Math.floor(event.offsetX / wide) : cell.cellIndex - 1;
       place = "pair=" + cell.parentNode.sectionRowIndex + "," + j;
     }
-    else if (mark) place = mark.dataset.bar === undefined ? "wait=" + mark.dataset.wait : "bar=" + mark.dataset.bar;
     else if (link) place = link.getAttribute("href").slice(1);
     if (place && choose(place)) event.preventDefault();
   });
 
-  // keys: the arrows go from cell to cell and from bar to bar, Enter and Space choose, Escape lets go
+  // keys: the arrows go from cell to cell, Enter and Space choose, Escape lets go
 
   let stop = table && table.tBodies[0].rows.length ? cellOf(0, 0) : null;
   if (stop) stop.tabIndex = 0;
@@ -315,38 +409,26 @@
     return {ArrowLeft: cells[j - 1], ArrowRight: cells[j + 1], Home: cells[1], End: cells[cells.length - 1]}[key];
   }
 
-  const drawn = Array.from(document.querySelectorAll("#time [data-bar], #time [data-wait]"));
-  if (drawn.length) drawn[0].setAttribute("tabindex", "0");
-
-  function goToDrawn(mark, key) {
-    const step = {ArrowLeft: -1, ArrowRight: 1}[key];
-    const next = step && drawn[drawn.indexOf(mark) + step];
-    if (!next) return;
-    mark.setAttribute("tabindex", "-1");
-    next.setAttribute("tabindex", "0");
-    next.focus();
-    next.scrollIntoView({block: "nearest", inline: "nearest"});
-  }
-
   document.addEventListener("keydown", (event) => {
     const cell = event.target.closest("#table td");
-    const mark = event.target.closest("[data-bar], [data-wait]");
     if (event.key === "Escape") {
       nothing();
-    } else if ((cell || mark) && (event.key === "Enter" || event.key === " ")) {
+    } else if (cell && (event.key === "Enter" || event.key === " ")) {
       event.target.dispatchEvent(new MouseEvent("click", {bubbles: true}));
       event.preventDefault();
     } else if (cell && /^(Arrow|Home|End)/.test(event.key)) {
       goTo(fromCell(cell, event.key));
       event.preventDefault();
-    } else if (mark && /^Arrow(Left|Right)$/.test(event.key)) {
-      goToDrawn(mark, event.key);
-      event.preventDefault();
     }
   });
 
   window.addEventListener("hashchange", () => choose(decodeURIComponent(location.hash.slice(1))));
-  watchRows();
+  if (table) watchRows();
+  if (data.play && live) {
+    live.hidden = false;
+    timeLine = TimeLine(live, data.play, entryNames, choose);
+    document.getElementById("drawn").remove();
+  }
   document.body.classList.add("live");
   panel.hidden = false;
   nothingYet();

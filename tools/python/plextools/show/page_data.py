@@ -17,6 +17,7 @@ from typing import (
     List,
     NamedTuple,
     Optional,
+    Sequence,
     Tuple,
     TypedDict,
     TypeVar,
@@ -27,7 +28,7 @@ from plextools.analysis.lines import Entry
 from plextools.analysis.why import NOBODY, Exchange, Named, Pair, Side, verdict_words
 from plextools.runs.play import SAME, Bar, Play, Wait, Waited
 
-MOST_STATEMENTS, MOST_BARS = 60, 2000
+MOST_STATEMENTS, MOST_BARS = 60, 100_000
 # So many pairs are asked for alone where plex-conflicts has no room for all. Of the others the page
 # has the first conflict, and this in the place of what helps.
 MOST_ASKED, ELSEWHERE = 100, "plex-why tells all conflicts of this pair, with their statements"
@@ -59,42 +60,45 @@ class OfEntry(TypedDict):
 
 
 # The words of the next two are not all ones of Python: `from` is a keyword.
-OfBar = TypedDict(
-    "OfBar",
+OfBars = TypedDict(
+    "OfBars",
     {
-        "job": int,
-        "entry": int,
-        "row": int,
-        "from": int,
-        "to": int,
-        "values": List[int],
-        "forlopp": int,
-        "line": Optional[int],
-        "sender": Optional[int],
-        "held": List[str],
-        "fault": Optional[str],
-        "sent": List[int],
+        "entry": List[int],
+        "row": List[int],
+        "from": List[int],
+        "to": List[int],
+        "values": List[List[int]],
+        "forlopp": List[int],
+        "line": List[Optional[int]],
+        "sender": List[Optional[int]],
+        "held": List[int],
+        "fault": List[Optional[str]],
     },
 )
-OfWait = TypedDict(
-    "OfWait",
-    {
-        "from": int,
-        "to": int,
-        "reason": str,
-        "pair": Optional[List[int]],
-        "job": Optional[int],
-        "kind": str,
-    },
+OfWaits = TypedDict(
+    "OfWaits",
+    {"from": List[int], "to": List[int], "reason": List[int], "job": List[Optional[int]]},
 )
+
+
+class OfReason(TypedDict):
+    """Why a job waited: in words, for which pair, and the letter of that."""
+
+    told: str
+    pair: Optional[List[int]]
+    kind: str
 
 
 class OfPlay(TypedDict):
-    """What is drawn of a play."""
+    """What is drawn of a play. Of bars and waits each part is a list; the jobs of bars are numbered
+    from 1 in their order. `files` are those that jobs held as they began, by the places in `held`.
+    """
 
     workers: int
-    bars: List[OfBar]
-    waits: List[OfWait]
+    bars: OfBars
+    waits: OfWaits
+    reasons: List[OfReason]
+    files: List[List[str]]
     end: int
     jobs: int
 
@@ -302,47 +306,53 @@ def kind_of(reason: Waited) -> str:
 
 
 def of_play(made: Play) -> OfPlay:
-    """The bars that are drawn, each with its job, and the waits among them."""
+    """The first bars, each with its job, and the waits among them."""
     bars = made.bars[:MOST_BARS]
     end = max((bar.end for bar in bars), default=0)
     place = {job.number: number for number, job in enumerate(made.order, 1)}
+    files: Numbers[Tuple[str, ...]] = Numbers()
+    reasons: Numbers[Waited] = Numbers()
+    waits = [wait for wait in made.waits if wait.begin < end]
     return {
         "workers": made.workers,
-        "bars": [of_bar(bar, place) for bar in bars],
-        "waits": [of_wait(wait, place) for wait in made.waits if wait.begin < end],
+        "bars": of_bars(bars, place, files),
+        "waits": of_waits(waits, place, reasons),
+        "reasons": [of_reason(reason) for reason in reasons.known],
+        "files": [list(names) for names in files.known],
         "end": end,
         "jobs": len(made.order),
     }
 
 
-def of_bar(bar: Bar, place: Dict[int, int]) -> OfBar:
-    """A bar; `place` has the place of each job in the order of the run."""
-    job = bar.job
+def of_bars(bars: Sequence[Bar], place: Dict[int, int], files: Numbers[Tuple[str, ...]]) -> OfBars:
+    """Bars; `place` has the place of each job in the order of the run."""
+    jobs = [bar.job for bar in bars]
     return {
-        "job": place[job.number],
-        "entry": job.entry,
-        "row": bar.row,
-        "from": bar.begin,
-        "to": bar.end,
-        "values": list(job.values),
-        "forlopp": job.forlopp,
-        "line": job.line,
-        "sender": None if job.sender is None else place.get(job.sender),
-        "held": list(job.held),
-        "fault": job.fault,
-        "sent": [place[number] for number in job.sent if number in place],
+        "entry": [job.entry for job in jobs],
+        "row": [bar.row for bar in bars],
+        "from": [bar.begin for bar in bars],
+        "to": [bar.end for bar in bars],
+        "values": [list(job.values) for job in jobs],
+        "forlopp": [job.forlopp for job in jobs],
+        "line": [job.line for job in jobs],
+        "sender": [None if job.sender is None else place.get(job.sender) for job in jobs],
+        "held": [files.of(job.held) for job in jobs],
+        "fault": [job.fault for job in jobs],
     }
 
 
-def of_wait(wait: Wait, place: Dict[int, int]) -> OfWait:
-    reason, pair = wait.reason, None
+def of_waits(waits: Sequence[Wait], place: Dict[int, int], reasons: Numbers[Waited]) -> OfWaits:
+    return {
+        "from": [wait.begin for wait in waits],
+        "to": [wait.end for wait in waits],
+        "reason": [reasons.of(wait.reason) for wait in waits],
+        "job": [place.get(wait.job.number) if wait.job else None for wait in waits],
+    }
+
+
+def of_reason(reason: Waited) -> OfReason:
+    """Why a job waited."""
+    pair = None
     if not isinstance(reason, str) and reason.told != SAME:
         pair = [reason.first, reason.later]
-    return {
-        "from": wait.begin,
-        "to": wait.end,
-        "reason": reason_words(reason),
-        "pair": pair,
-        "job": place.get(wait.job.number) if wait.job else None,
-        "kind": kind_of(reason),
-    }
+    return {"told": reason_words(reason), "pair": pair, "kind": kind_of(reason)}

@@ -79,7 +79,8 @@ TIME_LINE = Template(
 A worker whose job has ended takes another one when all older jobs have ended too. \
 The last row has the times in which a worker was free and the next job waited.</p>
 <p class="keys">$keys</p>
-<div class="wide" tabindex="-1">"""
+<div id="live" hidden></div>
+<div class="wide" id="drawn" tabindex="-1">"""
 )
 TEXT = Template(
     """<section id="text">
@@ -93,7 +94,14 @@ ENTRY = Template(
 """
 )
 MOST_LINES, LONGEST_LINE, TOLD_CELLS, CHUNK = 60_000, 400, 64, 200
-ROW, TALL, LEFT, WIDEST, USUAL_WIDTH, USUAL_BAR = 26, 20, 80, 30_000, 760, 12
+ROW, TALL, LEFT, WIDEST, USUAL_WIDTH, USUAL_BAR = 26, 20, 80, 4_000, 760, 12
+# What readers without scripts see: so many bars.
+MOST_DRAWN = 200
+# The colours of Okabe and Ito, which people with any sight can tell apart. Where there are more
+# entries than colours, their letters tell them apart, and other patterns lie over the colours.
+COLOURS = ("#e69f00", "#56b4e9", "#009e73", "#f0e442", "#0072b2", "#d55e00", "#cc79a7", "#999999")
+DARK, LIGHT = 4, ' class="light"'  # the colour on which letters are white
+LETTERS = "ABCDEFGHIJKLMNOPQRSTUVWXYZ"
 
 
 def escaped(text: str) -> str:
@@ -121,7 +129,9 @@ class Page:
 
     def parts(self) -> Iterator[str]:
         """The page in parts."""
-        style, script = ((HERE / name).read_text() for name in ("page.css", "page.js"))
+        style, *scripts = (
+            (HERE / name).read_text() for name in ("page.css", "time_line.js", "page.js")
+        )
         yield HEAD.substitute(
             title=escaped(self.title), style=style, counts=self.counts(), links=self.links()
         )
@@ -133,7 +143,7 @@ class Page:
         yield from self.entries()
         yield from self.lines()
         told = tables.as_json(self.data, is_short=True).replace("<", "\\u003c")
-        yield END.substitute(data=told, script=script)
+        yield END.substitute(data=told, script="".join(scripts))
 
     def counts(self) -> str:
         """How many blocks, entries and statements there are."""
@@ -182,6 +192,10 @@ class Page:
 
     def pairs(self) -> Iterator[str]:
         entries = self.analysis.entries
+        if not entries:
+            yield '<section id="pairs">\n<h2>Pairs of entries</h2>\n'
+            yield "<p>No job can start in this text: it has no entry.</p>\n</section>\n"
+            return
         yield PAIRS.substitute(
             legend="".join(
                 f'<li><span class="{kind}">{letter}</span>{told}</li>'
@@ -221,6 +235,9 @@ class Page:
             "p", "Time is told in statements. " + " ".join(report.MEANING), ' class="soft"'
         ) + "\n"
         yield from self.blockers(told["blockers"])
+        if not told["entries"]:
+            yield "<p>The run has no jobs.</p>\n</section>\n"
+            return
         yield "<h3>Jobs by entry</h3>\n"
         yield from figures_table(
             ["entry", "name", "jobs", "least", "mean", "most", "of all"],
@@ -251,11 +268,20 @@ class Page:
         )
 
     def time_line(self, play: page_data.OfPlay) -> Iterator[str]:
-        drawn = len(play["bars"])
-        which = "All jobs" if drawn == play["jobs"] else f"The first {drawn} of {play['jobs']} jobs"
-        used = sorted({bar["entry"] for bar in play["bars"]})
+        count = len(play["bars"]["entry"])
+        if not count:
+            yield '<section id="time">\n<h2>Time line</h2>\n'
+            yield "<p>The run has no jobs.</p>\n</section>\n"
+            return
+        which = "All jobs" if count == play["jobs"] else f"The first {count} of {play['jobs']} jobs"
+        if count > MOST_DRAWN:
+            first = f"without scripts, the first {MOST_DRAWN} alone are drawn"
+            which += f'<span class="scriptless"> ({first})</span>'
+        used = sorted(set(play["bars"]["entry"]))
         keys = "".join(
-            f'<span><i style="background:{colour(entry)}"></i>{entry} {self.name(entry)}</span>'
+            f'<span><i{LIGHT if entry % len(COLOURS) == DARK else ""} '
+            f'style="background:{colour(entry)}">{letter(entry)}</i>'
+            f"{entry} {self.name(entry)}</span>"
             for entry in used[:40]
         )
         yield TIME_LINE.substitute(workers=play["workers"], which=which, keys=keys)
@@ -263,29 +289,34 @@ class Page:
         yield "</div>\n</section>\n"
 
     def drawing(self, play: page_data.OfPlay) -> Iterator[str]:
-        rows = min(play["workers"], max((bar["row"] for bar in play["bars"]), default=0) + 1)
-        scale = min(max(USUAL_WIDTH, USUAL_BAR * len(play["bars"]) / rows), WIDEST) / max(
-            1, play["end"]
-        )
-        width = LEFT + scale * play["end"] + 70
+        """The first bars, for readers without scripts."""
+        bars, waits = play["bars"], play["waits"]
+        drawn = range(min(MOST_DRAWN, len(bars["entry"])))
+        end = max(bars["to"][place] for place in drawn)
+        rows = max(bars["row"][place] for place in drawn) + 1
+        scale = min(max(USUAL_WIDTH, USUAL_BAR * len(drawn) / rows), WIDEST) / max(1, end)
+        width = LEFT + scale * end + 70
         size = f'width="{width:.0f}" height="{ROW * (rows + 1) + 22}"'
         yield f'<svg {size} role="group" aria-label="Time line">\n'
         for row in range(rows):
             yield f'<text x="4" y="{ROW * row + 15}">worker {row + 1}</text>\n'
         yield f'<text x="4" y="{ROW * rows + 15}">waits</text>\n'
-        for place, bar in enumerate(play["bars"]):
-            name = f"job {bar['job']}: {self.name(bar['entry'])}, from {bar['from']} to {bar['to']}"
-            shape = box(scale, bar["from"], bar["to"], bar["row"])
-            shape += f' fill="{colour(bar["entry"])}"'
+        for place in drawn:
+            entry, begin, to = bars["entry"][place], bars["from"][place], bars["to"][place]
+            name = f"job {place + 1}: {self.name(entry)}, from {begin} to {to}"
+            shape = box(scale, begin, to, bars["row"][place]) + f' fill="{colour(entry)}"'
             yield f'<rect class="bar" data-bar="{place}" {shape}><title>{name}</title></rect>\n'
-        for place, wait in enumerate(play["waits"]):
-            name = escaped(f"from {wait['from']} to {wait['to']}: {wait['reason']}")
-            shape = box(scale, wait["from"], wait["to"], rows)
-            kind = f"wait {CLASSES[wait['kind']]}" if wait["kind"] else "wait"
+        for place, begin in enumerate(waits["from"]):
+            if begin >= end:
+                break
+            reason, to = play["reasons"][waits["reason"][place]], waits["to"][place]
+            name = escaped(f"from {begin} to {to}: {reason['told']}")
+            shape = box(scale, begin, to, rows)
+            kind = f"wait {CLASSES[reason['kind']]}" if reason["kind"] else "wait"
             yield f'<rect class="{kind}" data-wait="{place}" {shape}><title>{name}</title></rect>\n'
         marks = max(1, int((width - LEFT) // 90))
         for place in range(marks + 1):
-            time = play["end"] * place // marks
+            time = end * place // marks
             yield f'<text x="{LEFT + scale * time:.1f}" y="{ROW * (rows + 1) + 14}">{time}</text>\n'
         yield "</svg>"
 
@@ -335,7 +366,14 @@ class Page:
 
 
 def colour(entry: int) -> str:
-    return f"hsl({entry * 137 % 360},{55 + entry * 7 % 25}%,{50 + entry * 11 % 18}%)"
+    """The colour of an entry."""
+    return COLOURS[entry % len(COLOURS)]
+
+
+def letter(entry: int) -> str:
+    """The letters of an entry, as A to Z, AA, AB and so on."""
+    more, last = divmod(entry, len(LETTERS))
+    return (letter(more - 1) if more else "") + LETTERS[last]
 
 
 def box(scale: float, begin: int, end: int, row: int) -> str:

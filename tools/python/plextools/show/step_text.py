@@ -1,11 +1,12 @@
 """What plex-step tells of a place of a run, in lines."""
-from typing import Iterable, Iterator, List, Optional, Sequence
+import textwrap
+from typing import Iterable, Iterator, List, Sequence
 
 from plextools.runs.layout import File
 from plextools.runs.machine import LEVELS, Job
 from plextools.runs.named import Data, Names
 from plextools.runs.observed import OUTSIDE
-from plextools.runs.running import Activation, Sent
+from plextools.runs.running import Sent
 from plextools.runs.searches import Write
 from plextools.runs.stepping import Frame, Stepper
 from plextools.runs.values import FIRST_TEMPORARY
@@ -13,6 +14,7 @@ from plextools.tables import printed
 from plextools.text.grammar import Node
 
 MOST_SHOWN, MOST_JOBS, LONGEST, AROUND = 100, 20, 200, 5
+WIDTH, INDENT = 80, " " * 4
 
 
 class StepText:
@@ -103,8 +105,8 @@ class StepText:
             yield from self.here()
             return
         for place, frame in enumerate(stepper.frames):
-            told = f"#{place}  {self.statement(frame.point)}"
-            yield f"{told}   {', '.join(self.temporaries(frame))}".rstrip()
+            yield f"#{place}  {self.statement(frame.point)}"
+            yield from in_lines(self.temporaries(frame))
         yield f"job {stepper.place.job}, statement {stepper.place.step}: {self.about(stepper.job)}"
 
     def temporaries(self, frame: Frame) -> Iterator[str]:
@@ -251,6 +253,12 @@ class StepText:
 
 def counted(number: int, what: str) -> str:
     return f"{number:,} {what}{'' if number == 1 else 's'}"
+
+
+def in_lines(words: Iterable[str]) -> List[str]:
+    """Words with commas, in lines that a terminal has room for."""
+    told = ", ".join(words)
+    return textwrap.wrap(told, WIDTH, initial_indent=INDENT, subsequent_indent=INDENT)
 
 
 def others(number: int, are_others: bool) -> str:
