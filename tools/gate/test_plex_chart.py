@@ -529,6 +529,42 @@ def test_the_picture_of_the_guide() -> None:
     assert told(*files(ASK), "--values", "--svg").wrote == PICTURE.read_text()
 
 
+MSC_ARROW = re.compile(r"    L(\d+)(->|=>|>>|-x)L(\d+) \[")
+MERMAID_SIGNS = {"->": "-)", "=>": "->>", ">>": "-->>", "-x": "-x"}
+
+
+@pytest.mark.parametrize("example", [ASK, FORLOPP, FAULTS])
+def test_arrows_of_msc(example: str) -> None:
+    """The arrows for mscgen are those for Mermaid, one after the other."""
+    msc, mermaid = (told(*files(example), option).wrote for option in ("--msc", "--mermaid"))
+    arrows = [(one, MERMAID_SIGNS[sign], other) for one, sign, other in MSC_ARROW.findall(msc)]
+    wanted = [
+        (found[1], found[2], found[3]) for found in map(ARROW.match, mermaid.split("\n")) if found
+    ]
+    assert arrows == wanted and arrows
+
+
+@pytest.mark.parametrize(("context", "most"), [(0, 9), (1, 9), (2, 9), (2, 3)])
+def test_jobs_around_one(context: int, most: int) -> None:
+    """As many jobs as are asked for stand before and behind a job."""
+    asked = wishes(around="3", context=context, most=most)
+    numbers = choice.Chooser(run_of(*files("guide/levels")), asked).chosen().numbers
+    beside = min(context, most // 2)
+    assert list(numbers) == list(range(3 - beside, 4 + beside))
+
+
+def test_jobs_around_the_first_fault() -> None:
+    """Of several jobs that ended by a fault, the first one is taken."""
+    names = files(FAULTS)
+    report = programs.answer(["run", *names], choice.ENDINGS).decode()
+    faulted = [
+        int(number) for number in re.findall(r"^(?:RELEASE F\d+|RESTART) job (\d+)", report, re.M)
+    ]
+    asked = wishes(around=choice.ANY, context=0)
+    assert len(faulted) > 1
+    assert list(choice.Chooser(run_of(*names), asked).chosen().numbers) == faulted[:1]
+
+
 def test_rails_lead_to_the_jobs_that_start() -> None:
     """A path goes down beside a lane for each buffered signal whose job is drawn."""
     made = chart_of(run_of(*files("guide/levels")), wishes())

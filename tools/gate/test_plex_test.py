@@ -6,7 +6,7 @@ import subprocess
 import sys
 import time
 import xml.etree.ElementTree as ElementTree
-from typing import Dict, List, Mapping, NamedTuple, Optional, Union
+from typing import Dict, List, Mapping, NamedTuple, Optional, Tuple, Union
 
 import pytest
 
@@ -178,6 +178,19 @@ def test_a_difference_is_a_unified_diff(told: Caller) -> None:
     words = ["diff", "-u", str(folder / "report.txt"), str(told.folder / "right")]
     other = subprocess.run(words, stdout=subprocess.PIPE, timeout=SOON, check=False)
     assert diff == other.stdout.decode().splitlines()[2:]
+
+
+@pytest.mark.parametrize("changed", [(1,), (3,), (20,), (10, 16), (10, 17), (10, 18), (40,)])
+def test_lines_around_changes(changed: Tuple[int, ...], tmp_path: pathlib.Path) -> None:
+    """A change has as many lines around it as `diff -u` shows, and is one with a near one."""
+    old = [f"{number}\n" for number in range(1, 41)]
+    new = [f"x{line}" if int(line) in changed else line for line in old]
+    for name, lines in (("old", old), ("new", new)):
+        (tmp_path / name).write_text("".join(lines))
+    words = ["diff", "-u", str(tmp_path / "old"), str(tmp_path / "new")]
+    other = subprocess.run(words, stdout=subprocess.PIPE, timeout=SOON, check=False)
+    unified = differences.unified("".join(old).encode(), "".join(new).encode())
+    assert list(unified) == other.stdout.decode().splitlines()[2:]
 
 
 @pytest.mark.parametrize(

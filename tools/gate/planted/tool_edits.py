@@ -219,12 +219,15 @@ OF_CHART = [
         "style = Style.ANSWER if message.kind is Kind.ANSWER else style",
         "style = Style.CALL if message.kind is Kind.ANSWER else style",
     ),
-    drawn(
+    Edit(
         "chart_gap_of_one",
+        "plex-chart",
         "a job that is left out alone is not told",
+        "tool_examples",
         CHART,
         "        if count > 0:\n",
         "        if count > 1:\n",
+        ("-k", "chart.words"),
     ),
     drawn(
         "chart_around_one_less",
@@ -232,6 +235,7 @@ OF_CHART = [
         CHOICE,
         "most = min(self.wishes.context, self.wishes.most // 2)",
         "most = max(0, min(self.wishes.context, self.wishes.most // 2) - 1)",
+        "jobs_around",
     ),
     drawn(
         "chart_block_of_entry",
@@ -246,6 +250,7 @@ OF_CHART = [
         CHOICE,
         "found, faults = found or one, faults + 1",
         "found, faults = one, faults + 1",
+        "first_fault",
     ),
     drawn(
         "chart_lines_lost",
@@ -280,8 +285,7 @@ OF_CHART = [
         CHART_WORDS,
         'Style.ANSWER: ">>", Style.LOST: "-x"}\nMSC_COLOURS',
         'Style.ANSWER: "->", Style.LOST: "-x"}\nMSC_COLOURS',
-        "msc",
-        "files",
+        "arrows_of_msc",
     ),
 ]
 
@@ -324,7 +328,7 @@ OF_TEST = [
         DIFFERENCES,
         "AROUND = 3  #",
         "AROUND = 2  #",
-        "diff",
+        "lines_around",
     ),
     tested(
         "late_runs_pass",
