@@ -1,10 +1,10 @@
 """plex-format: what it makes of texts, and what the command does with files.
 
 Each folder of cases/layout has a text, `exchange.plex`, and what it is in the layout,
-`layout.plex`. The other texts are the right ones of all tables, and texts made by chance, with comments in all
-places. Of each it is looked whether the layout is one: that of a text in the layout is that text;
-the words and their tree are the same; a comment is behind the same word, or alone on its line as
-before; and plex makes the same code of both.
+`layout.plex`. The other texts are the right ones of all tables, and texts made by chance, with
+comments in all places. Of each it is looked whether the layout is one: that of a text in the layout
+is that text; the words and their tree are the same; a comment is behind the same word, or alone on
+its line as before; and plex makes the same code of both.
 """
 import os
 import pathlib
