@@ -3,6 +3,7 @@ from __future__ import annotations
 
 import subprocess
 
+from gate import harness
 from gate.checking import leave_out
 from gate.lsp_client import PYTHON, Client, Json
 
@@ -59,7 +60,9 @@ WHOLE = {"start": {"line": 0, "character": 0}, "end": {"line": 10**6, "character
 
 def need_module() -> None:
     """The test is left out where the module of the server is missing."""
-    done = subprocess.run([PYTHON, "-c", "import pylsp_jsonrpc"], capture_output=True)
+    done = subprocess.run(
+        [PYTHON, "-c", "import pylsp_jsonrpc"], capture_output=True, timeout=harness.LONGEST
+    )
     if done.returncode:
         leave_out("there is no python3-pylsp-jsonrpc")
 

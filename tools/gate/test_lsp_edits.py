@@ -11,6 +11,7 @@ import subprocess
 
 import pytest
 
+from gate import harness
 from gate.checking import check
 from gate.lsp_client import PYTHON, SERVER, Client, Failed, Json
 from gate.lsp_example import (
@@ -283,13 +284,16 @@ def test_end() -> None:
 def test_module_is_missing() -> None:
     """One sentence tells where the module of the messages comes from."""
     words = [PYTHON, "-S", "-B", str(SERVER)]
-    done = subprocess.run(words, capture_output=True, text=True, stdin=subprocess.DEVNULL)
+    done = subprocess.run(
+        words, capture_output=True, text=True, stdin=subprocess.DEVNULL, timeout=harness.LONGEST
+    )
     assert done.returncode == 2 and done.stdout == ""
     assert "apt-get install python3-pylsp-jsonrpc" in done.stderr
     assert done.stderr.count("\n") == 1
 
 
 def test_wrong_words() -> None:
-    done = subprocess.run([PYTHON, "-B", str(SERVER), "x"], capture_output=True, text=True)
+    words = [PYTHON, "-B", str(SERVER), "x"]
+    done = subprocess.run(words, capture_output=True, text=True, timeout=harness.LONGEST)
     assert done.returncode == 2 and done.stderr.startswith("plex-lsp: ")
     assert os.access(SERVER, os.X_OK)

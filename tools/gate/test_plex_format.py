@@ -336,7 +336,7 @@ def test_check_and_diff(tmp_path: pathlib.Path) -> None:
     assert call("--check", "F", folder=tmp_path) == Told(0, b"", "")
     assert call("--check", "-", folder=tmp_path, given=GIVEN) == Told(1, b"standard input\n", "")
     assert {name: (tmp_path / name).read_bytes() for name in given} == given
-    subprocess.run([patch, "-s"], cwd=tmp_path, input=got.wrote, check=True)
+    subprocess.run([patch, "-s"], cwd=tmp_path, input=got.wrote, check=True, timeout=LONGEST)
     for name, data in given.items():
         assert (tmp_path / name).read_bytes() == layout.format_text(data).text
 

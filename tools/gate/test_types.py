@@ -18,7 +18,7 @@ TYPED = (
     "tools/measure",
     "tools/gate",
 )
-APART = {"__pycache__", "cases"}  # what is no Python
+APART = {"__pycache__", "cases", "completions"}  # what is no Python
 TOOLS = {"mypy": ("--strict",), "black": ("--check", "--quiet"), "flake8": ()}
 LONGEST = 600
 

@@ -102,5 +102,5 @@ _plex_tools() {
     esac
 }
 
-complete -F _plex_tools plex-chart plex-format plex-step plex-why plex-load plex-lsp plex-page
-complete -F _plex_tools plex-test
+_plex_of_tools() { complete -F _plex_tools "$@"; }
+_plex_of_tools plex-chart plex-format plex-step plex-why plex-load plex-lsp plex-page plex-test

@@ -92,10 +92,51 @@ COMMANDS = (
     Command(
         "plex-why",
         "tells which statements keep jobs apart",
-        (Option(("--all",), "tells all conflicts"), JSON, HELP, VERSION),
+        (
+            Option(("--all",), "tells all conflicts"),
+            Option(("--diff",), "compares two exchange texts"),
+            JSON,
+            HELP,
+            VERSION,
+        ),
     ),
     Command(
-        "plex-load", "tells what workers bring for a load", (WORKERS, JOBS, JSON, HELP, VERSION)
+        "plex-load",
+        "tells what workers bring for a load",
+        (
+            WORKERS,
+            JOBS,
+            Option(("--skip",), "leaves so many first jobs out", "n", ("10", "100", "1000")),
+            Option(("--dense",), "takes each line to be there in time"),
+            Option(("--precision",), "tells which pairs of jobs commute"),
+            Option(("--diff",), "compares two loads"),
+            Option(("--cost-job",), "what handing out a job costs", "n"),
+            Option(("--cost-send",), "what a signal costs", "n"),
+            Option(("--cost-sync",), "what a synchronised access costs", "n"),
+            Option(("--statement",), "what a statement takes", "ns"),
+            Option(("--machines",), "the costs of several machines", "file", (), True),
+            Option(("--trace-json",), "writes the jobs as a trace of Chrome", "file", (), True),
+            JSON,
+            HELP,
+            VERSION,
+        ),
+    ),
+    Command(
+        "plex-step",
+        "steps through a run, forward and backward",
+        (
+            Option(("-x",), "takes the commands of a file", "file", (), True),
+            Option(("-e",), "takes a command", "command"),
+            Option(("--limit",), "ends the run after so many jobs", "n", JOBS.offered),
+            HELP,
+            VERSION,
+        ),
+    ),
+    Command(
+        "plex-lsp",
+        "tells faults and meanings in an editor",
+        (Option(("--stdio",), "talks over the standard input and output"), HELP, VERSION),
+        NOTHING,
     ),
     Command(
         "plex-page",
