@@ -387,6 +387,7 @@ TEXTS: list[tuple[dict[str, str], int, list[str]]] = [
         [
             "E:14:1: SWALLOWED: the comment goes on to the end of its line, and NOW = 1; is a "
             "part of it",
+            "E:15:1: UNREACHED: nothing reaches this behind the SEND of line 13",
             "E:15:10: SWALLOWED: the comment goes on to the end of its line, and NOW = 3; is a "
             "part of it",
             "E:17:1: RUNSON: the entry of SETUP, line 11, runs on into this one; EXIT before it "
@@ -415,6 +416,7 @@ TEXTS: list[tuple[dict[str, str], int, list[str]]] = [
         0,
         [
             "E:6:67: KEYWORD: SURVYE is a name here; SURVEY is the keyword",
+            "E:14:1: UNREACHED: nothing reaches this behind the SEND of line 13",
         ],
     ),
 ]
@@ -659,4 +661,5 @@ def plain_rows() -> Iterator[Row]:
         yield Row(files, [], status, lines)
     for old, new, status, lines in CHANGES:
         yield Row({"OLD": old, "NEW": new}, ["--change"], status, lines)
-    yield Row({"E": text_with(program="NOW = 2;")}, ["--no", "RUNSON"], 0, [])
+    unreached = "E:14:1: UNREACHED: nothing reaches this behind the SEND of line 13"
+    yield Row({"E": text_with(program="NOW = 2;")}, ["--no", "RUNSON"], 0, [unreached])

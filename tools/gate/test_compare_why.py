@@ -245,12 +245,17 @@ def as_objects(exchange: Any, i: int, j: int) -> list[str]:
     """The same of what --json writes."""
     pair = json.loads(tables.as_json(pair_json.of_pair(exchange, i, j)))
     name, lines = exchange.text.name, list[str]()
-    for reason in pair["reasons"]:
+    for reason, meant in zip(pair["reasons"], exchange.conflicts.reasons(i, j)):
         head = "" if lines else f"PAIR {i} {j} {pair['verdict']} "
         lines.append(head + reason["reason"])
         for told in reason["first"] + reason["later"]:
             lines.append(f"{name}:{told['line']}: {told['text']} {told['does']}")
         lines.append(f"what helps: {reason['helps']}")
+        if reason["counter"]:
+            lines += [HEADS.sub("", line) for line in why_lines.counter_words(meant)]
+    if any(reason["counter"] for reason in pair["reasons"]):
+        behind = ", ".join(pair["behind"]) or "nothing"
+        lines.append(HEADS.sub("", f"{why_lines.BEHIND}{behind}"))
     if not lines:
         lines.append(f"PAIR {i} {j} always together, unless they are of one forlopp")
     return [" ".join(line.split()) for line in lines]

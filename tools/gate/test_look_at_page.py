@@ -172,7 +172,7 @@ class Look:
         ).stdout.decode()
         lines = [line for line in why.split("\n") if "exchange.plex:" in line]
         told = [line.split("exchange.plex:")[1] for line in lines] + [
-            why.split("what helps: ")[1].strip()
+            why.split("what helps: ")[1].split("\n")[0]
         ]
         self.shows(
             ["NEVER VARIABLE FEES.TOTAL", "first 2 BILL FEES", "later 2 BILL FEES", *told],

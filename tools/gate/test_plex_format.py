@@ -13,7 +13,7 @@ import re
 import stat
 import subprocess
 import sys
-from typing import Iterator, List, NamedTuple, Optional, Tuple
+from typing import Iterator, List, NamedTuple, Optional, Sequence, Tuple, Union
 
 import pytest
 
@@ -319,9 +319,8 @@ def test_faults(tmp_path: pathlib.Path) -> None:
     assert (tmp_path / "E").read_bytes() == FAULTY
     assert (tmp_path / "F").read_bytes() == LAID_OUT
     got = call(folder=tmp_path, given=FAULTY)
-    assert got == Told(
-        2, b"", FAULTS.replace("E:", "standard input:").replace(": E", ": standard input")
-    )
+    told = re.sub("^E:", "standard input:", FAULTS, flags=re.M)
+    assert got == Told(2, b"", told.replace(": E ", ": standard input "))
 
 
 def test_check_and_diff(tmp_path: pathlib.Path) -> None:
@@ -384,13 +383,13 @@ def test_another_text_is_not_written(
     """Where the layout would have lost a comment, a mark or a name, nothing is written."""
     data = EASY.replace("END", "A = B + K; ! why\nEND").encode()
     (tmp_path / "E").write_bytes(data)
-    laid_out = layout.indented
-    monkeypatch.setattr(layout, "indented", lambda level, text: losing(laid_out(level, text), lost))
+    filled = layout.filled
+
+    def losing(level: int, parts: Sequence[Union[str, layout.Comment]]) -> Iterator[layout.Line]:
+        for line in filled(level, parts):
+            yield layout.Line(line.text.replace(lost, ""), line.comment.replace(lost, ""))
+
+    monkeypatch.setattr(layout, "filled", losing)
     assert command.attempted(str(tmp_path / "E"), False, False) == command.WRONG
     assert "it would become another text" in capsys.readouterr().err
     assert (tmp_path / "E").read_bytes() == data
-
-
-def losing(line: str, lost: str) -> str:
-    """A line without a word."""
-    return line.replace(lost, "")

@@ -137,9 +137,13 @@ def check_version(name: str, path: str) -> None:
         )
     except (OSError, subprocess.TimeoutExpired) as wrong:
         raise Wrong(f"{path} cannot be run: {wrong}") from wrong
-    # a launcher answers on the standard output, the program itself beside its usage line
-    lines = (done.stderr if done.returncode else done.stdout).decode("utf-8", "replace").strip()
-    told = lines.rpartition("\n")[2]
+    # the last line of an output, since a launcher says more; it answers on the standard output, and
+    # the program itself beside its usage line
+    last = [
+        output.decode("utf-8", "replace").strip().rpartition("\n")[2]
+        for output in (done.stdout, done.stderr)
+    ]
+    told = last[0] if last[0] == f"{name} {VERSION}" else last[1]
     if told != f"{name} {VERSION}":
         wanted = f"{name} {VERSION}, of which these tools are"
         raise Wrong(f"{path} is not {wanted}: its --version says {told[:80]!r}")
