@@ -331,6 +331,7 @@ class Look:
         size = (self.folder / "wide.html").stat().st_size
         self.need(size <= BYTES, f"the page of a large exchange has {size} bytes")
         times: list[float] = []
+        self.window.size(1400, 1000)
         for _ in range(TRIES):
             times.append(self.window.open(address))
             most = SECONDS * measured.pace()
